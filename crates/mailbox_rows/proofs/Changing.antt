@@ -62,7 +62,7 @@ above_all m low (c ∷ cs) k h =
     let is : nat_lt m c.modseq ≡ true = grind (arith, nat_tests) in
     rw is (ap (λ x. c ∷ x) (above_all m c.modseq cs (omega (arith, k, first)) h.1))
 
--- Those above a mod-sequence stand behind an edge.
+-- The changes above a mod-sequence come after an edge.
 pub above_edge : (m low : ℕ) (cs : List ModSeqChange) (n : ℕ) → AreInOrder low cs → n ≤ length cs → ((d : ModSeqChange) → IsEdge (λ i. leb (get_or cs i d).modseq m) (length cs) n) → drop n cs ≡ filter (λ (c : ModSeqChange). nat_lt m c.modseq) cs
 above_edge m low [] zero h w e = refl
 above_edge m low [] (suc n) h w e = absurd (omega (arith, w))
@@ -80,7 +80,7 @@ above_edge m low (c ∷ cs) (suc n) h w e =
       fail = λ k. (e d).fail (omega (arith, k));
     }))
 
--- ---- who is noted
+-- ---- which entries are logged
 
 pub own_change : (e : ListingEntry) (c : ModSeqChange) → c.modseq ≡ e.modseq → c.uid ≡ e.uid → is_of e c ≡ true
 own_change e c m u = grind (arith, nat_tests)
@@ -173,7 +173,7 @@ scan_step m (e ∷ es) (suc i) h =
 
 -- ---- a search for each UID
 
--- What searches for these UIDs find, of which those below a number were looked for.
+-- The results of searches for these UIDs, of which those below a number were searched for before.
 abbrev pub picked : ℕ → ℕ → List ℕ → List ListingEntry → List ListingEntry
 picked m low [] es = []
 picked m low (u ∷ us) es = if leb low u then changed_with m u es ++ picked m (u + 1) us es else picked m low us es
@@ -322,7 +322,7 @@ picked_all m from low least (u ∷ us) es a r l h =
           rw f (picked_all m u low least us es a.1 r l (among_rest m u least us es (omega (arith, less, l)) r h))
     ]
 
--- ---- who is among them
+-- ---- which UIDs are among them
 
 among_noted : (m : ℕ) (cs : List ModSeqChange) (e : ListingEntry) → nat_lt m e.modseq ≡ true → IsLogged cs e → list_any (λ u. nat_eq u e.uid) (uids_above m cs) ≡ true
 among_noted m [] e k h = absurd (cc h)
@@ -362,7 +362,7 @@ ascending_from low (u ∷ us) b h = (
 
 -- ---- one search
 
--- An entry that was found, where it has this UID and a greater mod-sequence.
+-- The result of one search: the entry, if it has this UID and a greater mod-sequence.
 abbrev pub picked_from : ℕ → ℕ → Option ListingEntry → List ListingEntry
 picked_from m u None = []
 picked_from m u (Some e) = if nat_eq e.uid u && nat_lt m e.modseq then e ∷ [] else []

@@ -29,12 +29,12 @@ second_of_two [] i x y d h = absurd (omega (arith, h))
 second_of_two (z ∷ xs) zero x y d h = refl
 second_of_two (z ∷ xs) (suc i) x y d h = second_of_two xs i x y d (omega (arith, h))
 
--- What a call that may fail left, where it didn't.
+-- What a call that may fail left, if it didn't fail.
 pub given_ok : {A B X : Type 0} (r : Result A B) (x a b : X) → is_err r ≡ false → x ≡ (if is_ok r then a else b) → x ≡ a
 given_ok (Ok v) x a b e h = h
 given_ok (Err v) x a b e h = absurd (cc e)
 
--- What is behind a place is changed, and what stands at it goes.
+-- The items after a place are changed, and the item at it is removed.
 pub written_without : {X : Type 0} (f : X → X) (xs : List X) (i : ℕ) → i < length xs → remove (take (suc i) xs ++ map f (drop (suc i) xs)) i ≡ take i xs ++ map f (drop (suc i) xs)
 written_without f [] i h = absurd (omega (arith, h))
 written_without f (x ∷ xs) zero h = refl
@@ -46,7 +46,7 @@ written_behind f xs ys i inside is =
     let none : drop k (drop (i + 1) xs) ≡ [] = drop_all k (drop (i + 1) xs) (omega (arith, length-drop (i + 1) xs)) in
     ap (λ zs. take (i + 1) xs ++ (ys ++ zs)) none ∙ ap (λ zs. take (i + 1) xs ++ zs) (append-nil ys ∙ is ∙ ap (map f) (take_rest xs (i + 1)))
 
--- An item of so many from a place on.
+-- One of the first `n` items from a place on.
 pub got_part : {X : Type 0} (n : ℕ) (xs : List X) (i : ℕ) → i < n → slice_get (take n xs) i ≡ slice_get xs i
 got_part zero xs i h = absurd (omega (arith, h))
 got_part (suc n) [] i h = refl
@@ -58,11 +58,11 @@ got_behind zero xs i = let e : i ≡ 0 + i = omega arith in ap (slice_get xs) e
 got_behind (suc n) [] i = refl
 got_behind (suc n) (x ∷ xs) i = let e : suc (n + i) ≡ suc n + i = omega arith in got_behind n xs i ∙ ap (slice_get (x ∷ xs)) e
 
--- What is kept of a list lies in it.
+-- The items that a piece has of a list are within it.
 pub kept_within : {T : Type 0} (b : List T) (from len : ℕ) → 0 < len → length (take len (drop from b)) ≡ len → from + len ≤ length b
 kept_within b from len some many = omega (arith, some, many, length-take len (drop from b), length-drop from b)
 
--- A kept piece in two.
+-- A piece of the list below, cut in two.
 pub kept_parts : {T : Type 0} (b : List T) (from len count : ℕ) → count < len → take count (drop from b) ++ take (len - count) (drop (from + count) b) ≡ take len (drop from b)
 kept_parts b from len count h =
     let e : count + (len - count) ≡ len = omega (arith, h) in
@@ -78,11 +78,11 @@ module _ {T : Type 0} (b : List T) (ps : List (Piece T)) (index at : ℕ) (d : P
   high : index < length (items_of b (take at ps)) + length (piece_items b (get_or ps at d))
   high = omega (arith, starts, place.end d, (piece_is b ps at d place.within h).many)
 
-  -- The item that is looked up is the one in the piece.
+  -- The item at `index` is the one in its piece.
   pub got_in : slice_get (piece_items b (get_or ps at d)) (index - (get_or ps at d).start) ≡ slice_get (items_of b ps) index
   got_in = sym (ap (λ xs. slice_get xs index) (items_around b ps at d place.within) ∙ got_between (items_of b (take at ps)) (piece_items b (get_or ps at d)) (items_of b (drop (suc at) ps)) index low high ∙ ap (λ k. slice_get (piece_items b (get_or ps at d)) (index - k)) (sym starts))
 
--- The same, of what was read of the piece.
+-- The same for the parts of the piece that were read.
 pub got_kept : {T : Type 0} (b : List T) (ps : List (Piece T)) (index at : ℕ) (p : Piece T) (from : ℕ) → ArePieces b 0 ps → StandsIn ps index at → p ≡ get_or ps at p → p.source ≡ Kept from → slice_get (drop from b) (index - p.start) ≡ slice_get (items_of b ps) index
 got_kept b ps index at p from h place is source =
     let inside : index - p.start < p.len = subst (λ q. index - q.start < q.len) (sym is) (let low = place.start p in let end = place.end p in omega (arith, low, end)) in
@@ -96,7 +96,7 @@ got_own b ps index at p x h place is source =
     let none : index - p.start ≡ 0 = omega (arith, inside, one) in
     sym (ap (λ k. slice_get (piece_items b p) k) none ∙ ap (λ s. slice_get (source_items b p.len s) 0) source) ∙ ap (λ q. slice_get (piece_items b q) (index - q.start)) is ∙ got_in b ps index at p h place
 
--- The place in a list of an item that is kept of it.
+-- The place in the list below of an item of a piece.
 pub held_place : {T : Type 0} (b : List T) (ps : List (Piece T)) (index at : ℕ) (p : Piece T) (from : ℕ) → ArePieces b 0 ps → StandsIn ps index at → p ≡ get_or ps at p → p.source ≡ Kept from → from + (index - p.start) < length b
 held_place b ps index at p from h place is source =
     let whole : IsPiece b (length (items_of b (take at ps))) p = subst (λ q. IsPiece b (length (items_of b (take at ps))) q) (sym is) (piece_is b ps at p place.within h) in
@@ -124,7 +124,7 @@ module _ {T : Type 0} (b : List T) (ps : List (Piece T)) (at : ℕ) (p x y : Pie
       let behind = subst (λ m. ArePieces b m (drop (suc at) ps)) same (subst (λ q. ArePieces b (n + q.len) (drop (suc at) ps)) (sym is) rest) in
       joined b 0 n (take at ps) (x ∷ y ∷ drop (suc at) ps) (omega arith) (front_at b ps at h) (record { start = omega (arith, xs, here.start); some = xsome; many = xmany }, (record { start = omega (arith, ys, here.start); some = ysome; many = ymany }, behind))
 
--- Edits where an item stands alone.
+-- Edits of a piece of one item.
 module _ {T : Type 0} (b : List T) (ps : List (Piece T)) (index at : ℕ) (d : Piece T) (h : ArePieces b 0 ps) (place : IsAlone ps index at) where
   alone_is : IsPiece b (length (items_of b (take at ps))) (get_or ps at d)
   alone_is = piece_is b ps at d place.within h
@@ -182,7 +182,7 @@ module _ {T : Type 0} (b : List T) (ps : List (Piece T)) (index at : ℕ) (d : P
       let m = length (items_of b (take at ps)) in
       joined b 0 m (take at ps) (map with_one_less (drop (suc at) ps)) (omega arith) (front_at b ps at h) (down_pieces b m (m + (get_or ps at d).len) (drop (suc at) ps) (omega (arith, place.one d)) (from_at b ps at d place.within h).1)
 
--- An item comes behind all.
+-- An item is appended.
 pub pushed_items : {T : Type 0} (b : List T) (ps : List (Piece T)) (x : T) (n : ℕ) → items_of b (ps ++ record { start = n; len = 1; source = Own x } ∷ []) ≡ items_of b ps ++ x ∷ []
 pushed_items b ps x n = items_with b ps (record { start = n; len = 1; source = Own x } ∷ [])
 

@@ -51,7 +51,7 @@ ltb_true a b h = grind (arith, nat_tests)
 ltb_false : (a b : ℕ) → ltb a b ≡ false → b ≤ a
 ltb_false a b h = grind (arith, nat_tests)
 
--- Where a search by UID ends, stands the entry with this UID, if there is one.
+-- Where a search by UID ends is the entry with this UID, if there is one.
 pub found_there : (uid : ℕ) (es : List ListingEntry) (n : ℕ) → AreRising 1 es → n ≤ length es → ((d : ListingEntry) → IsEdge (λ i. ltb (get_or es i d).uid uid) (length es) n) → (k : ℕ) (d : ListingEntry) → k < length es → (get_or es k d).uid ≡ uid → k ≡ n
 found_there uid es n h within edge k d inside same =
     elim (cases_order k n) [
@@ -74,7 +74,7 @@ lacks_at uid origin (e ∷ es) h = (λ same. h 0 e (omega arith) same, lacks_at 
 
 -- ---- the index
 
--- No entry has an origin of which the index tells nothing.
+-- No entry has an origin that the index lacks.
 pub lacks_untold : (f : OpId → Option ℕ) (origin : OpId) (es : List ListingEntry) → AreIndexed f es → f origin ≡ None → Lacks origin es
 lacks_untold f origin [] h n = tt
 lacks_untold f origin (e ∷ es) h n = (
@@ -85,7 +85,7 @@ lacks_untold f origin (e ∷ es) h n = (
   lacks_untold f origin es h.1 n,
 )
 
--- Nor one with another UID than the index tells.
+-- No entry has an indexed origin with another UID than the index gives.
 pub lacks_told : (f : OpId → Option ℕ) (origin : OpId) (uid : ℕ) (es : List ListingEntry) → AreIndexed f es → f origin ≡ Some uid → LacksAt uid origin es → Lacks origin es
 lacks_told f origin uid [] h n l = tt
 lacks_told f origin uid (e ∷ es) h n l = (
@@ -96,7 +96,7 @@ lacks_told f origin uid (e ∷ es) h n l = (
   lacks_told f origin uid es h.1 n l.1,
 )
 
--- What the index tells of other ids may change.
+-- The index may change at other ids.
 pub indexed_beside : (f g : OpId → Option ℕ) (origin : OpId) (es : List ListingEntry) → Lacks origin es → ((i : OpId) → is_id origin i ≡ false → g i ≡ f i) → AreIndexed f es → AreIndexed g es
 indexed_beside f g origin [] l e h = tt
 indexed_beside f g origin (x ∷ es) l e h = (e x.origin l.0 ∙ h.0, indexed_beside f g origin es l.1 e h.1)
@@ -116,7 +116,7 @@ indexed_set f [] k x inside h e = absurd (omega (arith, inside))
 indexed_set f (y ∷ es) zero x inside h e = (e, h)
 indexed_set f (y ∷ es) (suc k) x inside h e = (h.0, indexed_set f es k x (omega (arith, inside)) h.1 e)
 
--- An origin whose UID is lower.
+-- No entry from `low` on has an origin whose UID is lower.
 lacks_above : (f : OpId → Option ℕ) (origin : OpId) (uid low : ℕ) (es : List ListingEntry) → uid < low → AreRising low es → AreIndexed f es → f origin ≡ Some uid → Lacks origin es
 lacks_above f origin uid low [] l r h e = tt
 lacks_above f origin uid low (x ∷ es) l r h e =

@@ -1,4 +1,4 @@
--- Pieces, parted at one of them.
+-- Lists of pieces, split at one of them.
 use Rattle.std.proofs.Common.{◌≡◌, ℕ, zero, suc, ◌+◌, ◌-◌, ◌<◌, ◌≤◌, List, [], ◌∷◌, ◌++◌, length, get_or, take, drop, set, map, refl, ap, sym, subst, ◌∙◌, arith, length-append, inl, inr}
 use Rattle.std.proofs.Math.Seq.{drop-cons}
 use Rattle.std.proofs.lemmas.List.{take-append-drop, set_split, drop_all, take_more}
@@ -15,11 +15,11 @@ parted xs i d inside = sym (take-append-drop i xs) ∙ ap (λ ys. take i xs ++ y
 pub items_around : {T : Type 0} (b : List T) (ps : List (Piece T)) (i : ℕ) (d : Piece T) → i < length ps → items_of b ps ≡ items_of b (take i ps) ++ (piece_items b (get_or ps i d) ++ items_of b (drop (suc i) ps))
 items_around b ps i d inside = ap (λ xs. items_of b xs) (parted ps i d inside) ∙ flat_map-append (λ p. piece_items b p) (take i ps) (get_or ps i d ∷ drop (suc i) ps)
 
--- The items where others stand behind some pieces.
+-- The items of pieces, with others after them.
 pub items_with : {T : Type 0} (b : List T) (front behind : List (Piece T)) → items_of b (front ++ behind) ≡ items_of b front ++ items_of b behind
 items_with b front behind = flat_map-append (λ p. piece_items b p) front behind
 
--- Pieces in front of others, and behind them.
+-- Pieces before others, and those after them.
 pub front_of : {T : Type 0} (b : List T) (n : ℕ) (xs ys : List (Piece T)) → ArePieces b n (xs ++ ys) → ArePieces b n xs
 front_of b n [] ys h = tt
 front_of b n (p ∷ xs) ys h = (h.0, front_of b (n + p.len) xs ys h.1)
@@ -32,7 +32,7 @@ pub joined : {T : Type 0} (b : List T) (n m : ℕ) (xs ys : List (Piece T)) → 
 joined b n m [] ys e front back = let same : m ≡ n = omega (arith, e) in subst (λ k. ArePieces b k ys) same back
 joined b n m (p ∷ xs) ys e front back = (front.0, joined b (n + p.len) m xs ys (omega (arith, e, front.0.many, length-append (piece_items b p) (items_of b xs))) front.1 back)
 
--- All in front of one, it, and all behind it.
+-- All before one piece, the piece, and all after it.
 pub front_at : {T : Type 0} (b : List T) (ps : List (Piece T)) (i : ℕ) → ArePieces b 0 ps → ArePieces b 0 (take i ps)
 front_at b ps i h = front_of b 0 (take i ps) (drop i ps) (subst (ArePieces b 0) (sym (take-append-drop i ps)) h)
 
@@ -59,14 +59,14 @@ last_end b ps i d last h =
     let none = ap (λ xs. length (items_of b xs)) (drop_all (suc i) ps (omega (arith, last))) in
     omega (arith, here.start, here.many, around, none, length-append (items_of b (take i ps)) (piece_items b (get_or ps i d) ++ items_of b (drop (suc i) ps)), length-append (piece_items b (get_or ps i d)) (items_of b (drop (suc i) ps)))
 
--- No piece ends behind the list.
+-- No piece ends after the list's end.
 pub piece_end : {T : Type 0} (b : List T) (ps : List (Piece T)) (i : ℕ) (d : Piece T) → i < length ps → ArePieces b 0 ps → (get_or ps i d).start + (get_or ps i d).len ≤ length (items_of b ps)
 piece_end b ps i d inside h =
     let here = piece_is b ps i d inside h in
     let around = ap (λ xs. length xs) (items_around b ps i d inside) in
     omega (arith, here.start, here.many, around, length-append (items_of b (take i ps)) (piece_items b (get_or ps i d) ++ items_of b (drop (suc i) ps)), length-append (piece_items b (get_or ps i d)) (items_of b (drop (suc i) ps)))
 
--- The item stands in the piece behind which the next one starts too late.
+-- The item is in a piece if the next one starts after it.
 pub stands_in : {T : Type 0} (b : List T) (ps : List (Piece T)) (index i : ℕ) → ArePieces b 0 ps → index < length (items_of b ps) → i < length ps → ((d : Piece T) → (get_or ps i d).start ≤ index) → ((d : Piece T) → i + 1 < length ps → index < (get_or ps (i + 1) d).start) → StandsIn ps index i
 stands_in b ps index i h within inside start late = record {
   within = inside;
@@ -78,7 +78,7 @@ stands_in b ps index i h within inside start late = record {
   ];
 }
 
--- All pieces know of one item less.
+-- Each piece counts one item less before it.
 pub down_items : {T : Type 0} (b : List T) (ps : List (Piece T)) → items_of b (map with_one_less ps) ≡ items_of b ps
 down_items b [] = refl
 down_items b (p ∷ ps) = ap (λ xs. piece_items b p ++ xs) (down_items b ps)
@@ -87,13 +87,13 @@ pub down_pieces : {T : Type 0} (b : List T) (n m : ℕ) (ps : List (Piece T)) �
 down_pieces b n m [] e h = tt
 down_pieces b n m (p ∷ ps) e h = (record { start = omega (arith, h.0.start, e); some = h.0.some; many = h.0.many }, down_pieces b (n + p.len) (m + p.len) ps (omega (arith, e)) h.1)
 
--- Behind some items no piece starts at once.
+-- After some items, no piece starts at 0.
 pub starts_late : {T : Type 0} (b : List T) (n : ℕ) (ps : List (Piece T)) → ArePieces b n ps → 0 < n → (k : ℕ) (d : Piece T) → k < length ps → 0 < (get_or ps k d).start
 starts_late b n [] h some k d inside = absurd (omega (arith, inside))
 starts_late b n (p ∷ ps) h some zero d inside = omega (arith, h.0.start, some)
 starts_late b n (p ∷ ps) h some (suc k) d inside = starts_late b (n + p.len) ps h.1 (omega (arith, some)) k d (omega (arith, inside))
 
--- A piece behind another.
+-- A piece after another.
 pub late_starts : {T : Type 0} (b : List T) (ps : List (Piece T)) → ArePieces b 0 ps → (k : ℕ) (d : Piece T) → 0 < k → k < length ps → 0 < (get_or ps k d).start
 late_starts b [] h k d late inside = absurd (omega (arith, inside))
 late_starts b (p ∷ ps) h zero d late inside = absurd (omega (arith, late))

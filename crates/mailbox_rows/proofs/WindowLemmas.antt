@@ -17,7 +17,7 @@ use Rattle.std.specs.Prelude.{is_some}
 use Rattle.mailbox_rows.specs.ListingEntries.{AreRising}
 use Rattle.std.specs.Option.{option_to_list, unwrap_or}
 
--- ---- what is told
+-- ---- the message's data
 
 pub told_length : (fresh : List (OpId × OwnedMessage)) (mailbox : FolderMessages) (es : List ListingEntry) → length (rows_by fresh mailbox es) ≡ length es
 told_length fresh mailbox [] = refl
@@ -81,7 +81,7 @@ ltb_true a b h = grind (arith, nat_tests)
 ltb_false : (a b : ℕ) → ltb a b ≡ false → b ≤ a
 ltb_false a b h = grind (arith, nat_tests)
 
--- UIDs below a number stand in front, and no others.
+-- The messages with UIDs below a number come first, and no others do.
 pub record IsSeam (uid : ℕ) (rows : List ListedMessage) (n : ℕ) : Type 0 where
   pub below : (i : ℕ) (d : ListedMessage) → i < n → i < length rows → (get_or rows i d).uid < uid
   pub above : (i : ℕ) (d : ListedMessage) → n ≤ i → i < length rows → uid ≤ (get_or rows i d).uid
@@ -139,7 +139,8 @@ none_under uid low (row ∷ rows) k h =
     let is : nat_eq row.uid uid ≡ false = grind (arith, nat_tests) in
     rw is (none_under uid (row.uid + 1) rows (omega arith) h.1)
 
--- What a search finds: the message at the first place whose UID is no less, if its UID is this one.
+-- The result of a search: the message at the first place whose UID is no less, if its UID is this
+-- one.
 abbrev pub found_with : ℕ → Option ListedMessage → Option ListedMessage
 found_with uid None = None
 found_with uid (Some row) = if row.uid == uid then Some row else None
@@ -157,7 +158,7 @@ found_seam uid low (row ∷ rows) (suc n) h s =
     let is : nat_eq row.uid uid ≡ false = grind (arith, nat_tests) in
     rw is (found_seam uid (row.uid + 1) rows n h.1 (seam_rest uid row rows n s))
 
--- A message that stands at a place is the one with its UID.
+-- A message at a place is the one with its UID.
 at_least : (low : ℕ) (rows : List ListedMessage) (n : ℕ) (row : ListedMessage) → AreRisingRows low rows → slice_get rows n ≡ Some row → low ≤ row.uid
 at_least low [] n row h g = cc g
 at_least low (first ∷ rows) zero row h g =
@@ -195,7 +196,7 @@ rising_left p low (row ∷ rows) h =
       | inr f ↦ rw f (rising_left p low rows (lower low (row.uid + 1) rows (omega (arith, first)) h.1))
     ]
 
--- Those of the entries that are left are the messages that are left.
+-- The rows of the entries that are left are the rows that are left.
 pub told_changed : (modseq : ℕ) (fresh : List (OpId × OwnedMessage)) (mailbox : FolderMessages) (es : List ListingEntry) → rows_by fresh mailbox (entries_since modseq es) ≡ changed_since modseq (rows_by fresh mailbox es)
 told_changed modseq fresh mailbox [] = refl
 told_changed modseq fresh mailbox (e ∷ es) =
@@ -207,7 +208,7 @@ told_changed modseq fresh mailbox (e ∷ es) =
 pub same_number : (a b : ℕ) → nat_eq a b ≡ true → a ≡ b
 same_number a b h = grind (arith, nat_tests)
 
--- A message stands at a place, so it is there.
+-- If the message at a place has this UID, a message with this UID exists.
 pub near_there : (rows : List ListedMessage) (place uid : ℕ) → AreRisingRows 1 rows → option_map (λ (row : ListedMessage). row.uid) (slice_get rows place) ≡ Some uid → is_some (row_of uid rows) ≡ true
 near_there rows place uid h e = there (slice_get rows place) refl e
   where
@@ -217,7 +218,7 @@ near_there rows place uid h e = there (slice_get rows place) refl e
         let same : row.uid ≡ uid = cc k in
         ap is_some (subst (λ u. row_of u rows ≡ Some row) same (found_at 1 rows place row h is))
 
--- The head of the message that stands at a place, where it has this UID, is that of the one with this UID.
+-- If the message at a place has this UID, its head is that of the message with this UID.
 pub head_there : (rows : List ListedMessage) (place uid : ℕ) (head : ListedHead) → AreRisingRows 1 rows → Some head ≡ option_map head_of (slice_get rows place) → head.uid ≡ uid → Some head ≡ option_map head_of (row_of uid rows)
 head_there rows place uid head h e u = there (slice_get rows place) refl e
   where

@@ -1,9 +1,12 @@
+-- A message as a mailbox's listing shows it (RFC 9051, section 2.3; RFC 7162, section 3.1).
+
 use Rattle.std.specs.Prelude.{ℕ, List}
 use Rattle.imap_types.specs.declared.flags.Flags.{Flags}
 use Rattle.tags_clocks.specs.declared.id.OpId.{OpId}
 
--- A message of a mailbox's listing: its UID, its mod-sequence, its origin (the id of its Append), the ids of its versions' tags
--- (ascending, one at least), the union of their flags, its date and text.
+-- A message of a mailbox's listing: its UID, its mod-sequence, its origin (the id of its Append),
+-- the ids of its versions' tags (ascending, one at least), the union of their flags, its date and
+-- text.
 pub record ListedMessage : Type 0 where
   pub uid : ℕ
   pub modseq : ℕ
@@ -13,7 +16,7 @@ pub record ListedMessage : Type 0 where
   pub date : List ℕ
   pub text : List ℕ
 
--- What a listing tells of a message but for its origin, its date and its text.
+-- A message of a listing without its origin, date and text.
 pub record ListedHead : Type 0 where
   pub uid : ℕ
   pub modseq : ℕ

@@ -1,4 +1,5 @@
--- Entries, and what an index says of them.
+-- Lists of entries by ascending UID (RFC 9051, section 2.3.1.1), and indexes from origins to UIDs.
+
 use Rattle.std.specs.Prelude.{◌≡◌, ℕ, ◌+◌, ◌-◌, ◌<◌, ◌≤◌, ◌==◌, ◌&&◌, Bool, true, false, List, [], ◌∷◌, Option, Some, None, length, get_or}
 use Rattle.std.specs.Map.{lookup}
 use Rattle.tags_clocks.specs.declared.id.OpId.{OpId}
@@ -8,7 +9,7 @@ use Rattle.mailbox_rows.specs.declared.entry.ListingEntry.{ListingEntry}
 abbrev pub is_id : OpId → OpId → Bool
 is_id a b = (a.replica == b.replica) && (a.number == b.number)
 
--- The UIDs ascend strictly, the first of them from this number on.
+-- The UIDs ascend strictly, the first of them at least `low`.
 abbrev pub AreRising : ℕ → List ListingEntry → Type 0
 AreRising low [] = Unit {0}
 AreRising low (e ∷ es) = (low ≤ e.uid) × AreRising (e.uid + 1) es
@@ -28,16 +29,16 @@ pub record IsAt (origin : OpId) (es : List ListingEntry) (at : ℕ) : Type 0 whe
   pub within : at < length es
   pub has_origin : (d : ListingEntry) → (get_or es at d).origin ≡ origin
 
--- The index tells the UID of each entry by its origin.
+-- The index has the UID of each entry under its origin.
 abbrev pub AreIndexed : (OpId → Option ℕ) → List ListingEntry → Type 0
 AreIndexed f [] = Unit {0}
 AreIndexed f (e ∷ es) = (f e.origin ≡ Some e.uid) × AreIndexed f es
 
--- What the keys of a map tell.
+-- The value of a map under an origin.
 abbrev pub indexed_value : {X : Type 0} → List (OpId × X) → OpId → Option X
 indexed_value keys origin = lookup (is_id origin) keys
 
--- What the first tells, and else the second.
+-- The first value if there is one, else the second.
 abbrev pub first_of : {X : Type 0} → Option X → Option X → Option X
 first_of (Some x) other = Some x
 first_of None other = other
@@ -45,7 +46,8 @@ first_of None other = other
 abbrev pub indexed_over : List (OpId × ℕ) → List (OpId × ℕ) → OpId → Option ℕ
 indexed_over own kept origin = first_of (indexed_value own origin) (indexed_value kept origin)
 
--- A test passes in front of a place and fails at it, where there are such places; there are so many of them.
+-- The edge of a test on `count` places: it passes just before `at` and fails at `at`, as far as
+-- those places exist.
 pub record IsEdge (test : ℕ → Bool) (count at : ℕ) : Type 0 where
   pub pass : 0 < at → test (at - 1) ≡ true
   pub fail : at < count → test at ≡ false

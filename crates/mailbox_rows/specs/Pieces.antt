@@ -1,10 +1,11 @@
--- What pieces hold, and what each of them knows.
+-- What pieces hold, and what each of them knows of the pieces before it.
+
 use Rattle.std.specs.Prelude.{◌≡◌, ℕ, ◌+◌, ◌-◌, ◌*◌, ◌<◌, ◌≤◌, List, [], ◌∷◌, length, flat_map, get_or, take, drop}
 use Rattle.mailbox_rows.specs.declared.pieces.Piece.{Piece}
 use Rattle.mailbox_rows.specs.declared.pieces.PieceSource.{PieceSource}
 use Rattle.mailbox_rows.specs.declared.pieces.PieceSource.TheVariants.{Kept, Own}
 
--- So many items from a source over a list.
+-- The `len` items of a source over a list.
 abbrev pub source_items : {T : Type 0} → List T → ℕ → PieceSource T → List T
 source_items base len (Kept from) = take len (drop from base)
 source_items base len (Own item) = item ∷ []
@@ -17,38 +18,38 @@ piece_items base p = source_items base p.len p.source
 abbrev pub items_of : {T : Type 0} → List T → List (Piece T) → List T
 items_of base ps = flat_map (λ p. piece_items base p) ps
 
--- The piece behind so many items: it has some, and knows how many.
+-- A piece with `before` items before it: it isn't empty, and knows both numbers.
 pub record IsPiece {T : Type 0} (base : List T) (before : ℕ) (p : Piece T) : Type 0 where
   pub start : p.start ≡ before
   pub some : 0 < p.len
   pub many : length (piece_items base p) ≡ p.len
 
--- Pieces one after another, behind so many items.
+-- Pieces one after another, with `before` items before the first.
 abbrev pub ArePieces : {T : Type 0} → List T → ℕ → List (Piece T) → Type 0
 ArePieces base before [] = Unit {0}
 ArePieces base before (p ∷ ps) = IsPiece base before p × ArePieces base (before + p.len) ps
 
--- The piece with one item less in front of it.
+-- A piece with one item less before it.
 abbrev pub with_one_less : {T : Type 0} → Piece T → Piece T
 with_one_less p = record { start = p.start - 1; len = p.len; source = p.source }
 
--- The item behind so many others stands in the piece at this place.
+-- The item at `index` is in the piece at this place.
 pub record StandsIn {T : Type 0} (ps : List (Piece T)) (index at : ℕ) : Type 0 where
   pub within : at < length ps
   pub start : (d : Piece T) → (get_or ps at d).start ≤ index
   pub end : (d : Piece T) → index < (get_or ps at d).start + (get_or ps at d).len
 
--- It is the only one there.
+-- The item at `index` is the only one of the piece at this place.
 pub record IsAlone {T : Type 0} (ps : List (Piece T)) (index at : ℕ) : Type 0 where
   pub within : at < length ps
   pub start : (d : Piece T) → (get_or ps at d).start ≡ index
   pub one : (d : Piece T) → (get_or ps at d).len ≡ 1
 
--- The items in order, and how many pieces can come with no more memory. An edit takes two at most.
+-- The items in order, and how many further pieces need no more memory. An edit takes two at most.
 pub record PatchedState (T : Type 0) : Type 0 where
   pub items : List T
   pub places : ℕ
 
--- There is room for so many edits.
+-- There is room for this number of edits.
 abbrev pub HasRoom : {T : Type 0} → PatchedState T → ℕ → Type 0
 HasRoom list edits = 2 * edits ≤ list.places

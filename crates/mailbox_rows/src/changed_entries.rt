@@ -1,4 +1,4 @@
-//! The entries that changed since a mod-sequence, out of a list of them.
+//! The entries of a list that changed since a mod-sequence, by a scan or by their UIDs.
 
 ghost use Rattle.std.specs.Prelude.{◌≡◌, ◌++◌, ◌∷◌, [], IfOk, OnOk};
 ghost use Rattle.std.specs.List.{slice_get};
@@ -11,7 +11,8 @@ use crate::entry_search::first_from;
 use crate::patched_list::PatchedList;
 use std::alloc::{AllocError, Global};
 
-/// The entries whose mod-sequences are above this one, by a pass over all.
+/// The entries whose mod-sequences are above `modseq`, by one pass over the list. `Err` if memory
+/// runs out.
 pub fn changed_entries_by_scan(
     alloc: Global,
     list: &PatchedList<'_, ListingEntry>,
@@ -26,7 +27,8 @@ pub fn changed_entries_by_scan(
     Ok(found)
 }
 
-/// Puts the entry at this place behind the others, where its mod-sequence is above this one.
+/// Appends the entry at `place` to `found` if its mod-sequence is above `modseq`. `Err` if memory
+/// runs out.
 fn push_at(
     found: &mut Vec<ListingEntry>,
     list: &PatchedList<'_, ListingEntry>,
@@ -41,7 +43,7 @@ fn push_at(
     }
 }
 
-/// Puts an entry behind the others, where its mod-sequence is above this one.
+/// Appends `entry` to `found` if its mod-sequence is above `modseq`. `Err` if memory runs out.
 fn push_changed(
     found: &mut Vec<ListingEntry>,
     entry: ListingEntry,
@@ -55,7 +57,8 @@ fn push_changed(
     Ok(())
 }
 
-/// The same, where they have UIDs among these, by a search for each UID.
+/// The entries whose mod-sequences are above `modseq`, all of which have UIDs in `uids` (ascending,
+/// perhaps repeated), by a search for each UID. `Err` if memory runs out.
 pub fn changed_entries_among(
     alloc: Global,
     list: &PatchedList<'_, ListingEntry>,
@@ -78,7 +81,8 @@ pub fn changed_entries_among(
     Ok(found)
 }
 
-/// Puts the entry with this UID behind the others, where it is there and its mod-sequence is above this one.
+/// Appends the entry with this UID to `found` if it exists and its mod-sequence is above `modseq`.
+/// `Err` if memory runs out.
 fn push_with(
     found: &mut Vec<ListingEntry>,
     list: &PatchedList<'_, ListingEntry>,

@@ -1,4 +1,4 @@
-//! Lists of entries that are found by their origins.
+//! `EntryList`: lists of entries in which an entry is found by its origin.
 
 ghost use Rattle.std.specs.Prelude.{◌≡◌, ◌+◌, ◌^◌, ◌<◌, ◌≤◌, ℕ, List, [], ◌∷◌, ◌++◌, MatchOption, get_or, length, remove, set};
 ghost use Rattle.std.specs.List.{slice_get};
@@ -13,25 +13,25 @@ pub trait EntryList {
     /// The entries.
     ghost entries: { Self → List ListingEntry };
 
-    /// So many entries can be renewed or taken out, or put in where there is room for them.
+    /// Room for this number of edits: an entry renewed, taken out or put in.
     ghost has_edits: { Self → ℕ → Type 0 };
 
-    /// There is room for so many entries more.
+    /// Room for this number of additional entries.
     ghost has_room: { Self → ℕ → Type 0 };
 
-    /// How many there are.
+    /// The number of entries.
     fn len(&self) -> usize
         ensures { result ≡ length (entries self.now) };
 
-    /// The entry at this place.
+    /// The entry at `place`, from 0; `None` if the list is shorter.
     fn get(&self, place: usize) -> Option<ListingEntry>
         ensures { result ≡ slice_get (entries self.now) place };
 
-    /// The place of the entry with this origin.
+    /// The place of the entry with this origin, if any.
     fn place_of(&self, origin: &OpId) -> Option<usize>
         ensures { MatchOption result (Lacks origin.now (entries self.now)) (IsAt origin.now (entries self.now)) };
 
-    /// Gives the entry at this place another mod-sequence; its origin and its UID stay.
+    /// Gives the entry at `place` another mod-sequence; its origin and UID stay.
     fn renew(&mut self, place: usize, modseq: u64)
         requires within { place < length (entries self.old) }
         requires edits { has_edits self.old 1 }
@@ -39,7 +39,7 @@ pub trait EntryList {
         ensures edits { (n : ℕ) → has_edits self.old (n + 1) → has_edits self.new n }
         ensures room { (n : ℕ) → has_room self.old n → has_room self.new n };
 
-    /// Takes the entry at this place out.
+    /// Takes out the entry at `place`.
     fn take_out(&mut self, place: usize)
         requires within { place < length (entries self.old) }
         requires edits { has_edits self.old 1 }
@@ -47,7 +47,7 @@ pub trait EntryList {
         ensures edits { (n : ℕ) → has_edits self.old (n + 1) → has_edits self.new n }
         ensures room { (n : ℕ) → has_room self.old n → has_room self.new n };
 
-    /// Puts an entry behind all others.
+    /// Appends an entry. Its UID is above all others and its origin is new.
     fn put(&mut self, entry: ListingEntry)
         requires first { 1 ≤ entry.uid }
         requires beyond { AreBelow entry.uid (entries self.old) }

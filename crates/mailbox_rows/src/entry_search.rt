@@ -1,4 +1,4 @@
-//! Searches by UID.
+//! Binary searches by UID in lists of entries.
 
 ghost use Rattle.std.specs.Prelude.{◌≡◌, ◌<◌, ◌≤◌, List, ltb, length, get_or, MatchOption};
 ghost use Rattle.std.specs.List.{slice_get};
@@ -10,7 +10,7 @@ use crate::patched_list::PatchedList;
 use chunk_list::ChunkList;
 use tags_clocks::OpId;
 
-/// A list of entries that are read by their places.
+/// A list of entries that are read by place.
 pub trait EntryPlaces {
     ghost entries: { Self → List ListingEntry };
 
@@ -45,7 +45,7 @@ impl<'a> EntryPlaces for PatchedList<'a, ListingEntry> {
     }
 }
 
-/// The entry with this UID, if it has this origin: its place.
+/// The place of the entry with this UID, if it has this origin.
 pub fn place_with<L: EntryPlaces>(list: &L, uid: u32, origin: &OpId) -> Option<usize>
     requires { AreRising 1 (L.entries list.now) }
     ensures { MatchOption result (LacksAt uid origin.now (L.entries list.now)) (IsAt origin.now (L.entries list.now)) }
@@ -63,7 +63,7 @@ pub fn place_with<L: EntryPlaces>(list: &L, uid: u32, origin: &OpId) -> Option<u
     }
 }
 
-/// The place of the first entry whose UID is no less than this one.
+/// The place of the first entry whose UID is `uid` or above; the length if there is none.
 pub fn first_from<L: EntryPlaces>(list: &L, uid: u32) -> usize
     ensures within { result ≤ length (L.entries list.now) }
     ensures edge { (d : ListingEntry) → IsEdge (λ i. ltb (get_or (L.entries list.now) i d).uid uid) (length (L.entries list.now)) result }
@@ -81,7 +81,7 @@ pub fn first_from<L: EntryPlaces>(list: &L, uid: u32) -> usize
     low
 }
 
-/// Whether the UID at a place is below this one.
+/// Whether the UID at `place` is below `uid`.
 fn is_below<L: EntryPlaces>(list: &L, place: usize, uid: u32) -> bool
     requires { place < length (L.entries list.now) }
     ensures { (d : ListingEntry) → result ≡ ltb (get_or (L.entries list.now) place d).uid uid }

@@ -1,4 +1,4 @@
-//! Entries as they are kept.
+//! `EntryTable`: a mailbox's entries as they are stored.
 
 ghost use Rattle.std.specs.Prelude.{◌≡◌, ◌≤◌, ◌<◌, [], IfOk, OnOk, length, set};
 
@@ -13,14 +13,14 @@ use std::alloc::{AllocError, Global};
 use std::marker::Model;
 use tags_clocks::OpId;
 
-/// A mailbox's entries by ascending UID, with their UIDs by origin, and by mod-sequence.
+/// A mailbox's entries by ascending UID, with indexes by origin and by mod-sequence.
 pub struct EntryTable {
     list: ChunkList<ListingEntry>,
     uids: IndexMap<OpId, u32>,
     changes: ModSeqLog,
 }
 
-// By hand, so that crates above let it go as a whole.
+// By hand, so that crates above drop it whole.
 impl Drop for EntryTable {
     fn drop(self) {
         let Self {
@@ -46,7 +46,7 @@ impl Model for EntryTable {
 }
 
 impl EntryTable {
-    /// No entries.
+    /// A table without entries.
     pub fn new(alloc: Global) -> EntryTable
         ensures { result.entries ≡ [] }
     {
@@ -57,8 +57,9 @@ impl EntryTable {
         }
     }
 
-    /// Room for so many edits more; `Err` where there is no memory. The entries stay, and no room is lost. Cost: now and then, behind about
-    /// as many edits as there are entries, a sort of all of them by mod-sequence.
+    /// Makes room for `edits` further edits; `Err` if memory runs out. The entries stay, and no
+    /// room is lost. Cost: now and then, after about as many edits as there are entries, a sort of
+    /// all entries by mod-sequence.
     pub fn reserve(&mut self, alloc: Global, edits: usize) -> Result<(), AllocError>
         ensures entries { self.new.entries ≡ self.old.entries }
         ensures ok { OnOk result (edits ≤ self.new.room) }
@@ -69,8 +70,8 @@ impl EntryTable {
         self.changes.ready(alloc, &self.list, edits)
     }
 
-    /// The entries with no edits over them yet. They can be edited there and stay as they are here. `Err` where there is no
-    /// memory.
+    /// An overlay of the entries, without edits yet: edits there leave this table unchanged. `Err`
+    /// if memory runs out.
     pub fn overlay(&self, alloc: Global) -> Result<EntryOverlay<'_>, AllocError>
         ensures { IfOk result (λ over. over.entries ≡ self.now.entries) }
     {
@@ -124,7 +125,7 @@ impl EntryList for EntryTable {
     }
 }
 
-/// Puts an entry of these in the place of another.
+/// Replaces the entry at `place` by one with these numbers.
 fn put_at(list: &mut ChunkList<ListingEntry>, place: usize, origin: &OpId, uid: u32, modseq: u64)
     requires { place < length list.old.items }
     ensures items { list.new.items ≡ set list.old.items place (record { origin = origin.now; uid = uid; modseq = modseq }) }

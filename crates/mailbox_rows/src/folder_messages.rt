@@ -1,4 +1,5 @@
-//! A folder's messages, lent by what keeps them.
+//! A folder's messages: borrowed from the tables that store them, or owned after pending
+//! operations.
 
 ghost use Rattle.std.specs.Prelude.{◌≡◌, Some, IfSome, option_map};
 ghost use Rattle.mailbox_rows.specs.RowViews.{head_of, listed_head, listed_message};
@@ -18,37 +19,38 @@ pub struct DatedText {
     pub text: Text,
 }
 
-// By hand, so that crates above let it go as a whole.
+// By hand, so that crates above drop it whole.
 impl Drop for DatedText {
     fn drop(self) {
         let Self { date: _, text: _ } = self;
     }
 }
 
-/// A folder's messages as they are kept, lent. Versions stand apart from dates and texts, since an origin's Append may come after a
-/// Store that names it, and may be of another folder.
+/// A folder's stored messages, borrowed. Versions are apart from dates and texts, since an origin's
+/// Append may come after a Store that names it, and may be of another folder.
 #[derive(Clone, Copy)]
 pub struct FolderMessages<'a> {
-    /// The versions of each message by its origin, ascending by id; None where the folder has no messages.
+    /// The versions of each message by its origin, ascending by id; None if the folder has no
+    /// messages.
     pub messages: Option<&'a IndexMap<OpId, Vec<Version>>>,
-    /// The dates and texts of all Appends, by their ids.
+    /// The dates and texts of all applied Appends, by their ids.
     pub letters: &'a IndexMap<OpId, DatedText>,
 }
 
-/// A message as operations to come leave it, with versions of its own.
+/// A message as pending operations leave it, with versions of its own.
 #[derive(Drop)]
 pub struct OwnedMessage<'a> {
     /// Its versions, ascending by id.
     pub versions: Vec<Version>,
-    /// When it was received; None where nothing tells it.
+    /// When it was received; None if its Append wasn't applied.
     pub date: Option<&'a DateTime>,
-    /// Its octets; None where nothing tells them.
+    /// Its octets; None if its Append wasn't applied.
     pub text: Option<&'a Text>,
 }
 
 impl<'a> FolderMessages<'a> {
-    /// The row of an entry, where its message is kept. Cost: two look-ups, by place where the messages stand in the tables as
-    /// their UIDs count them, else by hash.
+    /// The row of an entry; None if the tables don't have its message. Cost: two look-ups, each by
+    /// place if the messages are in the tables in the order of their UIDs, else by hash.
     pub fn row(&self, entry: &ListingEntry) -> Option<Row<'a>>
         ensures { option_map listed_message result ≡ option_map (with_numbers entry.now) (kept_message_data self.now entry.now.origin) }
     {
@@ -58,7 +60,8 @@ impl<'a> FolderMessages<'a> {
         }
     }
 
-    /// The head of an entry's row, where its message is kept. Cost: one such look-up.
+    /// The head of an entry's row; None if the tables don't have its message. Cost: one look-up, as
+    /// in `row`.
     #[inline(always)]
     pub fn head(&self, entry: &ListingEntry) -> Option<RowHead<'a>>
         ensures { option_map listed_head result ≡ option_map (λ message_data_of. head_of (with_numbers entry.now message_data_of)) (kept_message_data self.now entry.now.origin) }
@@ -71,14 +74,14 @@ impl<'a> FolderMessages<'a> {
 }
 
 impl OwnedMessage<'_> {
-    /// The head of an entry's row with this message, lent.
+    /// The head of an entry's row with this message.
     pub fn head(&self, entry: &ListingEntry) -> RowHead<'_>
         ensures { listed_head result ≡ head_of (with_numbers entry.now (owned_message_data self.now)) }
     {
         head_with(entry, Versions::new(&self.versions))
     }
 
-    /// The row of an entry with this message, lent.
+    /// The row of an entry with this message.
     pub fn row(&self, entry: &ListingEntry) -> Row<'_>
         ensures { listed_message result ≡ with_numbers entry.now (owned_message_data self.now) }
     {
@@ -105,7 +108,7 @@ pub(crate) fn head_with<'a>(entry: &ListingEntry, versions: Versions<'a>) -> Row
     }
 }
 
-/// The row of an entry of which nothing is told.
+/// The row of an entry whose message is unknown: no versions, no date, no text.
 pub(crate) fn bare_row(entry: &ListingEntry) -> Row<'static>
     ensures { listed_message result ≡ with_numbers entry.now no_message_data }
 {
@@ -119,7 +122,7 @@ pub(crate) fn bare_row(entry: &ListingEntry) -> Row<'static>
     }
 }
 
-/// The versions of the message of an entry, where it has any.
+/// The versions of an entry's message, if there is a table that has it.
 #[inline(always)]
 fn lent_versions<'a>(
     messages: Option<&'a IndexMap<OpId, Vec<Version>>>,
@@ -146,8 +149,9 @@ fn versions_at<'a>(
     }
 }
 
-/// What a table has under the origin of an entry: one look where it stands in the table as its UID counts it, as most do while
-/// all that the table has came into this mailbox and little was taken out; else a look-up by hash.
+/// The value of a table under an entry's origin. Cost: one access by place if the entry is where
+/// its UID puts it, as most are while every item of the table came into this mailbox and few were
+/// taken out; else a look-up by hash.
 #[inline(always)]
 fn look_up<'a, V>(table: &'a IndexMap<OpId, V>, entry: &ListingEntry) -> Option<&'a V>
     ensures { option_map (λ value. value.now) result ≡ entry_under entry.now.origin table.now.entries }
@@ -158,7 +162,7 @@ fn look_up<'a, V>(table: &'a IndexMap<OpId, V>, entry: &ListingEntry) -> Option<
     }
 }
 
-/// The same, where it stands behind as many others as there are UIDs below its own.
+/// The value of a table under an entry's origin, if its place there is its UID less 1.
 #[inline(always)]
 fn look_up_near<'a, V>(table: &'a IndexMap<OpId, V>, entry: &ListingEntry) -> Option<&'a V>
     ensures { IfSome result (λ value. entry_under entry.now.origin table.now.entries ≡ Some value.now) }
@@ -171,7 +175,7 @@ fn look_up_near<'a, V>(table: &'a IndexMap<OpId, V>, entry: &ListingEntry) -> Op
     }
 }
 
-/// The row of an entry with these versions, and the date and text of this Append.
+/// The row of an entry with these versions, and the date and text of its Append, if applied.
 fn with_letter<'a>(
     entry: &ListingEntry,
     versions: Versions<'a>,

@@ -1,4 +1,4 @@
-//! The messages of a listing.
+//! `Rows`: the messages of a listing, by ascending UID.
 
 ghost use Rattle.std.specs.Prelude.{◌≡◌, ◌≤◌, ◌<◌, ◌++◌, ◌∷◌, [], true, ltb, length, map, drop, get_or, is_some, option_map, IfOk, OnOk};
 ghost use Rattle.std.specs.List.{slice_get};
@@ -15,9 +15,9 @@ use std::marker::Model;
 /// Where the messages of a listing are.
 #[derive(Drop)]
 enum Source<'a> {
-    /// Made one by one.
+    /// In a list of owned rows.
     Made(Vec<OwnedRow<'a>>),
-    /// Seen through a window.
+    /// In a mailbox, through a window.
     Seen(Window<'a>),
 }
 
@@ -26,7 +26,7 @@ pub struct Rows<'a> {
     source: Source<'a>,
 }
 
-// By hand, so that crates above let them go as a whole.
+// By hand, so that crates above drop it whole.
 impl<'a> Drop for Rows<'a> {
     fn drop(self) {
         let Self { source: _ } = self;
@@ -48,7 +48,7 @@ impl<'a> Model for Rows<'a> {
 }
 
 impl<'a> Rows<'a> {
-    /// No messages.
+    /// A listing without messages.
     pub fn none(alloc: Global) -> Rows<'a>
         ensures { result ≡ [] }
     {
@@ -57,7 +57,7 @@ impl<'a> Rows<'a> {
         }
     }
 
-    /// These messages, whose UIDs ascend strictly from 1 on.
+    /// A listing of these messages, whose UIDs ascend strictly from 1.
     pub fn from_ascending(rows: Vec<OwnedRow<'a>>) -> Rows<'a>
         requires { AreRisingRows 1 (map owned_message rows.items) }
         ensures { result ≡ map owned_message rows.entry.items }
@@ -67,7 +67,7 @@ impl<'a> Rows<'a> {
         }
     }
 
-    /// What a window shows. It takes no memory.
+    /// The listing that a window shows. Takes no memory.
     pub fn of_window(window: Window<'a>) -> Rows<'a>
         ensures { result ≡ window.entry }
     {
@@ -77,7 +77,7 @@ impl<'a> Rows<'a> {
         }
     }
 
-    /// How many there are. Their UIDs ascend strictly.
+    /// The number of messages. Their UIDs ascend strictly.
     pub fn count(&self) -> u32
         ensures count { result ≡ length self.now }
         ensures rising { AreRisingRows 1 self.now }
@@ -90,14 +90,14 @@ impl<'a> Rows<'a> {
         }
     }
 
-    /// The message at this place, from 0, by ascending UIDs.
+    /// The message at `place`, from 0, by ascending UID; `None` if the listing is shorter.
     pub fn row_at(&self, place: usize) -> Option<Row<'_>>
         ensures { option_map listed_message result ≡ slice_get self.now place }
     {
         row_in(&self.source, place)
     }
 
-    /// The message with this UID, if it is there: a binary search.
+    /// The message with this UID, if it exists, by a binary search.
     pub fn row_of(&self, uid: u32) -> Option<Row<'_>>
         ensures { option_map listed_message result ≡ row_of uid self.now }
     {
@@ -107,8 +107,8 @@ impl<'a> Rows<'a> {
         }
     }
 
-    /// The message with this UID, if it is there: one look where it stands at this place, from 0, as it does where the listing is that of the view
-    /// that counts it so, and else a binary search.
+    /// The message with this UID, if it exists. Looks first at `place`, from 0, where it is if the
+    /// view that counted it shows the same messages as the listing; else by a binary search.
     pub fn row_near(&self, place: usize, uid: u32) -> Option<Row<'_>>
         ensures { option_map listed_message result ≡ row_of uid self.now }
     {
@@ -125,7 +125,8 @@ impl<'a> Rows<'a> {
         }
     }
 
-    /// The head of the row of the message with this UID, if it is there, by the same looks, without one at its date and text.
+    /// The head of the row of the message with this UID, if it exists, found as by `row_near` but
+    /// without a look at its date and text.
     #[inline(always)]
     pub fn head_near(&self, place: usize, uid: u32) -> Option<RowHead<'_>>
         ensures { option_map listed_head result ≡ option_map head_of (row_of uid self.now) }
@@ -143,14 +144,16 @@ impl<'a> Rows<'a> {
         }
     }
 
-    /// Whether the message with this UID is there, by the same looks, of which none is at the message itself.
+    /// Whether a message with this UID exists, found as by `row_near`; only UIDs are read at
+    /// `place`.
     pub fn has_near(&self, place: usize, uid: u32) -> bool
         ensures { result ≡ is_some (row_of uid self.now) }
     {
         self.stands_at(place, uid) || self.row_of(uid).is_some()
     }
 
-    /// How many messages have no UID above this one: the place of the first that has. A binary search.
+    /// The number of messages with this UID or a lower one, which is the place of the first with a
+    /// higher one. A binary search.
     pub fn place_after_uid(&self, uid: u32) -> usize
         ensures bound { result ≤ length self.now }
         ensures beyond { drop result self.now ≡ rows_after_uid uid self.now }
@@ -158,8 +161,9 @@ impl<'a> Rows<'a> {
         self.first_from(u64::from(uid) + 1)
     }
 
-    /// Those whose mod-sequences are above this one (RFC 7162, section 3.1.4); `Err` where there is no memory for them.
-    /// Cost: through a window, that of `Window::changed_since`; else one pass over them.
+    /// The messages whose mod-sequences are above this one (RFC 7162, section 3.1.4); `Err` if
+    /// memory runs out. Cost: through a window, that of `Window::changed_since`; else one pass over
+    /// the rows.
     pub fn changed_since(&self, alloc: Global, modseq: u64) -> Result<Rows<'a>, AllocError>
         ensures { IfOk result (λ rows. rows ≡ changed_since modseq self.now) }
     {
@@ -168,7 +172,7 @@ impl<'a> Rows<'a> {
         Ok(Rows::from_ascending(kept))
     }
 
-    /// The head of the row at a place.
+    /// The head of the row at `place`.
     #[inline(always)]
     fn head_at(&self, place: usize) -> Option<RowHead<'_>>
         ensures { option_map listed_head result ≡ option_map head_of (slice_get self.now place) }
@@ -176,7 +180,7 @@ impl<'a> Rows<'a> {
         head_in(&self.source, place)
     }
 
-    /// The head of the row of the message with this UID, if it is there: a binary search.
+    /// The head of the row of the message with this UID, if it exists, by a binary search.
     #[inline(never)]
     fn search_head(&self, uid: u32) -> Option<RowHead<'_>>
         ensures { option_map listed_head result ≡ option_map head_of (row_of uid self.now) }
@@ -187,7 +191,7 @@ impl<'a> Rows<'a> {
         }
     }
 
-    /// How many there are. Their UIDs ascend strictly.
+    /// The number of messages. Their UIDs ascend strictly.
     fn len(&self) -> usize
         ensures len { result ≡ length self.now }
         ensures rising { AreRisingRows 1 self.now }
@@ -195,7 +199,7 @@ impl<'a> Rows<'a> {
         len_of(&self.source)
     }
 
-    /// Whether the message at this place has this UID.
+    /// Whether the message at `place` has this UID.
     fn stands_at(&self, place: usize, uid: u32) -> bool
         ensures { result ≡ true → is_some (row_of uid self.now) ≡ true }
     {
@@ -206,21 +210,21 @@ impl<'a> Rows<'a> {
         }
     }
 
-    /// The UID at a place.
+    /// The UID at `place`.
     fn uid_at(&self, place: usize) -> Option<u32>
         ensures { result ≡ option_map (λ row. row.uid) (slice_get self.now place) }
     {
         uid_in(&self.source, place)
     }
 
-    /// The message at a place, to be held; `Err` where there is no memory for versions of its own.
+    /// The message at `place` as an owned row; `Err` if memory runs out for copies of its versions.
     fn owned_row_at(&self, alloc: Global, place: usize) -> Result<Option<OwnedRow<'a>>, AllocError>
         ensures { IfOk result (λ row. option_map owned_message row ≡ slice_get self.now place) }
     {
         owned_row_in(alloc, &self.source, place)
     }
 
-    /// The last UID of so many, 0 where there is none.
+    /// The UID of the last of `len` messages; 0 if there are none.
     fn last_uid(&self, len: usize) -> u32
         requires { len ≡ length self.now }
         ensures { result ≡ last_uid 0 self.now }
@@ -253,7 +257,7 @@ impl<'a> Rows<'a> {
         low
     }
 
-    /// Whether the UID at a place is below this number.
+    /// Whether the UID at `place` is below `uid`.
     fn is_below(&self, place: usize, uid: u64) -> bool
         requires { place < length self.now }
         ensures { (d : ListedMessage) → result ≡ ltb (get_or self.now place d).uid uid }
@@ -265,7 +269,7 @@ impl<'a> Rows<'a> {
     }
 }
 
-/// How many there are.
+/// The number of messages of a source.
 fn len_of(source: &Source<'_>) -> usize
     ensures { result ≡ length (source_rows source.now) }
 {
@@ -275,7 +279,7 @@ fn len_of(source: &Source<'_>) -> usize
     }
 }
 
-/// The row at a place.
+/// The row of a source at `place`.
 fn row_in<'r>(source: &'r Source<'_>, place: usize) -> Option<Row<'r>>
     ensures { option_map listed_message result ≡ slice_get (source_rows source.now) place }
 {
@@ -285,7 +289,7 @@ fn row_in<'r>(source: &'r Source<'_>, place: usize) -> Option<Row<'r>>
     }
 }
 
-/// The row of a slice at a place.
+/// The row of a slice at `place`.
 fn slice_row<'r>(rows: &'r [OwnedRow<'_>], place: usize) -> Option<Row<'r>>
     ensures { option_map listed_message result ≡ slice_get (map owned_message rows.now) place }
 {
@@ -295,7 +299,7 @@ fn slice_row<'r>(rows: &'r [OwnedRow<'_>], place: usize) -> Option<Row<'r>>
     }
 }
 
-/// The head of the row at a place.
+/// The head of a source's row at `place`.
 #[inline(always)]
 fn head_in<'r>(source: &'r Source<'_>, place: usize) -> Option<RowHead<'r>>
     ensures { option_map listed_head result ≡ option_map head_of (slice_get (source_rows source.now) place) }
@@ -306,7 +310,7 @@ fn head_in<'r>(source: &'r Source<'_>, place: usize) -> Option<RowHead<'r>>
     }
 }
 
-/// The head of the row of a slice at a place.
+/// The head of a slice's row at `place`.
 fn slice_head<'r>(rows: &'r [OwnedRow<'_>], place: usize) -> Option<RowHead<'r>>
     ensures { option_map listed_head result ≡ option_map head_of (slice_get (map owned_message rows.now) place) }
 {
@@ -316,7 +320,7 @@ fn slice_head<'r>(rows: &'r [OwnedRow<'_>], place: usize) -> Option<RowHead<'r>>
     }
 }
 
-/// The UID at a place.
+/// The UID of a source's message at `place`.
 fn uid_in(source: &Source<'_>, place: usize) -> Option<u32>
     ensures { result ≡ option_map (λ row. row.uid) (slice_get (source_rows source.now) place) }
 {
@@ -326,7 +330,7 @@ fn uid_in(source: &Source<'_>, place: usize) -> Option<u32>
     }
 }
 
-/// The UID of a row of a slice.
+/// The UID of a slice's row at `place`.
 fn slice_uid(rows: &[OwnedRow<'_>], place: usize) -> Option<u32>
     ensures { result ≡ option_map (λ row. row.uid) (slice_get (map owned_message rows.now) place) }
 {
@@ -336,7 +340,7 @@ fn slice_uid(rows: &[OwnedRow<'_>], place: usize) -> Option<u32>
     }
 }
 
-/// The row at a place, to be held.
+/// The owned row of a source at `place`; `Err` if memory runs out for copies of its versions.
 fn owned_row_in<'a>(
     alloc: Global,
     source: &Source<'a>,
@@ -350,7 +354,7 @@ fn owned_row_in<'a>(
     }
 }
 
-/// The row of a slice at a place, once more.
+/// A copy of a slice's row at `place`; `Err` if memory runs out for copies of its versions.
 fn slice_owned_row<'a>(
     alloc: Global,
     rows: &[OwnedRow<'a>],
@@ -367,7 +371,7 @@ fn slice_owned_row<'a>(
     }
 }
 
-/// The rows whose mod-sequences are above this one, to be held.
+/// A source's rows whose mod-sequences are above `modseq`, owned; `Err` if memory runs out.
 fn changed_rows_in<'a>(
     alloc: Global,
     source: &Source<'a>,
@@ -381,7 +385,7 @@ fn changed_rows_in<'a>(
     }
 }
 
-/// Those of a slice, once more.
+/// Copies of a slice's rows whose mod-sequences are above `modseq`; `Err` if memory runs out.
 fn slice_changed_rows<'a>(
     alloc: Global,
     rows: &[OwnedRow<'a>],
@@ -396,7 +400,7 @@ fn slice_changed_rows<'a>(
     Ok(kept)
 }
 
-/// Puts a row behind the others, once more, where its mod-sequence is above this one.
+/// Appends a copy of `row` if its mod-sequence is above `modseq`; `Err` if memory runs out.
 fn push_changed<'a>(
     alloc: Global,
     kept: &mut Vec<OwnedRow<'a>>,

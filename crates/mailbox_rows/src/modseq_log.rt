@@ -1,4 +1,4 @@
-//! Entries by mod-sequence: which entry got which.
+//! `ModSeqLog`: which entry got which mod-sequence, in that order.
 
 ghost use Rattle.std.specs.Prelude.{◌≡◌, ◌≤◌, ◌<◌, ◌-◌, ◌++◌, [], true, leb, length, get_or, IfOk, OnOk};
 ghost use Rattle.mailbox_rows.specs.declared.entry.ListingEntry.{ListingEntry};
@@ -11,24 +11,25 @@ use chunk_list::ChunkList;
 use std::alloc::{AllocError, Global};
 use std::marker::Model;
 
-/// The least number of changes that find room beside those that were asked for.
+/// The number of changes, beyond those asked for, that always get room.
 const SPARE: usize = 8;
 
-/// That the entry with this UID got this mod-sequence.
+/// A change: the entry with this UID got this mod-sequence.
 #[derive(Clone, Copy)]
 pub struct ModSeqChange {
     pub modseq: u64,
     pub uid: u32,
 }
 
-/// Which entry got which mod-sequence, in that order. What an entry got before its last one stays until the list is made anew.
+/// Which entry got which mod-sequence, by ascending mod-sequence. Earlier changes of an entry stay
+/// until the log is rebuilt.
 pub struct ModSeqLog {
     list: Vec<ModSeqChange>,
-    /// Whether none was left out, for want of room or of order.
+    /// Whether every change is in the list; one is left out if it finds no room or is out of order.
     is_whole: bool,
 }
 
-// By hand, so that crates above let it go as a whole.
+// By hand, so that crates above drop it whole.
 impl Drop for ModSeqLog {
     fn drop(self) {
         let Self {
@@ -49,7 +50,7 @@ impl Model for ModSeqLog {
 }
 
 impl ModSeqLog {
-    /// No changes.
+    /// A log without changes.
     pub fn new(alloc: Global) -> ModSeqLog
         ensures list { result.list ≡ [] }
         ensures whole { result.is_whole ≡ true }
@@ -60,22 +61,23 @@ impl ModSeqLog {
         }
     }
 
-    /// Whether none was left out.
+    /// Whether no change was left out.
     pub fn is_whole(&self) -> bool
         ensures { result ≡ self.now.is_whole }
     {
         self.is_whole
     }
 
-    /// Room for so many changes more; `Err` where there is no memory. The changes stay.
+    /// Makes room for `changes` further changes; `Err` if memory runs out. The changes stay.
     pub fn reserve(&mut self, changes: usize) -> Result<(), AllocError>
         ensures { self.new ≡ self.old }
     {
         self.list.reserve(changes)
     }
 
-    /// Room for so many changes more to these entries. The changes are made anew where one was left out, or where there are more than two
-    /// for each entry, so that a change costs no more than its place among them. `Err` where there is no memory, and then they stay.
+    /// Makes room for `changes` further changes to these entries. The log is rebuilt if a change
+    /// was left out, or if there are more than two changes for each entry, so that a change costs
+    /// no more than its slot. `Err` if memory runs out; the log then stays correct.
     pub fn ready(
         &mut self,
         alloc: Global,
@@ -90,7 +92,8 @@ impl ModSeqLog {
         self.list.reserve(changes.saturating_add(SPARE))
     }
 
-    /// The entry with this UID got this mod-sequence. Where there is no room for it, or a greater one was noted, it is left out.
+    /// Notes that the entry with this UID got this mod-sequence. The change is left out if there is
+    /// no room for it or a greater mod-sequence was noted.
     pub fn note(&mut self, modseq: u64, uid: u32)
         ensures others { self.new.is_whole ≡ true → (self.old.is_whole ≡ true) × ((e : ListingEntry) → IsLogged self.old.list e → IsLogged self.new.list e) }
         ensures own { self.new.is_whole ≡ true → (e : ListingEntry) → e.modseq ≡ modseq → e.uid ≡ uid → IsLogged self.new.list e }
@@ -102,7 +105,8 @@ impl ModSeqLog {
         }
     }
 
-    /// The UIDs of the changes to mod-sequences above this one, put behind the others. Cost: a binary search, and the UIDs that it gives.
+    /// Appends the UIDs of the changes to mod-sequences above `modseq`; `Err` if memory runs out.
+    /// Cost: a binary search, and the UIDs that it appends.
     pub fn push_uids(&self, modseq: u64, uids: &mut Vec<u32>) -> Result<(), AllocError>
         ensures { OnOk result (uids.new.items ≡ uids.old.items ++ uids_above modseq self.now.list) }
     {
@@ -114,7 +118,8 @@ impl ModSeqLog {
     }
 }
 
-/// Whether no change is to a greater mod-sequence than this one: they ascend.
+/// Whether no change is to a greater mod-sequence than `modseq`. The list ascends, so the last
+/// decides.
 fn is_next(list: &[ModSeqChange], modseq: u64) -> bool
     ensures { result ≡ true → (d : ModSeqChange) → 0 < length list.now → (get_or list.now (length list.now - 1) d).modseq ≤ modseq }
 {
@@ -122,7 +127,8 @@ fn is_next(list: &[ModSeqChange], modseq: u64) -> bool
     count == 0 || list[count - 1].modseq <= modseq
 }
 
-/// The changes by which these entries got their mod-sequences; `Err` where there is no memory for them. Cost: a sort.
+/// A log of the changes by which these entries got their mod-sequences; `Err` if memory runs out.
+/// Cost: a sort.
 fn rebuilt_log(alloc: Global, entries: &ChunkList<ListingEntry>) -> Result<ModSeqLog, AllocError>
     ensures { IfOk result (λ changes. AreLogged changes.list entries.now.items) }
 {
@@ -134,7 +140,8 @@ fn rebuilt_log(alloc: Global, entries: &ChunkList<ListingEntry>) -> Result<ModSe
     })
 }
 
-/// The same in the entries' order.
+/// The changes by which these entries got their mod-sequences, by ascending UID; `Err` if memory
+/// runs out.
 fn changes_of(
     alloc: Global,
     entries: &ChunkList<ListingEntry>,
@@ -151,7 +158,7 @@ fn changes_of(
     Ok(list)
 }
 
-/// The place of the first change to a mod-sequence above this one.
+/// The place of the first change to a mod-sequence above `modseq`; the length if there is none.
 fn first_above(list: &[ModSeqChange], modseq: u64) -> usize
     ensures within { result ≤ length list.now }
     ensures edge { (d : ModSeqChange) → IsEdge (λ i. leb (get_or list.now i d).modseq modseq) (length list.now) result }

@@ -1,4 +1,4 @@
-//! Entries as operations to come would leave them.
+//! `EntryOverlay`: a mailbox's entries as pending operations will leave them.
 
 ghost use Rattle.std.specs.Prelude.{◌≡◌, ◌≤◌, IfOk, OnOk};
 ghost use Rattle.mailbox_rows.specs.ModSeqLog.{AreLoggedIn, changed_since};
@@ -17,7 +17,7 @@ use std::alloc::{AllocError, Global};
 use std::marker::Model;
 use tags_clocks::OpId;
 
-/// A mailbox's entries with edits over them; what keeps them stays as it is.
+/// A mailbox's entries with edits over them; the table below stays unchanged.
 pub struct EntryOverlay<'a> {
     list: PatchedList<'a, ListingEntry>,
     kept: &'a IndexMap<OpId, u32>,
@@ -26,7 +26,7 @@ pub struct EntryOverlay<'a> {
     own_changes: ModSeqLog,
 }
 
-// By hand, so that crates above let it go as a whole.
+// By hand, so that crates above drop it whole.
 impl<'a> Drop for EntryOverlay<'a> {
     fn drop(self) {
         let Self {
@@ -53,7 +53,7 @@ impl<'a> Model for EntryOverlay<'a> {
 }
 
 impl<'a> EntryOverlay<'a> {
-    /// These entries, with no edits yet.
+    /// An overlay of these entries, without edits yet. `Err` if memory runs out.
     pub(crate) fn new(
         alloc: Global,
         list: &'a ChunkList<ListingEntry>,
@@ -77,14 +77,15 @@ impl<'a> EntryOverlay<'a> {
         })
     }
 
-    /// Their UIDs ascend strictly.
+    /// The entries' UIDs ascend strictly.
     pub fn prove_ascending(&self)
         ensures { AreRising 1 self.now.entries }
     {
         let _list = &self.list;
     }
 
-    /// Room for so many edits more; `Err` where there is no memory. The entries stay, and no room is lost.
+    /// Makes room for `edits` further edits; `Err` if memory runs out. The entries stay, and no
+    /// room is lost.
     pub fn reserve(&mut self, edits: usize) -> Result<(), AllocError>
         ensures entries { self.new.entries ≡ self.old.entries }
         ensures ok { OnOk result (HasEdits self.new edits) }
@@ -96,8 +97,9 @@ impl<'a> EntryOverlay<'a> {
         self.list.reserve(edits)
     }
 
-    /// The entries whose mod-sequences are above this one; `Err` where there is no memory for them. Cost: the changes to greater
-    /// mod-sequences and a search for each, and where one was left out for want of room, one pass over the entries.
+    /// The entries whose mod-sequences are above `modseq`; `Err` if memory runs out. Cost: the
+    /// changes to greater mod-sequences, with a search for each; if a change was left out of a log,
+    /// one pass over the entries.
     pub fn changed_since(&self, alloc: Global, modseq: u64) -> Result<Vec<ListingEntry>, AllocError>
         ensures { IfOk result (λ found. found.items ≡ changed_since modseq self.now.entries) }
     {
@@ -165,7 +167,7 @@ impl<'a> EntryList for EntryOverlay<'a> {
     }
 }
 
-/// What the first index tells of an origin, and else the second.
+/// The UID of an origin by the first index that has it.
 fn uid_over(own: &IndexMap<OpId, u32>, kept: &IndexMap<OpId, u32>, origin: &OpId) -> Option<u32>
     ensures { result ≡ indexed_over own.now.entries kept.now.entries origin.now }
 {

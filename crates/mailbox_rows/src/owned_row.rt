@@ -1,4 +1,4 @@
-//! A row of a listing as it is kept.
+//! `OwnedRow`: a row of a listing whose versions may be its own.
 
 ghost use Rattle.std.specs.Prelude.{◌≡◌, IfOk};
 ghost use Rattle.mailbox_rows.specs.RowViews.{owned_message, listed_message, owned_versions};
@@ -8,8 +8,8 @@ use imap_types::{DateTime, Text, Version, Versions, copy_versions};
 use std::alloc::{AllocError, Global};
 use tags_clocks::OpId;
 
-/// A message of a mailbox's listing as the listing keeps it: its versions lent, or its own where operations to come change
-/// them.
+/// A message of a mailbox's listing, with borrowed versions, or with its own if pending operations
+/// change them.
 #[derive(Drop)]
 pub struct OwnedRow<'a> {
     /// Its UID, from 1 to 4,294,967,294 (RFC 9051, section 2.3.1.1).
@@ -20,23 +20,23 @@ pub struct OwnedRow<'a> {
     pub origin: OpId,
     /// Its versions, ascending by id, one at least.
     pub versions: VersionsCow<'a>,
-    /// When it was received (RFC 9051, section 2.3.3); None where nothing tells it.
+    /// When it was received (RFC 9051, section 2.3.3); None if its Append wasn't applied.
     pub date: Option<&'a DateTime>,
-    /// Its octets; None where nothing tells them.
+    /// Its octets; None if its Append wasn't applied.
     pub text: Option<&'a Text>,
 }
 
-/// The versions of a message of a listing.
+/// The versions of a message of a listing, borrowed or owned.
 #[derive(Drop)]
 pub enum VersionsCow<'a> {
-    /// Lent by what keeps the message.
+    /// Borrowed from the tables that store the message.
     Lent(Versions<'a>),
-    /// The listing's own, ascending by id: what they are after operations to come.
+    /// The row's own, ascending by id: the versions that pending operations leave.
     Own(Vec<Version>),
 }
 
 impl<'a> OwnedRow<'a> {
-    /// The row, lent.
+    /// The row, borrowed.
     pub fn row(&self) -> Row<'_>
         ensures { listed_message result ≡ owned_message self.now }
     {
@@ -50,7 +50,7 @@ impl<'a> OwnedRow<'a> {
         }
     }
 
-    /// The same row once more, its own versions copied; `Err` where there is no memory for them.
+    /// A copy of the row and of the versions it owns; `Err` if memory runs out.
     pub(crate) fn copy(&self, alloc: Global) -> Result<OwnedRow<'a>, AllocError>
         ensures { IfOk result (λ copied. owned_message copied ≡ owned_message self.now) }
     {
@@ -67,7 +67,7 @@ impl<'a> OwnedRow<'a> {
 }
 
 impl<'a> VersionsCow<'a> {
-    /// The versions, lent.
+    /// The versions, borrowed.
     pub fn as_versions(&self) -> Versions<'_>
         ensures { result.list.now ≡ owned_versions self.now }
     {
@@ -76,7 +76,8 @@ impl<'a> VersionsCow<'a> {
             VersionsCow::Own(versions) => Versions::new(versions),
         }
     }
-    /// The same once more: lent where they are lent, copies where they are its own; `Err` where there is no memory for these.
+    /// A copy: the same reference if borrowed, copies of the versions if owned; `Err` if memory
+    /// runs out.
     pub(crate) fn copy(&self, alloc: Global) -> Result<VersionsCow<'a>, AllocError>
         ensures { IfOk result (λ copied. owned_versions copied ≡ owned_versions self.now) }
     {

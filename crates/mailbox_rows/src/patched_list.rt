@@ -1,4 +1,4 @@
-//! Lists with edits of one's own.
+//! `PatchedList`: edits over a borrowed list.
 
 ghost use Rattle.std.specs.Prelude.{◌≡◌, ℕ, ◌+◌, ◌^◌, ◌<◌, ◌≤◌, [], ◌∷◌, ◌++◌, IfOk, OnOk, length, remove, set};
 ghost use Rattle.std.specs.List.{slice_get};
@@ -9,7 +9,7 @@ use chunk_list::ChunkList;
 use std::alloc::{AllocError, Global};
 use std::marker::Model;
 
-/// A list in chunks with edits of one's own.
+/// A borrowed list in chunks with edits over it; the list below stays unchanged.
 #[derive(Drop)]
 pub struct PatchedList<'a, T> {
     base: &'a ChunkList<T>,
@@ -29,7 +29,7 @@ impl<'a, T> Model for PatchedList<'a, T> {
 }
 
 impl<'a, T: Copy + Drop> PatchedList<'a, T> {
-    /// The list as it is lent, without edits. `Err` where there is no memory.
+    /// The list without edits. `Err` if memory runs out.
     pub fn new(alloc: Global, base: &'a ChunkList<T>) -> Result<PatchedList<'a, T>, AllocError>
         ensures { IfOk result (λ list. list.items ≡ base.now.items) }
     {
@@ -45,7 +45,8 @@ impl<'a, T: Copy + Drop> PatchedList<'a, T> {
         Ok(PatchedList { base, pieces, len })
     }
 
-    /// Room for so many edits more. `Err` where there is no memory for them. The items stay, and no room is lost.
+    /// Makes room for `edits` further edits; `Err` if memory runs out. The items stay, and no room
+    /// is lost.
     pub fn reserve(&mut self, edits: usize) -> Result<(), AllocError>
         ensures items { self.new.items ≡ self.old.items }
         ensures ok { OnOk result (HasRoom self.new edits) }
@@ -57,14 +58,14 @@ impl<'a, T: Copy + Drop> PatchedList<'a, T> {
         self.pieces.reserve(places)
     }
 
-    /// How many items it has.
+    /// The number of items.
     pub fn len(&self) -> usize
         ensures { result ≡ length self.now.items }
     {
         self.len
     }
 
-    /// The item behind so many others, where there is one.
+    /// The item at `index`, from 0; `None` if the list is shorter.
     #[inline(always)]
     pub fn get(&self, index: usize) -> Option<T>
         ensures { result ≡ slice_get self.now.items index }
@@ -75,7 +76,7 @@ impl<'a, T: Copy + Drop> PatchedList<'a, T> {
         pieces::item_in(self.base, &self.pieces, index)
     }
 
-    /// Puts an item in the place of another. There is room for the edit.
+    /// Replaces the item at `index`. There is room for the edit.
     pub fn replace(&mut self, index: usize, item: T)
         requires within { index < length self.old.items }
         requires room { HasRoom self.old 1 }
@@ -86,7 +87,7 @@ impl<'a, T: Copy + Drop> PatchedList<'a, T> {
         pieces::replace_piece(self.base, &mut self.pieces, index, at, item);
     }
 
-    /// Takes out the item behind so many others. There is room for the edit.
+    /// Takes out the item at `index`. There is room for the edit.
     pub fn remove(&mut self, index: usize)
         requires within { index < length self.old.items }
         requires room { HasRoom self.old 1 }
@@ -98,7 +99,7 @@ impl<'a, T: Copy + Drop> PatchedList<'a, T> {
         self.len -= 1;
     }
 
-    /// Puts an item behind all others. There is room for the edit.
+    /// Appends an item. There is room for the edit.
     pub fn push(&mut self, item: T)
         requires fits { length self.old.items < 2 ^ 32 }
         requires room { HasRoom self.old 1 }

@@ -1,4 +1,4 @@
-//! Pieces, and what is done in one of them.
+//! Pieces of a list with edits: runs of the list below and single new items, and how they are cut.
 
 ghost use Rattle.std.specs.Prelude.{◌≡◌, ℕ, ◌+◌, ◌-◌, ◌^◌, ◌<◌, ◌≤◌, [], ◌∷◌, ◌++◌, length, take, drop, map, remove, set, get_or, vec_len, vec_capacity};
 ghost use Rattle.std.specs.List.{insert, slice_get};
@@ -9,13 +9,13 @@ use chunk_list::ChunkList;
 /// Where the items of a piece come from.
 #[derive(Clone, Copy)]
 pub enum PieceSource<T> {
-    /// From this place of the list on.
+    /// From the list below, from this place on.
     Kept(usize),
-    /// This item alone.
+    /// One item of the piece's own.
     Own(T),
 }
 
-/// Items that stand one after another, and how many stand in front of them.
+/// `len` items one after another, and the number `start` of items before them.
 #[derive(Clone, Copy)]
 pub struct Piece<T> {
     pub start: usize,
@@ -23,7 +23,7 @@ pub struct Piece<T> {
     pub source: PieceSource<T>,
 }
 
-/// The piece that holds the item behind so many others.
+/// The place of the piece that has the item at `index`.
 #[inline(always)]
 pub fn piece_at<T>(base: &ChunkList<T>, pieces: &[Piece<T>], index: usize) -> usize
     requires pieces { ArePieces base.now.items 0 pieces.now }
@@ -43,7 +43,7 @@ pub fn piece_at<T>(base: &ChunkList<T>, pieces: &[Piece<T>], index: usize) -> us
     low
 }
 
-/// The item behind so many others.
+/// The item at `index`.
 #[inline(always)]
 pub fn item_in<T: Copy + Drop>(base: &ChunkList<T>, pieces: &[Piece<T>], index: usize) -> Option<T>
     requires pieces { ArePieces base.now.items 0 pieces.now }
@@ -58,7 +58,7 @@ pub fn item_in<T: Copy + Drop>(base: &ChunkList<T>, pieces: &[Piece<T>], index: 
     }
 }
 
-/// The item of a list so many places behind this one.
+/// The item of the list below that is `more` places after `from`.
 #[inline(always)]
 fn base_item<T: Copy + Drop>(base: &ChunkList<T>, from: usize, more: usize) -> Option<T>
     requires { from + more < length base.now.items }
@@ -68,7 +68,8 @@ fn base_item<T: Copy + Drop>(base: &ChunkList<T>, from: usize, more: usize) -> O
     base.get(from + more).copied()
 }
 
-/// Lets the piece at this place have so many items, and the next one the others. There is room for one piece more.
+/// Cuts the piece at `at` in two, of which the first has `count` items. There is room for another
+/// piece.
 fn split_piece<T: Copy + Drop>(
     base: &ChunkList<T>,
     pieces: &mut Vec<Piece<T>>,
@@ -98,7 +99,7 @@ fn split_piece<T: Copy + Drop>(
     };
 }
 
-/// Puts a piece in at a place. There is room for it.
+/// Inserts a piece at a place. There is room for it.
 fn put_in<T: Copy + Drop>(pieces: &mut Vec<Piece<T>>, at: usize, piece: Piece<T>)
     requires within { at ≤ vec_len pieces.old }
     requires room { vec_len pieces.old < vec_capacity pieces.old }
@@ -111,7 +112,7 @@ fn put_in<T: Copy + Drop>(pieces: &mut Vec<Piece<T>>, at: usize, piece: Piece<T>
     }
 }
 
-/// What is left of a piece behind so many of its items.
+/// The piece without its first `count` items.
 fn piece_after<T: Copy + Drop>(base: &ChunkList<T>, piece: Piece<T>, count: usize) -> Piece<T>
     requires piece { (n : ℕ) × IsPiece base.now.items n piece }
     requires some { 0 < count }
@@ -133,7 +134,8 @@ fn piece_after<T: Copy + Drop>(base: &ChunkList<T>, piece: Piece<T>, count: usiz
     }
 }
 
-/// Lets the item behind so many others stand in a piece of its own, and gives its place. There is room for two pieces more.
+/// Cuts the pieces so that the item at `index` is a piece by itself, and returns that piece's
+/// place. There is room for two further pieces.
 pub fn isolate<T: Copy + Drop>(
     base: &ChunkList<T>,
     pieces: &mut Vec<Piece<T>>,
@@ -156,7 +158,8 @@ pub fn isolate<T: Copy + Drop>(
     first
 }
 
-/// Lets a piece begin behind so many items of the one at this place, and gives its place. There is room for one piece more.
+/// Cuts the piece at `at` so that a piece begins after `front` of its items, and returns the place
+/// of that one. There is room for another piece.
 fn cut_front<T: Copy + Drop>(
     base: &ChunkList<T>,
     pieces: &mut Vec<Piece<T>>,
@@ -182,7 +185,7 @@ fn cut_front<T: Copy + Drop>(
     at + 1
 }
 
-/// Lets the piece at this place have one item. There is room for one piece more.
+/// Cuts the piece at `at` after its first item. There is room for another piece.
 fn cut_after<T: Copy + Drop>(base: &ChunkList<T>, pieces: &mut Vec<Piece<T>>, at: usize)
     requires pieces { ArePieces base.now.items 0 pieces.old.items }
     requires within { at < vec_len pieces.old }
@@ -201,7 +204,7 @@ fn cut_after<T: Copy + Drop>(base: &ChunkList<T>, pieces: &mut Vec<Piece<T>>, at
     split_piece(base, pieces, at, 1);
 }
 
-/// Puts an item of its own in the place of a piece of one item.
+/// Puts a new item in place of a piece of one item.
 pub fn replace_piece<T: Copy + Drop>(
     base: &ChunkList<T>,
     pieces: &mut Vec<Piece<T>>,
@@ -242,7 +245,7 @@ pub fn take_piece<T: Copy + Drop>(
     let _ = pieces.remove(at);
 }
 
-/// One item less stands in front of each piece behind this one.
+/// Lowers `start` by one in each piece after the one at `at`.
 fn count_down_after<T>(pieces: &mut [Piece<T>], at: usize)
     requires within { at < length pieces.old }
     requires some { (k : ℕ) (d : Piece T) → at < k → k < length pieces.old → 0 < (get_or pieces.old k d).start }
@@ -251,7 +254,7 @@ fn count_down_after<T>(pieces: &mut [Piece<T>], at: usize)
     count_down(&mut pieces[at + 1..]);
 }
 
-/// One item less stands in front of each.
+/// Lowers `start` by one in each piece.
 fn count_down<T>(pieces: &mut [Piece<T>])
     requires { (k : ℕ) (d : Piece T) → k < length pieces.old → 0 < (get_or pieces.old k d).start }
     ensures { pieces.new ≡ map with_one_less pieces.old }
@@ -261,7 +264,7 @@ fn count_down<T>(pieces: &mut [Piece<T>])
     }
 }
 
-/// Puts an item behind all others. There is room for one piece more.
+/// Appends an item. There is room for another piece.
 pub fn push_piece<T: Copy + Drop>(
     base: &ChunkList<T>,
     pieces: &mut Vec<Piece<T>>,

@@ -1,4 +1,4 @@
-//! One message of a listing.
+//! `Row`: one message of a listing.
 
 ghost use Rattle.std.specs.Prelude.{◌≡◌, IfOk};
 ghost use Rattle.mailbox_rows.specs.RowViews.{head_of, listed_head, listed_message};
@@ -7,7 +7,7 @@ use imap_types::{DateTime, Text, Versions};
 use std::alloc::{AllocError, Global};
 use tags_clocks::OpId;
 
-/// A message of a mailbox's listing, lent by what keeps it.
+/// A message of a mailbox's listing, borrowed from the tables that store it.
 #[derive(Clone, Copy)]
 pub struct Row<'a> {
     /// Its UID, from 1 to 4,294,967,294 (RFC 9051, section 2.3.1.1).
@@ -18,13 +18,14 @@ pub struct Row<'a> {
     pub origin: OpId,
     /// Its versions, ascending by id, one at least. Its flags are the union of theirs.
     pub versions: Versions<'a>,
-    /// When it was received (RFC 9051, section 2.3.3); None where nothing tells it.
+    /// When it was received (RFC 9051, section 2.3.3); None if its Append wasn't applied.
     pub date: Option<&'a DateTime>,
-    /// Its octets; None where nothing tells them.
+    /// Its octets; None if its Append wasn't applied.
     pub text: Option<&'a Text>,
 }
 
-/// A message of a mailbox's listing without a look at its date and text, lent by what keeps it.
+/// A message of a mailbox's listing without its origin, date and text, for which they aren't looked
+/// up.
 #[derive(Clone, Copy)]
 pub struct RowHead<'a> {
     /// Its UID, from 1 to 4,294,967,294 (RFC 9051, section 2.3.1.1).
@@ -36,7 +37,7 @@ pub struct RowHead<'a> {
 }
 
 impl<'a> Row<'a> {
-    /// The same without its origin, date and text.
+    /// The row without its origin, date and text.
     #[inline(always)]
     pub fn head(&self) -> RowHead<'a>
         ensures { listed_head result ≡ head_of (listed_message self.now) }
@@ -50,7 +51,7 @@ impl<'a> Row<'a> {
 }
 
 impl Row<'_> {
-    /// When it was received, as it is shown: the first moment of 1970 where nothing tells it.
+    /// When it was received, as clients are shown it: the first moment of 1970 if no date is known.
     pub fn shown_date(&self) -> DateTime
         ensures { result ≡ (listed_message self.now).date }
     {
@@ -60,7 +61,7 @@ impl Row<'_> {
         }
     }
 
-    /// Its octets, as they are shown: none where nothing tells them.
+    /// Its octets, as clients are shown them: none if no text is known.
     pub fn shown_text(&self) -> &[u8]
         ensures { result.now ≡ (listed_message self.now).text }
     {
@@ -70,8 +71,8 @@ impl Row<'_> {
         }
     }
 
-    /// The same octets as a text of their own, in the same memory where they are told; `Err` where there is no memory, or as
-    /// `Text::copy` has it.
+    /// The octets as a text of its own, sharing the memory of the message's text if that is known;
+    /// `Err` if memory runs out, or as `Text::copy`.
     pub fn copied_text(&self, alloc: Global) -> Result<Text, AllocError>
         ensures { IfOk result (λ copied. copied ≡ (listed_message self.now).text) }
     {

@@ -1,4 +1,4 @@
-//! UIDs by origins.
+//! An index from origins to UIDs.
 
 ghost use Rattle.std.specs.Prelude.{◌≡◌, ◌+◌, ◌<◌, ◌≤◌, None, Some, false, if◌then◌else◌};
 ghost use Rattle.indexmap.specs.IndexMap.{spare};
@@ -8,14 +8,14 @@ ghost use Rattle.mailbox_rows.specs.ListingEntries.{is_id, indexed_value};
 use indexmap::IndexMap;
 use tags_clocks::OpId;
 
-/// What the index tells of an origin.
+/// The UID that the index has for an origin.
 pub fn uid_of(uids: &IndexMap<OpId, u32>, origin: &OpId) -> Option<u32>
     ensures { result ≡ indexed_value uids.now.entries origin.now }
 {
     uids.get(origin).copied()
 }
 
-/// Lets the index tell this UID of an origin. There is room for it.
+/// Sets the UID of an origin in the index. There is room for it.
 pub fn note(uids: &mut IndexMap<OpId, u32>, origin: &OpId, uid: u32)
     requires { 0 < spare uids.old }
     ensures told { (i : OpId) → indexed_value uids.new.entries i ≡ (if is_id origin.now i then Some uid else indexed_value uids.old.entries i) }
@@ -26,7 +26,7 @@ pub fn note(uids: &mut IndexMap<OpId, u32>, origin: &OpId, uid: u32)
     }
 }
 
-/// Lets the index tell nothing of an origin.
+/// Removes an origin from the index.
 pub fn forget(uids: &mut IndexMap<OpId, u32>, origin: &OpId)
     ensures told { (i : OpId) → indexed_value uids.new.entries i ≡ (if is_id origin.now i then None else indexed_value uids.old.entries i) }
     ensures room { spare uids.old ≤ spare uids.new }

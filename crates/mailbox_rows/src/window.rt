@@ -1,4 +1,4 @@
-//! A window on what a mailbox keeps.
+//! `Window`: a mailbox's messages, looked up only when they are asked for.
 
 ghost use Rattle.std.specs.Prelude.{◌≡◌, ◌++◌, ◌∷◌, [], Some, length, map, option_map, IfOk, OnOk};
 ghost use Rattle.std.specs.List.{slice_get};
@@ -18,15 +18,16 @@ use std::alloc::{AllocError, Global};
 use std::marker::Model;
 use tags_clocks::OpId;
 
-/// A mailbox's entries as operations to come leave them, with its messages as they are kept and those that these operations make or
-/// change. (An entry without a message shows an empty one; those who make windows know that there is none.)
+/// A mailbox's entries as pending operations leave them, with its stored messages and those that
+/// these operations make or change. An entry without a message is shown as an empty one; those who
+/// make windows know that there is none.
 pub struct Window<'a> {
     entries: EntryOverlay<'a>,
     mailbox: FolderMessages<'a>,
     fresh: IndexMap<OpId, OwnedMessage<'a>>,
 }
 
-// By hand, so that crates above let it go as a whole.
+// By hand, so that crates above drop it whole.
 impl<'a> Drop for Window<'a> {
     fn drop(self) {
         let Self {
@@ -48,7 +49,8 @@ impl<'a> Model for Window<'a> {
 }
 
 impl<'a> Window<'a> {
-    /// These entries, with the messages that operations to come leave, and else those of the mailbox.
+    /// A window on these entries. Their messages are those in `fresh`, and else those of the
+    /// mailbox.
     pub fn new(
         entries: EntryOverlay<'a>,
         mailbox: FolderMessages<'a>,
@@ -63,21 +65,21 @@ impl<'a> Window<'a> {
         }
     }
 
-    /// The UIDs ascend strictly, from 1 on.
+    /// The UIDs ascend strictly from 1.
     pub fn prove_ascending(&self)
         ensures { AreRisingRows 1 self.now }
     {
         self.entries.prove_ascending();
     }
 
-    /// How many messages it shows.
+    /// The number of messages.
     pub fn len(&self) -> usize
         ensures { result ≡ length self.now }
     {
         self.entries.len()
     }
 
-    /// The UID of the message at this place. Cost: a look-up among the pieces and one among the chunks.
+    /// The UID of the message at `place`. Cost: a search among the pieces and one among the chunks.
     pub fn uid_at(&self, place: usize) -> Option<u32>
         ensures { result ≡ option_map (λ row. row.uid) (slice_get self.now place) }
     {
@@ -87,7 +89,7 @@ impl<'a> Window<'a> {
         }
     }
 
-    /// The message at this place. Cost: as `uid_at`, and three look-ups among the messages at most.
+    /// The message at `place`. Cost: as `uid_at`, and at most three look-ups among the messages.
     pub fn row_at(&self, place: usize) -> Option<Row<'_>>
         ensures { option_map listed_message result ≡ slice_get self.now place }
     {
@@ -97,7 +99,8 @@ impl<'a> Window<'a> {
         }
     }
 
-    /// The head of the message's row at this place. Cost: as `uid_at`, and two look-ups among the messages at most.
+    /// The head of the row at `place`. Cost: as `uid_at`, and at most two look-ups among the
+    /// messages.
     #[inline(always)]
     pub fn head_at(&self, place: usize) -> Option<RowHead<'_>>
         ensures { option_map listed_head result ≡ option_map head_of (slice_get self.now place) }
@@ -108,7 +111,8 @@ impl<'a> Window<'a> {
         }
     }
 
-    /// The message at this place to be held, with copies of the versions that are the window's own; `Err` where there is no memory for them.
+    /// The message at `place` as an owned row, with copies of the versions that the window owns;
+    /// `Err` if memory runs out.
     pub fn owned_row_at(
         &self,
         alloc: Global,
@@ -122,8 +126,8 @@ impl<'a> Window<'a> {
         }
     }
 
-    /// The messages whose mod-sequences are above this one, to be held; `Err` where there is no memory for them. Cost: that of
-    /// `EntryOverlay::changed_since`, and the messages that it gives.
+    /// The messages whose mod-sequences are above `modseq`, as owned rows; `Err` if memory runs
+    /// out. Cost: that of `EntryOverlay::changed_since`, and the messages in the result.
     pub fn changed_since(&self, alloc: Global, modseq: u64) -> Result<Vec<OwnedRow<'a>>, AllocError>
         ensures { IfOk result (λ rows. map owned_message rows.items ≡ changed_since modseq self.now) }
     {
@@ -132,7 +136,7 @@ impl<'a> Window<'a> {
     }
 }
 
-/// The rows of these entries, to be held; `Err` where there is no memory for them.
+/// The owned rows of these entries; `Err` if memory runs out.
 fn owned_rows<'a>(
     alloc: Global,
     fresh: &IndexMap<OpId, OwnedMessage<'a>>,
@@ -148,7 +152,7 @@ fn owned_rows<'a>(
     Ok(rows)
 }
 
-/// Puts the row of an entry behind the others.
+/// Appends the owned row of an entry; `Err` if memory runs out.
 fn push_held<'a>(
     alloc: Global,
     rows: &mut Vec<OwnedRow<'a>>,
@@ -198,8 +202,8 @@ fn head_of_entry<'r>(
     }
 }
 
-/// The message of this origin as operations to come leave it, where they make or change it. Cost: none where they change nothing,
-/// else a look-up.
+/// The message of this origin as pending operations leave it, if they make or change it. Cost: a
+/// look-up, or none if they change nothing.
 #[inline(always)]
 fn fresh_at<'r, 'a>(
     fresh: &'r IndexMap<OpId, OwnedMessage<'a>>,
@@ -213,7 +217,7 @@ fn fresh_at<'r, 'a>(
     fresh.get(origin)
 }
 
-/// The row of an entry, as the mailbox tells it.
+/// The row of an entry by the mailbox's stored messages.
 fn kept_row<'r>(mailbox: &FolderMessages<'r>, entry: &ListingEntry) -> Row<'r>
     ensures { listed_message result ≡ with_numbers entry.now (unwrap_or (kept_message_data mailbox.now entry.now.origin) no_message_data) }
 {
@@ -223,7 +227,7 @@ fn kept_row<'r>(mailbox: &FolderMessages<'r>, entry: &ListingEntry) -> Row<'r>
     }
 }
 
-/// The head of an entry's row, as the mailbox tells it.
+/// The head of an entry's row by the mailbox's stored messages.
 #[inline(always)]
 fn kept_head<'r>(mailbox: &FolderMessages<'r>, entry: &ListingEntry) -> RowHead<'r>
     ensures { listed_head result ≡ head_of (with_numbers entry.now (unwrap_or (kept_message_data mailbox.now entry.now.origin) no_message_data)) }
@@ -234,7 +238,7 @@ fn kept_head<'r>(mailbox: &FolderMessages<'r>, entry: &ListingEntry) -> RowHead<
     }
 }
 
-/// The row of an entry to be held; `Err` where there is no memory for its versions.
+/// The owned row of an entry; `Err` if memory runs out for its versions.
 fn owned_row_of<'a>(
     alloc: Global,
     fresh: &IndexMap<OpId, OwnedMessage<'a>>,
@@ -249,7 +253,7 @@ fn owned_row_of<'a>(
     }
 }
 
-/// The row to be held.
+/// The row as an owned one, with borrowed versions.
 fn owned_kept_row<'a>(row: Row<'a>) -> OwnedRow<'a>
     ensures { owned_message result ≡ listed_message row.entry }
 {
@@ -263,7 +267,8 @@ fn owned_kept_row<'a>(row: Row<'a>) -> OwnedRow<'a>
     }
 }
 
-/// The row of an entry to be held, with its message as operations to come leave it.
+/// The owned row of an entry, with its message as pending operations leave it; `Err` if memory runs
+/// out.
 fn owned_changed_row<'a>(
     alloc: Global,
     entry: &ListingEntry,
