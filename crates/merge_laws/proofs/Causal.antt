@@ -3,7 +3,7 @@ use Rattle.tags_clocks.specs.declared.id.OpId.{OpId}
 use Rattle.merge_laws.specs.Orders.{IsIn, HasId, IsRipe, IsCausal}
 use Rattle.merge_laws.proofs.Lists.{id_in_front, id_in_back, id_in_parts}
 
--- where a list that ends with o is cut, that is at its end or within the rest
+-- A list that ends with `o` is cut either at its end or within the rest.
 cut_last : {X : Type 0} (os front back : List X) (o p : X) → os ++ o ∷ [] ≡ front ++ p ∷ back → ((os ≡ front) × (o ≡ p)) ⊎ ((rest : List X) × (os ≡ front ++ p ∷ rest))
 cut_last [] [] back o p k = inl (refl, cc)
 cut_last [] (a ∷ []) back o p k = absurd cc
@@ -18,11 +18,11 @@ cut_last {X} (b ∷ os) (a ∷ front) back o p k =
     ]
 
 module _ {O : Type 0} (id : O → OpId) (clock : O → List (ℕ × ℕ)) where
-  -- the two lists have the same ids
+  -- The two lists have the same ids.
   abbrev pub HaveSameIds : List O → List O → Type 0
   HaveSameIds e f = (i : OpId) → HasId id e i ↔ HasId id f i
 
-  -- each operation of the list is ripe for the earlier ones and those in front of it
+  -- Each operation of the list is ripe after the earlier ones and those before it.
   abbrev pub IsCausalAfter : List O → List O → Type 0
   IsCausalAfter earlier [] = Unit {0}
   IsCausalAfter earlier (o ∷ os) = IsRipe id clock earlier o × IsCausalAfter (o ∷ earlier) os
@@ -60,14 +60,14 @@ module _ {O : Type 0} (id : O → OpId) (clock : O → List (ℕ × ℕ)) where
       (subst (λ (xs : List O). IsRipe id clock xs o) (append_assoc before (b ∷ []) front)
       (cuts_from_after (b ∷ e) (before ++ b ∷ []) os (same_at_end b e before h) c.1 front o back rest))
 
-  -- the definition by cuts and the one along the list say the same
+  -- The definition by cuts and the one along the list agree.
   pub causal_after : (os : List O) → IsCausal id clock os → IsCausalAfter [] os
   causal_after os c = after_from_cuts [] [] os (λ i. (λ t. t, λ t. t)) c
 
   pub causal_from : (os : List O) → IsCausalAfter [] os → IsCausal id clock os
   causal_from os c = cuts_from_after [] [] os (λ i. (λ t. t, λ t. t)) c
 
-  -- one ripe operation more
+  -- A further ripe operation.
   pub causal_more : (os : List O) (o : O) → IsCausal id clock os → IsRipe id clock os o → IsCausal id clock (os ++ o ∷ [])
   causal_more os o c r front p back k =
       elim (cut_last os front back o p k) [
@@ -75,11 +75,11 @@ module _ {O : Type 0} (id : O → OpId) (clock : O → List (ℕ × ℕ)) where
         | inr inner ↦ c front p inner.0 inner.1
       ]
 
-  -- the operations in front are causal
+  -- The first operations of a causal list are causal.
   pub causal_front : (front back : List O) → IsCausal id clock (front ++ back) → IsCausal id clock front
   causal_front front back c first o rest k = c first o (rest ++ back) (ap (λ xs. xs ++ back) k ∙ append_assoc first (o ∷ rest) back)
 
-  -- no id of a causal list came before it
+  -- No id of a causal list came before the list.
   pub is_new : (e os : List O) (o : O) → IsCausalAfter e os → IsIn o os → HasId id e (id o) → ⊥
   is_new e [] o c h = absurd h
   is_new e (a ∷ os) o c h =
@@ -88,7 +88,7 @@ module _ {O : Type 0} (id : O → OpId) (clock : O → List (ℕ × ℕ)) where
         | inr t ↦ λ i. is_new (a ∷ e) os o c.1 t (inr i)
       ]
 
-  -- in a causal list an id determines the operation
+  -- In a causal list an id determines the operation.
   pub after_determines : (e os : List O) (a b : O) → IsCausalAfter e os → IsIn a os → IsIn b os → id a ≡ id b → a ≡ b
   after_determines e [] a b c h k same = absurd h
   after_determines e (o ∷ os) a b c h k same =
@@ -106,7 +106,7 @@ module _ {O : Type 0} (id : O → OpId) (clock : O → List (ℕ × ℕ)) where
   pub causal_determines : (os : List O) (a b : O) → IsCausal id clock os → IsIn a os → IsIn b os → id a ≡ id b → a ≡ b
   causal_determines os a b c = after_determines [] os a b (causal_after os c)
 
-  -- operations that are each ripe for the list and those in front of them
+  -- Operations that are each ripe after the list and those before them.
   pub causal_append : (os ops : List O) → IsCausal id clock os → ((front : List O) (o : O) (back : List O) → ops ≡ front ++ o ∷ back → IsRipe id clock (os ++ front) o) → IsCausal id clock (os ++ ops)
   causal_append os [] c r = subst (IsCausal id clock) (sym (append-nil os)) c
   causal_append os (o ∷ ops) c r =

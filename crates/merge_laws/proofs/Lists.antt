@@ -29,7 +29,7 @@ in_cases x o [] back h = h
 in_cases x o (a ∷ front) back h =
     elim h [ inl e ↦ inr (inl e) | inr t ↦ elim (in_cases x o front back t) [ inl e ↦ inl e | inr u ↦ inr (inr u) ] ]
 
--- an element stands between two parts
+-- an element is between two parts of a list
 pub split_at : {X : Type 0} (x : X) (xs : List X) → IsIn x xs → (front : List X) × (back : List X) × (xs ≡ front ++ x ∷ back)
 split_at x [] h = absurd h
 split_at x (y ∷ ys) h =

@@ -18,7 +18,7 @@ module _ {O V : Type 0} (id : O → OpId) (clock : O → List (ℕ × ℕ)) (sou
     λ t. elim t [ inl k ↦ inr (inl k) | inr u ↦ elim u [ inl k ↦ inl k | inr w ↦ inr (inr w) ] ],
   )
 
-  -- what stands in front of an operation that needs none beyond the earlier ones is concurrent with it
+  -- What comes before an operation that needs only the earlier ones is concurrent with it.
   in_front_apart : (e front back : List O) (x a : O) → IsCausalAfter id clock e (front ++ x ∷ back) → ((i : OpId) → IsCause (clock x) i → HasId id e i) → IsIn a front → IsConcurrent id clock a x
   in_front_apart e [] back x a c first h = absurd h
   in_front_apart e (b ∷ front) back x a c first h =
@@ -31,7 +31,7 @@ module _ {O V : Type 0} (id : O → OpId) (clock : O → List (ℕ × ℕ)) (sou
         | inr t ↦ in_front_apart (b ∷ e) front back x a c.1 (λ i k. inr (first i k)) t
       ]
 
-  -- taken out of the middle and put in front of all
+  -- An operation taken out of the middle and put before all others.
   causal_moved : (e front back : List O) (x : O) → IsCausalAfter id clock e (front ++ x ∷ back) → IsCausalAfter id clock (x ∷ e) (front ++ back)
   causal_moved e [] back x c = c.1
   causal_moved e (a ∷ front) back x c = (
@@ -43,7 +43,7 @@ module _ {O V : Type 0} (id : O → OpId) (clock : O → List (ℕ × ℕ)) (sou
   )
 
   module _ (commutes : (v : V) (a b : O) → sound a → sound b → IsConcurrent id clock a b → effect (effect v a) b ≡ effect (effect v b) a) where
-    -- moved in front of what is concurrent with it, it leaves the same value
+    -- An operation moved before those that are concurrent with it leaves the same value.
     fold_moved : (v : V) (front back : List O) (x : O) → sound x → AreSound sound front → ((a : O) → IsIn a front → IsConcurrent id clock a x) → fold_of effect v (front ++ x ∷ back) ≡ fold_of effect (effect v x) (front ++ back)
     fold_moved v [] back x s ss h = refl
     fold_moved v (a ∷ front) back x s ss h =

@@ -1,8 +1,11 @@
+-- Causal lists of operations with ids and clocks, and the law that their order doesn't matter
+-- (Jungnickel, Oldenburg, Loibl, OPODIS 2017).
+
 use Rattle.std.specs.Prelude.{◌≡◌, ◌≢◌, ◌↔◌, ◌⊎◌, ℕ, List, [], ◌∷◌, ◌++◌}
 use Rattle.tags_clocks.specs.declared.id.OpId.{OpId}
 use Rattle.tags_clocks.specs.Clock.{IsCause}
 
--- x is an element.
+-- `x` is an element.
 abbrev pub IsIn : {X : Type 0} → X → List X → Type 0
 IsIn x [] = ⊥
 IsIn x (y ∷ ys) = (y ≡ x) ⊎ IsIn x ys
@@ -24,25 +27,26 @@ HasId id (o ∷ os) i = (id o ≡ i) ⊎ HasId id os i
 abbrev pub IdsDetermine : {O : Type 0} → (O → OpId) → List O → Type 0
 IdsDetermine {O} id os = (a b : O) → IsIn a os → IsIn b os → id a ≡ id b → a ≡ b
 
--- The first is a cause of the second (the order of the IMAP-CRDT's operations: Jungnickel, Oldenburg, Loibl, OPODIS 2017).
+-- The first is a cause of the second: the order of the IMAP-CRDT's operations.
 abbrev pub IsBefore : {O : Type 0} → (O → OpId) → (O → List (ℕ × ℕ)) → O → O → Type 0
 IsBefore id clock a b = IsCause (clock b) (id a)
 
--- Two operations, neither of them before the other.
+-- Two different operations, neither of them before the other.
 pub record IsConcurrent {O : Type 0} (id : O → OpId) (clock : O → List (ℕ × ℕ)) (a b : O) : Type 0 where
   pub apart : id a ≢ id b
   pub not_before : ¬ IsBefore id clock a b
   pub not_after : ¬ IsBefore id clock b a
 
--- An operation may come next: the list has all its causes, and not its id.
+-- An operation may come next: the list has all its causes, but not its id.
 abbrev pub IsRipe : {O : Type 0} → (O → OpId) → (O → List (ℕ × ℕ)) → List O → O → Type 0
 IsRipe id clock os o = ((i : OpId) → IsCause (clock o) i → HasId id os i) × ¬ HasId id os (id o)
 
--- Each operation of the list was ripe for those in front of it: no id stands twice, and all causes stand earlier.
+-- Each operation of the list was ripe after those before it: no id occurs twice, and each cause
+-- comes earlier.
 abbrev pub IsCausal : {O : Type 0} → (O → OpId) → (O → List (ℕ × ℕ)) → List O → Type 0
 IsCausal {O} id clock os = (front : List O) (o : O) (back : List O) → os ≡ front ++ o ∷ back → IsRipe id clock front o
 
--- The effect of the operations, one after another.
+-- The value after the operations, one after another.
 abbrev pub fold_of : {V O : Type 0} → (V → O → V) → V → List O → V
 fold_of effect v [] = v
 fold_of effect v (o ∷ os) = fold_of effect (effect v o) os

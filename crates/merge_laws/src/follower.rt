@@ -1,4 +1,4 @@
-//! What keeps account of the operations that were applied.
+//! `Follower`: an account of the operations that were applied to a replicated value.
 
 ghost use Rattle.std.specs.Prelude.{◌≡◌, ◌↔◌, List, [], ◌∷◌, ◌++◌, OnOk, Err};
 ghost use Rattle.merge_laws.specs.Orders.{IsCausal, fold_of};
@@ -8,53 +8,54 @@ use crate::replicated::Replicated;
 use std::alloc::Global;
 use thiserror::Error;
 
-/// Why a follower can't note operations.
+/// Why a follower can't be made ready for operations.
 #[derive(Clone, Copy, Debug, PartialEq, Eq, Error)]
 pub enum NotReady {
     /// One of its counters has no number left.
     #[error("number used up")]
     Exhausted,
-    /// No memory.
+    /// Memory ran out.
     #[error("no memory")]
     NoMemory,
 }
 
-/// What is told each operation that is applied to an `R`, and keeps an account of them.
-/// All that it says follows from what it began with and the list of operations noted.
+/// An account of the operations applied to an `R`, each of which it notes. All that it shows
+/// follows from what it began with and the list of operations noted.
 pub trait Follower<R: Replicated> {
-    /// What it began with, as the first numbers of its counters.
+    /// What a follower begins with: the first numbers of its counters.
     type Start;
 
-    /// What this one began with.
+    /// What this follower began with.
     ghost start: { Self → Self.Start };
 
-    /// It stands for this list of noted operations.
+    /// This follower noted these operations, in this order.
     ghost follows: { Self → List R.Op → Type 0 };
 
-    /// It stands for the first list, and can note the second behind it, in this order, with no more memory.
+    /// This follower noted the first list, and can note the second after it, in this order, with no
+    /// more memory.
     ghost is_ready: { Self → List R.Op → List R.Op → Type 0 };
 
-    /// After the first list, noting the second would need a number that a counter doesn't have.
+    /// After the first list, noting the second would take a counter past its last number.
     ghost exhausts: { Self.Start → List R.Op → List R.Op → Type 0 };
 
-    /// Makes room for noting these operations, in this order, with the value to which the list led. Where the list stays
-    /// causal with them, it answers Exhausted exactly where a counter has no number left for one of them. An error leaves
-    /// all that it says as it was.
+    /// Makes room for noting `ops`, in this order, given the value after the operations noted so
+    /// far. If these and `ops` together are causal, the error is `Exhausted` exactly if a counter
+    /// has no number left for one of `ops`. An error leaves all that the follower shows as it was.
     fn ready(&mut self, alloc: Global, value: &R, ops: &[R::Op]) -> Result<(), NotReady>
         ensures start { start self.new ≡ start self.old }
         ensures follows { (list : List R.Op) → follows self.old list → follows self.new list }
         ensures ready { OnOk result ((list : List R.Op) → follows self.old list → IsCausal R.Op.id R.Op.clock (list ++ ops.now) → R.meaning value.now ≡ fold_of R.effect R.initial list → is_ready self.new list ops.now) }
         ensures exhausted { (list : List R.Op) → follows self.old list → IsCausal R.Op.id R.Op.clock (list ++ ops.now) → R.meaning value.now ≡ fold_of R.effect R.initial list → ((result ≡ Err UsedUp) ↔ exhausts (start self.old) list ops.now) };
 
-    /// Notes an operation that it was made ready for, with the value as applying left it; takes no memory, and it stays
-    /// ready for those behind.
+    /// Notes an operation for which the follower was made ready, given the value after that
+    /// operation. Takes no memory, and the follower stays ready for the operations after it.
     fn note(&mut self, value: &R, op: &R::Op)
         requires { (list : List R.Op) × (follows self.old list) × (is_ready self.old list (op.now ∷ [])) × (IsCausal R.Op.id R.Op.clock (list ++ op.now ∷ [])) × (R.meaning value.now ≡ fold_of R.effect R.initial (list ++ op.now ∷ [])) }
         ensures start { start self.new ≡ start self.old }
         ensures follows { (list : List R.Op) → follows self.old list → is_ready self.old list (op.now ∷ []) → IsCausal R.Op.id R.Op.clock (list ++ op.now ∷ []) → R.meaning value.now ≡ fold_of R.effect R.initial (list ++ op.now ∷ []) → follows self.new (list ++ op.now ∷ []) }
         ensures others { (list rest : List R.Op) → follows self.old list → is_ready self.old list (op.now ∷ rest) → IsCausal R.Op.id R.Op.clock (list ++ op.now ∷ []) → R.meaning value.now ≡ fold_of R.effect R.initial (list ++ op.now ∷ []) → is_ready self.new (list ++ op.now ∷ []) rest };
 
-    /// What is ready for some operations is ready for the first of them.
+    /// A follower that is ready for some operations is ready for the first of them.
     ghost first: { (x : Self) (list : List R.Op) (o : R.Op) (os : List R.Op) → is_ready x list (o ∷ os) → is_ready x list (o ∷ []) };
 }
 

@@ -6,7 +6,8 @@ ghost use Rattle.merge_laws.specs.Orders.{GivesOneValue, fold_of};
 use crate::replicated::Replicated;
 use std::alloc::{AllocError, Global};
 
-/// The value after these operations, in this order. An error drops it.
+/// The value after these operations, in this order. `Err` if memory runs out, and then the value is
+/// dropped.
 pub fn replay<R: Replicated + Drop>(
     alloc: Global,
     mut value: R,

@@ -1,4 +1,4 @@
-//! Two values changed by the same operations.
+//! `Pair`: two values changed by the same operations.
 
 use crate::follower::{Follower, NotReady};
 use crate::replicated::Replicated;
@@ -7,9 +7,9 @@ use std::alloc::{AllocError, Global};
 /// Two values that the same operations change.
 #[derive(Drop)]
 pub struct Pair<A, B> {
-    /// The one.
+    /// The first value.
     pub first: A,
-    /// The other.
+    /// The second value.
     pub second: B,
 }
 
