@@ -9,9 +9,9 @@ use Rattle.crdt_ops.specs.Reading.{◌>>=◌, all_read, are_ascending, behind_al
 use Rattle.crdt_ops.specs.Text.{join_by_commas}
 use Rattle.crdt_ops.proofs.PartLemmas.{all_taken}
 
--- What a loop has done behind so many elements of a list.
+-- What a loop has done after some elements of a list.
 
--- one element more
+-- a further element
 pub taken_more : {X : Type 0} (xs : List X) (i : ℕ) (x : X) → i < length xs → x ≡ get_or xs i x → take i xs ++ x ∷ [] ≡ take (i + 1) xs
 taken_more xs i x l e =
     ap (λ y. take i xs ++ y ∷ []) e ∙ sym (next_taken xs i x l) ∙ ap (λ n. take n xs) (sym (add-one i))
@@ -24,7 +24,7 @@ taken_more xs i x l e =
 pub field_more : (front words : List (List ℕ)) (i : ℕ) (word : List ℕ) → i < length words → word ≡ get_or words i word → (front ++ take i words) ++ word ∷ [] ≡ front ++ take (i + 1) words
 field_more front words i word l e = append_assoc front (take i words) (word ∷ []) ∙ ap (λ xs. front ++ xs) (taken_more words i word l e)
 
--- one text more behind a comma (44)
+-- a further text after a comma (44)
 pub listed_more : {X : Type 0} (text : X → List ℕ) (xs : List X) (i : ℕ) (x : X) (before old mid new : List ℕ) → i < length xs → x ≡ get_or xs i x → old ≡ before ++ flat_map (λ next. 44 ∷ next) (map text (take i xs)) → mid ≡ old ++ 44 ∷ [] → new ≡ mid ++ text x → new ≡ before ++ flat_map (λ next. 44 ∷ next) (map text (take (i + 1) xs))
 listed_more text xs i x before old mid new l e o m n =
     let join_by_commas = flat_map (λ next. 44 ∷ next) (map text (take i xs)) in
@@ -37,7 +37,7 @@ listed_more text xs i x before old mid new l e o m n =
     ∙ ap (flat_map (λ next. 44 ∷ next)) (sym (map-append text (take i xs) (x ∷ [])) ∙ ap (map text) (taken_more xs i x l e))
     )
 
--- one part more that is read
+-- a further part that is read
 pub all_more : {X : Type 0} (read : List ℕ → Option X) (parts : List (List ℕ)) (i : ℕ) (item part : List ℕ) (x : X) (old new : List X) → i < length parts → item ≡ get_or parts i item → part ≡ item → read part ≡ Some x → new ≡ old ++ x ∷ [] → behind_all old (all_read read (drop i parts)) ≡ all_read read parts → behind_all new (all_read read (drop (i + 1) parts)) ≡ all_read read parts
 all_more read parts i item part x old new l e s r n h =
     let more = all_read read (drop (suc i) parts) in
@@ -69,7 +69,7 @@ all_ends read parts i items l h =
     none_left (x ∷ xs) zero h = absurd (omega arith)
     none_left (x ∷ xs) (suc n) h = none_left xs n (omega arith)
 
--- the first of what is left, and the others
+-- the first of the remaining elements, and the others
 tail_is : {X : Type 0} (x : X) (rest : List X) → take (length (x ∷ rest) - 1) (drop 1 (x ∷ rest)) ≡ rest
 tail_is x rest = all_taken rest (length (x ∷ rest) - 1) (omega arith)
 

@@ -1,3 +1,5 @@
+-- Operations and their parts, as definitions name them.
+
 use Rattle.std.specs.Prelude.{ℕ, List}
 use Rattle.tags_clocks.specs.declared.id.OpId.{OpId}
 use Rattle.crdt_ops.specs.declared.op.Op.{Op}

@@ -1,4 +1,4 @@
-//! The lines of folders, subscriptions and messages.
+//! The lines of a dump: folders, subscriptions and messages.
 
 ghost use Rattle.std.specs.Prelude.{◌≡◌, ◌++◌, ◌∷◌, [], OnOk};
 ghost use Rattle.std.specs.List.{flat_map};
@@ -11,7 +11,8 @@ use crate::write::{write_flags, write_id, write_ids};
 use imap_types::{Escape, Name, Text, write_escaped};
 use std::alloc::{AllocError, Global};
 
-/// Puts the line of a name behind what is there: a word with its space, the name, and these ids. `Err` where there is no memory, and then a part of it may be there.
+/// Appends the line of a name: `word` with its space, the name, and these ids. `Err` if memory runs
+/// out, and then a part of the line may have been appended.
 pub fn push_name_line(
     alloc: Global,
     word: &[u8],
@@ -29,7 +30,8 @@ pub fn push_name_line(
     Ok(())
 }
 
-/// Puts the lines of messages behind what is there. `Err` where there is no memory, and then a part of them may be there.
+/// Appends the lines of messages. `Err` if memory runs out, and then a part of them may have been
+/// appended.
 pub fn push_messages(
     alloc: Global,
     messages: &[Message],
@@ -54,7 +56,7 @@ fn push_message(alloc: Global, message: &Message, text: &mut Vec<u8>) -> Result<
     push_body(message, text)
 }
 
-/// The flags, the date and the text of a message, and the end of its line.
+/// Appends the flags, date and text of a message, and the end of its line.
 fn push_body(message: &Message, text: &mut Vec<u8>) -> Result<(), AllocError>
     ensures { OnOk result (text.new.items ≡ text.old.items ++ message_fields message.now) }
 {
@@ -62,7 +64,7 @@ fn push_body(message: &Message, text: &mut Vec<u8>) -> Result<(), AllocError>
     push_date_and_text(message, text)
 }
 
-/// The date and the text of a message, each behind a space, and the end of its line.
+/// Appends the date and text of a message, each after a space, and the end of its line.
 fn push_date_and_text(message: &Message, text: &mut Vec<u8>) -> Result<(), AllocError>
     ensures { OnOk result (text.new.items ≡ text.old.items ++ dated_text_fields message.now) }
 {
@@ -71,7 +73,7 @@ fn push_date_and_text(message: &Message, text: &mut Vec<u8>) -> Result<(), Alloc
     push_text_field(&message.text, text)
 }
 
-/// The text of a message, behind a space, and the end of its line.
+/// Appends a message's text, after a space, and the end of its line.
 fn push_text_field(letter: &Text, text: &mut Vec<u8>) -> Result<(), AllocError>
     ensures { OnOk result (text.new.items ≡ text.old.items ++ 32 ∷ (text_field letter.now ++ 10 ∷ [])) }
 {

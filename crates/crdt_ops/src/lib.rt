@@ -1,5 +1,25 @@
-//! The operations that replicas exchange (Jungnickel, Oldenburg, Loibl, OPODIS 2017): their kinds, which of them are
-//! sound, their text, what a set of them means, and the lines of a dump that tell this.
+//! The operations that replicas exchange (Jungnickel, Oldenburg, Loibl, OPODIS 2017): an `Op` has
+//! an id, a clock of its causes, and a `Kind`.
+//!
+//! [`check`] turns exactly the sound operations, those that replicas may apply, into a [`SoundOp`];
+//! another comes back with its first fault. [`write_op`] appends exactly the one text of an
+//! operation, and [`read_op`] reads exactly the texts that spell one, sound or not.
+//!
+//! `specs/Sets.antt` defines what a set of operations means: its folders, messages with their
+//! versions, delete sets and subscriptions, by filters over the set, so that no list order matters.
+//! The laws [`one_set_means_one`] and [`present_tags_are_listed`] say so, and say what the lists
+//! contain. The lines of folders, messages and subscriptions in a dump are here too.
+//!
+//! # Decided
+//!
+//! - Folders and subscriptions of a set are defined by insertion in order. That each such list is
+//!   the ascending list of exactly its elements is the law `present_tags_are_listed` beside the
+//!   definition, so that the crates above can compute with the definition.
+//! - `expunge NAME -` and `store NAME FLAGS - ORIGIN` are texts of operations, though of unsound
+//!   ones: how many old ids an operation names is checked after everything else.
+//! - A Store may name another origin than that of the ids that it removes. It is then a version of
+//!   the message of the origin it names; if that origin has no version in the folder, it begins a
+//!   message. No command issues such a Store.
 #![tactic(auto)]
 
 mod dump_lines;

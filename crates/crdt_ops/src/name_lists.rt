@@ -1,4 +1,4 @@
-//! Ascending lists of names.
+//! Ascending lists of distinct names.
 
 ghost use Rattle.std.specs.Prelude.{◌≡◌, ◌≤◌, MatchResult, OnErr, OnOk, insert, length};
 ghost use Rattle.imap_types.specs.Ascending.{octet_order};
@@ -8,8 +8,8 @@ use imap_types::Name;
 use std::alloc::{AllocError, Global};
 use std::cmp::Ordering;
 
-/// Puts a copy of the name in its place among ascending ones; one that is there stays once. `Err` where there is no memory
-/// for it, and then the names are as they were.
+/// Inserts a copy of the name in its place among ascending names, if they lack it. `Err` if memory
+/// runs out, and then the names are as they were.
 pub fn insert_name(alloc: Global, names: &mut Vec<Name>, name: &Name) -> Result<(), AllocError>
     ensures ok { OnOk result (names.new.items ≡ insert_ordered octet_order name.now names.old.items) }
     ensures err { OnErr result (names.new.items ≡ names.old.items) }
@@ -20,7 +20,7 @@ pub fn insert_name(alloc: Global, names: &mut Vec<Name>, name: &Name) -> Result<
     Ok(())
 }
 
-/// Where the name stands, or where it would be put.
+/// The place of the name, or else the place at which it would be inserted.
 fn place_of(names: &[Name], name: &Name) -> Result<usize, usize>
     ensures { MatchResult result
         (λ at. insert_ordered octet_order name.now names.now ≡ names.now)

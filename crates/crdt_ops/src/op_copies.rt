@@ -7,7 +7,7 @@ use merge_laws::Caused;
 use std::alloc::{AllocError, Global};
 use std::collections::VecDeque;
 
-/// Copies of the operations, in their order; `Err` where there is no memory for them.
+/// Copies of the operations, in their order; `Err` if memory runs out.
 pub fn copy_ops(alloc: Global, ops: &[SoundOp]) -> Result<VecDeque<SoundOp>, AllocError>
     ensures { IfOk result (λ copies. copies.items ≡ ops.now) }
 {

@@ -15,16 +15,16 @@ use thiserror::Error;
 /// Why an operation isn't sound.
 #[derive(Clone, Copy, Debug, PartialEq, Eq, Error)]
 pub enum Unsound {
-    /// Its clock's own entry isn't its number less one.
+    /// Its clock's entry for its own replica isn't its number less 1.
     #[error("own clock entry")]
     OwnClockEntry,
-    /// It removes or names as origin an id that its clock doesn't cover.
+    /// It removes an id, or names one as origin, that its clock doesn't cover.
     #[error("uncovered id")]
     UncoveredId,
-    /// Its name is none that a mailbox may bear.
+    /// No mailbox may have its name.
     #[error("unlawful name")]
     UnlawfulName,
-    /// Its flags are none that a message may bear.
+    /// No message may have its flags.
     #[error("unlawful flags")]
     UnlawfulFlags,
     /// It deletes INBOX.
@@ -35,7 +35,8 @@ pub enum Unsound {
     Count,
 }
 
-/// The operation as a sound one; where it isn't sound, it comes back with the first fault, in the order of [`Unsound`].
+/// The operation as a sound one. If it isn't sound, `Err` returns it with its first fault, in the
+/// order of [`Unsound`].
 pub fn check(op: Op) -> Result<SoundOp, (Op, Unsound)>
     ensures sound { IfOk result (λ sound. sound ≡ op) }
     ensures exact { IsOk result ↔ IsSound op }
@@ -73,7 +74,7 @@ fn fault_of(op: &Op) -> Option<Unsound>
     None
 }
 
-/// The operation as a sound one, or none where it isn't sound; [`check`] says why.
+/// The operation as a sound one; None if it isn't sound, for which [`check`] gives the reason.
 pub fn into_sound_op(op: Op) -> Option<SoundOp>
     ensures sound { IfSome result (λ sound. sound ≡ op) }
     ensures exact { IsSome result ↔ IsSound op }
