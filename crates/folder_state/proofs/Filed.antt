@@ -1,4 +1,4 @@
--- Versions by origin, and origins by id: that they agree, and what they tell.
+-- Versions by origin, and origins by id: that they agree, and the data that they give each tag.
 use Rattle.std.proofs.Common.{◌≡◌, ◌↔◌, ◌⊎◌, inl, inr, ◌<◌, ◌==◌, eqb-true, arith, Bool, true, false, cond, not, Option, None, Some, IsSome, IsTrue, List, [], ◌∷◌, ◌++◌, length, refl, sym, ap, ◌∙◌, subst}
 use Rattle.std.specs.Bool.{MatchBool}
 use Rattle.std.specs.Global.{Vec}
@@ -38,14 +38,14 @@ pub some_mapped : {X Y : Type 0} (g : X → Y) (x : Option X) → IsSome (option
 some_mapped g None = (λ h. absurd (false≢true h), λ h. absurd (false≢true h))
 some_mapped g (Some x) = (λ h. refl, λ h. refl)
 
--- What a version carries, with the origin of its message.
+-- The data of a version, with the origin of its message.
 abbrev pub carrying : OpId → Flags → MessageTagData
 carrying origin flags = record { flags = flags; origin = origin }
 
--- ---- what they tell
+-- ---- the data of tags
 
 module _ (messages : List (OpId × Vec Version)) (origins : List (OpId × OpId)) (filed : AreIndexed messages origins) where
-  -- the origin that is told of a tag is that of what it carries
+  -- the origin of a tag is that in its data
   pub origin_is : (i : OpId) → option_map (λ (b : MessageTagData). b.origin) (body_at messages i (lookup (same_id i) origins)) ≡ lookup (same_id i) origins
   origin_is i = at (lookup (same_id i) origins) refl
     where
@@ -63,11 +63,11 @@ module _ (messages : List (OpId × Vec Version)) (origins : List (OpId × OpId))
         λ h. m.0 (subst IsSome (sym (origin_is i)) h),
       )
 
-  -- the origin has just these versions
+  -- the origin has exactly these versions
   pub versions_by : (o i : OpId) → IsIn i (version_ids (versions_at messages o)) ↔ (option_map (λ (b : MessageTagData). b.origin) (body_at messages i (lookup (same_id i) origins)) ≡ Some o)
   versions_by o i = (λ t. origin_is i ∙ (filed.both i o).1 t, λ t. (filed.both i o).0 (sym (origin_is i) ∙ t))
 
-  -- each carries its flags
+  -- each version has its flags
   pub carried_by : (o : OpId) (v : Version) → IsIn v (versions_at messages o) → body_at messages v.id (lookup (same_id v.id) origins) ≡ Some (carrying o v.flags)
   carried_by o v t =
       ap (body_at messages v.id) ((filed.both v.id o).1 ((versions_id v (versions_at messages o)) t))

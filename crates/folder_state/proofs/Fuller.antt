@@ -1,4 +1,4 @@
--- Room that is left by changes.
+-- The room that changes leave.
 use Rattle.std.proofs.Common.{◌≡◌, inl, inr, ◌+◌, ◌≤◌, ℕ, arith, true, false, cond, Option, None, Some, List, [], length, refl, ap, sym, ◌∙◌, subst}
 use Rattle.std.specs.Global.{Vec}
 use Rattle.std.specs.Map.{lookup}
@@ -65,7 +65,7 @@ put_room o origin n old new now beside is here h vs e =
           omega (arith, room, none)
     ]
 
--- one version more in a list that had room for it
+-- a further version in a list that had room for it
 pub one_fits : (o origin : OpId) (n : ℕ) (old : List (OpId × Vec Version)) (v : Version) (was now : Vec Version) → lookup (same_id origin) old ≡ Some was → now.items ≡ insert_ordered by_id v was.items → vec_capacity now ≡ vec_capacity was → HasVersionRoom old o (cond (same_id o origin) 1 0 + n) → same_id o origin ≡ true → length now.items + n ≤ vec_capacity now
 one_fits o origin n old v was now found items capacity h t =
     let room = h was (subst (λ q. lookup (same_id q) old ≡ Some was) (sym (id_is o origin t)) found) in
@@ -100,7 +100,7 @@ module _ (name : List ℕ) (old new : List (Vec ℕ × FolderTables)) (a b : Fol
         | inr d ↦ subst (IsNoFullerIn (find_folder f old)) (sym (at f ∙ (λ k. cond (d k) (Some b) (find_folder f old)))) (no_fuller_in (find_folder f old))
       ]
 
-  -- the room that is left behind a tag put in
+  -- the room after a tag was put in
   pub room_left : (origin : Option OpId) (places : ℕ) → ((o : Option OpId) (n : ℕ) → HasPlaces a o (n + 1) → HasPlaces b o n) → ((o : OpId) (n : ℕ) → HasVersionRoom a.messages o (cond (is_some_id o origin) 1 0 + n) → (is_some_id o origin ≡ true → 1 + n ≤ places) → HasVersionRoom b.messages o n) → LeavesRoom name origin places (λ n. find_folder n old) (λ n. find_folder n new)
   room_left origin places room fits tags versions o None h w = tt
   room_left origin places room fits tags versions o (Some n) h w =
@@ -133,7 +133,7 @@ module _ (name : List ℕ) (old new : List (Vec ℕ × FolderTables)) (a b : Fol
 pub same_lists : (a b : FolderTables) (o : OpId) (n : ℕ) → b.messages ≡ a.messages → HasVersionRoom a.messages o (0 + n) → HasVersionRoom b.messages o n
 same_lists a b o n e h = subst (λ (m : List (OpId × Vec Version)). HasVersionRoom m o n) (sym e) (fewer a.messages o 0 n h)
 
--- ---- what is wanted, with and without one operation
+-- ---- the counts with and without one operation
 
 pub room_less : (extra tags : List ℕ → ℕ) (more versions : OpId → ℕ) (o : Option OpId) (t : Option (List ℕ)) (folders : List ℕ → Option FolderTables) → HasRoomAt (λ n. extra n + tags n) (λ i. more i + versions i) o t folders → HasRoomAt tags versions o t folders
 room_less extra tags more versions o None folders h = tt
@@ -159,7 +159,7 @@ list_one id n h =
     let one : ◌≡◌ {A = ℕ} (cond (same_id id id) 1 0) 1 = ap (λ b. cond b 1 0) (own_id id) in
     omega (arith, h, one)
 
--- ---- the room that there is behind what was taken out
+-- ---- the room after removals
 
 pub room_no_fuller : (old new : List (Vec ℕ × FolderTables)) → AreNoFuller old new → (tags : List ℕ → ℕ) (versions : OpId → ℕ) (o : Option OpId) (t : Option (List ℕ)) → HasRoomAt tags versions o t (λ n. find_folder n old) → HasRoomAt tags versions o t (λ n. find_folder n new)
 room_no_fuller old new less tags versions o None h = tt

@@ -53,7 +53,8 @@ kept_body {X} false false x y h k = h
 own_id : (n : List ℕ) (i : OpId) (o : Op) → (adds (FolderTag n i) o ≡ true) ⊎ (adds (MessageTag n i) o ≡ true) → i ≡ o.id
 own_id n i o h = elim h [ inl t ↦ adds_own (FolderTag n i) o t | inr t ↦ adds_own (MessageTag n i) o t ]
 
--- a tag that is there after them was there before, or one of them has its id
+-- a tag that is present after the operations was present before, or one of the operations has its
+-- id
 after_from : (ops : List Op) (c : Contents) (n : List ℕ) (i : OpId) → HasTag (after c ops) n i → HasTag c n i ⊎ ((o : Op) × IsIn o ops × (i ≡ o.id))
 after_from [] c n i h = inl h
 after_from (o ∷ ops) c n i h =
@@ -73,7 +74,7 @@ after_from (o ∷ ops) c n i h =
 
 -- ---- one folder by itself
 
--- what becomes of a tag hangs on what it was
+-- whether a tag is present afterwards depends only on whether it was before
 tag_alike : (c d : Contents) (ops : List Op) (n : List ℕ) (i : OpId) → c.tags n i ≡ d.tags n i → (after c ops).tags n i ≡ (after d ops).tags n i
 tag_alike c d [] n i e = e
 tag_alike c d (o ∷ ops) n i e = tag_alike (effect_of c o) (effect_of d o) ops n i (λ k. adds (FolderTag n i) o || (not (removes (FolderTag n i) o) && e k))
@@ -86,7 +87,7 @@ module _ (c : Contents) (n : List ℕ) (held : Option FolderTables) (tags : (i :
   alike : (i : OpId) → has_tag_after c ops n i ≡ has_tag_after (alone held) ops n i
   alike i = λ k. tag_alike c (alone held) ops n i (tags i) k || is_some (body_alike c (alone held) ops n i (bodies i) k)
 
-  -- whether a tag is left
+  -- whether a tag remains
   pub tag_left : (ids : List OpId) → ((i : OpId) → IsIn i ids ↔ HasTagIn (folder_tag_data held) i) → (r : Bool) → r ≡ (list_any (λ i. has_tag_after (alone held) ops n i) ids || list_any (λ o. has_tag_after (alone held) ops n o.id) ops) → (r ≡ true) ↔ ((i : OpId) × HasTag (after c ops) n i)
   tag_left ids listed r e =
       let a = list_any (λ (i : OpId). has_tag_after (alone held) ops n i) ids in
@@ -106,7 +107,7 @@ module _ (c : Contents) (n : List ℕ) (held : Option FolderTables) (tags : (i :
             ],
       )
 
-  -- whether a version is left
+  -- whether a version remains
   pub version_left : (o : OpId) (vs : List Version) → ((i : OpId) → IsIn i (version_ids vs) ↔ (option_map (λ (b : MessageTagData). b.origin) (body_in_folder held i) ≡ Some o)) → (r : Bool) → r ≡ (list_any (λ v. is_version (after (alone held) ops) n o v.id) vs || list_any (is_added_and_left held ops n o) ops) → (r ≡ true) ↔ HasVersion (after c ops) n o
   version_left o vs listed r e =
       let a = list_any (λ (v : Version). is_version (after (alone held) ops) n o v.id) vs in
@@ -141,7 +142,7 @@ module _ (c : Contents) (n : List ℕ) (held : Option FolderTables) (tags : (i :
             ],
       )
 
--- ---- one operation more
+-- ---- a further operation
 
 pub after_more : (c : Contents) (ops : List Op) (m : ℕ) (o : Op) → m < length ops → o ≡ get_or ops m o → after c (take (m + 1) ops) ≡ effect_of (after c (take m ops)) o
 after_more c ops m o l e =
@@ -153,6 +154,6 @@ origin_more true r x y = refl
 origin_more false true x y = refl
 origin_more false false x y = refl
 
--- contents after more operations were made by all of them
+-- the contents after further operations are those after all operations
 pub made_after : (c : Contents) (list ops : List Op) → IsMadeBy c list → AreSound IsSound (list ++ ops) → IsCausal id_of clock_of (list ++ ops) → IsMadeBy (after c ops) (list ++ ops)
 made_after c list ops m s d = record { sound = s; causal = d; made = ap (λ v. after v ops) m.made ∙ sym (fold_append no_contents list ops) }

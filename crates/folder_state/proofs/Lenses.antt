@@ -58,7 +58,7 @@ same_name xs ys e = (bytes_eq-Decides xs ys).0 e
 pub own_name : (xs : List ℕ) → bytes_eq xs xs ≡ true
 own_name xs = (bytes_eq-Decides xs xs).1 refl
 
--- What stands under a name.
+-- The value under a name.
 abbrev pub named : {X : Type 0} → List ℕ → List (Vec ℕ × X) → Option X
 named name entries = lookup (λ (key : Vec ℕ). bytes_eq name key.items) entries
 
@@ -78,12 +78,12 @@ module _ {X : Type 0} (name : List ℕ) (old new : List (Vec ℕ × X)) (keeps :
         | inr d ↦ name_beside f d ∙ (λ k. cond (sym d k) a (named f old))
       ]
 
--- the same where the name was looked up by its octets
+-- the same if the name was looked up by its octets
 pub folder_changed : {X : Type 0} (name octets : List ℕ) → octets ≡ name → (old new : List (Vec ℕ × X)) → KeepsOthers (λ (x y : Vec ℕ). bytes_eq x.items y.items) (λ (key : Vec ℕ). bytes_eq octets key.items) old new → (a : Option X) → named octets new ≡ a → (f : List ℕ) → named f new ≡ cond (bytes_eq f name) a (named f old)
 folder_changed name octets e old new keeps a is f = subst (λ n. named f new ≡ cond (bytes_eq f n) a (named f old)) e (name_now octets old new keeps a is f)
 
 module _ (name : List ℕ) (old new : List (Vec ℕ × FolderTables)) (a b : FolderTables) (was : find_folder name old ≡ Some a) (at : (f : List ℕ) → find_folder f new ≡ cond (bytes_eq f name) (Some b) (find_folder f old)) where
-  -- what is told of each folder, where it changes in this one
+  -- the data of each folder, if one folder changes
   pub told_now : {X : Type 0} (P : Option FolderTables → OpId → X) (F : Bool → OpId → X → X) → ((i : OpId) (x : X) → F false i x ≡ x) → ((i : OpId) → P (Some b) i ≡ F true i (P (Some a) i)) → (f : List ℕ) (i : OpId) → P (find_folder f new) i ≡ F (bytes_eq f name) i (P (find_folder f old) i)
   told_now P F none here f i =
       ap (λ o. P o i) (at f)
@@ -94,7 +94,7 @@ module _ (name : List ℕ) (old new : List (Vec ℕ × FolderTables)) (a b : Fol
         | inr d ↦ (λ k. P (cond (d k) (Some b) (find_folder f old)) i) ∙ sym (none i (P (find_folder f old) i)) ∙ (λ k. F (sym d k) i (P (find_folder f old) i))
       ]
 
--- nothing changes where the folder isn't there
+-- nothing changes if the folder has no tables
 pub told_same : (name : List ℕ) (old : List (Vec ℕ × FolderTables)) → find_folder name old ≡ None → {X : Type 0} (P : Option FolderTables → OpId → X) (F : Bool → OpId → X → X) → ((i : OpId) (x : X) → F false i x ≡ x) → ((i : OpId) → P None i ≡ F true i (P None i)) → (f : List ℕ) (i : OpId) → P (find_folder f old) i ≡ F (bytes_eq f name) i (P (find_folder f old) i)
 told_same name old was P F none here f i =
     elim (cases_Bool (bytes_eq f name)) [

@@ -58,7 +58,7 @@ module _ {X : Type 0} where
         at true k m = absurd (false≢true (sym m))
         at false k m = k m
 
-    -- what a test at a place says
+    -- the result of a test at a place
     pub found_at : (xs : List X) (i : ℕ) (b : Bool) → MatchOption (slice_get xs i) (b ≡ false) (λ x. b ≡ P x) → b ≡ true → list_any P xs ≡ true
     found_at xs i b h t = at (slice_get xs i) refl h
       where
@@ -119,7 +119,7 @@ pub if_ok_by : {A E : Type 0} {P Q : A → Type 0} (r : Result A E) → ((a : A)
 if_ok_by (Ok a) f h = f a h
 if_ok_by (Err e) f h = h
 
--- one place more
+-- a further place
 pub in_taken : {X : Type 0} (xs : List X) (i : ℕ) (y : X) → IsIn y (take (i + 1) xs) → IsIn y (take i xs) ⊎ (slice_get xs i ≡ Some y)
 in_taken xs i y h = at xs i (subst (IsIn y) (ap (λ j. take j xs) (add-one i)) h)
   where

@@ -136,7 +136,7 @@ places_roomier None y h k e = absurd (let z = e in cc)
 places_roomier (Some x) None h k e = absurd h
 places_roomier (Some x) (Some y) h k e = (y, refl, subst (λ z. IsRoomier z y) (some_is x k e) h)
 
--- the room that there was is kept
+-- no room is lost
 pub room_kept : (old new : List (Vec ℕ × FolderTables)) → AreRoomier old new → (tags : List ℕ → ℕ) (versions : OpId → ℕ) (o : Option OpId) (t : Option (List ℕ)) → HasRoomAt tags versions o t (λ n. find_folder n old) → HasRoomAt tags versions o t (λ n. find_folder n new)
 room_kept old new roomier tags versions o None h = tt
 room_kept old new roomier tags versions o (Some n) h =

@@ -24,7 +24,7 @@ use Rattle.folder_state.proofs.Filed.{ids_are, key_found, tag_listed}
 use Rattle.folder_state.proofs.Lenses.{named, some_is}
 use Rattle.folder_state.proofs.SetLemmas.{carries, contents_made}
 
--- ---- what one folder tells
+-- ---- what one folder contains
 
 module _ (c : Contents) (n : List ℕ) (held : Option FolderTables) (tags : (i : OpId) → c.tags n i ≡ has_tag_in held i) (bodies : (i : OpId) → c.bodies n i ≡ body_in_folder held i) where
   pub has_tag_told : (i : OpId) → HasTagIn (folder_tag_data held) i ↔ HasTag c n i
@@ -37,14 +37,14 @@ module _ (c : Contents) (n : List ℕ) (held : Option FolderTables) (tags : (i :
   exists_told true h = (λ t. (h.0, (has_tag_told h.0).0 h.1), λ t. refl)
   exists_told false h = (λ t. absurd (false≢true t), λ w. absurd (h w.0 ((has_tag_told w.0).1 w.1)))
 
--- INBOX is always there
+-- INBOX always exists
 pub inbox_there : (c : Contents) (n : List ℕ) (b : Bool) → b ≡ bytes_eq n inbox → b ≡ true → (b ≡ true) ↔ IsFolder c n
 inbox_there c n b e t = (λ h. inl ((bytes_eq-Decides n inbox).0 (sym e ∙ t)), λ h. t)
 
 pub other_there : (c : Contents) (n : List ℕ) (b r : Bool) → b ≡ bytes_eq n inbox → b ≡ false → (r ≡ true) ↔ ((i : OpId) × HasTag c n i) → (r ≡ true) ↔ IsFolder c n
 other_there c n b r e f h = (λ t. inr (h.0 t), λ k. elim k [ inl is ↦ absurd (false≢true (sym f ∙ e ∙ (bytes_eq-Decides n inbox).1 is)) | inr w ↦ h.1 w ])
 
--- ---- what that is of a set of operations
+-- ---- what folders contain by a set of operations
 
 given : {Y : Type 0} (b : Bool) (x : Option Y) → IsSome x → IsSome (cond b x None) ↔ (b ≡ true)
 given true x h = (λ t. refl, λ t. h)
@@ -54,7 +54,7 @@ some_given : {Y : Type 0} (b : Bool) (x : Option Y) → IsSome (cond b x None) �
 some_given true x h = refl
 some_given false x h = absurd (false≢true h)
 
--- a present message tag carries something
+-- a present message tag has data
 pub present_body : (ops : List Op) (n : List ℕ) (i : OpId) → IsSome ((contents_by ops).bodies n i) ↔ (is_present ops (MessageTag n i) ≡ true)
 present_body ops n i = (
   some_given (is_present ops (MessageTag n i)) (first_some (tag_data_from n i) ops),

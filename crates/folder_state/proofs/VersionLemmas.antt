@@ -29,7 +29,7 @@ use Rattle.folder_state.proofs.Filed.{carried_by, carrying, key_found, no_versio
 use Rattle.folder_state.proofs.SetLemmas.{contents_made}
 use Rattle.folder_state.proofs.ToldLemmas.{filter_map_same}
 
--- ---- where what a tag carries comes from
+-- ---- where a tag's data comes from
 
 pub cond_some : {Y : Type 0} (b : Bool) (x : Option Y) (y : Y) → cond b x None ≡ Some y → b ≡ true
 cond_some true x y h = refl
@@ -40,7 +40,7 @@ carried_from true r x y b h = inr h
 carried_from false true x y b h = absurd cc
 carried_from false false x y b h = inl h
 
--- it was there before, or one of the operations brings it
+-- the data was present before, or one of the operations adds it
 pub body_source : (ops : List Op) (c : Contents) (f : List ℕ) (i : OpId) (b : MessageTagData) → (after c ops).bodies f i ≡ Some b → (c.bodies f i ≡ Some b) ⊎ ((o : Op) × IsIn o ops × (tag_data_from f i o ≡ Some b))
 body_source [] c f i b h = inl h
 body_source (o ∷ ops) c f i b h =
@@ -56,7 +56,7 @@ pub origin_some : (x : Option MessageTagData) (i : OpId) → option_map (λ (b :
 origin_some None i h = absurd cc
 origin_some (Some b) i h = let k : b.origin ≡ i = cc in (b, refl, k)
 
--- ---- what that is of a set of operations
+-- ---- versions by a set of operations
 
 origin_there : (b : Bool) (x : Option MessageTagData) (o : OpId) → (option_map (λ (b : MessageTagData). b.origin) (cond b x None) ≡ Some o) ↔ ((b ≡ true) × (option_map (λ (b : MessageTagData). b.origin) x ≡ Some o))
 origin_there true x o = (λ h. (refl, h), λ h. h.1)
@@ -119,7 +119,7 @@ messages_by_set v ops f messages m h =
     (λ o. let e = origins_are ops f o in (λ t. e.0 ((k.0.1 o).0 t), λ t. (k.0.1 o).1 (e.1 t))) in
     by_origin (message_of ops f) messages (λ m i. message_is ops f m (k.1 m i)) ∙ ap (map (message_of ops f)) origins
 
--- a message with all versions that there are
+-- a message with all versions of its origin
 pub message_whole : (c : Contents) (f : List ℕ) (o : OpId) (ids : List OpId) (first : OpId) (letter : Option DatedText) (m : Message)
     → AreVersions c f o ids → IsIn first ids → letter ≡ c.letters o
     → m.origin ≡ o → m.versions ≡ ids → m.flags ≡ union_of (filter_map (flags_in c f) ids)
@@ -175,14 +175,14 @@ module _ (c : Contents) (n : List ℕ) (k : FolderTables) (filed : AreIndexed k.
   flags_of : (o : OpId) → united_flags (versions_at k.messages o) ≡ union_of (filter_map (flags_in c n) (version_ids (versions_at k.messages o)))
   flags_of o = ap union_of (flags_told c n o (versions_at k.messages o) (λ v t. same v.id ∙ carried_by k.messages k.origins filed o v t))
 
-  -- the message of an origin, as the tables tell it
+  -- the message of an origin, by the tables
   pub message_there : (letters : List (OpId × KeptLetter)) → ((i : OpId) → c.letters i ≡ option_map kept_dated_text (lookup (same_id i) letters)) → (o : OpId) → IsMessage c n (kept_message k.messages letters o)
   message_there letters l o = (
     versions_listed_in o,
     λ j. let letter : DatedText = unwrap_or (sym (l o) j) no_dated_text in record { origin = o; versions = version_ids (versions_at k.messages o); flags = flags_of o j; date = letter.date; text = letter.text },
   )
 
-  -- whether there is a version
+  -- whether a version exists
   pub found_version : (o : OpId) (vs : Vec Version) → lookup (same_id o) k.messages ≡ Some vs → HasVersion c n o
   found_version o vs e =
       let w = first_in vs.items (filed.some o vs e) in
@@ -196,7 +196,7 @@ module _ (c : Contents) (n : List ℕ) (k : FolderTables) (filed : AreIndexed k.
   pub no_version : (o : OpId) → lookup (same_id o) k.messages ≡ None → HasVersion c n o → ⊥
   no_version o e h = no_versions k o filed e h.0 (ap (option_map (λ (b : MessageTagData). b.origin)) (sym (same h.0)) ∙ h.1)
 
-  -- one that is told of, or none
+  -- the message of an origin, or none
   pub message_told_of : (letters : List (OpId × KeptLetter)) → ((i : OpId) → c.letters i ≡ option_map kept_dated_text (lookup (same_id i) letters)) → (o : OpId) (x : Option (Vec Version)) → lookup (same_id o) k.messages ≡ x → IsMessageOf c n o (option_map (λ (vs : Vec Version). message_of_data o (message_data_of vs.items (lookup (same_id o) letters))) x)
   message_told_of letters l o None e = no_version o e
   message_told_of letters l o (Some vs) e =
@@ -212,7 +212,7 @@ module _ (c : Contents) (n : List ℕ) (k : FolderTables) (filed : AreIndexed k.
       text_is None = refl
       text_is (Some l) = refl
 
-  -- all of them
+  -- all messages
   pub messages_told : (letters : List (OpId × KeptLetter)) → ((i : OpId) → c.letters i ≡ option_map kept_dated_text (lookup (same_id i) letters)) → (origins : List OpId) (messages : List Message) → IsListOf id_order (λ o. IsIn o (keys_of k.messages)) origins → messages ≡ map (kept_message k.messages letters) origins → AreMessages c n messages
   messages_told letters l origins messages h e =
       subst (AreMessages c n) (sym e) (
@@ -240,7 +240,7 @@ module _ (c : Contents) (n : List ℕ) (k : FolderTables) (filed : AreIndexed k.
           at None e = absurd (h e)
           at (Some vs) e = (key_found es o).1 (subst IsSome (sym e) refl)
 
--- versions that are told of
+-- versions that are lent
 pub some_lent : (c : Contents) (n : List ℕ) (folder : FolderContents) (o : OpId) (vs : List Version) (letter : Option DatedText) (m : Message)
     → ((i : OpId) → c.bodies n i ≡ folder.bodies i) → AreVersionsOf folder o vs → letter ≡ c.letters o
     → m.origin ≡ o → m.versions ≡ version_ids vs → m.flags ≡ united_flags vs
@@ -272,7 +272,7 @@ mailbox_told c n (Some k) filed bodies letters l o messages e =
     subst (λ (ms : Option (List (OpId × Vec Version))). IsMessageOf c n o (option_map (message_of_data o) (option_map (λ (vs : List Version). message_data_of vs (lookup (same_id o) letters)) (versions_in ms o)))) (sym e)
     (subst (IsMessageOf c n o) (told_items o (lookup (same_id o) k.messages) (lookup (same_id o) letters)) (message_told_of c n k filed bodies letters l o (lookup (same_id o) k.messages) refl))
 
--- a version, by one folder
+-- whether a version exists, by one folder
 pub has_version_told : (c : Contents) (n : List ℕ) (o : OpId) (held : Option FolderTables) → ((i : OpId) → c.bodies n i ≡ body_in_folder held i) → (b : Bool) → MatchBool b ((i : OpId) × (option_map (λ (b : MessageTagData). b.origin) (body_in_folder held i) ≡ Some o)) ((i : OpId) → option_map (λ (b : MessageTagData). b.origin) (body_in_folder held i) ≡ Some o → ⊥) → (b ≡ true) ↔ HasVersion c n o
 has_version_told c n o held bodies true h = (λ t. (h.0, ap (option_map (λ (b : MessageTagData). b.origin)) (bodies h.0) ∙ h.1), λ t. refl)
 has_version_told c n o held bodies false h = (λ t. absurd (false≢true t), λ w. absurd (h w.0 (ap (option_map (λ (b : MessageTagData). b.origin)) (sym (bodies w.0)) ∙ w.1)))

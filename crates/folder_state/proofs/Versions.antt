@@ -45,7 +45,7 @@ not_before_itself i e = let k : Less ≡ Equal = sym e ∙ tied_itself id_order_
 pub id_in : (v : Version) (vs : List Version) → IsIn v vs → IsIn v.id (version_ids vs)
 id_in v vs h = (in_map (λ (v : Version). v.id) vs v.id).1 (v, h, refl)
 
--- each version's flags are found
+-- The flags of each version are found under its id.
 pub flags_own : (vs : List Version) (v : Version) → IsAscending id_order (version_ids vs) → IsIn v vs → flags_among vs v.id ≡ Some v.flags
 flags_own [] v h i = absurd i
 flags_own (w ∷ ws) v h i =
@@ -156,7 +156,7 @@ placed_long v (w ∷ ws) = at (id_order v.id w.id) (placed_long v ws).1
     at Equal h = (omega arith, omega arith)
     at Greater h = (omega arith, omega (arith, h))
 
--- it stands among the others, where none has its id
+-- A new version is placed between two parts of the others.
 pub placed_among : (v : Version) (vs : List Version) → (IsIn v.id (version_ids vs) → ⊥) → (front : List Version) × (back : List Version) × (vs ≡ front ++ back) × (insert_ordered by_id v vs ≡ front ++ v ∷ back)
 placed_among v [] h = ([], [], refl, refl)
 placed_among v (w ∷ ws) h = at (id_order v.id w.id) refl (placed_among v ws (λ i. h (inr i)))

@@ -1,3 +1,5 @@
+-- What folders will contain after operations that come next.
+
 use Rattle.std.specs.Prelude.{ℕ, Bool, true, false, ◌&&◌, ◌||◌, Option, None, Some, List}
 use Rattle.tags_clocks.specs.declared.id.OpId.{OpId}
 use Rattle.merge_laws.specs.Orders.{fold_of}
@@ -15,7 +17,7 @@ is_some (Some x) = true
 abbrev pub has_body : Contents → List ℕ → OpId → Bool
 has_body c folder id = is_some (c.bodies folder id)
 
--- What the contents are after these operations.
+-- The contents after these operations.
 abbrev pub after : Contents → List Op → Contents
 after c ops = fold_of effect_of c ops
 
@@ -23,7 +25,7 @@ after c ops = fold_of effect_of c ops
 abbrev pub has_tag_after : Contents → List Op → List ℕ → OpId → Bool
 has_tag_after c ops folder id = (after c ops).tags folder id || has_body (after c ops) folder id
 
--- What one folder contains, as if each folder contained it, and no texts.
+-- The contents of one folder, as if each folder had them, without dates and texts.
 abbrev pub alone : Option FolderTables → Contents
 alone folder = record { tags = λ name id. has_tag_in folder id; bodies = λ name id. body_in_folder folder id; letters = λ id. None }
 
@@ -31,6 +33,6 @@ alone folder = record { tags = λ name id. has_tag_in folder id; bodies = λ nam
 abbrev pub is_version : Contents → List ℕ → OpId → OpId → Bool
 is_version c folder origin id = is_some_id origin (origin_in c folder id)
 
--- Whether an operation adds a version of the origin that is one of the folder's after these operations.
+-- Whether an operation adds a version of the origin that the folder has after all these operations.
 abbrev pub is_added_and_left : Option FolderTables → List Op → List ℕ → OpId → Op → Bool
 is_added_and_left held ops folder origin op = is_some_id origin (origin_by op.id op.kind) && is_version (after (alone held) ops) folder origin op.id

@@ -1,3 +1,5 @@
+-- The tables of a folder, what they contain, and how changes leave them.
+
 use Rattle.std.specs.Prelude.{◌≡◌, ◌⊎◌, ◌↔◌, ℕ, ◌<◌, ◌≤◌, ◌==◌, not, Bool, true, false, Option, None, Some, IsSome, List, [], ◌++◌, length, if◌then◌else◌}
 use Rattle.std.specs.Global.{Vec}
 use Rattle.std.specs.List.{filter, list_any}
@@ -14,8 +16,8 @@ use Rattle.crdt_ops.specs.Sets.{MessageTagData, first_some}
 use Rattle.imap_types.specs.declared.version.Version.{Version}
 use Rattle.imap_types.specs.Unions.{version_ids}
 
--- What is kept of a folder: the ids of its folder tags, the versions of each origin, the origin of each version by its id, and how
--- many more of each can be put in with no more memory.
+-- The tables of a folder: the ids of its folder tags, the versions of each origin, the origin of
+-- each version by its id, and how many further items of each need no more memory.
 pub record FolderTables : Type 0 where
   pub tags : List OpId
   pub messages : List (OpId × Vec Version)
@@ -24,17 +26,17 @@ pub record FolderTables : Type 0 where
   pub message_room : ℕ
   pub origin_room : ℕ
 
--- The folder of this name, if it is there.
+-- The folder of this name, if it has tables.
 abbrev pub find_folder : List ℕ → List (Vec ℕ × FolderTables) → Option FolderTables
 find_folder name folders = lookup (λ (key : Vec ℕ). bytes_eq name key.items) folders
 
--- What a folder contains: whether the folder tag of this id is present, and what the message tag of this id carries, where it is
--- present.
+-- What a folder contains: whether the folder tag of this id is present, and the data of the message
+-- tag of this id, if it is present.
 pub record FolderContents : Type 0 where
   pub tags : OpId → Bool
   pub bodies : OpId → Option MessageTagData
 
--- The versions that are found, if any are.
+-- The versions of a list, if there is one.
 abbrev pub versions_or_none : Option (Vec Version) → List Version
 versions_or_none None = []
 versions_or_none (Some versions) = versions.items
@@ -47,19 +49,19 @@ versions_at messages origin = versions_or_none (lookup (same_id origin) messages
 abbrev pub flags_among : List Version → OpId → Option Flags
 flags_among versions id = first_some (λ version. if same_id id version.id then Some version.flags else None) versions
 
--- What the version with this id and origin carries.
+-- The data of the version with this id and origin.
 abbrev pub body_at : List (OpId × Vec Version) → OpId → Option OpId → Option MessageTagData
 body_at messages id None = None
 body_at messages id (Some origin) = option_map (λ flags. record { flags = flags; origin = origin }) (flags_among (versions_at messages origin) id)
 
--- What is found in a folder.
+-- What the tables of a folder contain.
 abbrev pub folder_contents : FolderTables → FolderContents
 folder_contents folder = record {
   tags = λ id. list_any (same_id id) folder.tags;
   bodies = λ id. body_at folder.messages id (lookup (same_id id) folder.origins);
 }
 
--- The same of a folder that may not be there: no tags, then.
+-- What a folder contains, if it has tables; else it has no tags.
 abbrev pub has_tag_in : Option FolderTables → OpId → Bool
 has_tag_in None id = false
 has_tag_in (Some folder) id = (folder_contents folder).tags id
@@ -79,7 +81,7 @@ messages_in (Some folder) = folder.messages
 abbrev pub HasTagIn : FolderContents → OpId → Type 0
 HasTagIn folder id = (folder.tags id ≡ true) ⊎ IsSome (folder.bodies id)
 
--- The ids of all its tags.
+-- The ids of all tags of a folder.
 abbrev pub folder_ids : FolderTables → List OpId
 folder_ids folder = folder.tags ++ keys_of folder.origins
 
@@ -87,11 +89,11 @@ abbrev pub ids_in : Option FolderTables → List OpId
 ids_in None = []
 ids_in (Some folder) = folder_ids folder
 
--- The versions of an origin in a folder that may not be there.
+-- The versions of an origin in a folder, if it has tables.
 abbrev pub versions_in : Option FolderTables → OpId → List Version
 versions_in folder origin = versions_at (messages_in folder) origin
 
--- Whether it has a tag.
+-- Whether the folder has a tag.
 abbrev pub has_ids : FolderTables → Bool
 has_ids folder = not (length (folder_ids folder) == 0)
 
@@ -99,15 +101,16 @@ has_ids folder = not (length (folder_ids folder) == 0)
 abbrev pub name_if_tagged : Vec ℕ × FolderTables → Option (List ℕ)
 name_if_tagged entry = if has_ids entry.1 then Some entry.0.items else None
 
--- The versions are those of an origin, one at least, ascending by id, each with what its tag carries.
+-- The versions are those of an origin: at least one, ascending by id, each with the data of its
+-- tag.
 pub record AreVersionsOf (folder : FolderContents) (origin : OpId) (versions : List Version) : Type 0 where
   pub some : 0 < length versions
   pub ascending : IsAscending id_order (version_ids versions)
   pub listed : (i : OpId) → IsIn i (version_ids versions) ↔ (option_map (λ body. body.origin) (folder.bodies i) ≡ Some origin)
   pub carried : (v : Version) → IsIn v versions → folder.bodies v.id ≡ Some (record { flags = v.flags; origin = origin })
 
--- Each message has a version, its versions ascend by id, and the origin of each id is told just where a version of that origin has
--- it.
+-- Each message has a version, its versions ascend by id, and an id has an origin exactly if that
+-- origin has a version with this id.
 pub record AreIndexed (messages : List (OpId × Vec Version)) (origins : List (OpId × OpId)) : Type 0 where
   pub some : (o : OpId) (vs : Vec Version) → lookup (same_id o) messages ≡ Some vs → 0 < length vs.items
   pub ascending : (o : OpId) → IsAscending id_order (version_ids (versions_at messages o))
@@ -117,9 +120,9 @@ abbrev pub AreIndexedIn : Option FolderTables → Type 0
 AreIndexedIn None = Unit {0}
 AreIndexedIn (Some folder) = AreIndexed folder.messages folder.origins
 
--- ---- what changes
+-- ---- changes
 
--- How versions are ordered: by their ids.
+-- The order of versions: by their ids.
 abbrev pub by_id : Version → Version → Ordering
 by_id a b = id_order a.id b.id
 
@@ -127,15 +130,15 @@ by_id a b = id_order a.id b.id
 abbrev pub without : OpId → List Version → List Version
 without id versions = filter (λ version. not (same_id id version.id)) versions
 
--- The version with this id was taken out of the message of this origin, and the message, where it had no other; what is found of
--- others is as before.
+-- The version with this id was taken out of the message of this origin, and the message with it if
+-- it had no other; other messages stay.
 pub record IsTakenOut (origin id : OpId) (old new : List (OpId × Vec Version)) : Type 0 where
   pub here : versions_at new origin ≡ without id (versions_at old origin)
   pub beside : (o : OpId) → same_id o origin ≡ false → lookup (same_id o) new ≡ lookup (same_id o) old
   pub some : (vs : Vec Version) → lookup (same_id origin) new ≡ Some vs → 0 < length vs.items
   pub places : (vs : Vec Version) → lookup (same_id origin) new ≡ Some vs → (ws : Vec Version) × (lookup (same_id origin) old ≡ Some ws) × (length vs.items ≤ length ws.items) × (vec_capacity vs ≡ vec_capacity ws)
 
--- The version was put to the message of its origin; what is found of others is as before.
+-- The version was added to the message of its origin; other messages stay.
 pub record IsPutIn (origin : OpId) (version : Version) (old new : List (OpId × Vec Version)) : Type 0 where
   pub here : versions_at new origin ≡ insert_ordered by_id version (versions_at old origin)
   pub beside : (o : OpId) → same_id o origin ≡ false → lookup (same_id o) new ≡ lookup (same_id o) old

@@ -1,3 +1,5 @@
+-- The messages that folders lend.
+
 use Rattle.std.specs.Prelude.{List}
 use Rattle.std.specs.Global.{Vec}
 use Rattle.std.specs.Map.{lookup}
@@ -13,11 +15,11 @@ use Rattle.mailbox_rows.specs.declared.folder_messages.DatedText.{DatedText as K
 use Rattle.folder_state.specs.FolderTables.{versions_at}
 use Rattle.folder_state.specs.declared.lent_message.LentMessage.{LentMessage}
 
--- The date and text that are kept.
+-- A stored date and text.
 abbrev pub kept_dated_text : KeptLetter → DatedText
 kept_dated_text letter = record { date = letter.date; text = letter.text }
 
--- What is told of the message of an origin, as that message.
+-- The message of an origin with this data.
 abbrev pub message_of_data : OpId → MessageData → Message
 message_of_data origin told = record { origin = origin; versions = told.versions; flags = told.flags; date = told.date; text = told.text }
 
@@ -31,7 +33,7 @@ lent_message message = record {
   text = unwrap_or (option_map (λ text. text.now) message.text) no_dated_text.text;
 }
 
--- The message of an origin, as the tables tell it.
+-- The message of an origin by the tables.
 abbrev pub kept_message : List (OpId × Vec Version) → List (OpId × KeptLetter) → OpId → Message
 kept_message messages letters origin =
     let letter : DatedText = unwrap_or (option_map kept_dated_text (lookup (same_id origin) letters)) no_dated_text in

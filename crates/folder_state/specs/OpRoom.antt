@@ -1,3 +1,5 @@
+-- The room that pending operations need in the tables of folders, and how it changes.
+
 use Rattle.std.specs.Prelude.{◌≡◌, ℕ, ◌+◌, ◌≤◌, Bool, false, Option, None, Some, List, [], ◌∷◌, if◌then◌else◌, length}
 use Rattle.std.specs.Global.{Vec}
 use Rattle.std.specs.Map.{lookup}
@@ -41,7 +43,7 @@ abbrev pub versions_added : List Op → OpId → ℕ
 versions_added [] origin = 0
 versions_added (op ∷ ops) origin = (if is_some_id origin (origin_by op.id op.kind) then 1 else 0) + versions_added ops origin
 
--- So many versions of the origin, where there is one.
+-- The number of versions of the origin, if there is one; else 0.
 abbrev pub counts_of : (OpId → ℕ) → Option OpId → ℕ
 counts_of versions None = 0
 counts_of versions (Some origin) = versions origin
@@ -51,48 +53,51 @@ pub record TagCounts : Type 0 where
   pub tags : List (Vec ℕ × ℕ)
   pub versions : List (OpId × ℕ)
 
--- What is counted under a name, and at an id.
+-- The count under a name, and the count under an id.
 abbrev pub count_under : List ℕ → List (Vec ℕ × ℕ) → ℕ
 count_under name counts = unwrap_or (lookup (λ (key : Vec ℕ). bytes_eq name key.items) counts) 0
 
 abbrev pub count_at : OpId → List (OpId × ℕ) → ℕ
 count_at id counts = unwrap_or (lookup (same_id id) counts) 0
 
--- ---- the room that there is
+-- ---- room
 
--- So many tags more can be put into the folder with no more memory: where there is an origin, also those of versions of messages that
--- aren't there.
+-- There is room for `count` further tags in the folder; if there is an origin, also for as many
+-- message tags of new messages.
 pub record HasPlaces (folder : FolderTables) (origin : Option OpId) (count : ℕ) : Type 0 where
   pub tags : count ≤ folder.tag_room
   pub messages : (o : OpId) → origin ≡ Some o → count ≤ folder.message_room
   pub origins : (o : OpId) → origin ≡ Some o → count ≤ folder.origin_room
 
--- So many versions more fit into the message of the origin, where it is there.
+-- There is room for this number of further versions in the message of the origin, if it exists.
 abbrev pub HasVersionRoom : List (OpId × Vec Version) → OpId → ℕ → Type 0
 HasVersionRoom messages origin count = (versions : Vec Version) → lookup (same_id origin) messages ≡ Some versions → length versions.items + count ≤ vec_capacity versions
 
--- The same where there may be no origin.
+-- There is room for this number of further versions in the message of the origin, if there is an
+-- origin and its message exists.
 abbrev pub HasVersionPlaces : FolderTables → Option OpId → ℕ → Type 0
 HasVersionPlaces folder None count = Unit {0}
 HasVersionPlaces folder (Some origin) count = HasVersionRoom folder.messages origin count
 
--- The folder is there, with room for the tags that are wanted in it, and in its message of the origin for the versions.
+-- The folder has tables, with room for the counted tags in it and for the counted versions in its
+-- message of the origin.
 abbrev pub HasRoomAt : (List ℕ → ℕ) → (OpId → ℕ) → Option OpId → Option (List ℕ) → (List ℕ → Option FolderTables) → Type 0
 HasRoomAt tags versions origin None folders = Unit {0}
 HasRoomAt tags versions origin (Some name) folders = (folder : FolderTables) × (folders name ≡ Some folder) × HasPlaces folder origin (tags name) × HasVersionPlaces folder origin (counts_of versions origin)
 
--- The folder of the tag that the operation adds is there, with room for what these operations add.
+-- The folder of the tag that the operation adds has tables, with room for what these operations
+-- add.
 abbrev pub HasRoomFor : List Op → Op → (List ℕ → Option FolderTables) → Type 0
 HasRoomFor ops op folders = HasRoomAt (tags_added ops) (versions_added ops) (origin_by op.id op.kind) (target op.kind) folders
 
--- For each operation that adds a version there is an empty list with places for the versions of its origin that it and those behind it
--- add.
+-- Each operation that adds a version has an empty list, with room for the versions of its origin
+-- that it and the operations after it add.
 abbrev pub HaveLists : List Op → List (Vec Version) → Type 0
 HaveLists [] lists = Unit {0}
 HaveLists (op ∷ ops) [] = ⊥
 HaveLists (op ∷ ops) (list ∷ lists) = (list.items ≡ []) × (counts_of (versions_added (op ∷ ops)) (origin_by op.id op.kind) ≤ vec_capacity list) × HaveLists ops lists
 
--- ---- how it changes
+-- ---- changes of room
 
 -- Nothing was put in, and no room was lost.
 pub record IsNoFuller (old new : FolderTables) : Type 0 where
@@ -109,7 +114,7 @@ IsNoFullerIn (Some old) (Some new) = IsNoFuller old new
 abbrev pub AreNoFuller : List (Vec ℕ × FolderTables) → List (Vec ℕ × FolderTables) → Type 0
 AreNoFuller old new = (name : List ℕ) → IsNoFullerIn (find_folder name old) (find_folder name new)
 
--- The versions are the same, and there are no fewer places for them.
+-- The versions are the same, with no less room.
 abbrev pub IsRoomierList : Option (Vec Version) → Option (Vec Version) → Type 0
 IsRoomierList None None = Unit {0}
 IsRoomierList None (Some new) = ⊥
@@ -119,7 +124,7 @@ IsRoomierList (Some old) (Some new) = (new.items ≡ old.items) × (vec_capacity
 abbrev pub AreRoomierLists : List (OpId × Vec Version) → List (OpId × Vec Version) → Type 0
 AreRoomierLists old new = (o : OpId) → IsRoomierList (lookup (same_id o) old) (lookup (same_id o) new)
 
--- The same tags, and no less room.
+-- The folder has the same tags, and no less room.
 pub record IsRoomier (old new : FolderTables) : Type 0 where
   pub tags : new.tags ≡ old.tags
   pub origins : new.origins ≡ old.origins
@@ -128,7 +133,7 @@ pub record IsRoomier (old new : FolderTables) : Type 0 where
   pub message_room : old.message_room ≤ new.message_room
   pub origin_room : old.origin_room ≤ new.origin_room
 
--- Of a folder that wasn't there: no tags.
+-- A folder has the same tags, and no less room; a new folder has no tags.
 abbrev pub IsRoomierIn : Option FolderTables → Option FolderTables → Type 0
 IsRoomierIn None None = Unit {0}
 IsRoomierIn None (Some new) = (new.tags ≡ []) × (new.messages ≡ []) × (new.origins ≡ [])
@@ -138,8 +143,8 @@ IsRoomierIn (Some old) (Some new) = IsRoomier old new
 abbrev pub AreRoomier : List (Vec ℕ × FolderTables) → List (Vec ℕ × FolderTables) → Type 0
 AreRoomier old new = (name : List ℕ) → IsRoomierIn (find_folder name old) (find_folder name new)
 
--- A tag was put into the folder, as a version of the origin, where there is one; what room is left serves what is wanted behind it,
--- also where a message was made of a list with so many places.
+-- A tag was put into the folder, as a version of the origin if there is one. The remaining room
+-- suffices for the tags after it, also if a new message began in a list with `places` places.
 abbrev pub LeavesRoom : List ℕ → Option OpId → ℕ → (List ℕ → Option FolderTables) → (List ℕ → Option FolderTables) → Type 0
 LeavesRoom name origin places old new =
     (tags : List ℕ → ℕ) (versions : OpId → ℕ) (o : Option OpId) (t : Option (List ℕ))
@@ -147,7 +152,8 @@ LeavesRoom name origin places old new =
     → counts_of (λ i. (if is_some_id i origin then 1 else 0) + versions i) origin ≤ places
     → HasRoomAt tags versions o t new
 
--- The same of the tag that an operation adds, and the operations behind it.
+-- The tag that an operation adds was put in, and the remaining room suffices for the operations
+-- after it.
 abbrev pub LeavesRoomBehind : Op → ℕ → (List ℕ → Option FolderTables) → (List ℕ → Option FolderTables) → Type 0
 LeavesRoomBehind op places old new =
     (rest : List Op) (o : Op) → HasRoomFor (op ∷ rest) o old → counts_of (versions_added (op ∷ rest)) (origin_by op.id op.kind) ≤ places → HasRoomFor rest o new

@@ -1,4 +1,4 @@
-//! What tables tell of tags, and what operations would leave of them.
+//! Which tags a folder has, and which it will have after pending operations.
 
 ghost use Rattle.std.specs.Prelude.{◌≡◌, ◌↔◌, ◌&&◌, ◌||◌, false, None, Some, MatchOption, length, not, if◌then◌else◌};
 ghost use Rattle.std.specs.Bool.{MatchBool};
@@ -42,7 +42,7 @@ pub fn has_versions(folder: Option<&Folder>, origin: &OpId) -> bool
     }
 }
 
-/// Whether the operation adds the folder tag.
+/// Whether the operation adds the folder tag of this folder and id.
 fn adds_tag(op: &Op, folder: &Name, id: OpId) -> bool
     ensures { result ≡ adds (FolderTag folder.now id) op.now }
 {
@@ -53,7 +53,7 @@ fn adds_tag(op: &Op, folder: &Name, id: OpId) -> bool
     }
 }
 
-/// Whether the operation removes the folder tag.
+/// Whether the operation removes the folder tag of this folder and id.
 fn removes_tag(op: &Op, folder: &Name, id: OpId) -> bool
     ensures { result ≡ removes (FolderTag folder.now id) op.now }
 {
@@ -68,7 +68,7 @@ fn removes_tag(op: &Op, folder: &Name, id: OpId) -> bool
     }
 }
 
-/// Whether the operation adds the message tag.
+/// Whether the operation adds the message tag of this folder and id.
 fn adds_message(op: &Op, folder: &Name, id: OpId) -> bool
     ensures { result ≡ adds (MessageTag folder.now id) op.now }
 {
@@ -79,7 +79,7 @@ fn adds_message(op: &Op, folder: &Name, id: OpId) -> bool
     }
 }
 
-/// Whether the operation removes the message tag.
+/// Whether the operation removes the message tag of this folder and id.
 fn removes_message(op: &Op, folder: &Name, id: OpId) -> bool
     ensures { result ≡ removes (MessageTag folder.now id) op.now }
 {
@@ -98,14 +98,14 @@ fn removes_message(op: &Op, folder: &Name, id: OpId) -> bool
     }
 }
 
-/// Whether the folder tag is present after the operation, where this tells whether it was before.
+/// Whether the folder tag is present after the operation, given whether it was before.
 fn tag_after_op(op: &Op, folder: &Name, id: &OpId, before: bool) -> bool
     ensures { result ≡ (adds (FolderTag folder.now id.now) op.now || (not (removes (FolderTag folder.now id.now) op.now) && before)) }
 {
     adds_tag(op, folder, *id) || (!removes_tag(op, folder, *id) && before)
 }
 
-/// Whether the folder tag is present after these operations, where this tells whether it is now.
+/// Whether the folder tag is present after these operations, given whether it is now.
 fn tag_after(ops: &[SoundOp], folder: &Name, id: &OpId, now: bool) -> bool
     ensures { (c : Contents) → c.tags folder.now id.now ≡ now → result ≡ (after c ops.now).tags folder.now id.now }
 {
@@ -116,7 +116,7 @@ fn tag_after(ops: &[SoundOp], folder: &Name, id: &OpId, now: bool) -> bool
     there
 }
 
-/// The origin of the message tag after the operation, where this is what it was before.
+/// The origin of the message tag after the operation, given its origin before; None if absent.
 fn origin_after_op(op: &Op, folder: &Name, id: &OpId, before: Option<OpId>) -> Option<OpId>
     ensures { result ≡ (if adds (MessageTag folder.now id.now) op.now then origin_by op.now.id op.now.kind else (if removes (MessageTag folder.now id.now) op.now then None else before)) }
 {
@@ -129,7 +129,7 @@ fn origin_after_op(op: &Op, folder: &Name, id: &OpId, before: Option<OpId>) -> O
     before
 }
 
-/// The origin of the version that the operation adds, where it adds one.
+/// The origin of the version that the operation adds, if it adds one.
 pub fn origin_by(op: &Op) -> Option<OpId>
     ensures { result ≡ origin_by op.now.id op.now.kind }
 {
@@ -140,7 +140,7 @@ pub fn origin_by(op: &Op) -> Option<OpId>
     }
 }
 
-/// The origin of the message tag after these operations, where this is what it is now.
+/// The origin of the message tag after these operations, given its origin now; None if absent.
 fn origin_after(ops: &[SoundOp], folder: &Name, id: &OpId, now: Option<OpId>) -> Option<OpId>
     ensures { (c : Contents) → origin_in c folder.now id.now ≡ now → result ≡ origin_in (after c ops.now) folder.now id.now }
 {
@@ -161,7 +161,7 @@ fn has_tag_at(held: Option<&Folder>, id: &OpId) -> bool
     }
 }
 
-/// The origin of the message tag with this id, where it is present.
+/// The origin of the message tag with this id, if it is present.
 fn origin_at(held: Option<&Folder>, id: &OpId) -> Option<OpId>
     ensures { result ≡ option_map (λ body. body.origin) (body_in_folder (option_copied held.entry) id.now) }
 {
@@ -171,7 +171,7 @@ fn origin_at(held: Option<&Folder>, id: &OpId) -> Option<OpId>
     }
 }
 
-/// The number of its tags of both kinds.
+/// The number of the folder's tags, of both kinds.
 fn count_in(held: Option<&Folder>) -> usize
     ensures count { result ≡ length (ids_in (option_copied held.entry)) }
     ensures ids { (i : OpId) → IsIn i (ids_in (option_copied held.entry)) ↔ HasTagIn (folder_tag_data (option_copied held.entry)) i }
@@ -182,7 +182,7 @@ fn count_in(held: Option<&Folder>) -> usize
     }
 }
 
-/// The id of its tag at this place.
+/// The id of the folder's tag at `place`, if it has that many tags.
 fn id_in(held: Option<&Folder>, place: usize) -> Option<OpId>
     ensures { result ≡ slice_get (ids_in (option_copied held.entry)) place }
 {
@@ -200,7 +200,8 @@ fn has_tag_after(held: Option<&Folder>, folder: &Name, id: &OpId, ops: &[SoundOp
         || origin_after(ops, folder, id, origin_at(held, id)).is_some()
 }
 
-/// Whether the folder has a tag after these operations, of those that it has and those that they add.
+/// Whether the folder has any tag after these operations. Only its present tags and those that the
+/// operations add are looked at.
 pub fn has_tag_after_all(held: Option<&Folder>, folder: &Name, ops: &[SoundOp]) -> bool
     ensures ids { (i : OpId) → IsIn i (ids_in (option_copied held.entry)) ↔ HasTagIn (folder_tag_data (option_copied held.entry)) i }
     ensures left { result ≡ (list_any (λ i. has_tag_after (alone (option_copied held.entry)) ops.now folder.now i) (ids_in (option_copied held.entry)) || list_any (λ o. has_tag_after (alone (option_copied held.entry)) ops.now folder.now o.id) ops.now) }
@@ -208,7 +209,7 @@ pub fn has_tag_after_all(held: Option<&Folder>, folder: &Name, ops: &[SoundOp]) 
     any_kept_left(held, folder, ops) || any_added_left(held, folder, ops)
 }
 
-/// Whether one of its tags is left, or another with its id.
+/// Whether a tag with the id of a present tag remains.
 fn any_kept_left(held: Option<&Folder>, folder: &Name, ops: &[SoundOp]) -> bool
     ensures ids { (i : OpId) → IsIn i (ids_in (option_copied held.entry)) ↔ HasTagIn (folder_tag_data (option_copied held.entry)) i }
     ensures left { result ≡ list_any (λ i. has_tag_after (alone (option_copied held.entry)) ops.now folder.now i) (ids_in (option_copied held.entry)) }
@@ -222,7 +223,7 @@ fn any_kept_left(held: Option<&Folder>, folder: &Name, ops: &[SoundOp]) -> bool
     false
 }
 
-/// Whether its tag at this place is left, or another with its id.
+/// Whether a tag with the id of the present tag at `place` remains.
 fn is_left_at(held: Option<&Folder>, folder: &Name, ops: &[SoundOp], place: usize) -> bool
     ensures { MatchOption (slice_get (ids_in (option_copied held.entry)) place) (result ≡ false) (λ i. result ≡ has_tag_after (alone (option_copied held.entry)) ops.now folder.now i) }
 {
@@ -232,7 +233,7 @@ fn is_left_at(held: Option<&Folder>, folder: &Name, ops: &[SoundOp], place: usiz
     }
 }
 
-/// Whether a tag of the folder with one of these operations' ids is left.
+/// Whether a tag of the folder with the id of one of these operations remains.
 fn any_added_left(held: Option<&Folder>, folder: &Name, ops: &[SoundOp]) -> bool
     ensures { result ≡ list_any (λ o. has_tag_after (alone (option_copied held.entry)) ops.now folder.now o.id) ops.now }
 {
@@ -257,7 +258,7 @@ fn is_version_after(
     is_id(origin, origin_after(ops, folder, id, origin_at(held, id)))
 }
 
-/// Whether the id is the one that is given, where one is.
+/// Whether the two ids are equal, if there is a second.
 fn is_id(id: &OpId, given: Option<OpId>) -> bool
     ensures { result ≡ is_some_id id.now given }
 {
@@ -267,7 +268,8 @@ fn is_id(id: &OpId, given: Option<OpId>) -> bool
     }
 }
 
-/// Whether the origin has a version in the folder after these operations, of those that it has and those that they add.
+/// Whether the origin has a version in the folder after these operations. Only its present versions
+/// and those that the operations add are looked at.
 pub fn has_version_after_all(
     held: Option<&Folder>,
     folder: &Name,
@@ -280,7 +282,7 @@ pub fn has_version_after_all(
     keeps_version(held, folder, origin, ops) || adds_lasting_version(held, folder, origin, ops)
 }
 
-/// Whether one of its versions is left.
+/// Whether one of the origin's present versions remains.
 fn keeps_version(held: Option<&Folder>, folder: &Name, origin: &OpId, ops: &[SoundOp]) -> bool
     ensures versions { (i : OpId) → IsIn i (version_ids (versions_in (option_copied held.entry) origin.now)) ↔ (option_map (λ body. body.origin) (body_in_folder (option_copied held.entry) i) ≡ Some origin.now) }
     ensures left { result ≡ list_any (λ version. is_version (after (alone (option_copied held.entry)) ops.now) folder.now origin.now version.id) (versions_in (option_copied held.entry) origin.now) }
@@ -291,7 +293,7 @@ fn keeps_version(held: Option<&Folder>, folder: &Name, origin: &OpId, ops: &[Sou
     }
 }
 
-/// Whether one of these versions is left.
+/// Whether one of these versions remains.
 fn any_left(
     held: Option<&Folder>,
     versions: &[Version],
@@ -309,7 +311,7 @@ fn any_left(
     false
 }
 
-/// Whether one of the operations adds a version that is left after all of them.
+/// Whether one of the operations adds a version that remains after all of them.
 fn adds_lasting_version(
     held: Option<&Folder>,
     folder: &Name,
@@ -326,7 +328,7 @@ fn adds_lasting_version(
     false
 }
 
-/// Whether an operation adds a version of the origin that is left after all of them.
+/// Whether this operation adds a version of the origin that remains after all operations.
 fn is_added_and_left(
     held: Option<&Folder>,
     folder: &Name,

@@ -1,4 +1,4 @@
-//! One folder as it is kept.
+//! `Folder`: the tables of one folder.
 
 ghost use Rattle.std.specs.Prelude.{◌≡◌, ◌↔◌, ◌++◌, Some, [], IfOk, MatchOption, OnOk, length, not};
 ghost use Rattle.std.specs.Bool.{MatchBool};
@@ -15,14 +15,15 @@ use std::alloc::{AllocError, Global};
 use std::marker::Model;
 use tags_clocks::OpId;
 
-/// One folder's tags: its folder tags, the versions of its messages by origin, and the origin of each version by its id.
+/// One folder's tags: its folder tags, the versions of its messages by origin, and the origin of
+/// each version by its id.
 pub struct Folder {
     pub(crate) tags: IndexSet<OpId>,
     pub(crate) messages: IndexMap<OpId, Vec<Version>>,
     pub(crate) origins: IndexMap<OpId, OpId>,
 }
 
-// By hand, so that crates above let it go as a whole.
+// By hand, so that crates above drop it whole.
 impl Drop for Folder {
     fn drop(self) {
         let Self {
@@ -46,7 +47,7 @@ impl Model for Folder {
 }
 
 impl Folder {
-    /// No tags, and no memory.
+    /// A folder without tags, which takes no memory.
     pub(crate) fn new(alloc: Global) -> Folder
         ensures { (result.tags ≡ []) × (result.messages ≡ []) × (result.origins ≡ []) }
     {
@@ -64,14 +65,15 @@ impl Folder {
         self.tags.contains(id)
     }
 
-    /// The origin of the message tag with this id, where it is present. Cost: a look-up.
+    /// The origin of the message tag with this id, if it is present. Cost: a look-up.
     pub fn origin_of(&self, id: &OpId) -> Option<OpId>
         ensures { result ≡ option_map (λ body. body.origin) ((folder_contents self.now).bodies id.now) }
     {
         self.origins.get(id).copied()
     }
 
-    /// The versions of this origin, ascending by id, one at least; None where it has none. Cost: a look-up.
+    /// The versions of this origin, ascending by id, at least one; None if it has none. Cost: a
+    /// look-up.
     pub fn versions_of(&self, origin: &OpId) -> Option<&[Version]>
         ensures { MatchOption result
             ((i : OpId) → option_map (λ body. body.origin) ((folder_contents self.now).bodies i) ≡ Some origin.now → ⊥)
@@ -95,7 +97,7 @@ impl Folder {
         }
     }
 
-    /// The versions of this origin, ascending by id, none where it has none.
+    /// The versions of this origin, ascending by id; empty if it has none.
     pub(crate) fn versions_at(&self, origin: &OpId) -> &[Version]
         ensures list { result.now ≡ versions_at self.now.messages origin.now }
         ensures filed { AreIndexed self.now.messages self.now.origins }
@@ -106,7 +108,7 @@ impl Folder {
         }
     }
 
-    /// The number of its tags of both kinds.
+    /// The number of its tags, of both kinds.
     pub fn count(&self) -> usize
         ensures ids { result ≡ length (folder_ids self.now) }
         ensures tags { (i : OpId) → IsIn i (folder_ids self.now) ↔ HasTagIn (folder_contents self.now) i }
@@ -114,7 +116,8 @@ impl Folder {
         self.tags.len() + self.origins.len()
     }
 
-    /// The id of the tag at this place, from 0 on, in no promised order: each of its tags of both kinds stands at a place.
+    /// The id of the tag at `place`, from 0, in no promised order, tags of both kinds counted; None
+    /// from [`Folder::count`] on.
     pub fn id_at(&self, place: usize) -> Option<OpId>
         ensures { result ≡ slice_get (folder_ids self.now) place }
     {
@@ -151,7 +154,7 @@ impl Folder {
         &self.messages
     }
 
-    /// The ids of all its tags; `Err` where there is no memory for them.
+    /// The ids of all its tags; `Err` if memory runs out.
     pub(crate) fn ids(&self, alloc: Global) -> Result<Vec<OpId>, AllocError>
         ensures ids { IfOk result (λ ids. ids.items ≡ folder_ids self.now) }
         ensures tags { (i : OpId) → IsIn i (folder_ids self.now) ↔ HasTagIn (folder_contents self.now) i }
@@ -164,7 +167,7 @@ impl Folder {
         Ok(ids)
     }
 
-    /// The origin of the message at this place, from 0 on.
+    /// The origin of the message at `place`, from 0.
     fn origin_at(&self, place: usize) -> Option<OpId>
         ensures { result ≡ slice_get (keys_of self.now.messages) place }
     {
@@ -174,7 +177,7 @@ impl Folder {
         }
     }
 
-    /// The origins of its messages; `Err` where there is no memory for them.
+    /// The origins of its messages; `Err` if memory runs out.
     pub(crate) fn origins(&self, alloc: Global) -> Result<Vec<OpId>, AllocError>
         ensures origins { IfOk result (λ ids. ids.items ≡ keys_of self.now.messages) }
         ensures filed { AreIndexed self.now.messages self.now.origins }
@@ -187,7 +190,7 @@ impl Folder {
     }
 }
 
-/// Puts the id behind the others, where one is given.
+/// Appends the id, if there is one; `Err` if memory runs out.
 fn push_given(ids: &mut Vec<OpId>, given: Option<OpId>) -> Result<(), AllocError>
     ensures { OnOk result (ids.new.items ≡ ids.old.items ++ cons_option given []) }
 {

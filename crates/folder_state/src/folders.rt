@@ -1,4 +1,4 @@
-//! The replicated folders.
+//! `Folders`: the replicated folders.
 
 ghost use Rattle.crdt_ops.specs.Ops.{clock_of, id_of};
 
@@ -27,7 +27,7 @@ pub struct Folders {
     lists: VecDeque<Vec<Version>>,
 }
 
-// By hand, so that crates above let it go as a whole.
+// By hand, so that crates above drop it whole.
 impl Drop for Folders {
     fn drop(self) {
         let Self {
@@ -58,7 +58,7 @@ impl Folders {
     ghost use Rattle.folder_state.specs.Contents.{AreMessages, AreVersions, HasTag, HasVersion, IsFolder, IsMadeBy, IsMessageOf, no_contents};
     ghost use Rattle.folder_state.specs.Tables.{contents_of};
 
-    /// No folders but INBOX, no messages, and no memory.
+    /// Only INBOX, without messages; takes no memory.
     pub fn new(alloc: Global) -> Folders
         ensures { contents_of result ≡ no_contents }
     {
@@ -70,7 +70,7 @@ impl Folders {
         }
     }
 
-    /// What is kept of this folder, where it has a table. Cost: a look-up.
+    /// The tables of this folder, if it has some. Cost: a look-up.
     pub fn folder(&self, name: &Name) -> Option<&Folder>
         ensures tags { (i : OpId) → (contents_of self.now).tags name.now i ≡ has_tag_in (option_copied result) i }
         ensures bodies { (i : OpId) → (contents_of self.now).bodies name.now i ≡ body_in_folder (option_copied result) i }
@@ -78,7 +78,8 @@ impl Folders {
         self.by_name.get(name.as_bytes())
     }
 
-    /// The folder's messages as they are kept, lent, with the dates and texts of all Appends. Cost: a look-up.
+    /// The folder's stored messages, borrowed, with the dates and texts of all Appends. Cost: a
+    /// look-up.
     pub fn mailbox(&self, name: &Name) -> FolderMessages<'_>
         ensures contents { (origin : OpId) → IsMessageOf (contents_of self.now) name.now origin (option_map (message_of_data origin) (kept_message_data result origin)) }
     {
@@ -88,14 +89,16 @@ impl Folders {
         }
     }
 
-    /// The date and text of the Append with this id, where one was applied, whatever its folder. Cost: a look-up.
+    /// The date and text of the Append with this id, if one was applied, in whatever folder. Cost:
+    /// a look-up.
     pub fn dated_text(&self, id: &OpId) -> Option<&DatedText>
         ensures { option_map kept_dated_text (option_copied result) ≡ (contents_of self.now).letters id.now }
     {
         self.letters.get(id)
     }
 
-    /// Whether this folder is there: INBOX, or a name with a present tag. Takes no memory. Cost: a look-up.
+    /// Whether this folder exists: it is INBOX, or has a present tag. Takes no memory. Cost: a
+    /// look-up.
     pub fn exists(&self, name: &Name) -> bool
         ensures contents { IsTrue result ↔ IsFolder (contents_of self.now) name.now }
         ensures set { (ops : List Op) → IsMadeBy (contents_of self.now) ops → IsTrue result ↔ IsIn name.now (folders_of ops) }
@@ -103,8 +106,9 @@ impl Folders {
         is_inbox(name) || has_tags(self.folder(name))
     }
 
-    /// Whether this folder will be there after these operations, applied in this order. Takes no memory; its cost grows at most as
-    /// the operations times the folder's tags and operations together.
+    /// Whether this folder will exist after these operations, applied in this order. Takes no
+    /// memory. Cost: at most the number of operations times that of the folder's tags and the
+    /// operations together.
     pub fn exists_after(&self, name: &Name, ops: &[SoundOp]) -> bool
         ensures contents { IsTrue result ↔ IsFolder (after (contents_of self.now) ops.now) name.now }
         ensures set { (list : List Op) → IsMadeBy (contents_of self.now) list → AreSound IsSound (list ++ ops.now) → IsCausal id_of clock_of (list ++ ops.now) → IsTrue result ↔ IsIn name.now (folders_of (list ++ ops.now)) }
@@ -120,7 +124,8 @@ impl Folders {
         has_versions(self.folder(folder), origin)
     }
 
-    /// Whether the origin will have a version in the folder after these operations, applied in this order. Takes no memory.
+    /// Whether the origin will have a version in the folder after these operations, applied in this
+    /// order. Takes no memory.
     pub fn has_version_after(&self, folder: &Name, origin: &OpId, ops: &[SoundOp]) -> bool
         ensures contents { IsTrue result ↔ HasVersion (after (contents_of self.now) ops.now) folder.now origin.now }
         ensures set { (list : List Op) → IsMadeBy (contents_of self.now) list → AreSound IsSound (list ++ ops.now) → IsCausal id_of clock_of (list ++ ops.now) → IsTrue result ↔ IsIn origin.now (origins_of (list ++ ops.now) folder.now) }
@@ -128,8 +133,8 @@ impl Folders {
         has_version_after_all(self.folder(folder), folder, origin, ops)
     }
 
-    /// The folder's message of this origin, all of it lent by the folders; None where the origin has no version in the folder.
-    /// Takes no memory. Cost: a look-up or three.
+    /// The folder's message of this origin, borrowed; None if the origin has no version in the
+    /// folder. Takes no memory. Cost: at most three look-ups.
     pub fn message<'a>(&'a self, folder: &Name, origin: &OpId) -> Option<LentMessage<'a>>
         ensures contents { IsMessageOf (contents_of self.now) folder.now origin.now (option_map lent_message result) }
         ensures set { (list : List Op) → IsMadeBy (contents_of self.now) list → option_map lent_message result ≡ (if list_any (same_id origin.now) (origins_of list folder.now) then Some (message_of list folder.now origin.now) else None) }
@@ -140,8 +145,8 @@ impl Folders {
         }
     }
 
-    /// The names of the folders that are there, ascending by octets, INBOX among them; `Err` where there is no memory for
-    /// them.
+    /// The names of the existing folders, INBOX among them, ascending by octets; `Err` if memory
+    /// runs out.
     pub fn names(&self, alloc: Global) -> Result<Vec<Name>, AllocError>
         ensures contents { IfOk result (λ names. IsListOf octet_order (IsFolder (contents_of self.now)) names.items) }
         ensures set { (ops : List Op) → IsMadeBy (contents_of self.now) ops → IfOk result (λ names. names.items ≡ folders_of ops) }
@@ -150,7 +155,7 @@ impl Folders {
         Ok(names)
     }
 
-    /// The ids of the folder's present folder tags; `Err` where there is no memory for them.
+    /// The ids of the folder's present folder tags; `Err` if memory runs out.
     pub fn tags(&self, alloc: Global, folder: &Name) -> Result<Ids, AllocError>
         ensures contents { IfOk result (λ ids. IsListOf id_order (λ i. (contents_of self.now).tags folder.now i ≡ true) ids) }
         ensures set { (ops : List Op) → IsMadeBy (contents_of self.now) ops → IfOk result (λ ids. ids ≡ folder_tags_of ops folder.now) }
@@ -159,8 +164,8 @@ impl Folders {
         Ok(ids)
     }
 
-    /// The ids of the origin's versions in the folder: the present message tags of the folder with this origin, ascending;
-    /// `Err` where there is no memory for them.
+    /// The ids of the origin's versions in the folder, which are the folder's present message tags
+    /// with this origin; `Err` if memory runs out.
     pub fn versions(&self, alloc: Global, folder: &Name, origin: &OpId) -> Result<Ids, AllocError>
         ensures contents { IfOk result (λ ids. AreVersions (contents_of self.now) folder.now origin.now ids) }
         ensures set { (ops : List Op) → IsMadeBy (contents_of self.now) ops → IfOk result (λ ids. ids ≡ versions_of ops folder.now origin.now) }
@@ -169,10 +174,10 @@ impl Folders {
         Ok(ids)
     }
 
-    /// The folder's messages, ascending by their origins: one for each origin with a version, with its versions, the union of
-    /// their flags, and the date and text of the Append that is the origin, whatever that one's folder. Where the origin is no
-    /// Append that was applied, the text is empty and the date the first moment of 1970. `Err` where there is no memory for
-    /// them.
+    /// The folder's messages, ascending by origin: one for each origin with a version. Each has its
+    /// versions, the union of their flags, and the date and text of the Append that is its origin,
+    /// whatever that one's folder. If no such Append was applied, the text is empty and the date is
+    /// the first moment of 1970. `Err` if memory runs out.
     pub fn messages(&self, alloc: Global, folder: &Name) -> Result<Vec<Message>, AllocError>
         ensures contents { IfOk result (λ messages. AreMessages (contents_of self.now) folder.now messages.items) }
         ensures set { (ops : List Op) → IsMadeBy (contents_of self.now) ops → IfOk result (λ messages. messages.items ≡ messages_of ops folder.now) }
@@ -181,8 +186,8 @@ impl Folders {
         Ok(messages)
     }
 
-    /// The ids that a Delete of the folder lists: those of all its present tags, of both kinds; `Err` where there is no
-    /// memory for them.
+    /// The ids that a Delete of the folder lists, which are those of all its present tags, of both
+    /// kinds; `Err` if memory runs out.
     pub fn delete_set(&self, alloc: Global, folder: &Name) -> Result<Ids, AllocError>
         ensures contents { IfOk result (λ ids. IsListOf id_order (HasTag (contents_of self.now) folder.now) ids) }
         ensures set { (ops : List Op) → IsMadeBy (contents_of self.now) ops → IfOk result (λ ids. ids ≡ delete_set_of ops folder.now) }
@@ -241,7 +246,7 @@ impl Folders {
     ghost use Rattle.std.specs.Prelude.{◌≡◌, ◌∷◌, [], OnOk};
     ghost use Rattle.folder_state.specs.Tables.{IsPrepared, contents_of};
 
-    /// Makes room for one operation. An error leaves the content.
+    /// Makes room for one operation. `Err` if memory runs out: the contents stay.
     fn prepare_one(&mut self, alloc: Global, op: &SoundOp) -> Result<(), AllocError>
         ensures content { contents_of self.new ≡ contents_of self.old }
         ensures prepared { OnOk result (IsPrepared self.new (op.now ∷ [])) }
@@ -257,7 +262,8 @@ impl Folders {
         Ok(())
     }
 
-    /// Makes room for these operations, to be applied in this order. An error leaves the content.
+    /// Makes room for these operations, to be applied in this order. `Err` if memory runs out: the
+    /// contents stay.
     fn prepare_all(&mut self, alloc: Global, ops: &[SoundOp]) -> Result<(), AllocError>
         ensures content { contents_of self.new ≡ contents_of self.old }
         ensures prepared { OnOk result (IsPrepared self.new ops.now) }

@@ -1,4 +1,4 @@
-//! Lists of names and ids that the tables tell.
+//! Lists of names and ids made from the tables.
 
 ghost use Rattle.std.specs.Prelude.{◌≡◌, ◌∷◌, ℕ, true, Some, IfOk, IfSome, OnOk, MatchOption, [], if◌then◌else◌};
 ghost use Rattle.std.specs.Global.{Vec as Key};
@@ -26,7 +26,7 @@ pub fn is_inbox(name: &Name) -> bool
     name.as_bytes() == b"INBOX".as_slice()
 }
 
-/// INBOX and the names of the folders that have tags, ascending, none twice.
+/// INBOX and the names of the folders with tags, ascending, none twice; `Err` if memory runs out.
 pub fn folder_names(
     alloc: Global,
     by_name: &IndexMap<Vec<u8>, Folder>,
@@ -42,7 +42,8 @@ pub fn folder_names(
     Ok(names)
 }
 
-/// Puts the name of the folder at this place in its place among ascending ones, where it has tags.
+/// Inserts the name of the folder at `place` among ascending names, if it has tags; `Err` if memory
+/// runs out.
 fn place_folder(
     alloc: Global,
     names: &mut Vec<Name>,
@@ -60,7 +61,7 @@ fn place_folder(
     }
 }
 
-/// Puts the folder's name in its place among ascending ones, where it has tags.
+/// Inserts the folder's name among ascending names, if it has tags; `Err` if memory runs out.
 fn insert_if_tagged(
     alloc: Global,
     names: &mut Vec<Name>,
@@ -77,7 +78,7 @@ fn insert_if_tagged(
     insert_name(alloc, names, &Name::from_slice(alloc, name)?)
 }
 
-/// The ids of the folder's folder tags, ascending.
+/// The ids of the folder's folder tags, ascending; `Err` if memory runs out.
 pub fn tag_ids(alloc: Global, folder: Option<&Folder>) -> Result<Ids, AllocError>
     ensures { IfOk result (λ ids. IsListOf id_order (λ i. has_tag_in (option_copied folder.entry) i ≡ true) ids) }
 {
@@ -94,7 +95,7 @@ fn tag_ids_of(alloc: Global, folder: &Folder) -> Result<Ids, AllocError>
     Ok(ids)
 }
 
-/// The ids of the folder's tags of both kinds, ascending.
+/// The ids of the folder's tags of both kinds, ascending; `Err` if memory runs out.
 pub fn all_ids(alloc: Global, folder: Option<&Folder>) -> Result<Ids, AllocError>
     ensures { IfOk result (λ ids. IsListOf id_order (HasTagIn (folder_tag_data (option_copied folder.entry))) ids) }
 {
@@ -112,7 +113,7 @@ fn all_ids_of(alloc: Global, folder: &Folder) -> Result<Ids, AllocError>
     Ok(ids)
 }
 
-/// The ids of the origin's versions in the folder, ascending.
+/// The ids of the origin's versions in the folder, ascending; `Err` if memory runs out.
 pub fn version_ids(alloc: Global, folder: Option<&Folder>, origin: &OpId) -> Result<Ids, AllocError>
     ensures { IfOk result (λ ids. IsListOf id_order (λ i. option_map (λ body. body.origin) (body_in_folder (option_copied folder.entry) i) ≡ Some origin.now) ids) }
 {
@@ -131,7 +132,7 @@ fn version_ids_of(alloc: Global, folder: &Folder, origin: &OpId) -> Result<Ids, 
     }
 }
 
-/// The ids of the versions, which ascend.
+/// The ids of these versions, which ascend; `Err` if memory runs out.
 pub fn ids_of(alloc: Global, versions: &[Version]) -> Result<Ids, AllocError>
     requires { IsAscending id_order (version_ids versions.now) }
     ensures { IfOk result (λ ids. ids ≡ version_ids versions.now) }
@@ -146,7 +147,7 @@ pub fn ids_of(alloc: Global, versions: &[Version]) -> Result<Ids, AllocError>
     }
 }
 
-/// These ids in ascending order, none twice.
+/// These ids in ascending order, none twice; `Err` if memory runs out.
 pub fn ids_in_order(alloc: Global, list: &[OpId]) -> Result<Ids, AllocError>
     ensures { IfOk result (λ ids. IsListOf id_order (λ i. IsIn i list.now) ids) }
 {

@@ -1,4 +1,4 @@
-//! Messages that are lent.
+//! `LentMessage`: messages borrowed from the folders.
 
 ghost use Rattle.std.specs.Prelude.{◌≡◌, None, Some, ℕ, List};
 ghost use Rattle.std.specs.Map.{lookup};
@@ -17,20 +17,20 @@ use indexmap::IndexMap;
 use mailbox_rows::DatedText;
 use tags_clocks::OpId;
 
-/// A message of a folder, lent by the folders.
+/// A message of a folder, borrowed from the folders.
 #[derive(Clone, Copy)]
 pub struct LentMessage<'a> {
     /// The id of the Append that has its date and text.
     pub origin: OpId,
     /// Its versions, at least one, ascending by id.
     pub versions: Versions<'a>,
-    /// When it was received, as its origin says; None where that is no Append that was applied.
+    /// When it was received, by its origin; None if the origin is no applied Append.
     pub date: Option<&'a DateTime>,
-    /// Its octets, as its origin says; None where that is no Append that was applied.
+    /// Its octets, by its origin; None if the origin is no applied Append.
     pub text: Option<&'a Text>,
 }
 
-/// The folder's messages by origin, none where it has no table.
+/// The folder's messages by origin; None if it has no table.
 pub fn lent_messages<'a>(folder: Option<&'a Folder>) -> Option<&'a IndexMap<OpId, Vec<Version>>>
     ensures messages { option_map (λ messages. messages.now.entries) result ≡ option_map (λ kept. kept.messages) (option_copied folder.entry) }
     ensures filed { AreIndexedIn (option_copied folder.entry) }
@@ -41,7 +41,7 @@ pub fn lent_messages<'a>(folder: Option<&'a Folder>) -> Option<&'a IndexMap<OpId
     }
 }
 
-/// The message of this origin, where it has a version in the folder.
+/// The message of this origin, if it has a version in the folder.
 pub fn lent_message<'a>(
     folder: &'a Folder,
     letters: &'a IndexMap<OpId, DatedText>,
@@ -59,7 +59,7 @@ pub fn lent_message<'a>(
     }
 }
 
-/// The message with these versions, and with this date and text or none.
+/// The message with these versions, and with this date and text, if any.
 fn with_dated_text<'a>(
     letter: Option<&'a DatedText>,
     origin: &OpId,

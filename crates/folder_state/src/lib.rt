@@ -1,8 +1,26 @@
-//! Folders and their messages, as replicated values (Jungnickel, Oldenburg, Loibl, OPODIS 2017).
+//! Folders and their messages, as a replicated value (Jungnickel, Oldenburg, Loibl, OPODIS 2017).
 //!
-//! [`Folders`] keeps a table for each folder, found by its name: the present folder tags of the operations applied, each message once
-//! for all its versions (its present message tags), found by its origin, and the origin of each version. Beside them stand the dates and
-//! texts of all Appends. What it tells of any causal list of sound operations is what the set of them means.
+//! [`Folders`] has a table for each folder, found by its name: the present folder tags of the
+//! operations applied, each message with all its versions (its present message tags), found by its
+//! origin, and the origin of each version by its id. Beside these tables it has the dates and texts
+//! of all Appends.
+//!
+//! Its contents are functions of folder and id, whatever the tables; that the tables agree with one
+//! another is an invariant. Applying an operation is its effect on the contents, and takes no
+//! memory once prepared. Concurrent operations commute, so folders keep the laws of `Replicated`.
+//! What is read of folders after a causal list of sound operations is what the set of these
+//! operations means, and `exists_after` and `has_version_after` give what it will mean with the
+//! operations that come next.
+//!
+//! # Decided
+//!
+//! - A folder's versions and the dates and texts of Appends are separate tables: an origin's Append
+//!   may come after a Store that names it, and may be of another folder. Contracts see the contents
+//!   as functions of name and id; the tables are lent as they are (`FolderMessages`), and only
+//!   windows and the look ahead at one folder read them.
+//! - A folder that lost its last tag keeps its empty table and its place in the index: a name that
+//!   comes again finds it, and no removal takes room that was made for pending operations. `exists`
+//!   and `names` ask whether the folder has a tag.
 #![tactic(auto)]
 
 mod after_ops;

@@ -1,4 +1,4 @@
-//! A folder's messages, copied.
+//! Copies of a folder's messages.
 
 ghost use Rattle.std.specs.Prelude.{◌≡◌, ℕ, IfOk, List, map};
 ghost use Rattle.std.specs.Map.{lookup};
@@ -19,7 +19,7 @@ use mailbox_rows::DatedText;
 use std::alloc::{AllocError, Global};
 use tags_clocks::OpId;
 
-/// The folder's messages, ascending by their origins; `Err` where there is no memory for them.
+/// The folder's messages, ascending by origin; `Err` if memory runs out.
 pub fn folder_messages(
     alloc: Global,
     folder: Option<&Folder>,
@@ -46,7 +46,7 @@ fn messages_in(
     Ok(messages)
 }
 
-/// The folder's messages of these origins, in their order; `Err` where there is no memory for them.
+/// The folder's messages of these origins, in their order; `Err` if memory runs out.
 fn messages_of(
     alloc: Global,
     folder: &Folder,
@@ -62,7 +62,8 @@ fn messages_of(
     Ok(messages)
 }
 
-/// The message of an origin, with its Append's date and text, or with none where the origin is no Append.
+/// The message of an origin, with the date and text of the Append that is the origin; without an
+/// Append, the text is empty and the date the first moment of 1970. `Err` if memory runs out.
 fn message(
     alloc: Global,
     folder: &Folder,
@@ -84,7 +85,8 @@ fn message(
     })
 }
 
-/// Copies of the date and text of the Append with this id, or those of a message without one.
+/// Copies of the date and text of the Append with this id, or those of a message without an Append;
+/// `Err` if memory runs out.
 fn copy_dated_text(
     alloc: Global,
     letters: &IndexMap<OpId, DatedText>,

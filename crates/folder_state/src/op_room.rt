@@ -1,4 +1,4 @@
-//! Room made for operations.
+//! Making room for operations in folders.
 
 ghost use Rattle.std.specs.Prelude.{◌≡◌, ◌≤◌, ◌∷◌, ℕ, List, [], None, Some, IfOk, OnOk};
 ghost use Rattle.std.specs.Vec.{vec_capacity};
@@ -19,8 +19,8 @@ use std::alloc::{AllocError, Global};
 use std::collections::VecDeque;
 use tags_clocks::OpId;
 
-/// For each operation an empty list, with places for the versions of its origin that it and those behind it add; `Err` where there is
-/// no memory for one.
+/// For each operation an empty list, with room for the versions of its origin that all of the
+/// operations add; `Err` if memory runs out.
 pub fn empty_lists(
     alloc: Global,
     ops: &[SoundOp],
@@ -36,7 +36,8 @@ pub fn empty_lists(
     Ok(lists)
 }
 
-/// An empty list with places for the versions that are wanted of the operation's origin.
+/// An empty list with room for the counted versions of the operation's origin; `Err` if memory runs
+/// out.
 fn empty_list(alloc: Global, op: &Op, tag_counts: &TagCounts) -> Result<Vec<Version>, AllocError>
     ensures items { IfOk result (λ list. list.items ≡ []) }
     ensures capacity { IfOk result (λ list. counts_of (λ o. count_at o tag_counts.now.versions) (origin_by op.now.id op.now.kind) ≤ vec_capacity list) }
@@ -45,8 +46,9 @@ fn empty_list(alloc: Global, op: &Op, tag_counts: &TagCounts) -> Result<Vec<Vers
     Ok(list)
 }
 
-/// Makes room in each folder for the tags that the operations add to it, and in each of their messages for the versions; a folder
-/// that isn't there is put in. An error leaves all tags as they were. Cost: some look-ups for each operation.
+/// Makes room in each folder for the tags that the operations add to it, and in each of its
+/// messages for the versions. A new folder gets a table. `Err` if memory runs out: all tags stay.
+/// Cost: some look-ups for each operation.
 pub fn reserve_folders(
     alloc: Global,
     by_name: &mut IndexMap<Vec<u8>, Folder>,
@@ -64,7 +66,7 @@ pub fn reserve_folders(
     Ok(())
 }
 
-/// The same for one operation alone. Cost: a look-up or two.
+/// Makes room for one operation, as `reserve_folders` does for several. Cost: at most two look-ups.
 pub fn reserve_one(
     alloc: Global,
     by_name: &mut IndexMap<Vec<u8>, Folder>,
@@ -79,7 +81,7 @@ pub fn reserve_one(
     }
 }
 
-/// Makes so much room as is wanted in the folder of the operation's tag, and in its message.
+/// Makes the counted room in the folder of the operation's tag, and in its message.
 fn reserve_for(
     alloc: Global,
     by_name: &mut IndexMap<Vec<u8>, Folder>,
@@ -103,8 +105,8 @@ fn reserve_for(
     }
 }
 
-/// Makes room for so many tags in the folder, which is put in where it isn't there, and for so many versions in the message of the
-/// origin, where both are there.
+/// Makes room for `tags` further tags in the folder, which gets a table if it has none, and for
+/// `versions` further versions in the message of the origin, if it exists.
 fn reserve_in(
     alloc: Global,
     by_name: &mut IndexMap<Vec<u8>, Folder>,
@@ -122,7 +124,8 @@ fn reserve_in(
     }
 }
 
-/// Puts a folder in that isn't there, with room for so many tags, and, where there is an origin, for as many messages.
+/// Inserts the table of a new folder, with room for `tags` tags and, if there is an origin, for as
+/// many messages.
 fn put_folder(
     alloc: Global,
     by_name: &mut IndexMap<Vec<u8>, Folder>,
@@ -143,7 +146,8 @@ fn put_folder(
 }
 
 impl Folder {
-    /// No tags, and room for so many, and, where there is an origin, for as many messages; `Err` where there is no memory for it.
+    /// A folder without tags, with room for `tags` of them and, if there is an origin, for as many
+    /// messages; `Err` if memory runs out.
     fn with_room(alloc: Global, tags: usize, origin: &Option<OpId>) -> Result<Folder, AllocError>
         ensures empty { IfOk result (λ folder. (folder.tags ≡ []) × (folder.messages ≡ []) × (folder.origins ≡ [])) }
         ensures room { IfOk result (λ folder. HasPlaces folder origin.now tags) }
@@ -153,8 +157,9 @@ impl Folder {
         Ok(folder)
     }
 
-    /// Makes room for so many tags, and, where there is an origin, for as many messages and for so many versions in its own, if that is there. An error leaves all
-    /// tags as they were.
+    /// Makes room for `tags` further tags and, if there is an origin, for as many messages, and for
+    /// `versions` further versions in the origin's message, if it exists. `Err` if memory runs out:
+    /// all tags stay.
     fn reserve(
         &mut self,
         tags: usize,
@@ -171,7 +176,7 @@ impl Folder {
         }
     }
 
-    /// Makes room for so many tags, and, where there is an origin, for as many messages.
+    /// Makes room for `tags` further tags and, if there is an origin, for as many messages.
     fn reserve_places(&mut self, tags: usize, origin: &Option<OpId>) -> Result<(), AllocError>
         ensures same { (self.new.tags ≡ self.old.tags) × (self.new.messages ≡ self.old.messages) × (self.new.origins ≡ self.old.origins) }
         ensures grown { (self.old.tag_room ≤ self.new.tag_room) × (self.old.message_room ≤ self.new.message_room) × (self.old.origin_room ≤ self.new.origin_room) }
@@ -184,7 +189,7 @@ impl Folder {
         }
     }
 
-    /// Makes room for so many messages.
+    /// Makes room for `count` further messages.
     fn reserve_messages(&mut self, count: usize) -> Result<(), AllocError>
         ensures same { (self.new.tags ≡ self.old.tags) × (self.new.messages ≡ self.old.messages) × (self.new.origins ≡ self.old.origins) }
         ensures grown { (self.old.message_room ≤ self.new.message_room) × (self.old.origin_room ≤ self.new.origin_room) }
@@ -196,7 +201,7 @@ impl Folder {
     }
 }
 
-/// Makes room for so many versions in the message of the origin, where it is there.
+/// Makes room for `versions` further versions in the message of the origin, if it exists.
 fn reserve_versions(
     messages: &mut IndexMap<OpId, Vec<Version>>,
     origin: &OpId,

@@ -1,4 +1,4 @@
-//! What an operation changes in the tables.
+//! The changes that an operation makes to the tables.
 
 ghost use Rattle.std.specs.Prelude.{◌≡◌, ◌≤◌, ◌<◌, ◌+◌, ℕ, List, [], ◌∷◌, None, Some, not, ◌&&◌, ◌||◌, if◌then◌else◌};
 ghost use Rattle.std.specs.Map.{lookup};
@@ -62,8 +62,8 @@ fn forget_messages(by_name: &mut IndexMap<Vec<u8>, Folder>, name: &Name, ids: &[
     }
 }
 
-/// Puts in the tag that the operation adds, and an Append's date and text; there is room for them. Where the message of a version isn't
-/// there yet, this list, which is empty, is that of its versions.
+/// Puts in the tag that the operation adds, and an Append's date and text; there is room for them.
+/// If the version's message doesn't exist yet, it begins in `list`, which is empty.
 pub fn add_tag_of(
     by_name: &mut IndexMap<Vec<u8>, Folder>,
     letters: &mut IndexMap<OpId, DatedText>,
@@ -104,7 +104,7 @@ pub fn add_tag_of(
     }
 }
 
-/// Puts a folder tag in, for which there is room.
+/// Puts in a folder tag, for which there is room.
 fn put_tag(by_name: &mut IndexMap<Vec<u8>, Folder>, name: &Name, id: &OpId)
     requires { (folder : FolderTables) × (find_folder name.now by_name.old.entries ≡ Some folder) × HasPlaces folder None 1 }
     ensures tags { (f : List ℕ) (i : OpId) → has_tag_in (find_folder f by_name.new.entries) i ≡ (is_at f i name.now id.now || has_tag_in (find_folder f by_name.old.entries) i) }
@@ -117,7 +117,7 @@ fn put_tag(by_name: &mut IndexMap<Vec<u8>, Folder>, name: &Name, id: &OpId)
     }
 }
 
-/// Puts a message tag in, for which there is room, in place of one with its folder and id.
+/// Puts in a message tag, for which there is room, in place of one with its folder and id.
 fn put_message(
     by_name: &mut IndexMap<Vec<u8>, Folder>,
     name: &Name,
@@ -137,7 +137,7 @@ fn put_message(
     }
 }
 
-/// Puts the message tag of an Append in, which is its own origin.
+/// Puts in the message tag of an Append, which is its own origin.
 fn put_first(
     by_name: &mut IndexMap<Vec<u8>, Folder>,
     name: &Name,
@@ -154,7 +154,7 @@ fn put_first(
     put_message(by_name, name, id, Version { id: *id, flags }, list);
 }
 
-/// Puts a date and text in, for which there is room, in place of those with its id.
+/// Puts in a date and text, for which there is room, in place of those with its id.
 fn put_dated_text(letters: &mut IndexMap<OpId, DatedText>, id: &OpId, letter: DatedText)
     requires { 0 < spare letters.old }
     ensures found { (i : OpId) → option_map kept_dated_text (lookup (same_id i) letters.new.entries) ≡ (if same_id i id.now then Some (record { date = letter.date; text = letter.text }) else option_map kept_dated_text (lookup (same_id i) letters.old.entries)) }

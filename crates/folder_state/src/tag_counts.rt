@@ -1,4 +1,4 @@
-//! How many tags and versions operations add.
+//! `TagCounts`: how many tags and versions operations add.
 
 ghost use Rattle.std.specs.Prelude.{◌≡◌, ◌+◌, ℕ, List, IfOk, OnOk, if◌then◌else◌};
 ghost use Rattle.std.specs.Option.{option_copied};
@@ -15,13 +15,13 @@ use std::alloc::{AllocError, Global};
 use std::marker::Model;
 use tags_clocks::OpId;
 
-/// For each folder the number of tags, and for each origin the number of versions that operations add.
+/// How many tags operations add to each folder, and how many versions to each origin.
 pub struct TagCounts {
     tags: IndexMap<Vec<u8>, usize>,
     versions: IndexMap<OpId, usize>,
 }
 
-// By hand, so that crates above let it go as a whole.
+// By hand, so that crates above drop it whole.
 impl Drop for TagCounts {
     fn drop(self) {
         let Self {
@@ -40,7 +40,7 @@ impl Model for TagCounts {
 }
 
 impl TagCounts {
-    /// What these operations add; `Err` where there is no memory for it. Cost: a look-up or two for each.
+    /// What these operations add; `Err` if memory runs out. Cost: at most two look-ups for each.
     pub fn of_ops(alloc: Global, ops: &[SoundOp]) -> Result<TagCounts, AllocError>
         ensures tags { IfOk result (λ tag_counts. (name : List ℕ) → count_under name tag_counts.tags ≡ tags_added ops.now name) }
         ensures versions { IfOk result (λ tag_counts. (origin : OpId) → count_at origin tag_counts.versions ≡ versions_added ops.now origin) }
@@ -50,14 +50,14 @@ impl TagCounts {
         Ok(TagCounts { tags, versions })
     }
 
-    /// How many tags they add to the folder.
+    /// How many tags the operations add to the folder.
     pub fn tags_of(&self, name: &Name) -> usize
         ensures { result ≡ count_under name.now self.now.tags }
     {
         count_under(&self.tags, name.as_bytes())
     }
 
-    /// How many versions they add of the origin; 0 where there is no origin.
+    /// How many versions of the origin the operations add; 0 if there is no origin.
     pub fn versions_of(&self, origin: &Option<OpId>) -> usize
         ensures { result ≡ counts_of (λ o. count_at o self.now.versions) origin.now }
     {
@@ -68,7 +68,7 @@ impl TagCounts {
     }
 }
 
-/// The folder of the tag that the operation adds.
+/// The folder of the tag that the operation adds, if it adds one.
 pub fn target(op: &Op) -> Option<&Name>
     ensures { option_copied result ≡ target op.now.kind }
 {
@@ -81,14 +81,14 @@ pub fn target(op: &Op) -> Option<&Name>
     }
 }
 
-/// What is counted under a name.
+/// The count under a name; 0 if there is none.
 fn count_under(counts: &IndexMap<Vec<u8>, usize>, name: &[u8]) -> usize
     ensures { result ≡ count_under name.now counts.now.entries }
 {
     counts.get(name).copied().unwrap_or(0)
 }
 
-/// What is counted at an id.
+/// The count under an id; 0 if there is none.
 fn count_at(counts: &IndexMap<OpId, usize>, id: &OpId) -> usize
     ensures { result ≡ count_at id.now counts.now.entries }
 {

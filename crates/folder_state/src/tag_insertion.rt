@@ -1,4 +1,4 @@
-//! Tags put into a folder.
+//! Inserting tags into a folder.
 
 ghost use Rattle.std.specs.Prelude.{◌≡◌, ◌≤◌, ◌<◌, ◌+◌, ◌||◌, ℕ, [], true, Option, None, Some, MatchResult, insert, length, if◌then◌else◌};
 ghost use Rattle.std.specs.List.{list_any};
@@ -17,7 +17,7 @@ use indexmap::IndexMap;
 use tags_clocks::OpId;
 
 impl Folder {
-    /// Puts a folder tag in, for which there is room. Cost: a look-up.
+    /// Puts in a folder tag, for which there is room. Cost: a look-up.
     pub(crate) fn put_tag(&mut self, id: &OpId)
         requires { HasPlaces self.old None 1 }
         ensures tags { (i : OpId) → (folder_contents self.new).tags i ≡ (same_id i id.now || (folder_contents self.old).tags i) }
@@ -29,8 +29,9 @@ impl Folder {
         }
     }
 
-    /// Puts a message tag in, for which there is room, in place of one with its id. Where its message isn't there yet, this list, which
-    /// is empty, is that of its versions. Cost: some look-ups, and a pass over the versions of the message.
+    /// Puts in a message tag, for which there is room, in place of one with its id. If its message
+    /// doesn't exist yet, it begins in `list`, which is empty. Cost: some look-ups, and a pass over
+    /// the versions of the message.
     pub(crate) fn put_message(&mut self, origin: &OpId, version: Version, list: Vec<Version>)
         requires places { HasPlaces self.old (Some origin.now) 1 }
         requires versions { HasVersionRoom self.old.messages origin.now 1 }
@@ -44,7 +45,7 @@ impl Folder {
         self.put_version(origin, version, list);
     }
 
-    /// Puts a message tag in, for which there is room; no other has its id.
+    /// Puts in a message tag, for which there is room; no other has its id.
     fn put_version(&mut self, origin: &OpId, version: Version, list: Vec<Version>)
         requires apart { lookup (same_id version.id) self.old.origins ≡ None }
         requires places { HasPlaces self.old (Some origin.now) 1 }
@@ -60,7 +61,7 @@ impl Folder {
     }
 }
 
-/// Lets the origin of this id be told.
+/// Sets the origin of this id in the index, for which there is room.
 fn index_origin(origins: &mut IndexMap<OpId, OpId>, id: &OpId, origin: &OpId)
     requires { 0 < spare origins.old }
     ensures told { (i : OpId) → lookup (same_id i) origins.new.entries ≡ (if same_id i id.now then Some origin.now else lookup (same_id i) origins.old.entries) }
@@ -71,7 +72,7 @@ fn index_origin(origins: &mut IndexMap<OpId, OpId>, id: &OpId, origin: &OpId)
     }
 }
 
-/// Puts a version to the message of its origin, which is put in where it isn't there.
+/// Adds a version to the message of its origin, which begins in `list` if it doesn't exist.
 fn put_in(
     messages: &mut IndexMap<OpId, Vec<Version>>,
     origin: &OpId,
@@ -91,7 +92,7 @@ fn put_in(
     }
 }
 
-/// Puts a message with this version in.
+/// Puts in a new message with this version.
 fn put_first(
     messages: &mut IndexMap<OpId, Vec<Version>>,
     origin: &OpId,
@@ -112,7 +113,7 @@ fn put_first(
     }
 }
 
-/// Puts a version in its place, for which there is room; where its id is there, all stays.
+/// Inserts a version in its place, for which there is room; a version with its id stays instead.
 fn put_to(versions: &mut Vec<Version>, version: Version)
     requires { length versions.old.items + 1 ≤ vec_capacity versions.old }
     ensures items { versions.new.items ≡ insert_ordered by_id version versions.old.items }
@@ -125,7 +126,8 @@ fn put_to(versions: &mut Vec<Version>, version: Version)
     }
 }
 
-/// Where a version with this one's id stands, or where this one would be put.
+/// The place of the version with this one's id, or else the place at which this one would be
+/// inserted.
 fn place_of(versions: &[Version], version: &Version) -> Result<usize, usize>
     ensures { MatchResult result
         (λ at. insert_ordered by_id version.now versions.now ≡ versions.now)

@@ -1,4 +1,4 @@
-//! Tags taken out of a folder.
+//! Removing tags from a folder.
 
 ghost use Rattle.std.specs.Prelude.{◌≡◌, ◌≤◌, ◌<◌, ◌==◌, [], None, Some, false, true, length, not, ◌&&◌, if◌then◌else◌};
 ghost use Rattle.std.specs.Global.{Vec as Places};
@@ -49,7 +49,8 @@ impl Folder {
         }
     }
 
-    /// Takes out the message tag with this id. Cost: some look-ups, and a pass over the versions of its message.
+    /// Takes out the message tag with this id. Cost: some look-ups, and a pass over the versions of
+    /// its message.
     pub(crate) fn remove_message(&mut self, id: &OpId)
         ensures bodies { (i : OpId) → (folder_contents self.new).bodies i ≡ (if same_id i id.now then None else (folder_contents self.old).bodies i) }
         ensures gone { lookup (same_id id.now) self.new.origins ≡ None }
@@ -63,7 +64,7 @@ impl Folder {
     }
 }
 
-/// Takes out these keys.
+/// Removes these keys.
 fn forget_keys(keys: &mut IndexSet<OpId>, ids: &[OpId])
     ensures keys { (i : OpId) → list_any (same_id i) keys.new.keys ≡ (not (list_any (same_id i) ids.now) && list_any (same_id i) keys.old.keys) }
     ensures room { spare_keys keys.old ≤ spare_keys keys.new }
@@ -73,7 +74,8 @@ fn forget_keys(keys: &mut IndexSet<OpId>, ids: &[OpId])
     }
 }
 
-/// Takes the version with this id out of the message of this origin, and the message where it has none left.
+/// Takes the version with this id out of the message of this origin, and then the message if it has
+/// none left.
 fn take_out(messages: &mut IndexMap<OpId, Vec<Version>>, origin: &OpId, id: &OpId)
     ensures taken { IsTakenOut origin.now id.now messages.old.entries messages.new.entries }
     ensures room { spare messages.old ≤ spare messages.new }
@@ -83,7 +85,8 @@ fn take_out(messages: &mut IndexMap<OpId, Vec<Version>>, origin: &OpId, id: &OpI
     }
 }
 
-/// Takes the version with this id out of the message of this origin, and tells whether it has none left.
+/// Takes the version with this id out of the message of this origin, and returns whether it has
+/// none left.
 fn take_version(messages: &mut IndexMap<OpId, Vec<Version>>, origin: &OpId, id: &OpId) -> bool
     ensures none { result ≡ true → versions_at messages.new.entries origin.now ≡ [] }
     ensures some { result ≡ false → (vs : Places Version) → lookup (same_id origin.now) messages.new.entries ≡ Some vs → 0 < length vs.items }
@@ -98,7 +101,7 @@ fn take_version(messages: &mut IndexMap<OpId, Vec<Version>>, origin: &OpId, id: 
     }
 }
 
-/// Takes the version with this id out, and tells whether none is left.
+/// Takes out the version with this id, and returns whether none is left.
 fn forget_version(versions: &mut Vec<Version>, id: &OpId) -> bool
     ensures items { versions.new.items ≡ without id.now versions.old.items }
     ensures capacity { vec_capacity versions.new ≡ vec_capacity versions.old }

@@ -12,7 +12,7 @@ at_most_one : (b : Bool) → cond b 1 0 + 0 ≤ 1
 at_most_one true = omega arith
 at_most_one false = omega arith
 
--- one operation adds one version at most
+-- one operation adds at most one version
 one_wanted : (op : Op) (x : Option OpId) → counts_of (versions_added (op ∷ [])) x ≤ 1
 one_wanted op None = omega arith
 one_wanted op (Some o) = at_most_one (is_some_id o (origin_by op.id op.kind))
