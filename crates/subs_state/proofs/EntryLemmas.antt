@@ -29,7 +29,7 @@ Named = Vec ℕ × NameTags
 abbrev same_key : Vec ℕ → Vec ℕ → Bool
 same_key x y = bytes_eq x.items y.items
 
--- An entry's name leads to it, since no other has it.
+-- An entry is found by its name, since no other has it.
 found_by_name : (tags : List Named) → IsDistinct same_key (keys_of tags) → (e : Named) → IsIn e tags → ids_entry e.0.items tags ≡ Some e.1
 unfolding IsDistinct
 found_by_name [] d e h = absurd h
@@ -47,7 +47,7 @@ found_by_name (x ∷ xs) d e (inr k) =
           | inr f ↦ f
         ]
 
--- A tag stands in an entry of its name.
+-- A tag is in the entry of its name.
 entry_of : (tags : List Named) (n : List ℕ) (i : OpId) → tag_in tags n i ≡ true → (e : Named) × IsIn e tags × (e.0.items ≡ n) × (list_any (same_id i) e.1.ids.keys ≡ true)
 entry_of [] n i h = absurd (false≢true h)
 entry_of (x ∷ xs) n i h =
@@ -86,7 +86,7 @@ tags_told tags n ids e =
       λ h. any.1 (i, h, (ids_decide i i).1 (λ k. i)),
     ))
 
--- ---- what that is of a set of operations
+-- ---- subscriptions by a set of operations
 
 folded : (n : List ℕ) (i : OpId) (os : List Op) (v : Subscriptions) → fold_of effect_of v os n i ≡ fold_of (changed (SubscriptionTag n i)) (v n i) os
 folded n i [] v = refl

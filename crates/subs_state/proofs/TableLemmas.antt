@@ -39,7 +39,7 @@ beside name old new keeps other d =
     (λ x y t. ap (λ (n : List ℕ). bytes_eq n y.items) (same_name other x.items t))
     (λ k t. ap (bytes_eq other) (sym (same_name name k.items t)) ∙ d)
 
--- What is true of one name's tags as they were and are, and of all that stays, is true of each name's.
+-- What holds of one name's tags before and after, and of all that stays, holds of each name's.
 one_changed : (P : List ℕ → Option NameTags → Option NameTags → Type 0) (name : List ℕ) (old new : List Named) (a b : Option NameTags) → KeepsOthers same_key (has_name name) old new → ids_entry name old ≡ a → ids_entry name new ≡ b → P name a b → ((other : List ℕ) → bytes_eq other name ≡ false → (held : Option NameTags) → P other held held) → (n : List ℕ) → P n (ids_entry n old) (ids_entry n new)
 one_changed P name old new a b keeps was is here others n =
     elim (cases_Bool (bytes_eq n name)) [
@@ -49,7 +49,7 @@ one_changed P name old new a b keeps was is here others n =
       | inr d ↦ subst (P n (ids_entry n old)) (sym (beside name old new keeps n d)) (others n d (ids_entry n old))
     ]
 
--- One tag more of a name.
+-- A further tag of a name.
 pub put_found : (name : List ℕ) (id : OpId) (old new : List Named) (a b : NameTags) → KeepsOthers same_key (has_name name) old new → ids_entry name old ≡ Some a → ids_entry name new ≡ Some b → ((i : OpId) → list_any (same_id i) b.ids.keys ≡ (same_id i id || list_any (same_id i) a.ids.keys)) → (n : List ℕ) (i : OpId) → tag_in new n i ≡ (is_at n i name id || tag_in old n i)
 put_found name id old new a b keeps was is says n i =
     one_changed (λ m o p. list_any (same_id i) (ids_in p) ≡ (is_at m i name id || list_any (same_id i) (ids_in o))) name old new (Some a) (Some b) keeps was is
@@ -83,7 +83,7 @@ none_found name ids tags was n i =
       | inr d ↦ ap (λ t. not (t && list_any (same_id i) ids) && tag_in tags n i) (sym d)
     ]
 
--- The same tags of a name, with other room.
+-- A name's tags are the same, with other room.
 pub same_found : (name : List ℕ) (old new : List Named) (a b : Option NameTags) → KeepsOthers same_key (has_name name) old new → ids_entry name old ≡ a → ids_entry name new ≡ b → ids_in b ≡ ids_in a → (n : List ℕ) (i : OpId) → tag_in new n i ≡ tag_in old n i
 same_found name old new a b keeps was is same n i =
     one_changed (λ m o p. list_any (same_id i) (ids_in p) ≡ list_any (same_id i) (ids_in o)) name old new a b keeps was is (ap (list_any (same_id i)) same) (λ other d held. refl) n
@@ -108,7 +108,7 @@ taken true false n = refl
 taken false true n = refl
 taken false false n = refl
 
--- One id taken out, and those that are still to be.
+-- One id taken out, and those still to be taken out.
 pub one_taken : (id i : OpId) (behind now new : List OpId) → list_any (same_id i) new ≡ cond (same_id id i) false (list_any (same_id i) now) → (not (list_any (same_id i) behind) && list_any (same_id i) new) ≡ (not (same_id i id || list_any (same_id i) behind) && list_any (same_id i) now)
 one_taken id i behind now new e =
     ap (λ t. not (list_any (same_id i) behind) && t) (e ∙ ap (λ s. cond s false (list_any (same_id i) now)) (same_back id i))
@@ -122,7 +122,7 @@ none_filtered p (x ∷ xs) e =
       | inr f ↦ ap (λ s. length (cond s (x ∷ filter p xs) (filter p xs))) f ∙ none_filtered p xs (sym (ap (λ s. s || list_any p xs) f) ∙ e)
     ]
 
--- Room for as many as pass a test, where there is room for them if any passes.
+-- Room for all that pass a test, if there is room for them whenever one passes.
 pub room_for_all : {X : Type 0} (p : X → Bool) (xs : List X) (room : ℕ) → (list_any p xs ≡ true → length (filter p xs) ≤ room) → length (filter p xs) ≤ room
 room_for_all p xs room h =
     elim (cases_Bool (list_any p xs)) [
@@ -134,7 +134,7 @@ counted : {X : Type 0} (b : Bool) (x : X) (xs : List X) → length (cond b (x �
 counted true x xs = omega arith
 counted false x xs = omega arith
 
--- Room for those behind an operation, once it was applied.
+-- Room for the operations after one, once it was applied.
 pub room_after : (n : List ℕ) (o applied : Op) (rest : List Op) (old mid new : ℕ) → applied ≡ o → length (filter (subscribes n) (o ∷ rest)) ≤ old → old ≤ mid → mid ≤ new + (if subscribes n applied then 1 else 0) → length (filter (subscribes n) rest) ≤ new
 room_after n o applied rest old mid new e h k l =
     let all : length (filter (subscribes n) (o ∷ rest)) ≡ length (filter (subscribes n) rest) + (if subscribes n o then 1 else 0) = counted (subscribes n o) o (filter (subscribes n) rest) in

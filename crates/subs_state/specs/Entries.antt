@@ -1,3 +1,5 @@
+-- The entries of the table of subscription tags, what they contain, and their room.
+
 use Rattle.std.specs.Prelude.{ℕ, ◌==◌, Bool, false, Option, None, Some, List, [], length, if◌then◌else◌}
 use Rattle.std.specs.Global.{Vec}
 use Rattle.std.specs.List.{list_any}
@@ -11,11 +13,11 @@ use Rattle.crdt_ops.specs.declared.op.Op.{Op}
 use Rattle.crdt_ops.specs.SortedSets.{same_id}
 use Rattle.subs_state.specs.declared.subs_table.NameTags.{NameTags}
 
--- What is kept of a name, where it is in the table.
+-- The entry of a name, if it has one.
 abbrev pub ids_entry : List ℕ → List (Vec ℕ × NameTags) → Option NameTags
 ids_entry name tags = lookup (λ (key : Vec ℕ). bytes_eq name key.items) tags
 
--- The ids that are kept of a name.
+-- The ids of an entry; none without an entry.
 abbrev pub ids_in : Option NameTags → List OpId
 ids_in None = []
 ids_in (Some held) = held.ids.keys
@@ -28,12 +30,12 @@ tag_in tags name id = list_any (same_id id) (ids_in (ids_entry name tags))
 abbrev pub name_with_ids : Vec ℕ × NameTags → Option (List ℕ)
 name_with_ids entry = if length entry.1.ids.keys == 0 then None else Some entry.0.items
 
--- How many ids more fit with no more memory.
+-- How many further ids an entry takes with no more memory.
 abbrev pub room_in : Option NameTags → ℕ
 room_in None = 0
 room_in (Some held) = spare held.ids
 
--- How many tags more of a name fit with no more memory.
+-- How many further tags of a name fit with no more memory.
 abbrev pub room_of : List ℕ → List (Vec ℕ × NameTags) → ℕ
 room_of name tags = room_in (ids_entry name tags)
 

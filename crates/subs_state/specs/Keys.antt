@@ -1,3 +1,5 @@
+-- Tests of a tag's name and id.
+
 use Rattle.std.specs.Prelude.{ℕ, Bool, ◌&&◌, List}
 use Rattle.std.specs.List.{list_any}
 use Rattle.std.specs.Str.{bytes_eq}

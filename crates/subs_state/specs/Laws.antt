@@ -1,3 +1,5 @@
+-- Concurrent operations commute in their effects on subscriptions.
+
 use Rattle.std.specs.Prelude.{◌≡◌}
 use Rattle.merge_laws.specs.Orders.{IsConcurrent}
 use Rattle.crdt_ops.specs.declared.op.Op.{Op}

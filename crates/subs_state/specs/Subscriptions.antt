@@ -1,3 +1,6 @@
+-- What subscriptions contain, and the effect of an operation on it (Jungnickel, Oldenburg, Loibl,
+-- OPODIS 2017).
+
 use Rattle.std.specs.Prelude.{◌≡◌, ℕ, Bool, true, false, not, ◌&&◌, ◌||◌, List}
 use Rattle.tags_clocks.specs.declared.id.OpId.{OpId}
 use Rattle.merge_laws.specs.Orders.{AreSound, IsCausal, fold_of}
@@ -14,12 +17,13 @@ Subscriptions = List ℕ → OpId → Bool
 abbrev pub no_subscriptions : Subscriptions
 no_subscriptions name id = false
 
--- An operation takes out the tags that it removes, and then puts in the one that it adds.
+-- The contents after an operation: without the tags that it removes, and then with the one that it
+-- adds.
 abbrev pub effect_of : Subscriptions → Op → Subscriptions
 effect_of subscriptions op name id =
     adds (SubscriptionTag name id) op || (not (removes (SubscriptionTag name id) op) && subscriptions name id)
 
--- What a set of operations leaves: its present subscription tags.
+-- The contents that a set of operations means: its present subscription tags.
 abbrev pub subscriptions_by : List Op → Subscriptions
 subscriptions_by ops name id = is_present ops (SubscriptionTag name id)
 
@@ -27,7 +31,7 @@ subscriptions_by ops name id = is_present ops (SubscriptionTag name id)
 abbrev pub IsSubscribed : Subscriptions → List ℕ → Type 0
 IsSubscribed subscriptions name = (id : OpId) × (subscriptions name id ≡ true)
 
--- The subscriptions were made by a causal list of sound operations.
+-- The subscriptions are those after a causal list of sound operations.
 pub record IsMadeBy (subscriptions : Subscriptions) (ops : List Op) : Type 0 where
   pub sound : AreSound IsSound ops
   pub causal : IsCausal id_of clock_of ops

@@ -1,3 +1,5 @@
+-- What the table of subscription tags contains, and when operations are prepared.
+
 use Rattle.std.specs.Prelude.{ℕ, ◌≤◌, List, [], ◌∷◌, length}
 use Rattle.std.specs.List.{filter}
 use Rattle.std.proofs.Common.{Bool, true, false, cond, arith}
@@ -14,11 +16,12 @@ subscriptions_of subs = tag_in subs.tags.entries
 abbrev pub times : List ℕ → List Op → ℕ
 times name ops = length (filter (subscribes name) ops)
 
--- These operations can be applied in this order with no more memory: of each name there is room for as many tags as they add.
+-- These operations can be applied in this order with no more memory: each name has room for as many
+-- tags as they add to it.
 pub record IsPrepared (subs : Subs) (ops : List Op) : Type 0 where
   pub room : (name : List ℕ) → times name ops ≤ room_of name subs.tags.entries
 
--- What is prepared for some operations is prepared for the first of them.
+-- If some operations are prepared, the first of them is.
 pub prepared_first : (subs : Subs) (o : Op) (os : List Op) → IsPrepared subs (o ∷ os) → IsPrepared subs (o ∷ [])
 prepared_first subs o os p = record { room = λ n. at_first (subscribes n o) o (filter (subscribes n) os) (room_of n subs.tags.entries) (p.room n) }
   where

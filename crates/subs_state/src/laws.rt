@@ -13,21 +13,24 @@ use crate::subs::Subs;
 use folder_state::Folders;
 use merge_laws::{Pair, same_for_all_orders};
 
-/// Any two causal lists of the same sound operations lead from one content of subscriptions to one.
+/// Any two causal lists of the same sound operations lead from one value of the subscriptions to
+/// one.
 pub fn subs_for_all_orders()
     ensures { GivesOneValue id_of clock_of IsSound effect_of }
 {
     same_for_all_orders::<Subs>()
 }
 
-/// Any two causal lists of the same sound operations lead from one content of folders and subscriptions to one.
+/// Any two causal lists of the same sound operations lead from one value of folders and
+/// subscriptions to one.
 pub fn whole_state_for_all_orders()
     ensures { GivesOneValue {V = Contents × Subscriptions} id_of clock_of IsSound (λ v o. (folders.effect_of v.0 o, effect_of v.1 o)) }
 {
     same_for_all_orders::<Pair<Folders, Subs>>()
 }
 
-/// A causal list of sound operations leaves in empty subscriptions the present subscription tags of the set of them.
+/// A causal list of sound operations makes empty subscriptions contain exactly the present
+/// subscription tags of the set of them.
 pub fn subscriptions_follow_the_set()
     ensures { (ops : List Op) → AreSound IsSound ops → IsCausal id_of clock_of ops → fold_of effect_of no_subscriptions ops ≡ subscriptions_by ops }
 {}

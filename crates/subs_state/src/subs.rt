@@ -1,4 +1,4 @@
-//! The replicated subscriptions.
+//! `Subs`: the replicated subscriptions.
 
 use crate::subs_table::{
     NameTags, add_tag_of, make_room, remove_tags_of, subscribed_names, tag_ids,
@@ -9,13 +9,13 @@ use indexmap::IndexMap;
 use merge_laws::Replicated;
 use std::alloc::{AllocError, Global};
 
-/// The names that are subscribed to, changed by operations in any causal order (RFC 9051, section 6.3.7).
+/// The subscribed names, changed by operations in any causal order (RFC 9051, section 6.3.7).
 pub struct Subs {
-    /// By their octets, the names that were subscribed to.
+    /// The tags of each name that was ever subscribed to, by the name's octets.
     tags: IndexMap<Vec<u8>, NameTags>,
 }
 
-// By hand, so that crates above let it go as a whole.
+// By hand, so that crates above drop it whole.
 impl Drop for Subs {
     fn drop(self) {
         let Self { tags: _ } = self;
@@ -31,7 +31,7 @@ impl Subs {
     ghost use Rattle.subs_state.specs.Subscriptions.{IsMadeBy, IsSubscribed, no_subscriptions};
     ghost use Rattle.subs_state.specs.Table.{subscriptions_of};
 
-    /// No subscriptions, and no memory.
+    /// No subscriptions; takes no memory.
     pub fn new(alloc: Global) -> Subs
         ensures { subscriptions_of result ≡ no_subscriptions }
     {
@@ -40,7 +40,7 @@ impl Subs {
         }
     }
 
-    /// The names that are subscribed to, ascending by octets; `Err` where there is no memory for them.
+    /// The subscribed names, ascending by octets; `Err` if memory runs out.
     pub fn names(&self, alloc: Global) -> Result<Vec<Name>, AllocError>
         ensures contents { IfOk result (λ names. IsListOf octet_order (IsSubscribed (subscriptions_of self.now)) names.items) }
         ensures set { (ops : List Op) → IsMadeBy (subscriptions_of self.now) ops → IfOk result (λ names. names.items ≡ subscribed_names_of ops) }
@@ -49,8 +49,8 @@ impl Subs {
         Ok(names)
     }
 
-    /// The ids of the name's present subscription tags, which an Unsubscribe lists; `Err` where there is no memory for
-    /// them.
+    /// The ids of the name's present subscription tags, which an Unsubscribe lists; `Err` if memory
+    /// runs out.
     pub fn tags(&self, alloc: Global, name: &Name) -> Result<Ids, AllocError>
         ensures contents { IfOk result (λ ids. IsListOf id_order (λ i. subscriptions_of self.now name.now i ≡ true) ids) }
         ensures set { (ops : List Op) → IsMadeBy (subscriptions_of self.now) ops → IfOk result (λ ids. ids ≡ subscription_tags_of ops name.now) }

@@ -1,4 +1,4 @@
-//! The table that subscriptions are kept in, and the work on it.
+//! The table of subscription tags by name, and its changes.
 
 ghost use Rattle.std.specs.Prelude.{◌≡◌, ◌≤◌, ◌<◌, ◌+◌, ◌==◌, ℕ, List, None, IfOk, OnOk, true, not, ◌&&◌, ◌||◌, length, if◌then◌else◌};
 ghost use Rattle.std.specs.List.{filter, fold, list_any};
@@ -18,12 +18,12 @@ use indexmap::{IndexMap, IndexSet};
 use std::alloc::{AllocError, Global};
 use tags_clocks::OpId;
 
-/// The present subscription tags of a name: their ids.
+/// The ids of a name's present subscription tags.
 pub struct NameTags {
     pub ids: IndexSet<OpId>,
 }
 
-// By hand, so that what owns one lets it go as a whole.
+// By hand, so that crates above drop it whole.
 impl Drop for NameTags {
     fn drop(self) {
         let Self { ids: _ } = self;
@@ -63,7 +63,7 @@ pub fn add_tag_of(tags: &mut IndexMap<Vec<u8>, NameTags>, op: &Op)
     }
 }
 
-/// Takes the name's tags with these ids out.
+/// Takes out the name's tags with these ids.
 fn remove_ids(tags: &mut IndexMap<Vec<u8>, NameTags>, name: &[u8], ids: &[OpId])
     ensures found { (n : List ℕ) (i : OpId) → tag_in tags.new.entries n i ≡ (not (is_among n i name.now ids.now) && tag_in tags.old.entries n i) }
     ensures room { (n : List ℕ) → room_of n tags.old.entries ≤ room_of n tags.new.entries }
@@ -83,7 +83,7 @@ fn remove_matching_ids(held: &mut NameTags, ids: &[OpId])
     }
 }
 
-/// Puts a tag in, for which there is room.
+/// Puts in a tag, for which there is room.
 fn put_tag(tags: &mut IndexMap<Vec<u8>, NameTags>, name: &[u8], id: &OpId)
     requires { 0 < room_of name.now tags.old.entries }
     ensures found { (n : List ℕ) (i : OpId) → tag_in tags.new.entries n i ≡ (is_at n i name.now id.now || tag_in tags.old.entries n i) }
@@ -105,8 +105,8 @@ fn put_id(held: &mut NameTags, id: &OpId)
     }
 }
 
-/// Makes room for the subscription tags that these operations add, a name in the table for each. `Err` where there is no
-/// memory; the tags stay.
+/// Makes room for the subscription tags that these operations add, each name having an entry in the
+/// table. `Err` if memory runs out: the tags stay.
 pub fn make_room(
     alloc: Global,
     tags: &mut IndexMap<Vec<u8>, NameTags>,
@@ -121,7 +121,7 @@ pub fn make_room(
     Ok(())
 }
 
-/// Makes room for the tags that these operations add of the name to which one of them subscribes.
+/// Makes room for the tags that these operations add to the name to which one of them subscribes.
 fn make_room_of(
     alloc: Global,
     tags: &mut IndexMap<Vec<u8>, NameTags>,
@@ -169,7 +169,7 @@ fn does_subscribe(op: &Op, name: &[u8]) -> bool
     }
 }
 
-/// Makes room for so many tags more of a name, which is put in where it isn't there.
+/// Makes room for `count` further tags of a name, which gets an entry if it has none.
 fn make_room_for(
     alloc: Global,
     tags: &mut IndexMap<Vec<u8>, NameTags>,
@@ -186,7 +186,7 @@ fn make_room_for(
     }
 }
 
-/// Puts a name in that isn't there, with room for so many tags.
+/// Inserts the entry of a new name, with room for `count` tags.
 fn put_name(
     alloc: Global,
     tags: &mut IndexMap<Vec<u8>, NameTags>,
@@ -207,7 +207,7 @@ fn put_name(
     Ok(())
 }
 
-/// The names that have tags, ascending; `Err` where there is no memory for them.
+/// The names with tags, ascending; `Err` if memory runs out.
 pub fn subscribed_names(
     alloc: Global,
     tags: &IndexMap<Vec<u8>, NameTags>,
@@ -221,7 +221,7 @@ pub fn subscribed_names(
     Ok(names)
 }
 
-/// Puts a copy of the name in its place, where it has tags.
+/// Inserts a copy of the name in its place, if it has tags; `Err` if memory runs out.
 fn insert_if_tagged(
     alloc: Global,
     names: &mut Vec<Name>,
@@ -237,7 +237,7 @@ fn insert_if_tagged(
     Ok(())
 }
 
-/// The ids of the name's tags, ascending; `Err` where there is no memory for them.
+/// The ids of the name's tags, ascending; `Err` if memory runs out.
 pub fn tag_ids(
     alloc: Global,
     tags: &IndexMap<Vec<u8>, NameTags>,
