@@ -8,7 +8,7 @@ use Rattle.merge_laws.specs.Orders.{IsIn, HasId}
 use Rattle.causal_inbox.specs.Inbox.{IsClockOf}
 use Rattle.causal_inbox.specs.CauseIndex.{IsAwaited, IsLeastMissing, first_beyond}
 
--- no entry counts more
+-- no entry counts above the clock
 pub none_beyond : (now es : List (ℕ × ℕ)) → first_beyond now es ≡ None → (r : ℕ) → count_of es r ≤ count_of now r
 none_beyond now [] e r = omega arith
 none_beyond now (x ∷ es) e r =
@@ -30,7 +30,7 @@ pub record IsBeyond (now es : List (ℕ × ℕ)) (low : ℕ) (i : OpId) : Type 0
   pub more : count_of now i.replica < i.number
   pub below : (r : ℕ) → r < i.replica → count_of es r ≤ count_of now r
 
--- the first entry that counts more
+-- the first entry that counts above the clock
 pub some_beyond : (now es : List (ℕ × ℕ)) (low : ℕ) (i : OpId) → IsAscendingFrom low es → first_beyond now es ≡ Some i → IsBeyond now es low i
 some_beyond now [] low i a e = absurd cc
 some_beyond now (x ∷ es) low i a e =
@@ -64,7 +64,7 @@ some_beyond now (x ∷ es) low i a e =
           }
     ]
 
--- what an operation waits for
+-- the cause that an operation waits for
 pub waits : {O : Type 0} (id : O → OpId) (clock : O → List (ℕ × ℕ)) (applied : List O) (o : O) (now : List (ℕ × ℕ)) (r : Option OpId) → IsClock (clock o) → IsClockOf id applied now → r ≡ first_beyond now (clock o) → MatchOption r ((i : OpId) → IsCause (clock o) i → HasId id applied i) (IsAwaited id clock applied o)
 waits id clock applied o now None c k e = λ i h. let w = none_beyond now (clock o) (sym e) i.replica in let n = h.1 in (k i).0 (h.0, omega (arith, n, w))
 waits id clock applied o now (Some i) c k e =
@@ -82,7 +82,8 @@ waits id clock applied o now (Some i) c k e =
     }
 
 module _ {O : Type 0} (id : O → OpId) (clock : O → List (ℕ × ℕ)) (applied : List O) (o : O) where
-  -- of the replica of what is awaited, the operation behind those applied is the least cause that is missing
+  -- the least missing cause is the operation after those applied, from the replica of the awaited
+  -- cause
   pub least_missing : (now : List (ℕ × ℕ)) (i : OpId) → IsClockOf id applied now → IsAwaited id clock applied o i → IsLeastMissing id clock applied o (record { replica = i.replica; number = count_of now i.replica + 1 })
   least_missing now i k w =
       let first : OpId = record { replica = i.replica; number = count_of now i.replica + 1 } in
@@ -103,7 +104,7 @@ module _ {O : Type 0} (id : O → OpId) (clock : O → List (ℕ × ℕ)) (appli
             ];
       }
 
-  -- both are of one replica
+  -- both causes are of one replica
   pub one_replica : (i j : OpId) → IsAwaited id clock applied o i → IsLeastMissing id clock applied o j → i.replica ≡ j.replica
   one_replica i j w m =
       let far : i.replica ≤ j.replica = w.least j m.cause m.missing in

@@ -16,7 +16,7 @@ use Rattle.causal_inbox.proofs.Numbered.{any_in, is_pair, number_in, pair_is}
 use Rattle.causal_inbox.proofs.Ordered.{in_take_at}
 use Rattle.causal_inbox.proofs.Places.{all_more}
 
--- ---- fronts of a list
+-- ---- the first elements of a list
 
 pub in_take : {X : Type 0} (x : X) (n : ℕ) (xs : List X) → IsIn x (take n xs) → IsIn x xs
 in_take x n xs h = subst (IsIn x) (take-append-drop n xs) (in_front x (take n xs) (drop n xs) h)
@@ -24,7 +24,7 @@ in_take x n xs h = subst (IsIn x) (take-append-drop n xs) (in_front x (take n xs
 in_longer : {X : Type 0} (x : X) (m n : ℕ) (xs : List X) → m ≤ n → IsIn x (take m xs) → IsIn x (take n xs)
 in_longer x m n xs l h = in_take x m (take n xs) (subst (IsIn x) (sym (take-take m n xs l)) h)
 
--- ---- what a look-up of a number tells
+-- ---- the result of looking up a number
 
 pub not_in_keys : (n m : ℕ × ℕ) (keys : List (ℕ × ℕ)) → n ≡ m → list_any (is_pair n) keys ≡ false → IsIn m keys → ⊥
 not_in_keys n m keys e none h =
@@ -39,7 +39,7 @@ not_in_front n m keys at e found h =
     let passes : is_pair n (get_or keys w.0 m) ≡ true = pair_is n (get_or keys w.0 m) (e ∙ w.3) in
     absurd (cc (fails, passes))
 
--- ---- the least place of some
+-- ---- the least of several places
 
 lacks_shorter : (clock keys : List (ℕ × ℕ)) (m n : ℕ) (e : ℕ × ℕ) → m ≤ n → LacksNext clock (take n keys) e → LacksNext clock (take m keys) e
 lacks_shorter clock keys m n e l h = elim h [
@@ -53,9 +53,9 @@ lacks_more clock keys entries i first next new e l is least before here =
     let below : new ≤ next = omega arith in
     all_more (LacksNext clock (take new keys)) entries i e l is (λ x t. lacks_shorter clock keys new first x low (before x t)) (lacks_shorter clock keys new next e below here)
 
--- ---- what a clock covers
+-- ---- the operations that a clock covers
 
--- a replica of which a clock counts operations has an entry there
+-- if a clock counts operations of a replica, it has an entry for the replica
 entry_of_count : (clock : List (ℕ × ℕ)) (r : ℕ) → 0 < count_of clock r → (e : ℕ × ℕ) × IsIn e clock × (e.0 ≡ r) × (e.1 ≡ count_of clock r)
 entry_of_count [] r h = absurd (omega (arith, h))
 entry_of_count (x ∷ clock) r h =
@@ -84,7 +84,7 @@ module _ {O : Type 0} (id : O → OpId) where
       left_out (is_cause clock (id o)) o (uncovered_ops id clock os) (cause_test clock (id o) (h o (inl refl)))
       ∙ none_uncovered clock os (λ p t. h p (inr t))
 
-  -- what stands behind a front that the clock covers
+  -- the operations after those first ones that the clock covers
   pub rest_uncovered : (clock : List (ℕ × ℕ)) (os view : List O) (at : ℕ) → view ≡ os → uncovered_ops id clock (take at os) ≡ [] → uncovered_ops id clock (take (length view - at) (drop at view)) ≡ uncovered_ops id clock os
   rest_uncovered clock os view at is none =
       let test = λ (o : O). not (is_cause clock (id o)) in
@@ -94,7 +94,8 @@ module _ {O : Type 0} (id : O → OpId) where
       ap (λ (xs : List O). uncovered_ops id clock xs) (take_rest view at ∙ ap (drop at) is) ∙ sym behind
 
 module _ {O : Type 0} (id : O → OpId) (clock : O → List (ℕ × ℕ)) where
-  -- a replica's numbers stand in a causal list without a gap: with an operation it has all earlier ones of that replica
+  -- a causal list has a replica's numbers without a gap: with an operation it has all earlier ones
+  -- of that replica
   pub has_up_to : (os : List O) (o : O) (i : OpId) → IsCausal id clock os → count_of (clock o) (id o).replica + 1 ≡ (id o).number → IsIn o os → i.replica ≡ (id o).replica → 0 < i.number → i.number ≤ (id o).number → HasId id os i
   has_up_to os o i causal number h same positive most =
       elim (cases_lt i.number (id o).number) [
@@ -134,6 +135,7 @@ module _ {O : Type 0} (id : O → OpId) (clock : O → List (ℕ × ℕ)) (is_so
         | inr m ↦ (positive, m)
       ]
 
-  -- where none of the replicas' first operations that a clock doesn't cover stands in front, it covers the front
+  -- if no replica's first uncovered operation is among the first ones of the list, the clock covers
+  -- these
   pub front_covered : (os : List O) (keys now other : List (ℕ × ℕ)) (first : ℕ) → IsCausal id clock os → AreSound is_sound os → IsClockOf id os now → keys ≡ map (id_numbers id) os → ((e : ℕ × ℕ) → IsIn e now → LacksNext other (take first keys) e) → uncovered_ops id other (take first os) ≡ []
   front_covered os keys now other first causal sound counts is lacks = none_uncovered id other (take first os) (λ o h. one_covered os keys now other first o causal sound counts is lacks h)

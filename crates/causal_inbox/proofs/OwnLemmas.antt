@@ -19,7 +19,7 @@ module _ {O : Type 0} (id_of : O → OpId) (name : ℕ) where
   pub none_own : IsLeastOwn id_of name [] None
   none_own id h = absurd h.0
 
-  -- one operation more
+  -- a list with one further operation
   own_parts : (front : List O) (op : O) (i : OpId) → IsOwn id_of name (front ++ op ∷ []) i → IsOwn id_of name front i ⊎ ((id_of op ≡ i) × (i.replica ≡ name))
   own_parts front op i h = elim (id_in_parts id_of i front (op ∷ []) h.0) [ inl t ↦ inl (t, h.1) | inr t ↦ elim t [ inl e ↦ inr (e, h.1) | inr n ↦ absurd n ] ]
 

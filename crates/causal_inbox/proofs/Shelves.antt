@@ -14,12 +14,12 @@ use Rattle.causal_inbox.proofs.Ascending.{ascending_determines, in_at, less_irre
 use Rattle.causal_inbox.proofs.Ordered.{bool_of, parted, point_before, point_not, found_at, first_least, in_place, inserted_same, removed_elements, removed_ordered}
 use Rattle.causal_inbox.proofs.FileOrder.{before_irr, id_decided, ids_ordered, less_decided}
 
--- what stands at a place
+-- the element at a place
 pub in_of_get : {X : Type 0} (xs : List X) (n : ℕ) (x : X) → slice_get xs n ≡ Some x → IsIn x xs
 in_of_get xs n x e = in_at xs n x (slice_get_within xs n x e) (sym (get_or_from_slice_get xs n x x e))
 
 module _ {O : Type 0} (id : O → OpId) where
-  -- the test of a place among the held ones
+  -- the test of a place among the held operations
   abbrev pub is_lesser_id : OpId → ℕ → O → Bool
   is_lesser_id i k o = bool_of (less_decided (id o) i)
 
@@ -40,11 +40,11 @@ module _ {O : Type 0} (id : O → OpId) where
       found_at (λ x y. IsLess (id x) (id y)) (λ y. IsLess (id y) i) (λ y. less_decided (id y) i) os n o
       (λ x l. subst (IsLess (id x)) e l) (λ l. less_irreflexive (id o) i e l) (ids_ordered id os a) point h
 
-  -- where nothing with the id stands at its place, nothing has it
+  -- if the operation at the place of an id doesn't have the id, none has
   pub none_has : (i : OpId) (os : List O) (n : ℕ) → ((o : O) → IsIn o os → id o ≡ i → slice_get os n ≡ Some o) → ((o : O) → slice_get os n ≡ Some o → id o ≢ i) → ¬ HasId id os i
   none_has i os n found other h = let e = element_of_id id i os h in other e.0 (found e.0 e.1 e.2) e.2
 
-  -- the file without an entry
+  -- the index without an entry
   pub file_elements : (file : List CauseEntry) (at : ℕ) (f g : CauseEntry) → AreOrdered IsIndexedBefore file → slice_get file at ≡ Some f → IsIn g (remove file at) ↔ (IsIn g file × (g ≢ f))
   file_elements file at f g a e = removed_elements IsIndexedBefore before_irr file at f g (slice_get_within file at f e) (sym (get_or_from_slice_get file at f f e)) a
 
@@ -65,7 +65,7 @@ module _ {O : Type 0} (id : O → OpId) where
         ordered = removed_ordered IsIndexedBefore file at (slice_get_within file at f e) is.ordered;
       }
 
-  -- the file with one entry more
+  -- the index with one further entry
   pub file_more : (held more : List O) (file : List CauseEntry) (n : ℕ) (e : CauseEntry) (op : O) → IsCauseIndex id held file → HaveSameElements more (op ∷ held) → ¬ HasId id held (id op) → e.id ≡ id op → AreOrdered IsIndexedBefore (insert file n e) → IsCauseIndex id more (insert file n e)
   file_more held more file n e op is same new eid ordered =
       let ins = inserted_same file n e in
@@ -120,11 +120,11 @@ module _ {O : Type 0} (id : O → OpId) where
       determined o p h k q = ascending_determines id held o p a h k q
 
   module _ (clock : O → List (ℕ × ℕ)) where
-    -- what is filed of fewer
+    -- the index of fewer operations
     pub filed_taken : (woken : List OpId) (applied held rest : List O) (file fewer : List CauseEntry) → ((g : CauseEntry) → IsIn g fewer → IsIn g file) → ((o : O) → IsIn o rest → IsIn o held) → AreIndexed id clock woken applied held file → AreIndexed id clock woken applied rest fewer
     filed_taken woken applied held rest file fewer f h filed = λ g o i j q. filed g o (f g i) (h o j) q
 
-    -- and of one more
+    -- the index of one further operation
     pub filed_more : (woken : List OpId) (applied held more : List O) (file : List CauseEntry) (n : ℕ) (e : CauseEntry) (op : O) → IsCauseIndex id held file → HaveSameElements more (op ∷ held) → ¬ HasId id held (id op) → e.id ≡ id op → IsIndexedUnder id clock applied op e.cause → AreIndexed id clock woken applied held file → AreIndexed id clock woken applied more (insert file n e)
     filed_more woken applied held more file n e op is same new eid under filed = λ g o i j q.
         elim ((inserted_same file n e g).0 i) [
@@ -138,7 +138,7 @@ module _ {O : Type 0} (id : O → OpId) where
           ]
         ]
 
-    -- an operation is filed under one cause
+    -- an operation is indexed under one cause
     pub under_one : (applied : List O) (o : O) (c d : Option OpId) → IsIndexedUnder id clock applied o c → IsIndexedUnder id clock applied o d → c ≡ d
     under_one applied o None None h k = refl
     under_one applied o None (Some i) h k = absurd (k.missing (h.0 i k.cause))
@@ -157,7 +157,7 @@ module _ {O : Type 0} (id : O → OpId) where
     pub filed_is : (applied held : List O) (file : List CauseEntry) → AreIndexed id clock [] applied held file → (f : CauseEntry) (o : O) → IsIn f file → IsIn o held → id o ≡ f.id → IsIndexedUnder id clock applied o f.cause
     filed_is applied held file filed f o h k e = elim (filed f o h k e) [ inl u ↦ u | inr w ↦ absurd (nowhere f.cause w) ]
 
-    -- the entry of a held operation stands in the file
+    -- the index has the entry of a held operation
     pub entry_there : (applied held : List O) (file : List CauseEntry) (op : O) (e : CauseEntry) → IsCauseIndex id held file → AreIndexed id clock [] applied held file → IsIn op held → e.id ≡ id op → IsIndexedUnder id clock applied op e.cause → IsIn e file
     entry_there applied held file op e is filed h same under =
         let x = is.each op h in
@@ -165,7 +165,7 @@ module _ {O : Type 0} (id : O → OpId) where
         let k : x.0.id ≡ e.id = x.2 ∙ sym same in
         subst (λ (y : CauseEntry). IsIn y file) (λ t. record { cause = c t; id = k t }) x.1
 
-    -- the ripe ones stand in front
+    -- the ripe operations come first
     ripe_none : (applied : List O) (o : O) (c : Option OpId) → IsRipe id clock applied o → IsIndexedUnder id clock applied o c → c ≡ None
     ripe_none applied o None r u = refl
     ripe_none applied o (Some i) r u = absurd (u.missing (r.0 i u.cause))
@@ -223,7 +223,7 @@ module _ {O : Type 0} (id : O → OpId) where
     )
 
 module _ {O : Type 0} (id : O → OpId) where
-  -- one more held
+  -- one further operation is held
   pub not_there : (held : List O) (file : List CauseEntry) (e : CauseEntry) (op : O) → IsCauseIndex id held file → ¬ HasId id held (id op) → e.id ≡ id op → ¬ IsIn e file
   not_there held file e op is new same h = let x = is.of e h in new (subst (HasId id held) (x.2 ∙ same) (id_of_element id x.0 held x.1))
 
@@ -239,7 +239,7 @@ module _ {O : Type 0} (id : O → OpId) where
         elements,
       )
 
-  -- one less
+  -- one operation fewer is held
   pub one_less : (held rest : List O) (file fewer : List CauseEntry) (at there : ℕ) (e : CauseEntry) (op : O) → rest ≡ remove held at → fewer ≡ remove file there → slice_get held at ≡ Some op → slice_get file there ≡ Some e → e.id ≡ id op → AreAscending id held → IsCauseIndex id held file → length file ≡ length held → AreAscending id rest × (length fewer ≡ length rest) × IsCauseIndex id rest fewer
   one_less held rest file fewer at there e op m l is_op is_e same a is count =
       let below = slice_get_within held at op is_op in

@@ -1,22 +1,24 @@
+-- The least id among operations that names a given replica.
+
 use Rattle.std.specs.Prelude.{◌≡◌, ◌⊎◌, ℕ, List, Option, None, Some}
 use Rattle.tags_clocks.specs.declared.id.OpId.{OpId}
 use Rattle.causal_inbox.specs.Inbox.{IsLess}
 use Rattle.merge_laws.specs.Orders.{HasId}
 
--- An operation with this id is among these, and the id names this replica.
+-- One of the operations has this id, and the id names this replica.
 abbrev pub IsOwn : {O : Type 0} → (O → OpId) → ℕ → List O → OpId → Type 0
 IsOwn id_of name ops id = HasId id_of ops id × (id.replica ≡ name)
 
--- The least of such ids; none where there is none.
+-- The least id of the operations that names this replica; none if none does.
 abbrev pub IsLeastOwn : {O : Type 0} → (O → OpId) → ℕ → List O → Option OpId → Type 0
 IsLeastOwn id_of name ops None = (id : OpId) → ¬ IsOwn id_of name ops id
 IsLeastOwn id_of name ops (Some id) = IsOwn id_of name ops id × ((other : OpId) → IsOwn id_of name ops other → ¬ IsLess other id)
 
--- The id names this replica, and is less than the other, or there is no other.
+-- The id names this replica, and is less than the other id if there is one.
 abbrev pub Precedes : ℕ → OpId → Option OpId → Type 0
 Precedes name id None = id.replica ≡ name
 Precedes name id (Some other) = (id.replica ≡ name) × IsLess id other
 
--- Such an id is kept in the other's place, and else the other stays.
+-- The new id is this id if it precedes the old one, and else the old one.
 abbrev pub IsKeptOwn : ℕ → OpId → Option OpId → Option OpId → Type 0
 IsKeptOwn name id old new = (Precedes name id old × (new ≡ Some id)) ⊎ ((¬ Precedes name id old) × (new ≡ old))

@@ -1,4 +1,4 @@
-//! The file of the held operations: each stands in it once, under the cause that it waits for.
+//! The cause index: one entry for each held operation, ordered by the cause that it waits for.
 
 ghost use Rattle.std.specs.Prelude.{◌≡◌, ◌≢◌, ◌↔◌, ℕ, ◌+◌, ◌<◌, ◌≤◌, ◌^◌, List, [], ◌∷◌, length, insert, slice_get, take, IsTrue, MatchOption, Some, slice_index_or};
 ghost use Rattle.merge_laws.specs.Orders.{IsIn, HasId};
@@ -10,16 +10,17 @@ use merge_laws::Caused;
 use tags_clocks::{Clock, OpId};
 use tree_list::{Slot, TreeList};
 
-/// A held operation's entry.
+/// The index entry of a held operation.
 #[derive(Clone, Copy, PartialEq, Eq, Debug)]
 pub struct CauseEntry {
-    /// What it waits for: of the replica of its least missing cause, its last cause; none where it is ripe.
+    /// The cause that the operation waits for: the last of its causes from the replica of its least
+    /// missing cause. `None` if the operation is ripe.
     pub cause: Option<OpId>,
-    /// Its id.
+    /// The operation's id.
     pub id: OpId,
 }
 
-/// The operation's entry, by the clock that covers what is applied.
+/// The operation's index entry, for the clock that covers the applied operations.
 pub fn entry_of<O: Caused>(clock: &Clock, op: &O) -> CauseEntry
     ensures id { result.id ≡ O.id op.now }
     ensures under { (applied : List O) → IsClockOf O.id applied clock.now → ¬ HasId O.id applied (O.id op.now) → IsIndexedUnder O.id O.clock applied op.now result.cause }
@@ -30,7 +31,7 @@ pub fn entry_of<O: Caused>(clock: &Clock, op: &O) -> CauseEntry
     }
 }
 
-/// Whether the one cause comes before the other: none before each, then by ids.
+/// Whether `one` comes before `other`: `None` comes before every id, and ids are ordered.
 fn is_lesser_cause(one: &Option<OpId>, other: &Option<OpId>) -> bool
     ensures { IsTrue result ↔ IsCauseLess one.now other.now }
 {
@@ -41,7 +42,7 @@ fn is_lesser_cause(one: &Option<OpId>, other: &Option<OpId>) -> bool
     }
 }
 
-/// Whether these are one cause, or none.
+/// Whether both are the same cause, or both are `None`.
 fn is_same_cause(one: &Option<OpId>, other: &Option<OpId>) -> bool
     ensures { IsTrue result ↔ (one.now ≡ other.now) }
 {
@@ -52,7 +53,7 @@ fn is_same_cause(one: &Option<OpId>, other: &Option<OpId>) -> bool
     }
 }
 
-/// Whether the one entry comes before the other.
+/// Whether `one` comes before `other` in the index.
 fn is_filed_before(one: &CauseEntry, other: &CauseEntry) -> bool
     ensures { IsTrue result ↔ IsIndexedBefore one.now other.now }
 {
@@ -63,7 +64,7 @@ fn is_filed_before(one: &CauseEntry, other: &CauseEntry) -> bool
     }
 }
 
-/// How many entries come before this one.
+/// The number of entries that come before `entry`.
 pub fn place_of(file: &TreeList<CauseEntry>, entry: &CauseEntry) -> usize
     requires { AreOrdered IsIndexedBefore file.now }
     ensures within { result ≤ length file.now }
@@ -73,7 +74,7 @@ pub fn place_of(file: &TreeList<CauseEntry>, entry: &CauseEntry) -> usize
     file.partition_point(|_, one| is_filed_before(one, entry))
 }
 
-/// The place of the first entry under this cause.
+/// The place of the first entry under `cause`, or `None` if there is none.
 pub fn first_waiting_for(file: &TreeList<CauseEntry>, cause: &Option<OpId>) -> Option<usize>
     requires { AreOrdered IsIndexedBefore file.now }
     ensures { MatchOption result ((f : CauseEntry) → IsIn f file.now → f.cause ≢ cause.now) (λ at. (at < length file.now) × ((f : CauseEntry) → slice_get file.now at ≡ Some f → f.cause ≡ cause.now)) }

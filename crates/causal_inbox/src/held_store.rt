@@ -1,4 +1,4 @@
-//! The held operations, by ascending ids, with their file.
+//! The store of the held operations: their list, by ascending ids, and their cause index.
 
 ghost use Rattle.std.specs.Prelude.{◌≡◌, ◌↔◌, ◌≢◌, ℕ, ◌+◌, ◌<◌, ◌≤◌, ◌^◌, List, [], ◌∷◌, ◌++◌, drop, insert, length, map, take, IsTrue, MatchOption, OnOk, OnErr, remove, slice_get, slice_index_or};
 ghost use Rattle.tags_clocks.specs.declared.id.OpId.{OpId};
@@ -14,7 +14,7 @@ use std::marker::Model;
 use tags_clocks::{Clock, OpId};
 use tree_list::{Slot, TreeList};
 
-/// The number of operations whose ids are less.
+/// The number of operations in the list whose ids are less than `id`.
 fn held_place<O: Caused + Drop>(list: &TreeList<OpCell<O>>, id: OpId) -> usize
     requires { AreAscending O.id list.now }
     ensures within { result ≤ length list.now }
@@ -24,7 +24,7 @@ fn held_place<O: Caused + Drop>(list: &TreeList<OpCell<O>>, id: OpId) -> usize
     list.partition_point(|_, cell| cell.has_lesser_id(&id))
 }
 
-/// The place of the operation with this id.
+/// The place of the operation with this id, or `None` if no operation in the list has it.
 pub fn place_of_id<O: Caused + Drop>(list: &TreeList<OpCell<O>>, id: OpId) -> Option<usize>
     requires { AreAscending O.id list.now }
     ensures { MatchOption result (¬ HasId O.id list.now id)
@@ -35,7 +35,7 @@ pub fn place_of_id<O: Caused + Drop>(list: &TreeList<OpCell<O>>, id: OpId) -> Op
     if cell.has_id(&id) { Some(at) } else { None }
 }
 
-/// The operation with this id.
+/// The operation with this id, or `None` if no operation in the list has it.
 pub fn find_held_op<O: Caused + Drop>(list: &TreeList<OpCell<O>>, id: OpId) -> Option<&O>
     requires { AreAscending O.id list.now }
     ensures { MatchOption result (¬ HasId O.id list.now id) (λ found. IsIn found.now list.now × (O.id found.now ≡ id)) }
@@ -49,7 +49,7 @@ pub fn find_held_op<O: Caused + Drop>(list: &TreeList<OpCell<O>>, id: OpId) -> O
     }
 }
 
-/// Held operations.
+/// The held operations, with the index of the causes that they wait for.
 #[derive(Drop)]
 pub struct HeldStore<O: Caused> {
     list: TreeList<OpCell<O>>,
@@ -69,7 +69,7 @@ impl<O: Caused> Model for HeldStore<O> {
 }
 
 impl<O: Caused + Drop> HeldStore<O> {
-    /// Nothing held.
+    /// An empty store.
     pub fn new() -> HeldStore<O>
         ensures { result ≡ record { list = []; file = [] } }
     {
@@ -79,7 +79,7 @@ impl<O: Caused + Drop> HeldStore<O> {
         }
     }
 
-    /// The operations, by ascending ids.
+    /// The held operations, by ascending ids.
     pub fn list(&self) -> &TreeList<OpCell<O>>
         ensures list { result.now ≡ self.now.list }
         ensures ascending { AreAscending O.id self.now.list }
@@ -87,7 +87,7 @@ impl<O: Caused + Drop> HeldStore<O> {
         &self.list
     }
 
-    /// The operation at this place, as a slice.
+    /// The operation at place `at`, as a slice of one.
     pub fn slice_at(&self, at: usize) -> &[O]
         requires { at < length self.now.list }
         ensures { (op : O) → op ≡ slice_index_or self.now.list at op → result.now ≡ op ∷ [] }
@@ -98,7 +98,7 @@ impl<O: Caused + Drop> HeldStore<O> {
         }
     }
 
-    /// The place of the ripe operation of the least id.
+    /// The place of the ripe operation with the least id, or `None` if no held operation is ripe.
     pub fn next_ripe(&self) -> Option<usize>
         ensures { (applied : List O) → AreIndexed O.id O.clock [] applied self.now.list self.now.file → MatchOption result
             ((o : O) → IsIn o self.now.list → ¬ IsRipe O.id O.clock applied o)
@@ -113,7 +113,7 @@ impl<O: Caused + Drop> HeldStore<O> {
         place_of_id(&self.list, first.id)
     }
 
-    /// Holds an operation. An error leaves all as it was.
+    /// Holds an operation. `Err` if memory runs out; the store is then unchanged.
     pub fn hold(&mut self, alloc: Global, clock: &Clock, op: O) -> Result<(), AllocError>
         requires new_id { ¬ HasId O.id self.old.list (O.id op) }
         requires few { length self.old.list < held_limit }
@@ -131,7 +131,7 @@ impl<O: Caused + Drop> HeldStore<O> {
         Ok(())
     }
 
-    /// Takes out the operation at this place, and its entry.
+    /// Takes out and returns the operation at place `at`, and removes its index entry.
     pub fn take_out(&mut self, clock: &Clock, at: usize) -> O
         requires within { at < length self.old.list }
         requires filed { (applied : List O) × IsClockOf O.id applied clock.now × AreApart O.id self.old.list applied × AreIndexed O.id O.clock [] applied self.old.list self.old.file }
@@ -145,7 +145,7 @@ impl<O: Caused + Drop> HeldStore<O> {
         op
     }
 
-    /// Takes out the operation with this id, where it is there.
+    /// Removes the operation with this id, if one is held.
     fn discard(&mut self, clock: &Clock, id: OpId)
         requires { (applied : List O) × IsClockOf O.id applied clock.now × AreApart O.id self.old.list applied × AreIndexed O.id O.clock [] applied self.old.list self.old.file }
         ensures others { (o : O) → IsIn o self.new.list ↔ (IsIn o self.old.list × (O.id o ≢ id)) }
@@ -157,7 +157,7 @@ impl<O: Caused + Drop> HeldStore<O> {
         }
     }
 
-    /// Takes out the operations that have the id of one of these.
+    /// Removes each operation whose id is that of one of `ops`.
     pub fn discard_all(&mut self, clock: &Clock, ops: &[O])
         requires { (applied : List O) × IsClockOf O.id applied clock.now × AreApart O.id self.old.list applied × AreIndexed O.id O.clock [] applied self.old.list self.old.file }
         ensures kept { AreHeldStill O.id ops.now self.old.list self.new.list }
@@ -169,7 +169,8 @@ impl<O: Caused + Drop> HeldStore<O> {
         }
     }
 
-    /// Files the entry at this place again, by the operation's least missing cause now. It takes no memory.
+    /// Moves the index entry at place `at` to where the operation's least missing cause puts it
+    /// now. Takes no memory.
     fn reindex(&mut self, clock: &Clock, at: usize)
         requires { at < length self.old.file }
         ensures list { self.new.list ≡ self.old.list }
@@ -184,7 +185,7 @@ impl<O: Caused + Drop> HeldStore<O> {
         self.file.put(to, slot);
     }
 
-    /// Files again what waits for an operation that was applied. It takes no memory.
+    /// Indexes again each operation that waits for `id`, an applied operation. Takes no memory.
     pub fn reindex_waiting(&mut self, clock: &Clock, id: OpId)
         ensures list { self.new.list ≡ self.old.list }
         ensures filed { (woken : List OpId) (applied : List O) → IsClockOf O.id applied clock.now → HasId O.id applied id → AreApart O.id self.old.list applied → AreIndexed O.id O.clock (id ∷ woken) applied self.old.list self.old.file → AreIndexed O.id O.clock woken applied self.new.list self.new.file }
@@ -198,7 +199,8 @@ impl<O: Caused + Drop> HeldStore<O> {
         }
     }
 
-    /// Files again what waits for operations that were applied. It takes no memory.
+    /// Indexes again each operation that waits for one of `ops`, which were applied. Takes no
+    /// memory.
     pub fn reindex_all_waiting(&mut self, clock: &Clock, ops: &[O])
         ensures list { self.new.list ≡ self.old.list }
         ensures filed { (applied : List O) → IsClockOf O.id applied clock.now → ((o : O) → IsIn o ops.now → HasId O.id applied (O.id o)) → AreApart O.id self.old.list applied → AreIndexed O.id O.clock (map O.id ops.now) applied self.old.list self.old.file → AreIndexed O.id O.clock [] applied self.new.list self.new.file }

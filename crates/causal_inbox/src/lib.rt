@@ -1,7 +1,37 @@
-//! The inbox of a replica: it applies each operation once, behind all its causes, and holds those that come early.
+//! The inbox of a replica: it applies each operation once, after all its causes, and holds the
+//! operations that come early.
 //!
-//! This is causal delivery as operation-based replicated types ask for it (Jungnickel, Oldenburg, Loibl, OPODIS 2017). The
-//! inbox serves any [`merge_laws::Replicated`] value, and tells a [`merge_laws::Follower`] each operation that it applies.
+//! This is causal delivery as operation-based replicated types need it (Jungnickel, Oldenburg,
+//! Loibl, OPODIS 2017). The inbox serves any [`merge_laws::Replicated`] value, and has a
+//! [`merge_laws::Follower`] note each operation that it applies.
+//!
+//! The contract says when each result and each fault of a delivery comes, and that a fault leaves
+//! the received operations unchanged. Held operations are released as soon as they are ripe, the
+//! least id first, until memory or a counter is refused. Afterwards the received operations are
+//! those received before and the delivered one; if no ripe operation is held, the applied ones are
+//! the least set that contains each received operation whose causes are all in the set. So two
+//! inboxes that received the same operations, and hold no ripe one, applied the same operations.
+//!
+//! # Decided
+//!
+//! - A held operation is indexed under its last cause from the replica of its least missing cause.
+//!   That cause determines the least missing one, since a replica's operations are applied in their
+//!   order. So an operation is indexed again once for each replica that it waits for. If it were
+//!   indexed under the least missing cause itself, each operation of a chain of 10,000 held ones
+//!   would be indexed again for each one before it, 50 million times in all.
+//! - The cause index and the held list are each a `tree_list`. An issue takes no memory, and the
+//!   room that it was made ready with can't include room for indexing again, because a map of std
+//!   may fail at any insertion. So an entry's slot is taken out and put in again.
+//! - Applied operations are found by their ids in an `IndexSet` of pairs of numbers.
+//! - `Inbox::new` can run out of memory: the inbox owns a buffer with one free place. A delivered
+//!   operation is shown to the follower there, before anything else takes memory.
+//! - What `Inbox::issue` relies on (the prepared room and the next clock) is part of the inbox's
+//!   model, beside the received operations. "Unchanged" speaks only of the received operations.
+//! - `Inbox::ops_since` returns copies.
+//! - A stall that no counter causes is `Stall::Drainable` and not a want of memory: after an issue,
+//!   a ripe operation may be held that nobody refused.
+//! - `Inbox::held` returns a type of its own with an iterator, which hides the tree of the held
+//!   operations.
 #![tactic(auto)]
 
 mod cause_index;

@@ -1,4 +1,4 @@
-//! A place for one operation.
+//! `OpCell`: the memory of one held operation.
 
 ghost use Rattle.std.specs.Prelude.{◌≡◌, ◌↔◌, ◌∷◌, [], length, IfOk, IsTrue};
 ghost use Rattle.causal_inbox.specs.Inbox.{IsLess};
@@ -8,7 +8,7 @@ use std::alloc::{AllocError, Global};
 use std::marker::Model;
 use tags_clocks::OpId;
 
-/// An operation that can be lent as a slice, as readying asks for it, with its id beside it.
+/// An operation with its id beside it. It can be borrowed as a slice, which `ready` needs.
 #[derive(Drop)]
 pub struct OpCell<O: Caused> {
     id: OpId,
@@ -28,7 +28,8 @@ impl<O: Caused> Model for OpCell<O> {
 }
 
 impl<O: Caused + Drop> OpCell<O> {
-    /// The operation, for which it takes memory.
+    /// Stores the operation in a cell of its own. `Err` if memory runs out; the operation is then
+    /// dropped.
     pub fn new(alloc: Global, op: O) -> Result<OpCell<O>, AllocError>
         ensures { IfOk result (λ cell. cell ≡ op) }
     {
@@ -45,28 +46,28 @@ impl<O: Caused + Drop> OpCell<O> {
         self.id == *id
     }
 
-    /// Whether the operation's id is less, by replica and then by number.
+    /// Whether the operation's id is less than `id`, by replica and then by number.
     pub fn has_lesser_id(&self, id: &OpId) -> bool
         ensures { IsTrue result ↔ IsLess (O.id self.now) id.now }
     {
         self.id < *id
     }
 
-    /// The operation, as it is lent.
+    /// Borrows the operation.
     pub fn op(&self) -> &O
         ensures { result.now ≡ self.now }
     {
         &self.ops[0]
     }
 
-    /// The operation as a slice.
+    /// Borrows the operation as a slice of one.
     pub fn slice(&self) -> &[O]
         ensures { result.now ≡ self.now ∷ [] }
     {
         &self.ops
     }
 
-    /// The operation.
+    /// Takes the operation out of the cell.
     pub fn into_op(self) -> O
         ensures { result ≡ self }
     {

@@ -1,4 +1,4 @@
-//! The ids among operations that name one replica.
+//! The least id among operations that names a given replica.
 
 ghost use Rattle.std.specs.Prelude.{◌≡◌, ◌↔◌, IsTrue};
 ghost use Rattle.causal_inbox.specs.Inbox.{IsLess};
@@ -7,7 +7,7 @@ ghost use Rattle.causal_inbox.specs.OwnIds.{IsKeptOwn, IsLeastOwn, Precedes};
 use merge_laws::Caused;
 use tags_clocks::{OpId, ReplicaId};
 
-/// The least id of those operations that bear this name.
+/// The least id of `ops` that names the replica `name`, or `None` if none does.
 pub fn least_own<O: Caused>(name: ReplicaId, ops: &[O]) -> Option<OpId>
     ensures { IsLeastOwn O.id name ops.now result }
 {
@@ -18,7 +18,8 @@ pub fn least_own<O: Caused>(name: ReplicaId, ops: &[O]) -> Option<OpId>
     least
 }
 
-/// Keeps the id where it bears this name and is less than the one that is kept, if there is one.
+/// Replaces `least` by `id` if `id` names the replica `name` and is less than `least`, or `least`
+/// is `None`.
 fn keep_own(least: &mut Option<OpId>, name: ReplicaId, id: OpId)
     ensures { IsKeptOwn name id least.old least.new }
 {
@@ -27,7 +28,7 @@ fn keep_own(least: &mut Option<OpId>, name: ReplicaId, id: OpId)
     }
 }
 
-/// Whether the id bears this name, and is less than the other, if there is one.
+/// Whether `id` names the replica `name`, and is less than `other` if there is one.
 fn precedes(name: ReplicaId, id: &OpId, other: &Option<OpId>) -> bool
     ensures { IsTrue result ↔ Precedes name id.now other.now }
 {
@@ -37,7 +38,7 @@ fn precedes(name: ReplicaId, id: &OpId, other: &Option<OpId>) -> bool
     }
 }
 
-/// Whether the id bears this name, and is less than the other.
+/// Whether `id` names the replica `name`, and is less than `other`.
 fn is_own_below(name: ReplicaId, id: &OpId, other: &OpId) -> bool
     ensures { IsTrue result ↔ ((id.now.replica ≡ name) × IsLess id.now other.now) }
 {
