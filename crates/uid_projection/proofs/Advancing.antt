@@ -21,9 +21,9 @@ use Rattle.uid_projection.proofs.ChartSteps.{chart_added, chart_removed, in_mapp
 use Rattle.uid_projection.proofs.Moving.{held_lacks, moved_none, same_back, same_own, same_true}
 use Rattle.uid_projection.proofs.Touching.{changed_is, origin_here, removed_here}
 
--- ---- one move behind another
+-- ---- one move after another
 
--- what becomes of what an entry became
+-- a second move of an entry
 abbrev then_moved : (OpId → Bool) → (OpId → Bool) → ℕ → Option ListingEntry → Option ListingEntry
 then_moved c s m None = None
 then_moved c s m (Some e) = move_of c s m e
@@ -57,11 +57,11 @@ mapped_twice f c s m (x ∷ es) = by (f x) ∙ ap (cons_option (then_moved c s m
 pub moved_twice : (a b s : OpId → Bool) (m : ℕ) (es : List ListingEntry) → moved_entries b s m (moved_entries a s m es) ≡ moved_entries (λ g. a g || b g) s m es
 moved_twice a b s m es = mapped_twice (move_of a s m) b s m es ∙ (λ k. filter_map (λ x. move_twice a b s m x k) es)
 
--- tests that agree move alike
+-- tests that agree give equal moves
 pub moved_alike : (a b s : OpId → Bool) (m : ℕ) (es : List ListingEntry) → ((g : OpId) → a g ≡ b g) → moved_entries a s m es ≡ moved_entries b s m es
 moved_alike a b s m es h = λ k. moved_entries (λ g. h g k) s m es
 
--- what is settled of one origin by one test is settled by a test of all
+-- what is settled for one origin by one test is settled by a test of all
 pub moved_by_one : (g : OpId) (b : Bool) (s : OpId → Bool) (m : ℕ) (es : List ListingEntry) → b ≡ s g → moved_entries (λ x. same_id x g) (λ x. b) m es ≡ moved_entries (λ x. same_id x g) s m es
 moved_by_one g b s m es h = λ k. filter_map (λ x. one x k) es
   where
@@ -97,13 +97,13 @@ any-append p (y ∷ xs) x = ap (λ b. p y || b) (any-append p xs x) ∙ regroup 
 pub any_more : {X : Type 0} (p : X → Bool) (xs : List X) (i : ℕ) (x : X) → i < length xs → x ≡ get_or xs i x → list_any p (take (i + 1) xs) ≡ (list_any p (take i xs) || p x)
 any_more p xs i x l is = ap (list_any p) (through xs i x l) ∙ any-append p (take i xs) (get_or xs i x) ∙ ap (λ y. list_any p (take i xs) || p y) (sym is)
 
--- what the entries become by one id more
+-- the entries after one further id
 pub lost_more : (f : OpId → Option OpId) (s : OpId → Bool) (m : ℕ) (es : List ListingEntry) (ids : List OpId) (i : ℕ) (id : OpId) → i < length ids → id ≡ get_or ids i id → moved_entries (λ g. is_some_id g (f id)) s m (moved_entries (loses f (take i ids)) s m es) ≡ moved_entries (loses f (take (i + 1) ids)) s m es
 lost_more f s m es ids i id l is =
     moved_twice (loses f (take i ids)) (λ g. is_some_id g (f id)) s m es
     ∙ moved_alike (λ g. loses f (take i ids) g || is_some_id g (f id)) (loses f (take (i + 1) ids)) s m es (λ g. sym (any_more (λ j. is_some_id g (f j)) ids i id l is))
 
--- and the versions
+-- the versions after one further id
 pub without_more : (f : OpId → Option OpId) (ids : List OpId) (i : ℕ) (id : OpId) → i < length ids → id ≡ get_or ids i id → (old new : OpId → Option OpId) → ((j : OpId) → old j ≡ origins_without f (take i ids) j) → ((j : OpId) → new j ≡ cond (same_id id j) None (old j)) → (j : OpId) → new j ≡ origins_without f (take (i + 1) ids) j
 without_more f ids i id l is old new was one j =
     one j ∙ ap (cond (same_id id j) None) (was j) ∙ both (same_id id j) (list_any (same_id j) (take i ids)) (same_id j id) (turned id j)
@@ -157,7 +157,7 @@ held_moved g c s m (x ∷ es) t =
       | inr other ↦ past_other g x (move_of c s m x) (moved_entries c s m es) (move_origin c s m x) other ∙ held_moved g c s m es t ∙ ap (λ b. b || has_entry es g) (sym other)
     ]
 
--- ---- what a chart's entries are
+-- ---- the entries of a chart
 
 lacks_each : (g : OpId) (es : List ListingEntry) → ((x : ListingEntry) → IsIn x es → same_id g x.origin ≡ false) → Lacks g es
 lacks_each g [] h = tt
@@ -199,7 +199,7 @@ first_least start folder l = by (bytes_eq folder inbox)
     by true = l
     by false = omega arith
 
--- a UID that is left can be put behind what the entries became
+-- a UID that is left can be put after the moved entries
 pub next_moved : (start : Counters) (folder : List ℕ) (ops : List Op) (u h : ℕ) (es : List ListingEntry) (c s : OpId → Bool) (m : ℕ) → 1 ≤ start.uid → IsChart start folder ops u h es → u < 4294967295 → IsNext u (moved_entries c s m es)
 next_moved start folder ops u h es c s m l k less =
     let below : (e : ListingEntry) → IsIn e (moved_entries c s m es) → e.uid < u = λ e i. let w = in_mapped (move_of c s m) es e i in let b = k.below w.0 w.1 in let q = move_uid c s m w.0 e w.2 in omega (arith, b, q) in
@@ -208,7 +208,7 @@ next_moved start folder ops u h es c s m l k less =
     let few = few_from 0 u (moved_entries c s m es) (ascending-moved c s m es k.ascending) (λ e i. omega arith) below (omega arith) in
     record { first = omega (arith, f, is); beyond = below_each u (moved_entries c s m es) below; few = omega (arith, few, less) }
 
--- ---- what an operation about the folder makes of them
+-- ---- the entries after an operation about the folder
 
 module _ (start : Counters) (folder : List ℕ) (ops : List Op) (o : Op) (a : IsApplied (ops ++ o ∷ [])) (there : folder_exists folder (ops ++ o ∷ []) ≡ true) (about : kind_names_folder folder o.kind ≡ true) (u h : ℕ) (es : List ListingEntry) (c : IsChart start folder ops u h es) (f : OpId → Option OpId) (l : AreVersions folder ops f) where
   abbrev lost : OpId → Bool
@@ -227,7 +227,7 @@ module _ (start : Counters) (folder : List ℕ) (ops : List Op) (o : Op) (a : Is
   or-false true = refl
   or-false false = refl
 
-  -- one that adds no message tag
+  -- an operation that adds no message tag
   pub advanced_none : added_origin o ≡ None → IsChart start folder (ops ++ o ∷ []) u (h + 1) (moved_entries lost stays (h + 1) es)
   advanced_none own =
       subst (IsChart start folder (ops ++ o ∷ []) u (h + 1))
@@ -258,7 +258,7 @@ module _ (start : Counters) (folder : List ℕ) (ops : List Op) (o : Op) (a : Is
               ∙ sym (ap (λ b. cond b (moved_entries changes stays (h + 1) es) (moved_entries changes stays (h + 1) es ++ fresh ∷ [])) n)
         ]
 
-    -- one that adds a message tag of this origin
+    -- an operation that adds a message tag of this origin
     pub advanced_some : IsChart start folder (ops ++ o ∷ []) (cond (has_entry left g) u (u + 1)) (h + 1) (with_line g u (h + 1) left)
     advanced_some =
         subst (λ (b : Bool). IsChart start folder (ops ++ o ∷ []) (cond b u (u + 1)) (h + 1) (with_line g u (h + 1) left)) (sym left_held)

@@ -72,7 +72,7 @@ front_lasts start ops o lasts (front, p, back, k, h) = lasts (front, p, back ++ 
 last_lasts : (start : Counters) (ops : List Op) (o : Op) → (Exhausts start [] (ops ++ o ∷ []) → ⊥) → IsExhausted start ops o → ⊥
 last_lasts start ops o lasts h = lasts (ops, o, [], refl, h)
 
--- the k of a folder that is there, other than INBOX
+-- the k of an existing folder other than INBOX
 k_small : (start : Counters) (folder : List ℕ) → (folder ≡ inbox → ⊥) → (ops : List Op) → IsApplied ops → (Exhausts start [] ops → ⊥) → folder_exists folder ops ≡ true → k_of start folder ops ≤ 65535
 k_small start folder n = by_last (λ (ops : List Op). IsApplied ops → (Exhausts start [] ops → ⊥) → folder_exists folder ops ≡ true → k_of start folder ops ≤ 65535)
     (λ a l t. elim ((there_tags folder []).0 t) [ inl e ↦ absurd (n e) | inr w ↦ elim w.1 [ inl e ↦ absurd (false≢true e) | inr e ↦ absurd (false≢true e) ] ])
@@ -153,7 +153,7 @@ bounds start folder ops s l =
       rows = λ row i. row_within start folder ops row s l.applied i;
     }
 
--- ---- what is shown
+-- ---- what rows show
 
 words_by : (id : OpId) (kind : Kind) (b : MessageTagData) → HasFields kind → tag_data_by id kind ≡ Some b → HasWords b.flags
 words_by id (Create folder) b h e = absurd cc
@@ -203,7 +203,7 @@ carried_words ops folder g flags w i =
     let v = flags_carried ops folder g flags i in
     subst HasWords v.4 (words_by v.0.id v.0.kind v.1 (w v.0 v.2).0.parts.fields v.3)
 
--- and so can the union of them
+-- so can the union of the flags
 words_written : (ops : List Op) (folder : List ℕ) (g : OpId) → AreWritable ops → HasWords (message_of ops folder g).flags
 words_written ops folder g w = (
   (

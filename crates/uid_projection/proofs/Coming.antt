@@ -27,7 +27,7 @@ use Rattle.uid_projection.proofs.Steps.{uidnext_gone, uidnext_here}
 use Rattle.uid_projection.proofs.Touching.{version_added}
 use Rattle.uid_projection.proofs.Versions.{origin_applied, version_in}
 
--- the operations in front and the next one, behind the list
+-- the operations before and the next one, after the list
 pub behind : (list front through : List Op) (o : Op) → through ≡ front ++ o ∷ [] → list ++ through ≡ (list ++ front) ++ o ∷ []
 behind list front through o e = ap (λ xs. list ++ xs) e ∙ sym (append_assoc list front (o ∷ []))
 
@@ -71,7 +71,7 @@ once_bound : (b : Bool) → once b ≤ 1
 once_bound true = omega arith
 once_bound false = omega arith
 
--- so many operations take no more UIDs, and begin no more incarnations
+-- n operations take at most n UIDs, and begin at most n incarnations
 pub uid_bound : (start : Counters) (folder : List ℕ) (front list : List Op) (n : ℕ) → uidnext_of start folder list ≤ n → first_uid start folder ≤ n → uidnext_of start folder (list ++ front) ≤ n + length front
 uid_bound start folder [] list n u f = let e = ap (uidnext_of start folder) (append-nil list) in omega (arith, u, e)
 uid_bound start folder (o ∷ front) list n u f =
@@ -104,7 +104,7 @@ origin_put : (b c : Bool) (x : MessageTagData) → c ≡ true → option_map (λ
 origin_put true c x h = λ j. option_map (λ (y : MessageTagData). y.origin) (cond (h j) (Some x) None)
 origin_put false c x h = refl
 
--- a line begins where the origin that is added has no version before
+-- a line begins if the added origin had no version before
 begins_chosen : (folder : List ℕ) (ops : List Op) (o : Op) → IsApplied (ops ++ o ∷ []) → (b : Bool) (g : OpId) → origin_added folder o ≡ cond b (Some g) None → (b && not (has_version folder g ops)) ≡ begins_line folder ops o
 begins_chosen folder ops o a true g e =
     let later : has_version folder g (ops ++ o ∷ []) ≡ true = (version_in folder (ops ++ o ∷ []) g).1 (o.id, version_added folder ops o a g e) in
@@ -136,7 +136,7 @@ take_op ops at x o l is e = take_more ops at x l ∙ (λ i. take at ops ++ (sym 
 pub applied_take : (list ops : List Op) (n : ℕ) → IsApplied (list ++ ops) → IsApplied (list ++ take n ops)
 applied_take list ops n a = applied_front (list ++ take n ops) (drop n ops) (subst IsApplied (ap (λ xs. list ++ xs) (sym (take-append-drop n ops)) ∙ sym (append_assoc list (take n ops) (drop n ops))) a)
 
--- far from a counter's end
+-- far from the end of a counter
 pub k_far : (start : Counters) (list front : List Op) (o : Op) (next_k : ℕ) → next_k ≤ 65535 → length front ≤ 65535 - next_k → next_k ≡ start.k + count_all begins_incarnation list → (false ≡ true) ↔ LacksK start (list ++ front) o
 k_far start list front o next_k l m is =
     let b = k_bound front list in
@@ -168,13 +168,13 @@ uid_near start list front o folder b r own t e is = (
   λ w. eq-eqb r 4294967295 (is ∙ ap (λ n. uidnext_of start n (list ++ front)) own ∙ w.1),
 )
 
--- ---- the first one that lacks a number
+-- ---- the first operation that lacks a number
 
 pub none_exhausted : (start : Counters) (list : List Op) → Exhausts start list [] → ⊥
 none_exhausted start list ([], o, back, e, x) = absurd cc
 none_exhausted start list (y ∷ front, o, back, e, x) = absurd cc
 
--- one of these lacks a number behind those in front of it
+-- an operation lacks a number after those before it
 pub exhausted_at : (start : Counters) (list ops : List Op) (at : ℕ) (o : Op) → take (at + 1) ops ≡ take at ops ++ o ∷ [] → IsExhausted start (list ++ take at ops) o → Exhausts start list ops
 exhausted_at start list ops at o next h =
     (take at ops, o, drop (at + 1) ops, sym (take-append-drop (at + 1) ops) ∙ ap (λ xs. xs ++ drop (at + 1) ops) next ∙ append_assoc (take at ops) (o ∷ []) (drop (at + 1) ops), h)
@@ -199,7 +199,7 @@ more_exhausted start list xs x (front, o, back, e, h) =
       | inr w ↦ inl (front, o, w.0, w.1, h)
     ]
 
--- what holds of all in front and of the next holds of all in front of the one after
+-- what holds of the first elements and of the next one holds of all of these
 pub all_more : (P : Op → Type 0) (ops : List Op) (at : ℕ) (x : Op) → at < length ops → x ≡ get_or ops at x → ((o : Op) → IsIn o (take at ops) → P o) → P x → (o : Op) → IsIn o (take (at + 1) ops) → P o
 all_more P ops at x l is before here o h =
     elim (in_parts o (take at ops) (x ∷ []) (subst (IsIn o) (take_op ops at x x l is refl) h)) [

@@ -73,7 +73,7 @@ module _ (start : Counters) (folder : List ℕ) (list : List Op) (o : Op) (a : I
   no_line_of : (g : OpId) → begins_line_of_origin folder g list o ≡ false
   no_line_of g = ap (λ b. b && not (has_version folder g list)) (version_still g) ∙ and_not (has_version folder g list)
 
-  -- where the folder is there
+  -- if the folder exists
   module _ (t : folder_exists folder (list ++ o ∷ []) ≡ true) where
     uid_still : (g : OpId) → uid_of start folder (list ++ o ∷ []) g ≡ uid_of start folder list g
     uid_still g = uid_kept start folder list o g t (no_line_of g)
@@ -102,7 +102,7 @@ module _ (start : Counters) (folder : List ℕ) (list : List Op) (o : Op) (a : I
           highest = omega (arith, m, y);
         }
 
--- ---- a folder that isn't there
+-- ---- a folder that doesn't exist
 
 module _ (start : Counters) (folder : List ℕ) (list : List Op) (f : folder_exists folder list ≡ false) where
   rows_away : listing start folder list ≡ []

@@ -1,4 +1,4 @@
--- What changes leave of message tags, and where the tags that were put in are listed.
+-- Message tags after changes, and the lists that have the added tags.
 use Rattle.std.proofs.Common.{◌≡◌, ◌⊎◌, inl, inr, Bool, true, false, cond, Option, None, Some, IsSome, List, refl, sym, ap, ◌∙◌, subst}
 use Rattle.std.specs.Borrow.{Bor}
 use Rattle.std.specs.Global.{Vec}
@@ -26,7 +26,7 @@ Changed = List (OpId × TagChange)
 abbrev Lists : Type 0
 Lists = List (OpId × Vec OpId)
 
--- one change more
+-- one further change
 module _ (kept : Option FolderTables) (id : OpId) (change : TagChange) (old new : Changed) (is : (i : OpId) → lookup (same_id i) new ≡ cond (same_id id i) (Some change) (lookup (same_id i) old)) where
   pub body_changed : (i : OpId) → body_over new kept i ≡ cond (same_id id i) (body_lent change) (body_over old kept i)
   body_changed i = ap (λ (x : Option TagChange). after_change (body_in_folder kept i) (option_map body_lent x)) (is i) ∙ step (same_id id i)
@@ -87,7 +87,7 @@ no_version_id bodies o vs h i t e =
     let w = (in_map (λ (v : Version). v.id) vs i).0 t in
     no_version (λ (v : Version). v.id) bodies o vs h w.0 w.1 (ap (λ z. origin_of (bodies z)) w.2 ∙ e)
 
--- a version of an origin is kept and not changed, or was put in and is listed
+-- a version of an origin is stored and not changed, or was added and is listed
 pub whence : (m : MessagesAhead) (o i : OpId) → IsWhole m → origin_of (bodies_of m i) ≡ Some o → (x : Option TagChange) → change_of m i ≡ x
     → ((x ≡ None) × (origin_of (body_in_folder (kept_of m) i) ≡ Some o)) ⊎ ((change : TagChange) × (change_of m i ≡ Some change) × (origin_of (body_lent change) ≡ Some o) × IsIn i (ids_listed (list_of m o)))
 whence m o i whole e None x = inl (refl, ap (λ (x : Option TagChange). origin_of (after_change (body_in_folder (kept_of m) i) (option_map body_lent x))) (sym x) ∙ e)

@@ -27,7 +27,7 @@ pub on_ok : {A B : Type 0} {P : Type 0} (r : Result A B) → is_err r ≡ false 
 on_ok (Ok v) e h = h
 on_ok (Err v) e h = absurd (cc e)
 
--- what a look-up finds stands under a key that is the id
+-- a look-up's result has a key that is the id
 pub found_key : {X : Type 0} (i : OpId) (es : List (OpId × X)) → IsSome (lookup (same_id i) es) → IsIn i (map (λ e. e.0) es)
 found_key i [] h = absurd (cc h)
 found_key {X} i (e ∷ es) h =
@@ -68,7 +68,7 @@ id_sym i j =
       | inr f ↦ f ∙ sym (false_from_ne_true (same_id j i) (λ t. false≢true (sym f ∙ id_turned j i t)))
     ]
 
--- one id more that is taken out
+-- one further id is taken out
 pub taken_more : {X : Type 0} (i : OpId) (ids : List OpId) (k : ℕ) (id : OpId) (new mid old gone : X) → k < length ids → id ≡ get_or ids k id → new ≡ cond (same_id id i) gone mid → mid ≡ cond (list_any (same_id i) (take k ids)) gone old → new ≡ cond (list_any (same_id i) (take (k + 1) ids)) gone old
 taken_more i ids k id new mid old gone l e a b =
     a ∙ (λ j. cond (id_sym id i j) gone (b j)) ∙ both (list_any (same_id i) (take k ids)) (same_id i id)
@@ -116,7 +116,7 @@ pub at_key_some : {X : Type 0} (test : Option X → Bool) (es : List (OpId × X)
 at_key_some test es None h = absurd (false≢true h)
 at_key_some test es (Some e) h = (e.0, h)
 
--- no place has it, so no key
+-- no place has it, so no key does
 pub at_no_key : {X : Type 0} (test : Option X → Bool) (es : List (OpId × X)) → (test None ≡ true → ⊥) → ((place : ℕ) → value_at_key test es (slice_get es place) ≡ false) → (i : OpId) → test (lookup (same_id i) es) ≡ true → ⊥
 at_no_key {X} test es none h i t = at (lookup (same_id i) es) refl
   where

@@ -25,7 +25,7 @@ use Rattle.uid_projection.proofs.Presence.{applied_front}
 use Rattle.uid_projection.proofs.Steps.{highest_gone, highest_here, k_here, k_none, uidnext_gone, uidnext_here}
 use Rattle.uid_projection.proofs.Touching.{line_about}
 
--- ---- where none lacks a number, none of the others does behind the first
+-- ---- if none lacks a number, none of the others does after the first
 
 first_lasts : (start : Counters) (list rest : List Op) (o : Op) → (Exhausts start list (o ∷ rest) → ⊥) → IsExhausted start list o → ⊥
 first_lasts start list rest o lasts h = lasts ([], o, rest, refl, subst (λ (xs : List Op). IsExhausted start xs o) (sym (append-nil list)) h)
@@ -134,7 +134,7 @@ highest_told folder list front through o there about h r e x y u k =
     plus true n = refl
     plus false n = omega arith
 
--- so many operations raise it no further
+-- n operations raise it by at most n
 highest_bound : (folder : List ℕ) (ops list : List Op) (n : ℕ) → highest_modseq_of folder list ≤ n → 1 ≤ n → highest_modseq_of folder (list ++ ops) ≤ n + length ops
 highest_bound folder [] list n u l = let e = ap (highest_modseq_of folder) (append-nil list) in omega (arith, u, e)
 highest_bound folder (o ∷ ops) list n u l =
@@ -146,7 +146,7 @@ highest_bound folder (o ∷ ops) list n u l =
     let r = highest_bound folder ops (list ++ o ∷ []) (n + 1) step (omega arith) in
     omega (arith, r, e)
 
--- where none is about the folder, it isn't raised
+-- if none is about the folder, it isn't raised
 highest_still : (folder : List ℕ) (ops list : List Op) (n : ℕ) → IsApplied (list ++ ops) → list_any (λ (o : Op). kind_names_folder folder o.kind) ops ≡ false → highest_modseq_of folder list ≤ n → 1 ≤ n → highest_modseq_of folder (list ++ ops) ≤ n
 highest_still folder [] list n a none u l = let e = ap (highest_modseq_of folder) (append-nil list) in omega (arith, u, e)
 highest_still folder (o ∷ ops) list n a none u l =
@@ -160,7 +160,7 @@ highest_still folder (o ∷ ops) list n a none u l =
     let r = highest_still folder ops (list ++ o ∷ []) n b p.1 step l in
     omega (arith, r, e)
 
--- where there is room, there is a chart
+-- a folder with room has a chart
 charted_roomy : (origin : Option OpId) (n : ℕ) (folder : List ℕ) (charts : List (Vec ℕ × Chart)) → HasRooms origin n folder charts → (c : Chart) × (chart_at folder charts ≡ Some c) × IsRoomy origin n c
 charted_roomy origin n folder charts r = by (chart_at folder charts) refl r
   where

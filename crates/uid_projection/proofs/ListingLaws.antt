@@ -94,7 +94,7 @@ all_folded p start (w ∷ ws) a h = let q = and_parts (p w) (list_all p ws) h in
 
 -- ---- the flags of a message
 
--- what each version's keywords are, those of the message are
+-- a property of each version's keywords holds of the message's
 pub keywords_have : (p : List ℕ → Bool) (ops : List Op) (folder : List ℕ) (g : OpId) → ((flags : Flags) → IsIn flags (filter_map (tag_flags_of ops folder) (versions_of ops folder g)) → list_all p flags.keywords ≡ true) → list_all p (message_of ops folder g).flags.keywords ≡ true
 keywords_have p ops folder g h =
     let flags : List Flags = filter_map (tag_flags_of ops folder) (versions_of ops folder g) in
@@ -102,7 +102,7 @@ keywords_have p ops folder g h =
     let u = in_flat (λ (f : Flags). f.keywords) flags word k in
     of_all p u.0.keywords (h u.0 u.1) word u.2))
 
--- each version's flags are carried by an operation
+-- each version's flags come from an operation
 pub flags_carried : (ops : List Op) (folder : List ℕ) (g : OpId) (flags : Flags) → IsIn flags (filter_map (tag_flags_of ops folder) (versions_of ops folder g)) → (o : Op) × (b : MessageTagData) × IsIn o ops × (tag_data_by o.id o.kind ≡ Some b) × (b.flags ≡ flags)
 flags_carried ops folder g flags i =
     let v = (in_filter_map (tag_flags_of ops folder) (versions_of ops folder g) flags).0 i in

@@ -1,4 +1,4 @@
--- The messages that stand in place of those that are kept, and those that are kept.
+-- The messages that replace stored ones, and the stored ones.
 use Rattle.std.proofs.Common.{◌≡◌, ◌⊎◌, inl, inr, ℕ, ◌+◌, ◌<◌, ◌≤◌, cond, Option, None, Some, IsSome, List, [], ◌∷◌, length, map, refl, sym, ap, ◌∙◌, subst, arith}
 use Rattle.std.specs.Global.{Vec}
 use Rattle.std.specs.List.{cons_option, filter_map, slice_get}
@@ -69,7 +69,7 @@ held_told a c o m h held has =
     ap (λ x. unwrap_or x []) (held.text ∙ ap (option_map (λ (l : DatedText). l.text)) (h.letters o)) ∙ text_of (c.letters o) in
     (refl, has, (listed, λ k. record { origin = o; versions = version_ids vs; flags = flags k; date = date k; text = text k }))
 
--- ---- a message that is as it is kept
+-- ---- a message that is as stored
 
 filter_map_same : {X Y : Type 0} (f g : X → Option Y) (xs : List X) → ((x : X) → IsIn x xs → f x ≡ g x) → filter_map f xs ≡ filter_map g xs
 filter_map_same f g [] h = refl
@@ -98,7 +98,7 @@ module _ (c v : Contents) (n : List ℕ) (o : OpId) (after : (i : OpId) → IsVe
       let whole = same_whole m letters (subst (λ z. AreVersions v n z m.versions) e told.2.0) (subst (λ z. m ≡ message_in v n z m.versions) e told.2.1) in
       (e, has, (subst (λ z. AreVersions c n z m.versions) (sym e) whole.0, subst (λ z. m ≡ message_in c n z m.versions) (sym e) whole.1))
 
--- ---- an origin that isn't touched
+-- ---- an untouched origin
 
 untouched_kept : (m : MessagesAhead) (o i : OpId) → IsWhole m → list_of m o ≡ None → origin_of (body_in_folder (kept_of m) i) ≡ Some o → (x : Option TagChange) → change_of m i ≡ x → bodies_of m i ≡ body_in_folder (kept_of m) i
 untouched_kept m o i whole none kept None x = left_body m i _ x refl
@@ -127,13 +127,13 @@ kept_told a c o x h none has told =
     (λ i e. sym (h.bodies i) ∙ untouched_kept m o i h.orderly.whole none (sym (ap origin_of (h.orderly.bodies i)) ∙ e) (change_of m i) refl ∙ sym (h.orderly.bodies i))
     x (sym (h.letters o) ∙ untouched_letter a o h.orderly none (lookup (same_id o) a.letters.entries) refl) has told
 
--- ---- all of them
+-- ---- all messages
 
 -- Each message is that of its origin.
 abbrev pub AreHeld : FolderAhead → Fresh → Type 0
 AreHeld a fresh = (o : OpId) (m : OwnedMessage) → lookup (same_id o) fresh ≡ Some m → IsHeld a o m
 
--- Each origin that stands in front of this place is there.
+-- Each origin before this place is present.
 abbrev pub AreThere : FolderAhead → ℕ → Fresh → Type 0
 AreThere a at fresh = (place : ℕ) (o : OpId) → place < at → option_map (λ e. e.0) (slice_get a.messages.versions.entries place) ≡ Some o → IsSome (lookup (same_id o) fresh)
 

@@ -26,7 +26,7 @@ same_back a b h =
       | inr f ↦ f
     ]
 
--- ---- whether an origin is held
+-- ---- whether an origin has an entry
 
 pub lacks_held : (g : OpId) (es : List ListingEntry) → Lacks g es → has_entry es g ≡ false
 lacks_held g [] l = refl
@@ -54,7 +54,7 @@ is_at_held g es n h = at_held g es n h.within h.has_origin
 
 -- ---- entries that move
 
--- nothing moves where no entry has the origin
+-- nothing moves if no entry has the origin
 pub moved_none : (g : OpId) (s : OpId → Bool) (m : ℕ) (es : List ListingEntry) → Lacks g es → es ≡ moved_entries (λ x. same_id x g) s m es
 moved_none g s m [] l = refl
 moved_none g s m (e ∷ es) l =
@@ -68,7 +68,7 @@ beside g e es n l within is =
       | inr f ↦ f
     ]
 
--- the one entry with the origin gets a mod-sequence
+-- the entry with the origin gets a mod-sequence
 pub moved_renewed : (g : OpId) (m : ℕ) (es : List ListingEntry) (n : ℕ) (d : ListingEntry) → AreApart es → n < length es → ((x : ListingEntry) → (get_or es n x).origin ≡ g) → set es n (with_modseq m (get_or es n d)) ≡ moved_entries (λ x. same_id x g) (λ x. true) m es
 moved_renewed g m [] n d a within is = absurd (omega (arith, within))
 moved_renewed g m (e ∷ es) zero d a within is =
@@ -79,7 +79,7 @@ moved_renewed g m (e ∷ es) (suc n) d a within is =
     let f = beside g e es n a.0 (omega (arith, within)) is in
     λ k. cons_option (cond (sym f k) (Some (with_modseq m e)) (Some e)) (moved_renewed g m es n d a.1 (omega (arith, within)) is k)
 
--- or it goes
+-- the entry with the origin is removed
 pub moved_gone : (g : OpId) (m : ℕ) (es : List ListingEntry) (n : ℕ) → AreApart es → n < length es → ((x : ListingEntry) → (get_or es n x).origin ≡ g) → remove es n ≡ moved_entries (λ x. same_id x g) (λ x. false) m es
 moved_gone g m [] n a within is = absurd (omega (arith, within))
 moved_gone g m (e ∷ es) zero a within is =
@@ -90,7 +90,7 @@ moved_gone g m (e ∷ es) (suc n) a within is =
     let f = beside g e es n a.0 (omega (arith, within)) is in
     λ k. cons_option (cond {A = Option ListingEntry} (sym f k) None (Some e)) (moved_gone g m es n a.1 (omega (arith, within)) is k)
 
--- what is done to the entry at the origin's place
+-- the change to the entry at the origin's place
 pub settled : (g : OpId) (m : ℕ) (b : Bool) (old new : List ListingEntry) (n : ℕ) → IsAt g old n → (b ≡ true → (d : ListingEntry) → new ≡ set old n (with_modseq m (get_or old n d))) → (b ≡ false → new ≡ remove old n) → AreApart old → new ≡ moved_entries (λ x. same_id x g) (λ x. b) m old
 settled g m true old new n at stays goes a = stays refl (record { origin = g; uid = 0; modseq = 0 }) ∙ moved_renewed g m old n (record { origin = g; uid = 0; modseq = 0 }) a at.within at.has_origin
 settled g m false old new n at stays goes a = goes refl ∙ moved_gone g m old n a at.within at.has_origin

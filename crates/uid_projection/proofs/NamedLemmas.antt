@@ -41,7 +41,7 @@ row_found uid (x ∷ rows) r h =
           (inr w.0, w.1)
     ]
 
--- the only row with the UID is found
+-- the only row with the UID is the result
 pub row_here : (uid : ℕ) (rows : List ListedMessage) (r : ListedMessage) → IsIn r rows → r.uid ≡ uid → ((x : ListedMessage) → IsIn x rows → x.uid ≡ uid → x ≡ r) → row_of uid rows ≡ Some r
 row_here uid [] r i e one = absurd i
 row_here uid (x ∷ rows) r i e one =
@@ -53,7 +53,7 @@ row_here uid (x ∷ rows) r i e one =
       ]
     ]
 
--- where no row has it, none is found
+-- if no row has the UID, there is no result
 pub row_none : (uid : ℕ) (rows : List ListedMessage) → ((x : ListedMessage) → IsIn x rows → x.uid ≡ uid → ⊥) → row_of uid rows ≡ None
 row_none uid [] h = refl
 row_none uid (x ∷ rows) h =
@@ -62,7 +62,7 @@ row_none uid (x ∷ rows) h =
       | inr f ↦ rw f (row_none uid rows (λ y i. h y (inr i)))
     ]
 
--- ---- UIDs of entries that are named
+-- ---- UIDs of named entries
 
 pub adds_none : (p : OpId → Bool) (es : List ListingEntry) (us : List ℕ) → ((g : OpId) → p g ≡ false) → AddsUids p es us us
 adds_none p es us none = record { kept = λ u i. i; named = λ a e i t. absurd (false≢true (sym (none e.origin) ∙ t)) }
@@ -70,7 +70,7 @@ adds_none p es us none = record { kept = λ u i. i; named = λ a e i t. absurd (
 pub adds_alike : (p q : OpId → Bool) (es : List ListingEntry) (old new : List ℕ) → ((g : OpId) → p g ≡ q g) → AddsUids p es old new → AddsUids q es old new
 adds_alike p q es old new h r = record { kept = r.kept; named = λ a e i t. r.named a e i (h e.origin ∙ t) }
 
--- one that is named already
+-- one that is already named
 pub adds_covered : (p : OpId → Bool) (o : OpId) (es : List ListingEntry) (a b : List ℕ) → p o ≡ true → AddsUids p es a b → AddsUids (λ g. p g || is_some_id g (Some o)) es a b
 adds_covered p o es a b h r = record {
   kept = r.kept;
@@ -135,7 +135,7 @@ adds_lacking g es us l = record {
   named = λ apart e i t. absurd (false≢true (sym (lacks_in g es e l i) ∙ same_entry g e.origin (sym (same_true e.origin g t))));
 }
 
--- ---- what an operation names
+-- ---- the messages that an operation names
 
 pub names_none : (f : OpId → Option OpId) (folder : List ℕ) (op : Op) → kind_names_folder folder op.kind ≡ false → (g : OpId) → names_message f folder g op ≡ false
 names_none f folder op other g = ap (λ b. b && (loses f (removed_ids op.kind) g || is_some_id g (added_origin op))) other

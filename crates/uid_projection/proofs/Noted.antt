@@ -39,7 +39,7 @@ both_applied list ops a s d = record {
 pub made_by : (c : Contents) (list : List Op) → IsApplied list → c ≡ fold_of effect_of no_contents list → IsMadeBy c list
 made_by c list a m = record { sound = a.sound; causal = a.causal; made = m }
 
--- an operation that was made ready for comes next
+-- an operation for which the charts were made ready comes next
 pub next_on : (x : Charts) (value : Contents) (list : List Op) (o p : Op) → p ≡ o → Follows x list → IsReadyFor x list (o ∷ []) → IsMadeBy value (list ++ o ∷ []) → IsNextOn x.start x.next_k x.charts.entries value list p
 next_on x value list o p e f r m =
     let r2 : IsReadyFor x list (p ∷ []) = subst (λ (q : Op). IsReadyFor x list (q ∷ [])) (sym e) r in
@@ -54,7 +54,7 @@ next_on x value list o p e f r m =
       table = f.table;
     }
 
--- what stays ready for the others
+-- the charts stay ready for the others
 pub others_ready : (x y : Charts) (list : List Op) (o : Op) (rest : List Op) → y.start ≡ x.start → ((origin : Option OpId) (n : ℕ) (folder : List ℕ) → HasRooms origin (n + 1) folder x.charts.entries → HasRooms origin n folder y.charts.entries) → IsReadyFor x list (o ∷ rest) → IsReadyFor y (list ++ o ∷ []) rest
 others_ready x y list o rest same rooms r = record {
   applied = subst IsApplied (sym (append_assoc list (o ∷ []) rest)) r.applied;
@@ -77,7 +77,7 @@ unmoved x list o f w r = record {
   nothing = w.nothing;
 }
 
--- nothing applied
+-- the charts of an empty list
 first_up : (start : Counters) (c : Chart) → c.there ≡ true → c.k ≡ start.k → c.uidnext ≡ start.uid → c.highest ≡ 1 → c.entries.entries ≡ [] → c.versions.entries ≡ [] → IsUpTo start inbox [] c
 first_up start c t k u h es vs =
     let first : start.k ≡ k_of start inbox [] = omega arith in

@@ -41,7 +41,7 @@ pub given_err : {T E : Type 0} {P : Type 0} (r : Result T E) → is_err r ≡ tr
 given_err (Ok x) e h = absurd (cc e)
 given_err (Err f) e h = h
 
--- ---- contents and the list that made them
+-- ---- contents and the list that led to them
 
 pub fold_append : {V O : Type 0} (f : V → O → V) (v : V) (xs ys : List O) → fold_of f v (xs ++ ys) ≡ fold_of f (fold_of f v xs) ys
 fold_append f v [] ys = refl
@@ -54,7 +54,7 @@ made_after c list ops m a = record {
   made = ap (λ v. after v ops) m.made ∙ sym (fold_append effect_of no_contents list ops);
 }
 
--- what the contents tell of versions
+-- the origins of versions by the contents
 pub versions_in_list : (c : Contents) (list : List Op) (folder : List ℕ) → IsMadeBy c list → AreVersions folder list (origin_in c folder)
 versions_in_list c list folder m i g = subst (λ (w : Contents). IsVersion w folder g i ↔ IsVersionBySet list folder g i) (sym (contents_made c list m)) (version_is list folder g i)
 
@@ -64,7 +64,7 @@ there_told c list folder r m h = there_as folder list r (exists_by_set c list fo
 pub has_told : (c : Contents) (list : List Op) (folder : List ℕ) (g : OpId) (r : Bool) → IsMadeBy c list → (r ≡ true) ↔ HasVersion c folder g → r ≡ has_version folder g list
 has_told c list folder g r m h = let s = has_version_by_set c list folder g m in has_as folder list g r (λ t. s.0 (h.0 t), λ i. h.1 (s.1 i))
 
--- ---- an operation about a folder that is there behind it
+-- ---- an operation about a folder that exists after it
 
 module _ (start : Counters) (folder : List ℕ) (ops : List Op) (o : Op) (a : IsApplied (ops ++ o ∷ [])) (there : folder_exists folder (ops ++ o ∷ []) ≡ true) (about : kind_names_folder folder o.kind ≡ true) (u h : ℕ) (es : List ListingEntry) (k : IsChart start folder ops u h es) (f : OpId → Option OpId) (l : AreVersions folder ops f) (lost : OpId → Bool) (is_lost : (g : OpId) → lost g ≡ loses f (removed_ids o.kind) g) (now : List ListingEntry) (is : AreApart es → now ≡ moved_entries lost (λ g. has_version folder g (ops ++ o ∷ [])) (h + 1) es) where
   abbrev stays : OpId → Bool

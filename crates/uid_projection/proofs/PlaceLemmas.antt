@@ -76,7 +76,7 @@ module _ (bodies : OpId → Option MessageTagData) (origin : OpId) where
         all = λ i p. subst (IsIn i) (sym ids) (subst (λ j. IsIn j (insert_ordered id_order v.id (version_ids old))) (sym (only i p)) (placed_own v.id (version_ids old)));
       }
 
-  -- one step behind another
+  -- one step after another
   pub placed_twice : (P Q R : OpId → Type 0) (old mid new : List Version) → ((i : OpId) → R i → P i ⊎ Q i) → IsPlaced bodies origin P old mid → IsPlaced bodies origin Q mid new → IsPlaced bodies origin R old new
   placed_twice P Q R old mid new either a b = record {
     some = λ h. b.some (a.some h);
@@ -84,7 +84,7 @@ module _ (bodies : OpId → Option MessageTagData) (origin : OpId) where
     all = λ i r. elim (either i r) [ inl p ↦ b.kept i (a.all i p) | inr q ↦ b.all i q ];
   }
 
--- the ids of one version more
+-- the ids of one further version
 pub in_more_ids : (i : OpId) (vs : List Version) (k : ℕ) (v : Version) → k < length vs → v ≡ get_or vs k v → IsIn i (version_ids (take (k + 1) vs)) → IsIn i (version_ids (take k vs)) ⊎ (i ≡ v.id)
 in_more_ids i vs k v l e h =
     let w = (in_map (λ (v : Version). v.id) (take (k + 1) vs) i).0 h in
@@ -93,11 +93,11 @@ in_more_ids i vs k v l e h =
       | inr q ↦ inr (sym w.2 ∙ ap (λ (v : Version). v.id) q)
     ]
 
--- what is kept and not changed carries what it did
+-- a stored tag that isn't changed carries what it did
 pub left_body : (m : MessagesAhead) (i : OpId) (x : Option MessageTagData) → change_of m i ≡ None → body_in_folder (kept_of m) i ≡ x → bodies_of m i ≡ x
 left_body m i x n e = ap (λ (c : Option TagChange). after_change (body_in_folder (kept_of m) i) (option_map body_lent c)) n ∙ e
 
--- one kept version more: it has its place, or it is changed
+-- one further stored version: it is in its place, or it is changed
 pub left_more : (m : MessagesAhead) (o : OpId) (vs : List Version) (k : ℕ) (v : Version) (old mid new : List Version) → k < length vs → v ≡ get_or vs k v
     → IsPlaced (bodies_of m) o (λ i. IsLeft m o i × IsIn i (version_ids (take k vs))) old mid
     → IsPlaced (bodies_of m) o (λ i. IsLeft m o i × (i ≡ v.id)) mid new
@@ -116,7 +116,7 @@ left_none m o v old some = placed_none (bodies_of m) o _ old (λ i p. absurd (cc
 pub right_with : (body : Option MessageTagData) (a b : Flags) (origin : OpId) → body ≡ Some (record { flags = a; origin = origin }) → b ≡ a → body ≡ Some (record { flags = b; origin = origin })
 right_with body a b origin e f = e ∙ ap (λ (flags : Flags). Some (record { flags = flags; origin = origin })) (sym f)
 
--- all versions of an origin, those that are kept and those that were put in
+-- all versions of an origin, the stored and the added ones
 pub all_placed : (m : MessagesAhead) (o : OpId) (mid new : List Version) → IsWhole m → IsPlaced (bodies_of m) o (IsLeft m o) [] mid → IsPlaced (bodies_of m) o (λ i. IsPut m o i × IsIn i (ids_listed (list_of m o))) mid new → AreAll (bodies_of m) o new
 all_placed m o mid new whole a b = record {
   some = b.some (a.some (record { ascending = tt; carried = λ v t. absurd t }));

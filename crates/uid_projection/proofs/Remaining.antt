@@ -1,4 +1,4 @@
--- A folder that is there stays there, under its UIDVALIDITY, behind operations none of which deletes it.
+-- A folder that exists keeps existing, under its UIDVALIDITY, if no operation deletes it.
 use Rattle.std.specs.List.{list_any}
 use Rattle.std.specs.Str.{bytes_eq}
 use Rattle.std.proofs.Common.{◌≡◌, ◌⊎◌, inl, inr, ℕ, ◌+◌, ◌*◌, Bool, true, false, not, ◌&&◌, ◌||◌, List, [], ◌∷◌, ◌++◌, Some, None, cond, refl, sym, ap, ◌∙◌, subst, append_assoc, append-nil}
@@ -18,7 +18,7 @@ use Rattle.uid_projection.specs.UidsAndModSeqs.{kind_names_folder}
 use Rattle.uid_projection.proofs.Presence.{applied_front, other_there, presence_step, there_tags}
 use Rattle.uid_projection.proofs.Steps.{k_here}
 
--- what is about a folder and doesn't delete it adds a tag of it
+-- an operation about a folder that doesn't delete it adds a tag to it
 added_here : (folder : List ℕ) (id : OpId) (kind : Kind) → kind_names_folder folder kind ≡ true → deletes_folder folder kind ≡ false → (is_some_tag (FolderTag folder id) (tag_added_by id kind) ≡ true) ⊎ (is_some_tag (MessageTag folder id) (tag_added_by id kind) ≡ true)
 added_here folder id (Create name) h d = inl (λ k. h k && (ids_decide id id).1 refl k)
 added_here folder id (Delete name seen) h d = absurd (false≢true (sym d ∙ h))

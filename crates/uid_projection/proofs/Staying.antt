@@ -76,14 +76,14 @@ rows_kept start folder g (o ∷ ops) list a s u h =
       sym (ap (λ (xs : List Op). listed_message_of start folder xs g) whole) ∙ w.1 ∙ row_kept folder list o c start g (stays_first start folder ops (list ++ o ∷ []) s.1) u.0 h,
     )
 
--- ---- operations that don't name a message leave its versions
+-- ---- operations that don't name a message leave its versions unchanged
 
--- an operation about another folder does
+-- an operation about another folder leaves them unchanged
 pub other_unchanged : (folder : List ℕ) (list : List Op) (o : Op) (a : IsApplied (list ++ o ∷ [])) (g : OpId) → kind_names_folder folder o.kind ≡ false → changes_versions folder g list o ≡ false
 other_unchanged folder list o a g other = ap not (ap (same_ids (versions_of list folder g)) (versions_other folder list o a g other) ∙ same_itself (versions_of list folder g))
 
 module _ (folder : List ℕ) (f : OpId → Option OpId) (g : OpId) where
-  -- of each version of the origin it is told
+  -- the function has the origin of each version
   abbrev Tells : List Op → Type 0
   Tells list = (i : OpId) → IsVersion list folder g i → f i ≡ Some g
 
@@ -118,7 +118,7 @@ module _ (folder : List ℕ) (f : OpId → Option OpId) (g : OpId) where
       let w = passed list o (applied_front (list ++ o ∷ []) ops b) p.0 tells in
       (w.0, all_passed ops (list ++ o ∷ []) b p.1 w.1)
 
--- ---- what operations leave of a listing
+-- ---- what operations leave unchanged in a listing
 
 number_cases : (o : Option ℕ) → (o ≡ None) ⊎ ((n : ℕ) × (o ≡ Some n))
 number_cases None = inl refl
@@ -132,13 +132,13 @@ no_number false false r k h = refl
 none_some : (r : ListedMessage) → ◌≡◌ {A = Option ListedMessage} None (Some r) → ⊥
 none_some r h = cc
 
--- where there is no UIDVALIDITY, nothing is listed
+-- without a UIDVALIDITY, nothing is listed
 away_row : (start : Counters) (folder : List ℕ) (list : List Op) (uid : ℕ) → uidvalidity_of start folder list ≡ None → row_of uid (listing start folder list) ≡ None
 away_row start folder list uid n =
     let away = no_number (bytes_eq folder inbox) (folder_exists folder list) start.replica (65536 * k_of start folder list + start.replica) n in
     row_none uid (listing start folder list) (λ x i e. let w = row_in start folder list x i in none_there start folder list away w.0 w.1)
 
--- the row with a UID is that of the listing's one message with it
+-- the row with a UID is that of the listing's only message with it
 found_one : (start : Counters) (folder : List ℕ) (list : List Op) → IsApplied list → (uid : ℕ) (r : ListedMessage) → IsIn r (listing start folder list) → r.uid ≡ uid → row_of uid (listing start folder list) ≡ Some r
 found_one start folder list a uid r i e = row_here uid (listing start folder list) r i e (λ x j u. (uids_apart start folder list x r a j i).1 (u ∙ sym e))
 

@@ -1,4 +1,4 @@
--- What the three parts of a step make of a folder.
+-- How the three parts of a step change a folder.
 use Rattle.std.proofs.Common.{◌≡◌, not, ◌&&◌, ◌||◌, cond, None, sym, ap, ◌∙◌}
 use Rattle.std.specs.Option.{option_or}
 use Rattle.tags_clocks.specs.declared.id.OpId.{OpId}

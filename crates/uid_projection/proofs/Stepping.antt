@@ -22,7 +22,7 @@ use Rattle.uid_projection.proofs.Steps.{k_here, k_none}
 use Rattle.uid_projection.proofs.Tables.{chart_as}
 use Rattle.uid_projection.proofs.Touching.{origin_here, removed_here, versions_left, versions_more}
 
--- ---- an operation about a folder that is there behind it
+-- ---- an operation about a folder that exists after it
 
 module _ (start : Counters) (folder : List ℕ) (value : Contents) (ops : List Op) (o : Op) (c : Chart) (r : Advances start folder value ops o c) where
   abbrev f : OpId → Option OpId
@@ -41,7 +41,7 @@ module _ (start : Counters) (folder : List ℕ) (value : Contents) (ops : List O
     now_apart : AreApart now
     now_apart = subst AreApart (sym is) (apart_moved (loses f ids) stays (c.highest + 1) c.entries.entries all_apart)
 
-    -- the UID that the added origin needs is there
+    -- the UID that the added origin needs is left
     pub uid_for : (g : OpId) → added_origin o ≡ Some g → has_entry now g ≡ false → c.uidnext < 4294967295
     uid_for g e h =
         let held = left_held start folder ops o r.applied r.is_there_now r.about c.uidnext c.highest c.entries.entries r.shows f r.versions g e (stays_added folder ops o r.applied r.about g e) in
@@ -74,13 +74,13 @@ module _ (start : Counters) (folder : List ℕ) (value : Contents) (ops : List O
         subst (AreVersions folder (ops ++ o ∷ [])) (sym ((λ k i. h i k) ∙ (λ k i. origins_with (left_is k) o.id g i)))
         (versions_more folder ops o r.applied (removed_ids o.kind) (removed_here folder o r.about) (added_origin o) (sym (origin_here folder o r.about)) f r.versions g (origin_here folder o r.about ∙ e))
 
--- ---- an operation about a folder, there behind it or not
+-- ---- an operation about a folder, whether it exists afterwards or not
 
 module _ (start : Counters) (k : ℕ) (value : Contents) (ops : List Op) (o : Op) (c : Chart) (r : IsNextAt start k value ops o c) where
   abbrev folder : List ℕ
   folder = name_of o.kind
 
-  -- the folder is away behind it
+  -- the folder doesn't exist afterwards
   pub k_away : folder_exists folder (ops ++ o ∷ []) ≡ false → k ≡ start.k + count_all begins_incarnation (ops ++ o ∷ [])
   k_away f =
       let m = all-append begins_incarnation ops o in
@@ -88,7 +88,7 @@ module _ (start : Counters) (k : ℕ) (value : Contents) (ops : List Op) (o : Op
       let is = r.next.is_k in
       omega (arith, m, z, is)
 
-  -- or there
+  -- the folder exists afterwards
   module _ (t : folder_exists folder (ops ++ o ∷ []) ≡ true) where
     begins_is : begins_incarnation ops o ≡ not c.there
     begins_is = (λ j. t j && not (folder_exists folder ops)) ∙ ap not (sym r.up.there)
@@ -120,7 +120,7 @@ module _ (start : Counters) (k : ℕ) (value : Contents) (ops : List Op) (o : Op
       | inr f ↦ subst (λ m. m ≤ 65535) (sym (e ∙ ap (λ b. cond b c.k k) f)) (k_small f)
     ]
 
-    -- the chart with the folder there, before the operation
+    -- the chart of the existing folder, before the operation
     pub advances : (n : List ℕ) (d : Chart) → n ≡ folder → d.uidnext ≡ c.uidnext → d.highest ≡ c.highest → d.entries ≡ c.entries → d.versions ≡ c.versions → Advances start n value ops o d
     advances n d e u h es vs =
         subst (λ (m : List ℕ). Advances start m value ops o d) (sym e) (record {

@@ -34,7 +34,7 @@ same_origin g h e = cc
 pub no_origin : (g : OpId) → ◌≡◌ {A = Option OpId} None (Some g) → ⊥
 no_origin g e = cc
 
--- ---- what an operation about a folder adds and removes
+-- ---- the tags that an operation about a folder adds and removes
 
 origin_by : (folder : List ℕ) (id : OpId) (kind : Kind) → kind_names_folder folder kind ≡ true → option_map (λ (b : MessageTagData). b.origin) (cond (is_some_tag (MessageTag folder id) (tag_added_by id kind)) (tag_data_by id kind) None) ≡ option_map (λ (b : MessageTagData). b.origin) (tag_data_by id kind)
 origin_by folder id (Create name) h = refl
@@ -70,10 +70,10 @@ line_about folder ops o h =
       | inr f ↦ absurd (false≢true (sym (ap (λ b. holds_of_some (λ g. begins_line_of_origin folder g ops o) (option_map (λ (x : MessageTagData). x.origin) (cond b (tag_data_by o.id o.kind) None))) f) ∙ h))
     ]
 
--- ---- one operation more
+-- ---- one further operation
 
 module _ (folder : List ℕ) (ops : List Op) (o : Op) (a : IsApplied (ops ++ o ∷ [])) where
-  -- where an origin is added, so is a tag
+  -- an operation that adds an origin adds a tag
   tag_added : (g : OpId) → origin_added folder o ≡ Some g → adds (MessageTag folder o.id) o ≡ true
   tag_added g h =
       elim (cases_Bool (adds (MessageTag folder o.id) o)) [
@@ -81,7 +81,7 @@ module _ (folder : List ℕ) (ops : List Op) (o : Op) (a : IsApplied (ops ++ o �
         | inr f ↦ absurd (no_origin g (sym (ap (λ b. option_map (λ (x : MessageTagData). x.origin) (cond b (tag_data_by o.id o.kind) None)) f) ∙ h))
       ]
 
-  -- it is a version of the origin
+  -- the tag is a version of the origin
   pub version_added : (g : OpId) → origin_added folder o ≡ Some g → IsVersion (ops ++ o ∷ []) folder g o.id
   version_added g h =
       let t = tag_added g h in (
@@ -95,12 +95,12 @@ module _ (folder : List ℕ) (ops : List Op) (o : Op) (a : IsApplied (ops ++ o �
       false_from_ne_true (adds (MessageTag folder i) o) (λ t.
       false≢true (sym (added_once ops o (MessageTag folder i) a t) ∙ (and_parts (list_any (adds (MessageTag folder i)) ops) (not (list_any (removes (MessageTag folder i)) ops)) v.0).0))
 
-  -- one that is removed is none any more
+  -- a removed version isn't one afterwards
   version_removed : (g h i : OpId) → IsVersion ops folder g i → removes (MessageTag folder i) o ≡ true → IsVersion (ops ++ o ∷ []) folder h i → ⊥
   version_removed g h i v r w =
       false≢true (sym (presence_step ops o (MessageTag folder i) a ∙ (λ k. old_version g i v k || (not (r k) && is_present ops (MessageTag folder i)))) ∙ w.0)
 
-  -- the one that is added was none before
+  -- the added version wasn't one before
   version_new : (g h : OpId) → origin_added folder o ≡ Some g → IsVersion ops folder h o.id → ⊥
   version_new g h e v = false≢true (sym (old_version h o.id v) ∙ tag_added g e)
 
@@ -122,7 +122,7 @@ module _ (folder : List ℕ) (ops : List Op) (o : Op) (a : IsApplied (ops ++ o �
             absurd (version_new g g e w)
       ]
 
-  -- versions stay where none is removed and none added
+  -- versions stay if none is removed and none is added
   pub unchanged_by : (g : OpId) → ((i : OpId) → IsVersion ops folder g i → removes (MessageTag folder i) o ≡ false) → (origin_added folder o ≡ Some g → ⊥) → changes_versions folder g ops o ≡ false
   unchanged_by g kept none =
       let l = versions_listed (ops ++ o ∷ []) folder g in
@@ -133,14 +133,14 @@ module _ (folder : List ℕ) (ops : List Op) (o : Op) (a : IsApplied (ops ++ o �
       )) in
       ap not (ap (same_ids (versions_of ops folder g)) (sym same) ∙ same_itself (versions_of ops folder g))
 
-  -- where they stay, the origin still has one
+  -- if they stay, the origin still has one
   pub there_still : (g : OpId) → changes_versions folder g ops o ≡ false → has_version folder g ops ≡ true → has_version folder g (ops ++ o ∷ []) ≡ true
   there_still g n h =
       let v = (version_in folder ops g).0 h in
       let i = subst (IsIn v.0) (unchanged folder ops o g n) (((versions_listed ops folder g).1 v.0).1 v.1) in
       (version_in folder (ops ++ o ∷ []) g).1 (v.0, ((versions_listed (ops ++ o ∷ []) folder g).1 v.0).0 i)
 
-  -- ---- the versions that are kept
+  -- ---- the table of versions
 
   module _ (removed : List OpId) (takes : (i : OpId) → removes (MessageTag folder i) o ≡ list_any (same_id i) removed) (added : Option OpId) (own : added ≡ origin_added folder o) (f : OpId → Option OpId) (l : AreVersions folder ops f) where
     lost_none : (g : OpId) → loses f removed g ≡ false → (i : OpId) → IsVersion ops folder g i → removes (MessageTag folder i) o ≡ false
@@ -156,7 +156,7 @@ module _ (folder : List ℕ) (ops : List Op) (o : Op) (a : IsApplied (ops ++ o �
         let v : IsVersion ops folder g w.0 = (l w.0 g).0 ((some_id g (f w.0)).0 w.2) in
         changed_removed g w.0 v (takes w.0 ∙ (any_in (same_id w.0) removed).1 (w.0, w.1, own_id w.0))
 
-    -- an origin that loses a version or gets one is one whose versions change
+    -- an origin that loses or gets a version is one whose versions change
     pub changed_is : (g : OpId) → (loses f removed g || is_some_id g added) ≡ changes_versions folder g ops o
     changed_is g =
         elim (cases_Bool (loses f removed g || is_some_id g added)) [
@@ -189,7 +189,7 @@ module _ (folder : List ℕ) (ops : List Op) (o : Op) (a : IsApplied (ops ++ o �
       ],
     )
 
-    -- after one that adds a version
+    -- after an operation that adds a version
     pub versions_more : (g : OpId) → origin_added folder o ≡ Some g → AreVersions folder (ops ++ o ∷ []) (origins_with (origins_without f removed) o.id g)
     versions_more g e i h =
         elim (cases_Bool (same_id o.id i)) [
@@ -212,7 +212,7 @@ module _ (folder : List ℕ) (ops : List Op) (o : Op) (a : IsApplied (ops ++ o �
               )
         ]
 
--- where an origin has an entry, it has a version
+-- an origin with an entry has a version
 pub held_is : (start : Counters) (folder : List ℕ) (ops : List Op) (es : List ListingEntry) → AreEntries start folder ops es → (g : OpId) → has_entry es g ≡ has_version folder g ops
 held_is start folder ops es l g =
     same_bool (has_entry es g) (has_version folder g ops)

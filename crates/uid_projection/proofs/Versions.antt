@@ -25,7 +25,7 @@ use Rattle.uid_projection.specs.UidsAndModSeqs.{begins_line, begins_line_of_orig
 use Rattle.uid_projection.proofs.Presence.{added_once, adds_about, presence_step, removed_about}
 use Rattle.uid_projection.proofs.Steps.{given_append}
 
--- an operation that adds a message tag carries something
+-- an operation that adds a message tag gives it data
 carries : (f : List ℕ) (i id : OpId) (kind : Kind) → is_some_tag (MessageTag f i) (tag_added_by id kind) ≡ true → IsSome (tag_data_by id kind)
 carries f i id (Create folder) h = absurd (false≢true h)
 carries f i id (Delete folder seen) h = absurd (false≢true h)
@@ -35,7 +35,7 @@ carries f i id (Store folder flags olds origin) h = refl
 carries f i id (Subscribe name) h = absurd (false≢true h)
 carries f i id (Unsubscribe name seen) h = absurd (false≢true h)
 
--- ---- what a tag carries stays
+-- ---- the data of a tag stays
 
 pub given_more : {X Y : Type 0} (f : X → Option Y) (xs ys : List X) (y : Y) → first_some f xs ≡ Some y → first_some f (xs ++ ys) ≡ Some y
 given_more f xs ys y h = given_append f xs ys ∙ ap (λ o. option_or o (first_some f ys)) h
@@ -57,7 +57,7 @@ letter_later id ops more a h =
     or-none None = refl
     or-none (Some y) = refl
 
--- what a tag carries in the list in which it was added first
+-- the data of a tag in the list in which it was first added
 carried_of : (folder : List ℕ) (ops : List Op) (o : Op) → IsApplied (ops ++ o ∷ []) → adds (MessageTag folder o.id) o ≡ true → first_some (tag_data_from folder o.id) (ops ++ o ∷ []) ≡ tag_data_by o.id o.kind
 carried_of folder ops o a t =
     given_append (tag_data_from folder o.id) ops (o ∷ [])
@@ -78,7 +78,7 @@ some_of : {Y : Type 0} (o : Option Y) → IsSome o → (y : Y) × (o ≡ Some y)
 some_of None h = absurd (false≢true h)
 some_of (Some y) h = (y, refl)
 
--- a present tag carries something
+-- a present tag has data
 pub present_carries : (folder : List ℕ) (ops : List Op) (id : OpId) → is_present ops (MessageTag folder id) ≡ true → (b : MessageTagData) × (first_some (tag_data_from folder id) ops ≡ Some b)
 present_carries folder ops id p =
     let w = (any_in (adds (MessageTag folder id)) ops).0 (and_parts (list_any (adds (MessageTag folder id)) ops) (not (list_any (removes (MessageTag folder id)) ops)) p).0 in
@@ -102,7 +102,7 @@ pub body_chosen : (b : Bool) (o : Option MessageTagData) (y : MessageTagData) �
 body_chosen true o y h = h
 body_chosen false o y h = absurd cc
 
--- the origin of what a tag carries came earlier, or is the tag's own
+-- the origin in a tag's data came earlier, or is the tag's own id
 origin_by : (ops : List Op) (id : OpId) (kind : Kind) (clock : List (ℕ × ℕ)) (b : MessageTagData) → CoversReferenced clock kind → ((i : OpId) → IsCause clock i → Has ops i) → Has ops id → tag_data_by id kind ≡ Some b → Has ops b.origin
 origin_by ops id (Create folder) clock b c h i e = absurd cc
 origin_by ops id (Delete folder seen) clock b c h i e = absurd cc
@@ -145,7 +145,7 @@ same_bool true b h k = sym (h refl)
 same_bool false true h k = k refl
 same_bool false false h k = refl
 
--- ---- versions with one operation more
+-- ---- versions after one further operation
 
 present_parts : (a r b : Bool) → (a || (not r && b)) ≡ true → (a ≡ true) ⊎ ((b ≡ true) × (r ≡ false))
 present_parts true r b h = inl refl
@@ -184,7 +184,7 @@ module _ (folder : List ℕ) (ops : List Op) (o : Op) (a : IsApplied (ops ++ o �
         | inr p ↦ inl ((p.0, sym (origin_kept i p.0) ∙ v.1), p.1)
       ]
 
-  -- where an origin's first version comes, the operation adds it
+  -- an origin's first version is added by the operation
   pub begun_added : (g : OpId) → begins_line_of_origin folder g ops o ≡ true → origin_added folder o ≡ Some g
   begun_added g h =
       let p = and_parts (has_version folder g (ops ++ o ∷ [])) (not (has_version folder g ops)) h in
@@ -201,7 +201,7 @@ module _ (folder : List ℕ) (ops : List Op) (o : Op) (a : IsApplied (ops ++ o �
   pub line_begun : (g : OpId) → begins_line_of_origin folder g ops o ≡ true → begins_line folder ops o ≡ true
   line_begun g h = ap (holds_of_some (λ origin. begins_line_of_origin folder origin ops o)) (begun_added g h) ∙ h
 
-  -- an operation about another folder leaves the versions
+  -- an operation about another folder leaves the versions unchanged
   pub versions_other : (g : OpId) → kind_names_folder folder o.kind ≡ false → versions_of (ops ++ o ∷ []) folder g ≡ versions_of ops folder g
   versions_other g f =
       let l = versions_listed (ops ++ o ∷ []) folder g in
@@ -242,7 +242,7 @@ module _ (folder : List ℕ) (ops : List Op) (o : Op) where
         | inr f ↦ absurd (false≢true (sym (ap not (ap (same_ids (versions_of ops folder g)) (versions_other folder ops o a g f) ∙ same_itself (versions_of ops folder g))) ∙ h))
       ]
 
-  -- one with which a line begins changes them
+  -- an operation with which a line begins changes them
   pub begun_changed : (g : OpId) → begins_line_of_origin folder g ops o ≡ true → changes_versions folder g ops o ≡ true
   begun_changed g h =
       elim (cases_Bool (changes_versions folder g ops o)) [

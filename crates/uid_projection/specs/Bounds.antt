@@ -1,3 +1,6 @@
+-- The bounds of a replica's numbers (RFC 9051, section 2.3.1.1; RFC 7162, section 3.1), and when
+-- what a listing shows can be written.
+
 use Rattle.std.specs.Prelude.{◌≡◌, ℕ, ◌+◌, ◌<◌, ◌≤◌, ◌^◌, List, [], length, Some}
 use Rattle.crdt_ops.specs.declared.kind.Kind.{Kind}
 use Rattle.crdt_ops.specs.declared.kind.Kind.TheVariants.{Append}
@@ -14,26 +17,30 @@ use Rattle.uid_projection.specs.Incarnations.{uidvalidity_of}
 use Rattle.uid_projection.specs.UidsAndModSeqs.{highest_modseq_of, uidnext_of}
 use Rattle.uid_projection.specs.Listing.{listing}
 
--- The first numbers that a replica's counters can begin with: a name of 16 bits and a UID of 32 bits, each from 1 on.
+-- The first numbers that a replica's counters can begin with: a name of 16 bits and a UID of 32
+-- bits, each from 1 on.
 pub record IsLawfulStart (start : Counters) : Type 0 where
   pub named : 1 ≤ start.replica
   pub replica : start.replica ≤ 65535
   pub first : 1 ≤ start.uid
   pub uid : start.uid ≤ 4294967295
 
--- A list that a replica with these first numbers may have applied: no counter was at its end for any of its operations.
+-- A list that a replica with these first numbers may have applied: no counter was used up by any of
+-- its operations.
 pub record IsLasting (start : Counters) (ops : List Op) : Type 0 where
   pub applied : IsApplied ops
   pub lasts : Exhausts start [] ops → ⊥
 
--- A row's numbers are from 1 on: its UID is below UIDNEXT, and its mod-sequence counts operations.
+-- A row's numbers are from 1 on; its UID is below UIDNEXT, and its mod-sequence is at most one more
+-- than the number of operations.
 pub record IsRowWithin (uidnext count : ℕ) (row : ListedMessage) : Type 0 where
   pub uid_from : 1 ≤ row.uid
   pub uid : row.uid < uidnext
   pub modseq_from : 1 ≤ row.modseq
   pub modseq : row.modseq ≤ 1 + count
 
--- A folder's numbers are from 1 on and in their bits, and its rows ascend (RFC 9051, section 2.3.1.1; RFC 7162, section 3.1).
+-- A folder's numbers are from 1 on and in their bits, and its rows ascend (RFC 9051, section
+-- 2.3.1.1; RFC 7162, section 3.1).
 pub record HasBounds (start : Counters) (folder : List ℕ) (ops : List Op) : Type 0 where
   pub uidnext_from : 1 ≤ uidnext_of start folder ops
   pub uidnext : uidnext_of start folder ops ≤ 4294967295
@@ -44,16 +51,17 @@ pub record HasBounds (start : Counters) (folder : List ℕ) (ops : List Op) : Ty
   pub rising : AreRisingRows 1 (listing start folder ops)
   pub rows : (row : ListedMessage) → IsIn row (listing start folder ops) → IsRowWithin (uidnext_of start folder ops) (length ops) row
 
--- The octets of what an operation appends can be counted.
+-- The number of octets that the operation appends fits in 64 bits.
 abbrev pub IsCountable : Kind → Type 0
 IsCountable (Append folder flags date text) = length text < 2 ^ 64
 IsCountable _ = Unit {0}
 
--- Each operation has a text, and appends octets that can be counted.
+-- Each operation can be written as text, and the number of octets that it appends fits in 64 bits.
 abbrev pub AreWritable : List Op → Type 0
 AreWritable ops = (op : Op) → IsIn op ops → IsInForm op × IsCountable op.kind
 
--- What a row shows can be written: its keywords are atoms in their one spelling, its date is a date-time, its octets can be counted.
+-- What a row shows can be written: its keywords are atoms in their one spelling, its date is a
+-- date-time, and the number of its octets fits in 64 bits.
 pub record IsWritableRow (row : ListedMessage) : Type 0 where
   pub flags : HasWords row.flags
   pub date : IsDateTime row.date

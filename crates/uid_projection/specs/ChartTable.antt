@@ -1,3 +1,6 @@
+-- The charts of all folders by name: which list of operations they are up to, and the room that
+-- they have.
+
 use Rattle.std.specs.Prelude.{◌≡◌, ℕ, ◌+◌, ◌≤◌, true, false, Option, None, Some, List, [], ◌∷◌, ◌++◌}
 use Rattle.std.specs.Global.{Vec}
 use Rattle.std.specs.Map.{lookup}
@@ -19,15 +22,15 @@ use Rattle.uid_projection.specs.Incarnations.{begins_incarnation, folder_exists,
 use Rattle.uid_projection.specs.UidsAndModSeqs.{kind_names_folder}
 use Rattle.uid_projection.specs.EntryMoves.{added_origin}
 
--- The chart of this folder, where it has one.
+-- The chart of this folder, if it has one.
 abbrev pub chart_at : List ℕ → List (Vec ℕ × Chart) → Option Chart
 chart_at folder charts = lookup (λ (key : Vec ℕ). bytes_eq folder key.items) charts
 
--- The origin that is kept of the version with this id.
+-- The origin of the version with this id in the table, if any.
 abbrev pub origin_at : List (OpId × OpId) → OpId → Option OpId
 origin_at versions id = lookup (same_id id) versions
 
--- The chart is that of the folder after these operations, whether the folder is there or not.
+-- The chart is that of the folder after these operations, whether the folder exists or not.
 pub record IsUpTo (start : Counters) (folder : List ℕ) (ops : List Op) (c : Chart) : Type 0 where
   pub there : c.there ≡ folder_exists folder ops
   pub shows : IsChart start folder ops c.uidnext c.highest c.entries.entries
@@ -35,29 +38,31 @@ pub record IsUpTo (start : Counters) (folder : List ℕ) (ops : List Op) (c : Ch
   pub is_k : c.there ≡ true → c.k ≡ k_of start folder ops
   pub small : c.there ≡ true → (folder ≡ inbox → ⊥) → c.k ≤ 65535
 
--- The charts are up to these operations, and each folder that is there has one.
+-- The charts are up to these operations, and each existing folder has one.
 pub record IsTable (start : Counters) (ops : List Op) (next_k : ℕ) (charts : List (Vec ℕ × Chart)) : Type 0 where
   pub is_k : next_k ≡ start.k + count_all begins_incarnation ops
   pub shows : (folder : List ℕ) (c : Chart) → chart_at folder charts ≡ Some c → IsUpTo start folder ops c
   pub covers : (folder : List ℕ) → chart_at folder charts ≡ None → folder_exists folder ops ≡ false
 
--- The chart's mod-sequence has so many numbers more, and, where an origin is added, the chart has places for as many entries and versions.
+-- The chart has `n` further mod-sequences and, if an origin is added, places for `n` entries and
+-- versions.
 pub record IsRoomy (origin : Option OpId) (n : ℕ) (c : Chart) : Type 0 where
   pub places : (g : OpId) → origin ≡ Some g → n ≤ c.entries.room
   pub version_places : (g : OpId) → origin ≡ Some g → n ≤ spare c.versions
   pub highest : c.highest + n ≤ 18446744073709551615
   pub uidnext : c.uidnext ≤ 4294967295
 
--- There is a chart, with room for so many operations.
+-- There is a chart, with room for `n` operations.
 abbrev pub HasRoomsIn : Option OpId → ℕ → Option Chart → Type 0
 HasRoomsIn origin n None = ⊥
 HasRoomsIn origin n (Some c) = IsRoomy origin n c
 
--- The folder has a chart, with room for so many operations.
+-- The folder has a chart, with room for `n` operations.
 abbrev pub HasRooms : Option OpId → ℕ → List ℕ → List (Vec ℕ × Chart) → Type 0
 HasRooms origin n folder charts = HasRoomsIn origin n (chart_at folder charts)
 
--- The operation comes next behind the list, and the contents are those behind it. It lacks no number.
+-- The operation is applied next after the list, with these contents as its result. It lacks no
+-- number.
 pub record ComesNext (start : Counters) (next_k : ℕ) (value : Contents) (list : List Op) (o : Op) : Type 0 where
   pub first : 1 ≤ start.uid
   pub applied : IsApplied (list ++ o ∷ [])
@@ -65,19 +70,20 @@ pub record ComesNext (start : Counters) (next_k : ℕ) (value : Contents) (list 
   pub is_k : next_k ≡ start.k + count_all begins_incarnation list
   pub lasts : IsExhausted start list o → ⊥
 
--- It comes next behind the list for which the chart of its folder stands, and the chart has room for it.
+-- The operation is applied next after the list that its folder's chart is up to, and the chart has
+-- room for it.
 pub record IsNextAt (start : Counters) (next_k : ℕ) (value : Contents) (list : List Op) (o : Op) (c : Chart) : Type 0 where
   pub next : ComesNext start next_k value list o
   pub about : kind_names_folder (name_of o.kind) o.kind ≡ true
   pub up : IsUpTo start (name_of o.kind) list c
   pub roomy : IsRoomy (added_origin o) 1 c
 
--- It comes next behind the list for which the charts stand.
+-- The operation is applied next after the list that the charts are up to.
 pub record IsNextOn (start : Counters) (next_k : ℕ) (charts : List (Vec ℕ × Chart)) (value : Contents) (list : List Op) (o : Op) : Type 0 where
   pub next : ComesNext start next_k value list o
   pub table : IsTable start list next_k charts
 
--- The chart has the same numbers, entries and versions, and no less room.
+-- The charts have the same numbers, entries and versions, and the new one has no less room.
 pub record IsSame (old new : Chart) : Type 0 where
   pub there : new.there ≡ old.there
   pub k : new.k ≡ old.k
@@ -88,7 +94,8 @@ pub record IsSame (old new : Chart) : Type 0 where
   pub room : old.entries.room ≤ new.entries.room
   pub version_room : spare old.versions ≤ spare new.versions
 
--- It comes next behind the list for which the folder's numbers stand, the folder is there behind it, and there is room for it.
+-- The operation is applied next after the list that the folder's numbers are up to, the folder
+-- exists afterwards, and the chart has room for it.
 pub record Advances (start : Counters) (folder : List ℕ) (value : Contents) (list : List Op) (o : Op) (c : Chart) : Type 0 where
   pub first : 1 ≤ start.uid
   pub applied : IsApplied (list ++ o ∷ [])

@@ -1,42 +1,46 @@
+-- Counting over a list of operations: those that have a property, and those since which something
+-- has always held.
+
 use Rattle.std.specs.Prelude.{ℕ, Bool, not, ◌&&◌, nat_lt, List, [], ◌∷◌, ◌++◌, length}
 use Rattle.std.specs.List.{filter}
 
--- An operation of a list, with those in front of it and those behind.
+-- An operation of a list, with the operations before it and those after it.
 pub record Split (O : Type 0) : Type 0 where
   pub front : List O
   pub op : O
   pub back : List O
 
--- Each operation, behind these, with those in front of it and those behind.
+-- Each operation of `back`, with the operations before it, which include `front`, and those after
+-- it.
 abbrev pub splits_from : {O : Type 0} → List O → List O → List (Split O)
 splits_from front [] = []
 splits_from front (op ∷ back) = record { front = front; op = op; back = back } ∷ splits_from (front ++ op ∷ []) back
 
--- Each operation of a list, with those in front of it and those behind.
+-- Each operation of the list, with the operations before it and those after it.
 abbrev pub splits_of : {O : Type 0} → List O → List (Split O)
 splits_of ops = splits_from [] ops
 
--- Whether something is there after the operations in front, and after each one behind them.
+-- Whether `there` holds after the operations `front`, and after each further one.
 abbrev pub holds_since : {O : Type 0} → (List O → Bool) → List O → List O → Bool
 holds_since there front [] = there front
 holds_since there front (op ∷ back) = there front && holds_since there (front ++ op ∷ []) back
 
--- Whether something has been there all the time since this operation was applied.
+-- Whether `there` has held ever since this operation was applied.
 abbrev pub has_held_since : {O : Type 0} → (List O → Bool) → Split O → Bool
 has_held_since there cut = holds_since there (cut.front ++ cut.op ∷ []) cut.back
 
--- The number of operations that have a property, and since which something has been there all the time.
+-- The number of operations that have the property `P` and since which `there` has always held.
 abbrev pub count_since : {O : Type 0} → (List O → Bool) → (List O → O → Bool) → List O → ℕ
 count_since there P ops = length (filter (λ cut. P cut.front cut.op && has_held_since there cut) (splits_of ops))
 
--- The number of those among the first n operations.
+-- The number of such operations among the first `n`.
 abbrev pub count_since_up_to : {O : Type 0} → ℕ → (List O → Bool) → (List O → O → Bool) → List O → ℕ
 count_since_up_to n there P ops = count_since there (λ front op. P front op && nat_lt (length front) n) ops
 
--- The number of operations that have a property, and since which something hasn't been there all the time.
+-- The number of operations that have the property `P` and since which `there` hasn't always held.
 abbrev pub count_not_since : {O : Type 0} → (List O → Bool) → (List O → O → Bool) → List O → ℕ
 count_not_since there P ops = length (filter (λ cut. P cut.front cut.op && not (has_held_since there cut)) (splits_of ops))
 
--- The number of operations that have a property.
+-- The number of operations that have the property `P`.
 abbrev pub count_all : {O : Type 0} → (List O → O → Bool) → List O → ℕ
 count_all P ops = length (filter (λ cut. P cut.front cut.op) (splits_of ops))

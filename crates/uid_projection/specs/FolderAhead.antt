@@ -1,4 +1,5 @@
--- One folder as operations to come leave it.
+-- One folder after pending operations, which are applied to it step by step: its tags, its versions
+-- and its messages.
 use Rattle.std.specs.Prelude.{◌≡◌, ℕ, Bool, Option, None, Some, IsSome, List, if◌then◌else◌}
 use Rattle.std.specs.Map.{lookup}
 use Rattle.std.specs.Option.{option_map}
@@ -20,26 +21,27 @@ use Rattle.uid_projection.specs.TagChanges.{AreAll, IsWhole, bodies_of, kept_of,
 abbrev pub folder_of : FolderAhead → List ℕ
 folder_of ahead = ahead.name
 
--- Whether its folder tag with this id is present.
+-- Whether the folder tag with this id is present.
 abbrev pub tags_ahead : FolderAhead → OpId → Bool
 tags_ahead ahead = tag_over ahead.tags.entries (kept_of ahead.messages)
 
--- What its message tag with this id carries, where it is present.
+-- The data that the message tag with this id carries, if it is present.
 abbrev pub tag_data_ahead : FolderAhead → OpId → Option MessageTagData
 tag_data_ahead ahead = bodies_of ahead.messages
 
--- The date and text of the Append with this id, where one was applied.
+-- The date and text of the Append with this id, if it was applied.
 abbrev pub dated_texts_ahead : FolderAhead → OpId → Option DatedText
 dated_texts_ahead ahead = dated_text_over ahead.letters.entries (contents_of ahead.value.now).letters
 
--- What is kept is that of the folder; the message of each tag and of each date and text that changed is one of those that may have.
+-- The stored tags are those of this folder. The origin of each changed tag, and each id with an
+-- added date and text, has a list, so that its message counts as changed.
 pub record IsOrderly (ahead : FolderAhead) : Type 0 where
   pub tags : (id : OpId) → (contents_of ahead.value.now).tags ahead.name id ≡ has_tag_in (kept_of ahead.messages) id
   pub bodies : (id : OpId) → (contents_of ahead.value.now).bodies ahead.name id ≡ body_in_folder (kept_of ahead.messages) id
   pub whole : IsWhole ahead.messages
   pub letters : (id : OpId) → IsSome (lookup (same_id id) ahead.letters.entries) → IsSome (list_of ahead.messages id)
 
--- The folder is as these contents have it.
+-- The folder is as in these contents.
 pub record IsAhead (contents : Contents) (ahead : FolderAhead) : Type 0 where
   pub orderly : IsOrderly ahead
   pub tags : (id : OpId) → tags_ahead ahead id ≡ contents.tags ahead.name id
@@ -52,13 +54,14 @@ pub record IsHeld (ahead : FolderAhead) (origin : OpId) (message : OwnedMessage)
   pub date : option_map (λ date. date.now) message.date ≡ option_map (λ (letter : DatedText). letter.date) (dated_texts_ahead ahead origin)
   pub text : option_map (λ text. text.now) message.text ≡ option_map (λ (letter : DatedText). letter.text) (dated_texts_ahead ahead origin)
 
--- The message of this origin, where there is one, was put among the others.
+-- The message of this origin, if there is one, was put among the others.
 abbrev pub IsHeldAt : FolderAhead → Option OpId → List (OpId × OwnedMessage) → List (OpId × OwnedMessage) → Type 0
 IsHeldAt ahead None old new = new ≡ old
 IsHeldAt ahead (Some origin) old new =
     (message : OwnedMessage) × (IsOrderly ahead → IsHeld ahead origin message)
     × ((id : OpId) → lookup (same_id id) new ≡ (if same_id origin id then Some message else lookup (same_id id) old))
 
--- The message of an origin that a mailbox tells with the messages that stand in place of some that it keeps.
+-- The message of an origin in a mailbox after pending operations: the one that replaces a stored
+-- one, or the stored one.
 abbrev pub message_ahead : MailboxAhead → OpId → Option Message
 message_ahead ahead origin = option_map (message_of_data origin) (message_data_at ahead.fresh.entries ahead.mailbox origin)

@@ -1,3 +1,5 @@
+-- Pending operations, and the state in which they find a folder and its chart.
+
 use Rattle.std.specs.Prelude.{◌≡◌, ℕ, Bool, true, List, [], ◌∷◌, ◌++◌}
 use Rattle.tags_clocks.specs.declared.id.OpId.{OpId}
 use Rattle.mailbox_rows.specs.declared.entry.ListingEntry.{ListingEntry}
@@ -11,7 +13,8 @@ use Rattle.uid_projection.specs.Applied.{IsApplied}
 use Rattle.uid_projection.specs.UidsAndModSeqs.{kind_names_folder}
 use Rattle.uid_projection.specs.EntryMoves.{loses}
 
--- These operations come next behind the list that made the contents, and the folder is as these have it.
+-- These operations come next after the list that led to the contents, and the folder is as in these
+-- contents.
 pub record IsNextAhead (start : Counters) (folder : List ℕ) (nothing : List ListingEntry) (c : Contents) (list ops : List Op) (ahead : FolderAhead) : Type 0 where
   pub own : folder_of ahead ≡ folder
   pub none : nothing ≡ []
@@ -19,8 +22,8 @@ pub record IsNextAhead (start : Counters) (folder : List ℕ) (nothing : List Li
   pub made : IsMadeBy c list
   pub is_ahead : IsAhead c ahead
 
--- The operation about the folder comes behind the list that made the contents; these origins lose a version by it, and the folder is
--- as it leaves it.
+-- The operation about the folder comes next after the list that led to the contents. These origins
+-- lose a version by it, and the folder is as it leaves it.
 pub record AdvancesAhead (c : Contents) (list : List Op) (o : Op) (lost : OpId → Bool) (ahead : FolderAhead) : Type 0 where
   pub applied : IsApplied (list ++ o ∷ [])
   pub about : kind_names_folder (folder_of ahead) o.kind ≡ true

@@ -1,3 +1,5 @@
+-- Room and readiness for some operations are room and readiness for the first of them.
+
 use Rattle.std.specs.Global.{Vec}
 use Rattle.std.specs.Prelude.{◌≡◌, ℕ, ◌≤◌, Option, None, Some, List, [], ◌∷◌, ◌++◌, length}
 use Rattle.std.proofs.Common.{arith, ap, sym, subst, append_assoc, ◌∙◌}
@@ -26,7 +28,7 @@ less_room origin m n folder charts l r = fewer (chart_at folder charts) r
       uidnext = h.uidnext;
     }
 
--- What is ready for some operations is ready for the first of them.
+-- Charts that are ready for some operations are ready for the first of them.
 pub ready_first : (x : Charts) (list : List Op) (o : Op) (os : List Op) → IsReadyFor x list (o ∷ os) → IsReadyFor x list (o ∷ [])
 ready_first x list o os r = record {
   applied =

@@ -1,4 +1,4 @@
--- What operations change of one folder's tags, laid over what is kept.
+-- The changes that pending operations make to one folder's tags, laid over the stored folder.
 use Rattle.std.specs.Prelude.{◌≡◌, ◌⊎◌, ◌||◌, Bool, true, false, Option, None, Some, IsSome, List, []}
 use Rattle.std.specs.Global.{Vec}
 use Rattle.std.specs.Map.{lookup}
@@ -19,26 +19,27 @@ abbrev pub is_some : {X : Type 0} → Option X → Bool
 is_some None = false
 is_some (Some x) = true
 
--- What a change leaves of a message tag, and what is lent of an Append.
+-- The data of a message tag after a change, if the tag is present.
 abbrev pub body_lent : TagChange → Option MessageTagData
 body_lent change = option_map (λ flags. record { flags = flags.now; origin = change.origin }) change.flags
 
+-- A borrowed date and text, as a value.
 abbrev pub change_value : LentDatedText → DatedText
 change_value letter = record { date = letter.date.now; text = letter.text.now }
 
--- The origin that a message tag carries.
+-- The origin that a message tag carries, if the tag is present.
 abbrev pub origin_of : Option MessageTagData → Option OpId
 origin_of body = option_map (λ (b : MessageTagData). b.origin) body
 
--- A version of the origin is there.
+-- The origin has a present version.
 abbrev pub HasOrigin : (OpId → Option MessageTagData) → OpId → Type 0
 HasOrigin bodies origin = (id : OpId) × (origin_of (bodies id) ≡ Some origin)
 
--- Whether the id is that of a version of the origin that is there.
+-- Whether the id is that of a present version of the origin.
 abbrev pub is_version : (OpId → Option MessageTagData) → OpId → OpId → Bool
 is_version bodies origin id = is_some_id origin (origin_of (bodies id))
 
--- What stands behind a change: what it says, and where there is none, what is kept.
+-- The value after a change: the changed one, or the stored one if nothing changed.
 abbrev pub after_change : {X : Type 0} → X → Option X → X
 after_change kept None = kept
 after_change kept (Some x) = x
@@ -47,35 +48,35 @@ after_change kept (Some x) = x
 abbrev pub tag_over : List (OpId × Bool) → Option FolderTables → OpId → Bool
 tag_over tags kept id = after_change (has_tag_in kept id) (lookup (same_id id) tags)
 
--- What the message tag with this id carries, where it is present.
+-- The data that the message tag with this id carries, if it is present.
 abbrev pub body_over : List (OpId × TagChange) → Option FolderTables → OpId → Option MessageTagData
 body_over changes kept id = after_change (body_in_folder kept id) (option_map body_lent (lookup (same_id id) changes))
 
--- The folder as it is kept.
+-- The stored folder.
 abbrev pub kept_of : MessagesAhead → Option FolderTables
 kept_of messages = option_map (λ folder. folder.now) messages.kept
 
 abbrev pub bodies_of : MessagesAhead → OpId → Option MessageTagData
 bodies_of messages = body_over messages.changes.entries (kept_of messages)
 
--- What changes of the message tag with this id.
+-- The change of the message tag with this id, if any.
 abbrev pub change_of : MessagesAhead → OpId → Option TagChange
 change_of messages id = lookup (same_id id) messages.changes.entries
 
--- The ids that are listed for this origin, where it has a list.
+-- The list of ids for this origin, if it has one.
 abbrev pub list_of : MessagesAhead → OpId → Option (Vec OpId)
 list_of messages origin = lookup (same_id origin) messages.versions.entries
 
--- The ids that are listed, none where there is no list.
+-- The ids of the list, or none without a list.
 abbrev pub ids_listed : Option (Vec OpId) → List OpId
 ids_listed None = []
 ids_listed (Some ids) = ids.items
 
--- The kept tag with this id has this origin and isn't changed.
+-- The stored tag with this id has this origin and isn't changed.
 abbrev pub IsLeft : MessagesAhead → OpId → OpId → Type 0
 IsLeft messages origin id = (change_of messages id ≡ None) × (origin_of (body_in_folder (kept_of messages) id) ≡ Some origin)
 
--- A tag with this id and this origin was put in and is there.
+-- A tag with this id was added for this origin, and is present.
 abbrev pub IsPut : MessagesAhead → OpId → OpId → Type 0
 IsPut messages origin id = (change : TagChange) × (change_of messages id ≡ Some change) × (origin_of (body_lent change) ≡ Some origin)
 
@@ -83,69 +84,69 @@ IsPut messages origin id = (change : TagChange) × (change_of messages id ≡ So
 abbrev pub dated_text_over : List (OpId × LentDatedText) → (OpId → Option DatedText) → OpId → Option DatedText
 dated_text_over letters kept id = after_change (kept id) (option_map (λ letter. Some (change_value letter)) (lookup (same_id id) letters))
 
--- The id is one of those that are listed.
+-- The id is in the list.
 abbrev pub IsListed : OpId → Option (Vec OpId) → Type 0
 IsListed id None = ⊥
 IsListed id (Some ids) = IsIn id ids.items
 
--- The ids that are listed for each origin are more, or the same.
+-- Each origin's list has the ids that it had, and perhaps further ones.
 pub record Grows (old new : List (OpId × Vec OpId)) : Type 0 where
   pub touched : (origin : OpId) → IsSome (lookup (same_id origin) old) → IsSome (lookup (same_id origin) new)
   pub listed : (origin id : OpId) → IsListed id (lookup (same_id origin) old) → IsListed id (lookup (same_id origin) new)
 
--- Each tag that was put in is listed for its origin, and the origin of each kept tag that was changed has a list.
+-- Each added tag is listed for its origin, and the origin of each changed stored tag has a list.
 pub record AreFound (changes : List (OpId × TagChange)) (versions : List (OpId × Vec OpId)) (kept : Option FolderTables) : Type 0 where
   pub listed : (id : OpId) (change : TagChange) → lookup (same_id id) changes ≡ Some change → IsSome change.flags → IsListed id (lookup (same_id change.origin) versions)
   pub touched : (id origin : OpId) → IsSome (lookup (same_id id) changes) → origin_of (body_in_folder kept id) ≡ Some origin → IsSome (lookup (same_id origin) versions)
 
--- So it is with these messages.
+-- The lists of these messages are complete.
 abbrev pub IsWhole : MessagesAhead → Type 0
 IsWhole messages = AreFound messages.changes.entries messages.versions.entries (kept_of messages)
 
--- These are versions of the origin, ascending.
+-- These are versions of the origin, in ascending order.
 pub record AreSome (bodies : OpId → Option MessageTagData) (origin : OpId) (versions : List Version) : Type 0 where
   pub ascending : IsAscending id_order (version_ids versions)
   pub carried : (version : Version) → IsIn version versions → bodies version.id ≡ Some (record { flags = version.flags; origin = origin })
 
--- The versions with a property have their places among those that are there.
+-- The versions with the property `P` were put in their places among the existing ones.
 pub record IsPlaced (bodies : OpId → Option MessageTagData) (origin : OpId) (P : OpId → Type 0) (old new : List Version) : Type 0 where
   pub some : AreSome bodies origin old → AreSome bodies origin new
   pub kept : (id : OpId) → IsIn id (version_ids old) → IsIn id (version_ids new)
   pub all : (id : OpId) → P id → IsIn id (version_ids new)
 
--- These are all versions of the origin, ascending.
+-- These are all versions of the origin, in ascending order.
 pub record AreAll (bodies : OpId → Option MessageTagData) (origin : OpId) (versions : List Version) : Type 0 where
   pub some : AreSome bodies origin versions
   pub all : (id : OpId) → origin_of (bodies id) ≡ Some origin → IsIn id (version_ids versions)
 
--- How versions are ordered: by their ids.
+-- Versions are ordered by their ids.
 abbrev pub by_id : Version → Version → Ordering
 by_id a b = id_order a.id b.id
 
--- A tag with this id is kept, of either kind.
+-- A folder tag or a message tag with this id is stored.
 abbrev pub IsKeptTag : Option FolderTables → OpId → Type 0
 IsKeptTag kept id = (has_tag_in kept id ≡ true) ⊎ IsSome (body_in_folder kept id)
 
--- Whether a tag with this id is there, of either kind.
+-- Whether a folder tag or a message tag with this id is present.
 abbrev pub is_there : List (OpId × Bool) → MessagesAhead → OpId → Bool
 is_there tags messages id = tag_over tags (kept_of messages) id || is_some (origin_of (bodies_of messages id))
 
--- The same of an id, where there is one.
+-- Whether such a tag is present, if there is an id.
 abbrev pub is_there_at : List (OpId × Bool) → MessagesAhead → Option OpId → Bool
 is_there_at tags messages None = false
 is_there_at tags messages (Some id) = is_there tags messages id
 
--- Whether a folder tag was put in.
+-- Whether a folder tag is present after its change, if it was changed.
 abbrev pub is_tag : Option Bool → Bool
 is_tag None = false
 is_tag (Some present) = present
 
--- Whether a message tag was put in.
+-- Whether a message tag is present after its change, if it was changed.
 abbrev pub is_put : Option TagChange → Bool
 is_put None = false
 is_put (Some change) = is_some change.flags
 
--- Whether the change of the id of an entry has a property.
+-- Whether the change of an entry's id has the property.
 abbrev pub value_at_key : {X : Type 0} → (Option X → Bool) → List (OpId × X) → Option (OpId × X) → Bool
 value_at_key test entries None = false
 value_at_key test entries (Some entry) = test (lookup (same_id entry.0) entries)

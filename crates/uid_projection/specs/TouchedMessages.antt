@@ -1,3 +1,5 @@
+-- Which messages operations name, and what operations leave unchanged in a listing.
+
 use Rattle.std.specs.Prelude.{◌≡◌, ◌⊎◌, ℕ, ◌≤◌, Bool, true, false, ◌&&◌, ◌||◌, Option, None, Some, List, ◌++◌}
 use Rattle.tags_clocks.specs.declared.id.OpId.{OpId}
 use Rattle.merge_laws.specs.Orders.{IsIn}
@@ -14,9 +16,9 @@ use Rattle.uid_projection.specs.UidsAndModSeqs.{kind_names_folder, highest_modse
 use Rattle.uid_projection.specs.Listing.{listing}
 use Rattle.uid_projection.specs.EntryMoves.{AreApart, added_origin, loses}
 
--- ---- what operations leave of a listing
+-- ---- what operations leave unchanged in a listing
 
--- Below this UIDNEXT the two listings have the same row under each UID, but under these UIDs.
+-- Below this UIDNEXT, the two listings have the same row under each UID that isn't one of these.
 abbrev pub RowsStayExcept : List ℕ → ℕ → List ListedMessage → List ListedMessage → Type 0
 RowsStayExcept uids uidnext before behind = (uid : ℕ) → IsIn uid uids ⊎ ((uidnext ≤ uid) ⊎ (row_of uid behind ≡ row_of uid before))
 
@@ -31,22 +33,22 @@ pub record IsShownAlike (start : Counters) (folder : List ℕ) (before behind : 
   pub uidnext : uidnext_of start folder behind ≡ uidnext_of start folder before
   pub highest : highest_modseq_of folder behind ≡ highest_modseq_of folder before
 
--- Operations none of which is about a folder leave what is shown of it.
+-- Operations that are all about other folders leave what is shown of this one unchanged.
 abbrev pub LeaveOthers : Counters → Type 0
 LeaveOthers start = (folder : List ℕ) (list ops : List Op) → IsApplied (list ++ ops) → AreAboutOthers folder ops → IsShownAlike start folder list (list ++ ops)
 
--- A listing has no message under UIDNEXT or above it.
+-- A listing has no message with the UID UIDNEXT or above.
 abbrev pub EndsAtUidnext : Counters → Type 0
 EndsAtUidnext start = (folder : List ℕ) (list : List Op) (uid : ℕ) → IsApplied list → uidnext_of start folder list ≤ uid → row_of uid (listing start folder list) ≡ None
 
 -- ---- which messages operations name
 
--- Whether the operation names the message of this origin: it is about the folder, and removes a version of the message or adds one; of
--- each id the origin of its version is told.
+-- Whether the operation names the message of this origin: it is about the folder, and removes or
+-- adds a version of the message. The function maps the id of a version to its origin.
 abbrev pub names_message : (OpId → Option OpId) → List ℕ → OpId → Op → Bool
 names_message origin_of folder origin op = kind_names_folder folder op.kind && (loses origin_of (removed_ids op.kind) origin || is_some_id origin (added_origin op))
 
--- The new UIDs have among them the old ones and those of the entries that are named.
+-- The new UIDs include the old ones and those of the entries that are named.
 pub record AddsUids (is_named : OpId → Bool) (entries : List ListingEntry) (old new : List ℕ) : Type 0 where
   pub kept : (uid : ℕ) → IsIn uid old → IsIn uid new
   pub named : AreApart entries → (e : ListingEntry) → IsIn e entries → is_named e.origin ≡ true → IsIn e.uid new

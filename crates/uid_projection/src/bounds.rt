@@ -1,4 +1,4 @@
-//! In which bounds a replica's numbers stay, and what its listings show.
+//! Laws: the bounds of a replica's numbers, and that listings can be printed.
 
 ghost use Rattle.std.specs.Prelude.{ℕ, List};
 ghost use Rattle.crdt_ops.specs.declared.op.Op.{Op};
@@ -8,13 +8,14 @@ ghost use Rattle.uid_projection.specs.Bounds.{AreWritable, HasBounds, IsLasting,
 ghost use Rattle.uid_projection.specs.Listing.{listing};
 ghost use Rattle.uid_projection.specs.declared.first_numbers.Counters.{Counters};
 
-/// UIDs, UIDNEXT and UIDVALIDITY are from 1 on in 32 bits, and mod-sequences from 1 on and no more than operations were applied, as long
-/// as no counter was at its end.
+/// UIDs, UIDNEXT and UIDVALIDITY are numbers of 32 bits from 1 on. Mod-sequences are from 1 on, and
+/// at most one more than the number of applied operations. This holds as long as no counter was
+/// used up.
 pub fn numbers_have_bounds()
     ensures { (start : Counters) (folder : List ℕ) (ops : List Op) → IsLawfulStart start → IsLasting start ops → HasBounds start folder ops }
 {}
 
-/// What a listing shows can be written, where the applied operations can.
+/// If the applied operations can be written as text, then so can everything that a listing shows.
 pub fn rows_are_writable()
     ensures { (start : Counters) (folder : List ℕ) (ops : List Op) (row : ListedMessage) → AreWritable ops → IsIn row (listing start folder ops) → IsWritableRow row }
 {}

@@ -1,4 +1,4 @@
-//! A folder's entries as operations to come leave them, laid over those that are kept.
+//! `ChartAhead`: a folder's entries after pending operations, laid over its stored entries.
 
 ghost use Rattle.std.specs.Prelude.{◌≡◌, ◌⊎◌, ◌<◌, ◌+◌, ◌-◌, ℕ, List, [], ◌∷◌, ◌++◌, true, false, ◌||◌, if◌then◌else◌, IfOk, OnOk, length, get_or, option_copied};
 ghost use Rattle.std.specs.List.{list_any};
@@ -31,10 +31,10 @@ use mailbox_rows::{EntryList, EntryOverlay, EntryTable};
 use std::alloc::{AllocError, Global};
 use tags_clocks::OpId;
 
-/// A folder's entries as operations to come leave them, with the numbers that the next ones take.
+/// A folder's entries after pending operations, and the numbers that come next.
 #[derive(Drop)]
 pub struct ChartAhead<'a> {
-    /// The UID that the next line gets.
+    /// The UID of the next line.
     pub uidnext: u32,
     /// The highest mod-sequence.
     pub highest: u64,
@@ -42,7 +42,7 @@ pub struct ChartAhead<'a> {
     pub entries: EntryOverlay<'a>,
 }
 
-/// The folder's chart as it is kept, where nothing comes yet. `Err` where there is no memory.
+/// The folder's stored chart, with no pending operation yet. `Err` if memory runs out.
 pub fn kept_ahead<'a>(
     alloc: Global,
     charts: &'a Charts,
@@ -53,7 +53,8 @@ pub fn kept_ahead<'a>(
     ahead_by(alloc, charts, folder, chart_of(&charts.charts, folder))
 }
 
-/// The same of a folder that has this chart among these, or none.
+/// Does what `kept_ahead` does for a folder whose chart was looked up already; `None` if it has
+/// none.
 pub fn ahead_by<'a>(
     alloc: Global,
     charts: &'a Charts,
@@ -72,7 +73,7 @@ pub fn ahead_by<'a>(
     }
 }
 
-/// The chart of a folder that isn't there, with this first UID; `Err` where there is no memory for it.
+/// The chart of a folder that doesn't exist, whose first UID is `first`. `Err` if memory runs out.
 fn absent_chart_ahead<'a>(
     alloc: Global,
     first: u32,
@@ -87,8 +88,10 @@ fn absent_chart_ahead<'a>(
     })
 }
 
-/// Brings the chart and the folder up to these operations, in this order; `charts` tell with what a chart begins. `Err`, for want of
-/// memory, leaves both of no use but to be let go. Cost: what the operations name.
+/// Brings the chart and the folder up to these operations, in this order. `charts` gives the
+/// numbers with which a chart begins. `Err` if memory runs out; then neither `chart` nor `ahead`
+/// can be used further.
+/// Cost: the ids that the operations name.
 pub fn advance_over<'a>(
     alloc: Global,
     chart: &mut ChartAhead<'a>,
@@ -107,7 +110,7 @@ pub fn advance_over<'a>(
     Ok(())
 }
 
-/// The same of one operation.
+/// Does what `advance_over` does for one operation.
 fn advance_over_one<'a>(
     alloc: Global,
     chart: &mut ChartAhead<'a>,
@@ -132,7 +135,7 @@ fn advance_over_one<'a>(
     advance(chart, ahead, lost.as_slice(), op.op())
 }
 
-/// The origins of the message tags with these ids that are present.
+/// The origins of the present message tags with these ids. `Err` if memory runs out.
 fn origins_lost(
     alloc: Global,
     ahead: &FolderAhead<'_>,
@@ -147,7 +150,7 @@ fn origins_lost(
     Ok(lost)
 }
 
-/// Puts an origin, where there is one, behind the others.
+/// Appends the origin, if there is one, to `lost`.
 fn push_origin(lost: &mut Vec<OpId>, origin: Option<OpId>) -> Result<(), AllocError>
     ensures { OnOk result ((g : OpId) → list_any (same_id g) lost.new.items ≡ (list_any (same_id g) lost.old.items || is_some_id g origin)) }
 {
@@ -162,9 +165,11 @@ fn push_origin(lost: &mut Vec<OpId>, origin: Option<OpId>) -> Result<(), AllocEr
     }
 }
 
-/// Brings the chart up to an operation about its folder, from which these origins lose versions; the folder is as the operation
-/// leaves it, and is there. Messages whose versions change get the new mod-sequence; those without a version go, and one that comes
-/// takes the next UID. (No memory holds as many operations as a mod-sequence has numbers.)
+/// Brings the chart up to an operation about its folder, which `ahead` has applied and after which
+/// the folder exists. The origins `lost` lose versions by it. Messages whose versions change get
+/// the new mod-sequence, those without a version are removed, and a new one gets the next UID.
+/// `Err` if memory runs out. (It also fails if mod-sequences are used up, but no memory holds that
+/// many operations.)
 fn advance(
     chart: &mut ChartAhead<'_>,
     ahead: &FolderAhead<'_>,
@@ -184,8 +189,9 @@ fn advance(
     }
 }
 
-/// The messages of these origins get the mod-sequence, or go, where the folder has none of their versions any more. Tells where the last
-/// one's entry stands or stood.
+/// Gives each message of the origins `lost` the mod-sequence, or removes it if the folder has no
+/// version of it any longer. Returns the place where the last one's entry is or was. `Err` if
+/// memory runs out.
 fn lose(
     entries: &mut EntryOverlay<'_>,
     ahead: &FolderAhead<'_>,
@@ -209,8 +215,9 @@ fn has_version(ahead: &FolderAhead<'_>, origin: &OpId) -> bool
     ahead.has_version(origin)
 }
 
-/// The message of this origin gets the highest mod-sequence; one that has no entry gets one with the next UID, behind the others. Its
-/// entry may be near.
+/// Gives the message of the origin the highest mod-sequence. If the message has no entry, it gets
+/// one with the next UID, after the others. `near` is a guess at the place of its entry. `Err` if
+/// memory runs out.
 fn add(chart: &mut ChartAhead<'_>, origin: &OpId, near: usize) -> Result<(), AllocError>
     ensures uidnext { OnOk result (chart.new.uidnext ≡ (if has_entry chart.old.entries.entries origin.now then chart.old.uidnext else chart.old.uidnext + 1)) }
     ensures highest { chart.new.highest ≡ chart.old.highest }
@@ -228,7 +235,7 @@ fn add(chart: &mut ChartAhead<'_>, origin: &OpId, near: usize) -> Result<(), All
     Ok(())
 }
 
-/// Whether an entry with this UID can be put behind the others, as it can wherever a number is left.
+/// Whether an entry with this UID can be put after the others. It can whenever a UID is left.
 fn can_follow(entries: &EntryOverlay<'_>, uid: u32) -> bool
     ensures { result ≡ true → IsNext uid entries.now.entries × (uid < 4294967295) }
 {
@@ -239,7 +246,7 @@ fn can_follow(entries: &EntryOverlay<'_>, uid: u32) -> bool
     is_last_below(entries, uid)
 }
 
-/// Whether the last UID is below this one.
+/// Whether the last entry's UID is below this one, or there is no entry.
 fn is_last_below(entries: &EntryOverlay<'_>, uid: u32) -> bool
     ensures { result ≡ true → (length entries.now.entries ≡ 0) ⊎ ((e : ListingEntry) → (get_or entries.now.entries (length entries.now.entries - 1) e).uid < uid) }
 {
@@ -253,7 +260,7 @@ fn is_last_below(entries: &EntryOverlay<'_>, uid: u32) -> bool
     }
 }
 
-/// Whether an operation is about this folder.
+/// Whether an operation of this kind is about the folder.
 pub fn is_about(kind: &Kind, folder: &Name) -> bool
     ensures { result ≡ kind_names_folder folder.now kind.now }
 {

@@ -1,4 +1,4 @@
-//! Room in the charts for operations that come.
+//! Makes room in the charts for operations that are applied next.
 
 ghost use Rattle.std.specs.Prelude.{◌≡◌, ◌≤◌, ℕ, List, [], Option, None, true, false, length, OnOk};
 ghost use Rattle.indexmap.specs.IndexMap.{spare};
@@ -20,8 +20,8 @@ use mailbox_rows::EntryTable;
 use std::alloc::{AllocError, Global};
 use tags_clocks::OpId;
 
-/// Makes room for these operations in the charts of their folders; where a folder has no chart, it gets one. An error leaves
-/// all numbers as they were.
+/// Makes room for these operations in the charts of their folders. A folder without a chart gets
+/// one. An error leaves all numbers unchanged.
 pub fn make_rooms(
     alloc: Global,
     start: &Counters,
@@ -37,7 +37,7 @@ pub fn make_rooms(
     Ok(())
 }
 
-/// Makes room for so many operations in the chart of the operation's folder.
+/// Makes room for `more` operations in the chart of the operation's folder.
 fn room_for(
     alloc: Global,
     start: &Counters,
@@ -63,7 +63,7 @@ fn room_for(
     }
 }
 
-/// Whether an operation is about a folder.
+/// Whether an operation of this kind is about a folder.
 pub fn names_folder(kind: &Kind) -> bool
     ensures { result ≡ kind_names_folder (name_of kind.now) kind.now }
 {
@@ -78,7 +78,8 @@ pub fn names_folder(kind: &Kind) -> bool
     }
 }
 
-/// Makes room for so many operations in the folder's chart; for entries and versions where an origin is added.
+/// Makes room for `more` operations in the folder's chart, and, if they add an origin, for as many
+/// entries and versions.
 fn make_room(
     alloc: Global,
     start: &Counters,
@@ -97,7 +98,7 @@ fn make_room(
     }
 }
 
-/// Puts the chart of a folder that has none in, with room for so many operations.
+/// Puts in the chart of a folder that has none, with room for `more` operations.
 fn put_chart(
     alloc: Global,
     start: &Counters,
@@ -120,7 +121,7 @@ fn put_chart(
     Ok(())
 }
 
-/// The chart of a folder that isn't there, with this first UID.
+/// The chart of a folder that doesn't exist, whose first UID is `first`.
 fn absent_chart(alloc: Global, first: u32) -> Chart
     ensures there { result.there ≡ false }
     ensures uidnext { result.uidnext ≡ first }
@@ -138,8 +139,9 @@ fn absent_chart(alloc: Global, first: u32) -> Chart
     }
 }
 
-/// Makes room for so many operations in the chart; for entries and versions where an origin is added. (No memory holds as many operations
-/// as a mod-sequence has numbers.)
+/// Makes room for `more` operations in the chart, and, if they add an origin, for as many entries
+/// and versions. (It fails if too few mod-sequences are left, but no memory holds that many
+/// operations.)
 fn make_room_in(
     alloc: Global,
     chart: &mut Chart,
@@ -159,7 +161,7 @@ fn make_room_in(
     }
 }
 
-/// Makes places for so many entries and versions in the chart.
+/// Reserves places for `more` entries and versions in the chart.
 fn reserve_places(alloc: Global, chart: &mut Chart, more: usize) -> Result<(), AllocError>
     ensures same { IsSame chart.old chart.new }
     ensures ok { OnOk result ((more ≤ chart.new.entries.room) × (more ≤ spare chart.new.versions)) }

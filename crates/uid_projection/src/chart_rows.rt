@@ -1,4 +1,5 @@
-//! Single rows out of a chart's entries and the folders that tell their messages. Nothing here takes memory.
+//! Single rows of a listing, from a chart's entries and the folders' messages. Nothing here takes
+//! memory.
 
 ghost use Rattle.std.specs.Prelude.{◌≡◌, ◌≤◌, ◌<◌, ◌-◌, ℕ, List, ltb, length, get_or};
 ghost use Rattle.std.specs.List.{slice_get};
@@ -18,7 +19,7 @@ use folder_state::Folders;
 use imap_types::Name;
 use mailbox_rows::{EntryList, EntryTable, ListingEntry, Row};
 
-/// The row of the entry with this UID, if it is there.
+/// The row of the entry with this UID, or `None` if no entry has it.
 pub fn row_with<'a>(
     entries: &EntryTable,
     value: &'a Folders,
@@ -33,7 +34,7 @@ pub fn row_with<'a>(
     }
 }
 
-/// The entry with this UID, if it is there: a binary search.
+/// The entry with this UID, or `None` if no entry has it: a binary search.
 fn entry_with(entries: &EntryTable, uid: u32) -> Option<ListingEntry>
     ensures { AreUidsAscending entries.now.entries → result ≡ entry_with uid entries.now.entries }
 {
@@ -43,7 +44,7 @@ fn entry_with(entries: &EntryTable, uid: u32) -> Option<ListingEntry>
     }
 }
 
-/// The place of the first entry whose UID is no less than this one.
+/// The place of the first entry whose UID isn't below this one, or the number of entries.
 fn first_from(entries: &EntryTable, uid: u32) -> usize
     ensures within { result ≤ length entries.now.entries }
     ensures edge { (d : ListingEntry) → IsEdge (λ i. ltb (get_or entries.now.entries i d).uid uid) (length entries.now.entries) result }
@@ -61,7 +62,7 @@ fn first_from(entries: &EntryTable, uid: u32) -> usize
     low
 }
 
-/// Whether the UID at a place is below this one.
+/// Whether the UID at the place is below this one.
 fn is_below(entries: &EntryTable, place: usize, uid: u32) -> bool
     requires { place < length entries.now.entries }
     ensures { (d : ListingEntry) → result ≡ ltb (get_or entries.now.entries place d).uid uid }

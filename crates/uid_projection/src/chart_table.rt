@@ -1,4 +1,4 @@
-//! The charts of all folders that are there.
+//! The table of all folders' charts, by name.
 
 ghost use Rattle.std.specs.Prelude.{◌≡◌, ◌+◌, ℕ, List, [], ◌∷◌, ◌++◌, true, Option, option_copied};
 ghost use Rattle.tags_clocks.specs.declared.id.OpId.{OpId};
@@ -18,21 +18,21 @@ use folder_state::Folders;
 use imap_types::Name;
 use indexmap::IndexMap;
 
-/// The folder's chart.
+/// The folder's chart, or `None` if it has none.
 pub fn chart_of<'a>(charts: &'a IndexMap<Vec<u8>, Chart>, folder: &Name) -> Option<&'a Chart>
     ensures { option_copied result ≡ chart_at folder.now charts.now.entries }
 {
     charts.get(folder.as_bytes())
 }
 
-/// The UID that the folder's next line gets. Takes no memory. Cost: a look-up.
+/// The UID of the folder's next line. Takes no memory. Cost: a look-up.
 pub fn uidnext_in(start: &Counters, charts: &IndexMap<Vec<u8>, Chart>, folder: &Name) -> u32
     ensures { (list : List Op) (k : ℕ) → IsTable start.now list k charts.now.entries → result ≡ uidnext_of start.now folder.now list }
 {
     uidnext_by(start, folder, chart_of(charts, folder))
 }
 
-/// The UID that the next line of a folder gets that has this chart, or none.
+/// The UID of the next line of a folder with this chart, or without one.
 pub fn uidnext_by(start: &Counters, folder: &Name, chart: Option<&Chart>) -> u32
     ensures { (list : List Op) (k : ℕ) (charts : List (Bytes ℕ × Chart)) → IsTable start.now list k charts → option_copied chart.entry ≡ chart_at folder.now charts → result ≡ uidnext_of start.now folder.now list }
 {
@@ -42,8 +42,8 @@ pub fn uidnext_by(start: &Counters, folder: &Name, chart: Option<&Chart>) -> u32
     }
 }
 
-/// Brings the charts up to an operation about a folder, for which they have room; the folders are those behind it. Cost: what
-/// the operation names.
+/// Brings the charts up to an operation about a folder. They have room for it, and the folders have
+/// applied it. Cost: the ids that the operation names.
 pub fn note_on(
     start: &Counters,
     next_k: &mut u32,

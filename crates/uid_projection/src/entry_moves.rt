@@ -1,4 +1,4 @@
-//! What an operation makes of a folder's entries, as they are kept or as an overlay has them.
+//! How an operation changes a folder's entries, whether in their table or in an overlay on it.
 
 ghost use Rattle.std.specs.Prelude.{◌≡◌, ◌<◌, ◌+◌, ℕ, [], ◌∷◌, ◌++◌, true, false, Some, MatchOption, length, get_or, set, remove};
 ghost use Rattle.mailbox_rows.specs.declared.entry.ListingEntry.{ListingEntry};
@@ -10,7 +10,7 @@ use crdt_ops::{Kind, Op};
 use mailbox_rows::{EntryList, ListingEntry};
 use tags_clocks::OpId;
 
-/// The origin of the message tag that an operation adds, where it adds one.
+/// The origin of the message tag that the operation adds, or `None` if it adds none.
 pub fn added_origin(op: &Op) -> Option<OpId>
     ensures { result ≡ added_origin op.now }
 {
@@ -25,7 +25,8 @@ pub fn added_origin(op: &Op) -> Option<OpId>
     }
 }
 
-/// The place of the entry with this origin, which may be near: where that is its place, no search is made.
+/// The place of the entry with this origin. `near` is a guess: if it is right, no search is
+/// made.
 pub fn place_by<L: EntryList>(entries: &L, origin: &OpId, near: usize) -> Option<usize>
     ensures { MatchOption result (Lacks origin.now (L.entries entries.now)) (IsAt origin.now (L.entries entries.now)) }
 {
@@ -35,7 +36,7 @@ pub fn place_by<L: EntryList>(entries: &L, origin: &OpId, near: usize) -> Option
     entries.place_of(origin)
 }
 
-/// Whether there is an entry, and it is of this origin.
+/// Whether there is an entry and it has this origin.
 fn is_of(entry: Option<ListingEntry>, origin: &OpId) -> bool
     ensures { result ≡ true → (e : ListingEntry) × (entry ≡ Some e) × (e.origin ≡ origin.now) }
 {
@@ -45,8 +46,8 @@ fn is_of(entry: Option<ListingEntry>, origin: &OpId) -> bool
     }
 }
 
-/// Gives the message of this origin, if it has an entry, the mod-sequence where it stays, and takes it out where it doesn't. Tells where
-/// the entry stands or stood; 0 where there is none.
+/// Gives the entry of this origin, if any, the mod-sequence if its message stays, and removes it
+/// otherwise. Returns the place where the entry is or was, or 0 if there is none.
 pub fn settle<L: EntryList>(entries: &mut L, origin: &OpId, stays: bool, modseq: u64) -> usize
     requires { L.has_edits entries.old 1 }
     ensures entries { AreApart (L.entries entries.old) → L.entries entries.new ≡ moved_entries (λ g. same_id g origin.now) (λ g. stays) modseq (L.entries entries.old) }
@@ -61,7 +62,8 @@ pub fn settle<L: EntryList>(entries: &mut L, origin: &OpId, stays: bool, modseq:
     }
 }
 
-/// Gives the message of this origin, if it has an entry, the mod-sequence, and tells whether it has one. The entry may be near.
+/// Gives the entry of this origin, if any, the mod-sequence, and returns whether there is one.
+/// `near` is a guess at its place.
 pub fn renew<L: EntryList>(entries: &mut L, origin: &OpId, near: usize, modseq: u64) -> bool
     requires { L.has_edits entries.old 1 }
     ensures held { result ≡ has_entry (L.entries entries.old) origin.now }
@@ -78,7 +80,7 @@ pub fn renew<L: EntryList>(entries: &mut L, origin: &OpId, near: usize, modseq: 
     }
 }
 
-/// The same of the entry at this place.
+/// Does what `settle` does for the entry at this place.
 fn settle_at<L: EntryList>(entries: &mut L, place: usize, stays: bool, modseq: u64)
     requires within { place < length (L.entries entries.old) }
     requires edits { L.has_edits entries.old 1 }
@@ -93,7 +95,7 @@ fn settle_at<L: EntryList>(entries: &mut L, place: usize, stays: bool, modseq: u
     }
 }
 
-/// Puts an entry of an origin that has none behind the others.
+/// Appends an entry for an origin that has none.
 pub fn begin_line<L: EntryList>(entries: &mut L, origin: &OpId, uid: u32, modseq: u64)
     requires edits { L.has_edits entries.old 1 }
     requires room { L.has_room entries.old 1 }

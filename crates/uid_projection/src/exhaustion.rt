@@ -1,4 +1,5 @@
-//! Whether operations that come next would need a number that a counter doesn't have. Nothing here takes memory.
+//! Tests whether operations that are applied next need a number that a counter lacks. Nothing here
+//! takes memory.
 
 ghost use Rattle.std.specs.Prelude.{◌≡◌, ◌↔◌, ◌≤◌, ◌<◌, ◌+◌, ◌-◌, ◌&&◌, not, ℕ, List, [], ◌∷◌, ◌++◌, nat_le, if◌then◌else◌, IsTrue};
 ghost use Rattle.std.specs.Str.{bytes_eq};
@@ -22,9 +23,10 @@ use imap_types::Name;
 use indexmap::IndexMap;
 use tags_clocks::OpId;
 
-/// Whether one of these operations would need a number that a counter doesn't have, applied behind those in front of it. The
-/// folders are those of the list for which the charts stand. Its cost grows as the operations; near the end of
-/// a counter, as the operations' square times what is in the folders.
+/// Whether one of these operations, applied after those before it, needs a number that a counter
+/// lacks. `value` holds the folders that the charts follow.
+/// Cost: the number of operations; near the end of a counter, the square of their number times the
+/// size of the folders.
 pub fn are_exhausting(
     start: &Counters,
     next_k: u32,
@@ -45,7 +47,7 @@ pub fn are_exhausting(
     false
 }
 
-/// Whether the operation would need a UID, applied behind those in front, and none is left.
+/// Whether the operation, applied after those of `front`, needs a UID when none is left.
 fn lacks_uid(
     start: &Counters,
     charts: &IndexMap<Vec<u8>, Chart>,
@@ -65,14 +67,14 @@ fn lacks_uid(
         && uid_after(value, folder, first, now, front) == 4_294_967_295
 }
 
-/// Whether so many UIDs more may use them up.
+/// Whether `more` further UIDs may use them up.
 fn is_near(uid: u32, more: usize) -> bool
     ensures { result ≡ nat_le (4294967295 - uid) more }
 {
     (u32::MAX - uid) as usize <= more
 }
 
-/// Whether a line of the folder begins with the operation, applied behind these.
+/// Whether a line of the folder begins with the operation, applied after those of `front`.
 fn begins_line(value: &Folders, folder: &Name, front: &[SoundOp], op: &Op) -> bool
     ensures { (list : List Op) → IsApplied ((list ++ front.now) ++ op.now ∷ []) → IsMadeBy (contents_of value.now) list → result ≡ begins_line folder.now (list ++ front.now) op.now }
 {
@@ -91,7 +93,7 @@ fn begins_line(value: &Folders, folder: &Name, front: &[SoundOp], op: &Op) -> bo
     }
 }
 
-/// Whether both are one folder, in which the origin has no version after these operations.
+/// Whether both names are the same and the origin has no version in that folder after `front`.
 fn begins_anew(value: &Folders, folder: &Name, own: &Name, origin: &OpId, front: &[SoundOp]) -> bool
     ensures { (list : List Op) → IsApplied (list ++ front.now) → IsMadeBy (contents_of value.now) list → result ≡ (bytes_eq folder.now own.now && not (has_version folder.now origin.now (list ++ front.now))) }
 {
@@ -101,21 +103,21 @@ fn begins_anew(value: &Folders, folder: &Name, own: &Name, origin: &OpId, front:
     !has_version(value, folder, origin, front)
 }
 
-/// Whether the origin has a version in the folder after these operations.
+/// Whether the origin has a version in the folder after the operations of `front`.
 fn has_version(value: &Folders, folder: &Name, origin: &OpId, front: &[SoundOp]) -> bool
     ensures { (list : List Op) → IsApplied (list ++ front.now) → IsMadeBy (contents_of value.now) list → result ≡ has_version folder.now origin.now (list ++ front.now) }
 {
     value.has_version_after(folder, origin, front)
 }
 
-/// Whether both are one name.
+/// Whether both names are the same.
 pub fn is_same_name(folder: &Name, other: &Name) -> bool
     ensures { result ≡ bytes_eq folder.now other.now }
 {
     folder.as_bytes() == other.as_bytes()
 }
 
-/// The UID that the folder's next line gets after these operations, where `now` is that which it gets before them.
+/// The UID of the folder's next line after these operations, if it is `now` before them.
 pub fn uid_after(value: &Folders, folder: &Name, first: u32, now: u32, ops: &[SoundOp]) -> u64
     ensures { (start : Counters) (list : List Op) → IsApplied (list ++ ops.now) → IsMadeBy (contents_of value.now) list → first ≡ first_uid start folder.now → now ≡ uidnext_of start folder.now list → result ≡ uidnext_of start folder.now (list ++ ops.now) }
 {
@@ -139,7 +141,7 @@ fn uid_after_op(there: bool, begun: bool, first: u32, uid: u64) -> u64
     if begun { uid + 1 } else { uid }
 }
 
-/// Whether an incarnation would begin with it, and its k would pass 65,535.
+/// Whether an incarnation begins with the operation and its k is above 65,535.
 fn lacks_k(next_k: u32, value: &Folders, front: &[SoundOp], through: &[SoundOp], op: &Op) -> bool
     ensures { (start : Counters) (list : List Op) → through.now ≡ front.now ++ op.now ∷ [] → IsApplied (list ++ through.now) → IsMadeBy (contents_of value.now) list → next_k ≡ start.k + count_all begins_incarnation list → IsTrue result ↔ LacksK start (list ++ front.now) op.now }
 {
@@ -149,7 +151,8 @@ fn lacks_k(next_k: u32, value: &Folders, front: &[SoundOp], through: &[SoundOp],
     begins(value, front, through, op) && 65_535 < k_after(next_k, value, front)
 }
 
-/// Whether an incarnation would begin with it.
+/// Whether an incarnation begins with the operation. `through` holds the operations of `front` and
+/// this one.
 pub fn begins(value: &Folders, front: &[SoundOp], through: &[SoundOp], op: &Op) -> bool
     ensures { (list : List Op) → through.now ≡ front.now ++ op.now ∷ [] → IsApplied (list ++ through.now) → IsMadeBy (contents_of value.now) list → result ≡ begins_incarnation (list ++ front.now) op.now }
 {
@@ -157,7 +160,7 @@ pub fn begins(value: &Folders, front: &[SoundOp], through: &[SoundOp], op: &Op) 
     value.exists_after(folder, through) && !value.exists_after(folder, front)
 }
 
-/// The k of the next incarnation that begins after these operations, where `now` is that before them.
+/// The k of the next incarnation that begins after these operations, if it is `now` before them.
 fn k_after(now: u32, value: &Folders, ops: &[SoundOp]) -> u64
     ensures { (start : Counters) (list : List Op) → IsApplied (list ++ ops.now) → IsMadeBy (contents_of value.now) list → now ≡ start.k + count_all begins_incarnation list → result ≡ start.k + count_all begins_incarnation (list ++ ops.now) }
 {

@@ -1,4 +1,4 @@
-//! What a replica's counters begin with.
+//! `Counters`: the first numbers of a replica's counters.
 
 ghost use Rattle.std.specs.Prelude.{◌≡◌};
 ghost use Rattle.uid_projection.specs.UidsAndModSeqs.{first_uid};
@@ -13,11 +13,11 @@ pub struct Counters {
     pub replica: ReplicaId,
     /// INBOX's first UID, normally 1.
     pub uid: u32,
-    /// The k of the first incarnation of another folder, normally 1.
+    /// The k of the first incarnation of a folder other than INBOX, normally 1.
     pub k: u32,
 }
 
-/// The first UID of a folder.
+/// The folder's first UID: INBOX's own, or 1.
 pub fn first_of(start: &Counters, folder: &Name) -> u32
     ensures { result ≡ first_uid start.now folder.now }
 {

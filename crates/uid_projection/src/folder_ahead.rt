@@ -1,4 +1,4 @@
-//! One folder as operations to come leave it.
+//! `FolderAhead`: one folder after pending operations.
 
 ghost use Rattle.std.specs.Prelude.{◌≡◌, ◌↔◌, ◌&&◌, ◌||◌, not, None, Some, true, if◌then◌else◌, IfOk, OnOk, IsTrue};
 ghost use Rattle.std.specs.List.{list_any, slice_get};
@@ -27,7 +27,8 @@ use mailbox_rows::{FolderMessages, OwnedMessage};
 use std::alloc::{AllocError, Global};
 use tags_clocks::OpId;
 
-/// One folder as operations to come leave it, applied one by one in order; what is kept stays as it is.
+/// One folder after pending operations, which are applied one by one in order. The stored folder
+/// stays unchanged.
 pub struct FolderAhead<'a> {
     name: Name,
     value: &'a Folders,
@@ -36,7 +37,7 @@ pub struct FolderAhead<'a> {
     letters: IndexMap<OpId, LentDatedText<'a>>,
 }
 
-// By hand, so that crates above let it go as a whole.
+// By hand, so that crates above drop it whole.
 impl<'a> Drop for FolderAhead<'a> {
     fn drop(self) {
         let Self {
@@ -49,18 +50,19 @@ impl<'a> Drop for FolderAhead<'a> {
     }
 }
 
-/// A folder's messages as operations to come leave them: the mailbox as it is kept, and the messages that stand in place of
-/// those that it has, or beside them. Of one that is gone no version stands there.
+/// A folder's messages after pending operations: the stored messages, and the messages that replace
+/// some of them or are new. A removed message is replaced by one without a version.
 #[derive(Drop)]
 pub struct MailboxAhead<'a> {
-    /// The messages as they are kept.
+    /// The stored messages.
     pub mailbox: FolderMessages<'a>,
-    /// The messages that the operations make or change, by their origins.
+    /// The messages that the operations add or change, by their origins.
     pub fresh: IndexMap<OpId, OwnedMessage<'a>>,
 }
 
 impl<'a> FolderAhead<'a> {
-    /// The folder as it is kept; `Err` where there is no memory for its name. Cost: one look-up.
+    /// The stored folder, with no pending operation yet. `Err` if memory runs out. Cost: one
+    /// look-up.
     pub fn new(
         alloc: Global,
         value: &'a Folders,
@@ -79,8 +81,9 @@ impl<'a> FolderAhead<'a> {
         })
     }
 
-    /// Applies an operation. An error, for want of memory, leaves the folder of no use but to be let go. Cost: what the
-    /// operation names, and nothing but an Append's date and text where it is about another folder.
+    /// Applies an operation. `Err` if memory runs out; the folder can't be used after that. Cost:
+    /// the ids that the operation names; if it is about another folder, only an Append's date and
+    /// text.
     pub fn step(&mut self, alloc: Global, op: &'a SoundOp) -> Result<(), AllocError>
         ensures folder { folder_of self.new ≡ folder_of self.old }
         ensures ahead { OnOk result ((c : Contents) → IsAhead c self.old → IsAhead (effect_of c op.now) self.new) }
@@ -91,7 +94,7 @@ impl<'a> FolderAhead<'a> {
         self.keep_dated_text(alloc, op)
     }
 
-    /// Takes out the tags that an operation removes, where it is about this folder.
+    /// Takes out the tags that the operation removes, if it is about this folder.
     fn take_tags_of(&mut self, alloc: Global, op: &Op) -> Result<(), AllocError>
         ensures folder { folder_of self.new ≡ folder_of self.old }
         ensures orderly { OnOk result (IsOrderly self.old → IsOrderly self.new) }
@@ -110,7 +113,7 @@ impl<'a> FolderAhead<'a> {
         }
     }
 
-    /// Takes out the folder tags and the message tags with these ids, where they are of this folder.
+    /// Takes out the folder tags and message tags with these ids, if `folder` is this folder.
     fn take_all(&mut self, alloc: Global, folder: &Name, ids: &[OpId]) -> Result<(), AllocError>
         ensures folder { folder_of self.new ≡ folder_of self.old }
         ensures orderly { OnOk result (IsOrderly self.old → IsOrderly self.new) }
@@ -125,7 +128,7 @@ impl<'a> FolderAhead<'a> {
         self.messages.take(alloc, ids)
     }
 
-    /// Takes out the message tags with these ids, where they are of this folder.
+    /// Takes out the message tags with these ids, if `folder` is this folder.
     fn take_messages(
         &mut self,
         alloc: Global,
@@ -144,7 +147,7 @@ impl<'a> FolderAhead<'a> {
         self.messages.take(alloc, ids)
     }
 
-    /// Puts in the tag that an operation adds, where it is about this folder.
+    /// Puts in the tag that the operation adds, if it is about this folder.
     fn put_tag_of(&mut self, alloc: Global, op: &'a Op) -> Result<(), AllocError>
         ensures folder { folder_of self.new ≡ folder_of self.old }
         ensures orderly { OnOk result (IsOrderly self.old → IsOrderly self.new) }
@@ -170,7 +173,7 @@ impl<'a> FolderAhead<'a> {
         }
     }
 
-    /// Puts the folder tag with this id in, where it is of this folder.
+    /// Puts in the folder tag with this id, if `folder` is this folder.
     fn put_tag(&mut self, folder: &Name, id: &OpId) -> Result<(), AllocError>
         ensures folder { folder_of self.new ≡ folder_of self.old }
         ensures orderly { OnOk result (IsOrderly self.old → IsOrderly self.new) }
@@ -184,7 +187,7 @@ impl<'a> FolderAhead<'a> {
         note_tag(&mut self.tags, id, true)
     }
 
-    /// Puts the message tag with this id in, where it is of this folder.
+    /// Puts in the message tag with this id, if `folder` is this folder.
     fn put_message(
         &mut self,
         alloc: Global,
@@ -205,7 +208,8 @@ impl<'a> FolderAhead<'a> {
         self.messages.put(alloc, id, flags, origin)
     }
 
-    /// Keeps the date and text of an Append, of whatever folder: its id may be the origin of a message of this one.
+    /// Stores the date and text of an Append. The Append may be of any folder, since its id may be
+    /// the origin of a message of this one.
     fn keep_dated_text(&mut self, alloc: Global, op: &'a Op) -> Result<(), AllocError>
         ensures folder { folder_of self.new ≡ folder_of self.old }
         ensures orderly { OnOk result (IsOrderly self.old → IsOrderly self.new) }
@@ -219,7 +223,7 @@ impl<'a> FolderAhead<'a> {
         }
     }
 
-    /// Keeps a date and text under this id.
+    /// Stores a date and text under this id.
     fn put_dated_text(
         &mut self,
         alloc: Global,
@@ -237,8 +241,9 @@ impl<'a> FolderAhead<'a> {
         note_dated_text(&mut self.letters, id, date, text)
     }
 
-    /// Whether the folder is there: INBOX, or a name with a present tag. Takes no memory. Cost: the tags that the operations
-    /// changed, from the last one on, and those that are kept, up to the first that is there.
+    /// Whether the folder exists: it is INBOX or has a present tag. Takes no memory. Cost: the tags
+    /// that the operations changed, from the last one on, and then the stored ones, up to the first
+    /// present one.
     pub fn exists(&self) -> bool
         ensures { (c : Contents) → IsAhead c self.now → IsTrue result ↔ IsFolder c (folder_of self.now) }
     {
@@ -248,29 +253,30 @@ impl<'a> FolderAhead<'a> {
             || has_tag_left(&self.tags, &self.messages)
     }
 
-    /// Whether it is INBOX.
+    /// Whether the folder is INBOX.
     fn is_inbox(&self) -> bool
         ensures { result ≡ bytes_eq (folder_of self.now) inbox }
     {
         self.name.as_bytes() == b"INBOX".as_slice()
     }
 
-    /// Whether the origin has a version in the folder. Takes no memory. Cost: the versions that the origin has or got, up to the
-    /// first that is there.
+    /// Whether the origin has a version in the folder. Takes no memory. Cost: the origin's added
+    /// and stored versions, up to the first present one.
     pub fn has_version(&self, origin: &OpId) -> bool
         ensures { (c : Contents) → IsAhead c self.now → IsTrue result ↔ HasVersion c (folder_of self.now) origin.now }
     {
         self.messages.has_version(origin)
     }
 
-    /// The origin of the message tag with this id, where it is present. Takes no memory. Cost: two look-ups.
+    /// The origin of the message tag with this id, or `None` if the tag isn't present. Takes no
+    /// memory. Cost: two look-ups.
     pub fn origin_of(&self, id: &OpId) -> Option<OpId>
         ensures { (c : Contents) → IsAhead c self.now → result ≡ origin_in c (folder_of self.now) id.now }
     {
         self.messages.origin_of(id)
     }
 
-    /// Puts the message of the origin at this place among those that may have changed in.
+    /// Puts the message of the origin at this place into `fresh`. `Err` if memory runs out.
     fn hold_at(
         &self,
         alloc: Global,
@@ -285,7 +291,7 @@ impl<'a> FolderAhead<'a> {
         }
     }
 
-    /// The message of an origin; `Err` where there is no memory for its versions.
+    /// The message of an origin. `Err` if memory runs out.
     fn held(&self, alloc: Global, origin: &OpId) -> Result<OwnedMessage<'a>, AllocError>
         ensures { IsOrderly self.now → IfOk result (λ message. IsHeld self.now origin.now message) }
     {
@@ -293,7 +299,7 @@ impl<'a> FolderAhead<'a> {
         Ok(with_dated_text(self.dated_text(origin), versions))
     }
 
-    /// The date and text of the Append with this id.
+    /// The date and text of the Append with this id, or `None` if no such Append was applied.
     fn dated_text(&self, id: &OpId) -> Option<LentDatedText<'a>>
         ensures { option_map change_value result ≡ dated_texts_ahead self.now id.now }
     {
@@ -303,8 +309,8 @@ impl<'a> FolderAhead<'a> {
         }
     }
 
-    /// The folder's messages; `Err` where there is no memory for them. Cost: the versions of the messages that the operations
-    /// made or changed.
+    /// The folder's messages. `Err` if memory runs out. Cost: the versions of the messages that the
+    /// operations added or changed.
     pub fn mailbox(&self, alloc: Global) -> Result<MailboxAhead<'a>, AllocError>
         ensures { IfOk result (λ ahead. (c : Contents) → IsAhead c self.now → (origin : OpId) → HasVersion c (folder_of self.now) origin → IsMessageOf c (folder_of self.now) origin (message_ahead ahead origin)) }
     {
@@ -319,7 +325,7 @@ impl<'a> FolderAhead<'a> {
     }
 }
 
-/// Puts a message in for its origin. An error leaves all as it was.
+/// Puts in the message for its origin. `Err` if memory runs out; the others are then unchanged.
 fn put_held<'a>(
     fresh: &mut IndexMap<OpId, OwnedMessage<'a>>,
     origin: &OpId,
@@ -333,7 +339,7 @@ fn put_held<'a>(
     Ok(())
 }
 
-/// The date and text of the Append with this id, where they are kept.
+/// The stored date and text of the Append with this id, if any.
 fn kept_dated_text<'a>(value: &'a Folders, id: &OpId) -> Option<LentDatedText<'a>>
     ensures { option_map change_value result ≡ (contents_of value.now).letters id.now }
 {
@@ -346,7 +352,7 @@ fn kept_dated_text<'a>(value: &'a Folders, id: &OpId) -> Option<LentDatedText<'a
     }
 }
 
-/// The message with these versions, and with this date and text or none.
+/// The message with these versions and with this date and text, if any.
 fn with_dated_text<'a>(
     letter: Option<LentDatedText<'a>>,
     versions: Vec<Version>,

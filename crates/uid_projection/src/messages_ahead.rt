@@ -1,4 +1,4 @@
-//! A folder's messages as operations to come leave them.
+//! `MessagesAhead`: a folder's message tags after pending operations.
 
 ghost use Rattle.std.specs.Prelude.{◌≡◌, ◌↔◌, true, false, None, Some, IsSome, if◌then◌else◌, IfOk, IsTrue, OnOk};
 ghost use Rattle.std.specs.List.{list_any};
@@ -19,18 +19,18 @@ use indexmap::IndexMap;
 use std::alloc::{AllocError, Global};
 use tags_clocks::OpId;
 
-/// A folder's message tags as operations to come leave them. Each tag that they put in is listed for its origin, and the origin
-/// of each that they took out, or put another in place of, has a list too.
+/// A folder's message tags after pending operations. Each added tag is listed for its origin. The
+/// origin of each tag that was removed or replaced has a list too.
 pub struct MessagesAhead<'a> {
-    /// The folder as it is kept; None where it has no tags.
+    /// The stored folder, or `None` if it has no tags.
     pub kept: Option<&'a Folder>,
-    /// What changes of its message tags, by their ids.
+    /// The changes to its message tags, by their ids.
     pub changes: IndexMap<OpId, TagChange<'a>>,
-    /// The ids of tags that were put in, by their origins; some may be gone again.
+    /// The ids of added tags, by their origins. Some may be removed again.
     pub versions: IndexMap<OpId, Vec<OpId>>,
 }
 
-// By hand, so that crates above let it go as a whole.
+// By hand, so that crates above drop it whole.
 impl<'a> Drop for MessagesAhead<'a> {
     fn drop(self) {
         let Self {
@@ -42,7 +42,7 @@ impl<'a> Drop for MessagesAhead<'a> {
 }
 
 impl<'a> MessagesAhead<'a> {
-    /// The messages as they are kept; None where the folder has none.
+    /// The stored messages, with no change yet; `None` if the folder has none.
     pub fn new(alloc: Global, kept: Option<&'a Folder>) -> MessagesAhead<'a>
         ensures kept { kept_of result ≡ option_map (λ folder. folder.now) kept.entry }
         ensures bodies { (i : OpId) → bodies_of result i ≡ body_in_folder (kept_of result) i }
@@ -55,14 +55,14 @@ impl<'a> MessagesAhead<'a> {
         }
     }
 
-    /// The origin of the message tag with this id, where it is present.
+    /// The origin of the message tag with this id, or `None` if the tag isn't present.
     pub fn origin_of(&self, id: &OpId) -> Option<OpId>
         ensures { result ≡ origin_of (bodies_of self.now id.now) }
     {
         origin_of(self, id)
     }
 
-    /// Takes the message tags with these ids out.
+    /// Removes the message tags with these ids. `Err` if memory runs out.
     pub fn take(&mut self, alloc: Global, ids: &[OpId]) -> Result<(), AllocError>
         ensures kept { self.new.kept ≡ self.old.kept }
         ensures grows { OnOk result (Grows self.old.versions.entries self.new.versions.entries) }
@@ -75,7 +75,7 @@ impl<'a> MessagesAhead<'a> {
         Ok(())
     }
 
-    /// Takes the message tag with this id out.
+    /// Removes the message tag with this id. `Err` if memory runs out.
     fn take_one(&mut self, alloc: Global, id: &OpId) -> Result<(), AllocError>
         ensures kept { self.new.kept ≡ self.old.kept }
         ensures grows { OnOk result (Grows self.old.versions.entries self.new.versions.entries) }
@@ -86,7 +86,8 @@ impl<'a> MessagesAhead<'a> {
         note_change(&mut self.changes, id, None, id)
     }
 
-    /// Puts the message tag with this id in, in place of one with it.
+    /// Adds the message tag with this id, or replaces the one that has it. `Err` if memory runs
+    /// out.
     pub fn put(
         &mut self,
         alloc: Global,
@@ -104,15 +105,16 @@ impl<'a> MessagesAhead<'a> {
         note_change(&mut self.changes, id, Some(flags), origin)
     }
 
-    /// Whether the origin has a version. Cost: its versions that are kept, and those that were put in, up to the first that is
-    /// there.
+    /// Whether the origin has a version. Cost: its added and its stored versions, up to the first
+    /// present one.
     pub fn has_version(&self, origin: &OpId) -> bool
         ensures { IsWhole self.now → IsTrue result ↔ HasOrigin (bodies_of self.now) origin.now }
     {
         has_listed(self, self.versions.get(origin), origin) || has_kept(self, origin)
     }
 
-    /// Whether a tag that was put in is there. Cost: the tags that were changed, from the last one on, up to the first that is.
+    /// Whether an added tag is present. Cost: the changed tags, from the last one on, up to the
+    /// first present one.
     pub fn has_put(&self) -> bool
         ensures yes { result ≡ true → (i : OpId) × IsSome (bodies_of self.now i) }
         ensures no { result ≡ false → (i : OpId) → IsSome (bodies_of self.now i) → IsSome (body_in_folder (kept_of self.now) i) }
@@ -120,7 +122,7 @@ impl<'a> MessagesAhead<'a> {
         has_change_put(&self.changes)
     }
 
-    /// Copies of the versions of an origin, ascending by id; `Err` where there is no memory for them.
+    /// Copies of the origin's versions, ascending by id. `Err` if memory runs out.
     pub fn versions_of(&self, alloc: Global, origin: &OpId) -> Result<Vec<Version>, AllocError>
         ensures { IsWhole self.now → IfOk result (λ versions. AreAll (bodies_of self.now) origin.now versions.items) }
     {
@@ -137,7 +139,7 @@ impl<'a> MessagesAhead<'a> {
     }
 }
 
-/// Gives the origin of the message tag with this id, where it is kept, a list.
+/// Makes a list for the origin of the stored message tag with this id, if there is such a tag.
 fn list_kept_origin(
     alloc: Global,
     kept: Option<&Folder>,

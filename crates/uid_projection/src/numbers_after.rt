@@ -1,4 +1,4 @@
-//! A folder's numbers after operations that come next. Nothing here takes memory.
+//! A folder's numbers after operations that are applied next. Nothing here takes memory.
 
 ghost use Rattle.std.specs.Prelude.{◌≡◌, ◌≤◌, ◌<◌, ◌+◌, ◌*◌, ℕ, true, List, ◌++◌, Some, min, if◌then◌else◌};
 ghost use Rattle.crdt_ops.specs.declared.op.Op.{Op};
@@ -22,7 +22,7 @@ use imap_types::Name;
 use indexmap::IndexMap;
 use tags_clocks::ReplicaId;
 
-/// A UID that is known to be small.
+/// The UID as a 32-bit number. Callers know that it is one.
 pub fn uid_in_32_bits(uid: u64) -> u32
     ensures { uid ≤ 4294967295 → result ≡ uid }
 {
@@ -32,7 +32,7 @@ pub fn uid_in_32_bits(uid: u64) -> u32
     }
 }
 
-/// A mod-sequence, or the last 64-bit number where it is above.
+/// The mod-sequence as a 64-bit number, or the last such number if it is above.
 pub fn modseq_within(modseq: u128) -> u64
     ensures { result ≡ min modseq 18446744073709551615 }
 {
@@ -42,7 +42,7 @@ pub fn modseq_within(modseq: u128) -> u64
     }
 }
 
-/// The folder's HIGHESTMODSEQ after these operations, where `now` is that before them.
+/// The folder's HIGHESTMODSEQ after these operations, if it is `now` before them.
 pub fn highest_after(value: &Folders, folder: &Name, now: u64, ops: &[SoundOp]) -> u128
     ensures { (list : List Op) → IsApplied (list ++ ops.now) → IsMadeBy (contents_of value.now) list → now ≡ highest_modseq_of folder.now list → result ≡ highest_modseq_of folder.now (list ++ ops.now) }
 {
@@ -66,7 +66,7 @@ fn highest_after_op(there: bool, about: bool, highest: u128) -> u128
     if about { highest + 1 } else { highest }
 }
 
-/// The k of the folder's incarnation, or of the next one that begins where it isn't there.
+/// The k of the folder's incarnation, or of the next one that begins if the folder doesn't exist.
 pub fn k_in(charts: &IndexMap<Vec<u8>, Chart>, next_k: u32, folder: &Name) -> u32
     ensures { (start : Counters) (list : List Op) → IsTable start list next_k charts.now.entries → result ≡ k_of start folder.now list }
 {
@@ -82,8 +82,9 @@ fn k_now(chart: &Chart, next_k: u32) -> u32
     if chart.there { chart.k } else { next_k }
 }
 
-/// The k of the folder's incarnation after these operations, or of the next one that begins where it isn't there then. `now` is
-/// that before them, and `next_k` that of the next incarnation which begins.
+/// The k of the folder's incarnation after these operations, or of the next one that begins if the
+/// folder doesn't exist then. Before the operations it is `now`, and that of the next incarnation
+/// is `next_k`.
 pub fn k_of_after(value: &Folders, folder: &Name, now: u32, next_k: u32, ops: &[SoundOp]) -> u64
     ensures { (start : Counters) (list : List Op) → IsApplied (list ++ ops.now) → IsMadeBy (contents_of value.now) list → next_k ≡ start.k + count_all begins_incarnation list → now ≡ k_of start folder.now list → result ≡ k_of start folder.now (list ++ ops.now) }
 {
@@ -98,7 +99,8 @@ pub fn k_of_after(value: &Folders, folder: &Name, now: u32, next_k: u32, ops: &[
     k
 }
 
-/// Whether the folder is there before and behind each of these operations, since none of them deletes it. Cost: the operations, and whether it is there.
+/// Whether the folder exists and none of these operations deletes it, so that it exists before and
+/// after each of them. Cost: the number of operations, and a test whether the folder exists.
 pub fn remains(value: &Folders, folder: &Name, ops: &[SoundOp]) -> bool
     ensures { result ≡ true → (start : Counters) (list : List Op) → IsApplied (list ++ ops.now) → IsMadeBy (contents_of value.now) list → uidvalidity_of start folder.now (list ++ ops.now) ≡ uidvalidity_of start folder.now list }
 {

@@ -1,4 +1,4 @@
-//! The origins of a folder's versions, by the versions' ids.
+//! The table of the origins of a folder's versions, by the versions' ids.
 
 ghost use Rattle.std.specs.Prelude.{◌≡◌, ◌<◌, ◌≤◌, ◌+◌, None, if◌then◌else◌};
 ghost use Rattle.indexmap.specs.IndexMap.{spare};
@@ -10,14 +10,14 @@ ghost use Rattle.uid_projection.specs.ChartTable.{origin_at};
 use indexmap::IndexMap;
 use tags_clocks::OpId;
 
-/// The origin of the version with this id.
+/// The origin of the version with this id, or `None` if there is no such version.
 pub fn origin_at(versions: &IndexMap<OpId, OpId>, id: &OpId) -> Option<OpId>
     ensures { result ≡ origin_at versions.now.entries id.now }
 {
     versions.get(id).copied()
 }
 
-/// Takes the versions with these ids out.
+/// Takes out the versions with these ids.
 pub fn take_versions(versions: &mut IndexMap<OpId, OpId>, removed: &[OpId])
     ensures told { (i : OpId) → origin_at versions.new.entries i ≡ origins_without (origin_at versions.old.entries) removed.now i }
     ensures room { spare versions.old ≤ spare versions.new }
@@ -27,7 +27,7 @@ pub fn take_versions(versions: &mut IndexMap<OpId, OpId>, removed: &[OpId])
     }
 }
 
-/// Takes the version with this id out.
+/// Takes out the version with this id.
 fn take_version(versions: &mut IndexMap<OpId, OpId>, id: &OpId)
     ensures told { (i : OpId) → origin_at versions.new.entries i ≡ (if same_id id.now i then None else origin_at versions.old.entries i) }
     ensures room { spare versions.old ≤ spare versions.new }
@@ -35,7 +35,7 @@ fn take_version(versions: &mut IndexMap<OpId, OpId>, id: &OpId)
     versions.swap_remove(id);
 }
 
-/// Puts a version of this origin in, for which there is room.
+/// Puts in a version of this origin. The table has room for it.
 pub fn put_version(versions: &mut IndexMap<OpId, OpId>, id: &OpId, origin: &OpId)
     requires { 0 < spare versions.old }
     ensures told { (i : OpId) → origin_at versions.new.entries i ≡ origins_with (origin_at versions.old.entries) id.now origin.now i }

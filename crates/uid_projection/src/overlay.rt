@@ -1,4 +1,4 @@
-//! Message tags as changes leave them.
+//! Message tags of a stored folder with pending changes laid over them.
 
 ghost use Rattle.std.specs.Prelude.{◌≡◌, true, false, None, Some, OnOk, MatchOption};
 ghost use Rattle.std.specs.List.{list_any};
@@ -17,7 +17,7 @@ use imap_types::{Flags, Version};
 use std::alloc::{AllocError, Global};
 use tags_clocks::OpId;
 
-/// The origin of the message tag with this id, where it is present.
+/// The origin of the message tag with this id, or `None` if the tag isn't present.
 pub fn origin_of(messages: &MessagesAhead<'_>, id: &OpId) -> Option<OpId>
     ensures { result ≡ origin_of (bodies_of messages.now id.now) }
 {
@@ -27,7 +27,7 @@ pub fn origin_of(messages: &MessagesAhead<'_>, id: &OpId) -> Option<OpId>
     }
 }
 
-/// The origin of a message tag that a change leaves, where it is there.
+/// The origin of a changed message tag, or `None` if the change removed the tag.
 fn put_origin(flags: Option<&Flags>, origin: &OpId) -> Option<OpId>
     ensures { result ≡ option_map (λ _. origin.now) flags.entry }
 {
@@ -37,7 +37,7 @@ fn put_origin(flags: Option<&Flags>, origin: &OpId) -> Option<OpId>
     }
 }
 
-/// The origin of the message tag with this id, where it is kept.
+/// The origin of the stored message tag with this id, if there is one.
 pub fn kept_origin(kept: Option<&Folder>, id: &OpId) -> Option<OpId>
     ensures { result ≡ origin_of (body_in_folder (option_map (λ folder. folder.now) kept.entry) id.now) }
 {
@@ -47,7 +47,7 @@ pub fn kept_origin(kept: Option<&Folder>, id: &OpId) -> Option<OpId>
     }
 }
 
-/// Whether the id is that of a version of the origin that is there.
+/// Whether `id` is a present version of the origin.
 fn is_version(messages: &MessagesAhead<'_>, id: &OpId, origin: &OpId) -> bool
     ensures { result ≡ is_version (bodies_of messages.now) origin.now id.now }
 {
@@ -57,7 +57,7 @@ fn is_version(messages: &MessagesAhead<'_>, id: &OpId, origin: &OpId) -> bool
     }
 }
 
-/// Whether one of these ids, if there are any, is that of a version of the origin that is there.
+/// Whether one of these ids, if there are any, is a present version of the origin.
 pub fn has_listed(messages: &MessagesAhead<'_>, ids: Option<&Vec<OpId>>, origin: &OpId) -> bool
     ensures { result ≡ list_any (is_version (bodies_of messages.now) origin.now) (ids_listed (option_map (λ ids. ids.now) ids.entry)) }
 {
@@ -67,7 +67,7 @@ pub fn has_listed(messages: &MessagesAhead<'_>, ids: Option<&Vec<OpId>>, origin:
     }
 }
 
-/// Whether one of these ids is that of a version of the origin that is there.
+/// Whether one of these ids is a present version of the origin.
 fn has_one(messages: &MessagesAhead<'_>, ids: &[OpId], origin: &OpId) -> bool
     ensures { result ≡ list_any (is_version (bodies_of messages.now) origin.now) ids.now }
 {
@@ -79,7 +79,7 @@ fn has_one(messages: &MessagesAhead<'_>, ids: &[OpId], origin: &OpId) -> bool
     false
 }
 
-/// Whether a version of the origin that is kept is there.
+/// Whether a stored version of the origin is still present.
 pub fn has_kept(messages: &MessagesAhead<'_>, origin: &OpId) -> bool
     ensures yes { result ≡ true → HasOrigin (bodies_of messages.now) origin.now }
     ensures no { result ≡ false → (i : OpId) → origin_of (body_in_folder (kept_of messages.now) i) ≡ Some origin.now → origin_of (bodies_of messages.now i) ≡ Some origin.now → ⊥ }
@@ -90,7 +90,7 @@ pub fn has_kept(messages: &MessagesAhead<'_>, origin: &OpId) -> bool
     }
 }
 
-/// Whether a version of the origin that this folder keeps is there.
+/// Whether a version of the origin that `folder` stores is still present.
 fn has_kept_in(messages: &MessagesAhead<'_>, folder: &Folder, origin: &OpId) -> bool
     ensures yes { result ≡ true → HasOrigin (bodies_of messages.now) origin.now }
     ensures no { result ≡ false → (i : OpId) → origin_of (body_in_folder (Some folder.now) i) ≡ Some origin.now → origin_of (bodies_of messages.now i) ≡ Some origin.now → ⊥ }
@@ -101,7 +101,7 @@ fn has_kept_in(messages: &MessagesAhead<'_>, folder: &Folder, origin: &OpId) -> 
     }
 }
 
-/// Whether one of these versions is a version of the origin that is there.
+/// Whether one of these versions is a present version of the origin.
 fn has_one_of(messages: &MessagesAhead<'_>, versions: &[Version], origin: &OpId) -> bool
     ensures { result ≡ list_any (λ version. is_version (bodies_of messages.now) origin.now version.id) versions.now }
 {
@@ -113,7 +113,8 @@ fn has_one_of(messages: &MessagesAhead<'_>, versions: &[Version], origin: &OpId)
     false
 }
 
-/// Copies the versions of the origin that are kept and not changed to their places among these.
+/// Copies the origin's stored and unchanged versions to their places among `versions`. `Err` if
+/// memory runs out.
 pub fn place_kept(
     alloc: Global,
     messages: &MessagesAhead<'_>,
@@ -128,7 +129,7 @@ pub fn place_kept(
     }
 }
 
-/// The same with what this folder keeps.
+/// Does what `place_kept` does for the stored folder `folder`.
 fn place_kept_in(
     alloc: Global,
     messages: &MessagesAhead<'_>,
@@ -145,7 +146,8 @@ fn place_kept_in(
     }
 }
 
-/// Copies those of these kept versions that are not changed to their places among the others.
+/// Copies those of the stored versions `kept` that are unchanged to their places among `versions`.
+/// `Err` if memory runs out.
 fn place_left(
     alloc: Global,
     messages: &MessagesAhead<'_>,
@@ -164,7 +166,8 @@ fn place_left(
     Ok(())
 }
 
-/// Copies the versions of the origin among these ids of tags that were put in to their places among the others.
+/// Copies the origin's added versions with these ids, if there are any, to their places among
+/// `versions`. `Err` if memory runs out.
 pub fn place_listed(
     alloc: Global,
     messages: &MessagesAhead<'_>,
@@ -180,7 +183,7 @@ pub fn place_listed(
     }
 }
 
-/// The same with a list of ids.
+/// Does what `place_listed` does for a list of ids.
 fn place_put(
     alloc: Global,
     messages: &MessagesAhead<'_>,
@@ -196,7 +199,8 @@ fn place_put(
     Ok(())
 }
 
-/// Copies the version with this id to its place among the others, where it was put in and has this origin.
+/// Copies the version with this id to its place among `versions`, if it was added for this origin.
+/// `Err` if memory runs out.
 fn place_one(
     alloc: Global,
     messages: &MessagesAhead<'_>,
@@ -215,7 +219,7 @@ fn place_one(
     }
 }
 
-/// The flags that were put in with this id, where it has this origin.
+/// The flags that were added with this id, if they were added for this origin.
 fn put_flags<'a>(messages: &MessagesAhead<'a>, id: &OpId, origin: &OpId) -> Option<&'a Flags>
     ensures { MatchOption result (IsPut messages.now origin.now id.now → ⊥) (λ flags. bodies_of messages.now id.now ≡ Some (record { flags = flags.now; origin = origin.now })) }
 {

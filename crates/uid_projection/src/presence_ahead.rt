@@ -1,4 +1,4 @@
-//! Whether a tag of the folder is there.
+//! Tests whether a folder has a present tag after pending operations.
 
 ghost use Rattle.std.specs.Prelude.{◌≡◌, true, false, Some};
 ghost use Rattle.std.specs.List.{slice_get};
@@ -14,7 +14,7 @@ use folder_state::Folder;
 use indexmap::IndexMap;
 use tags_clocks::OpId;
 
-/// Whether one of these folder tags is there.
+/// Whether one of these changed folder tags is present.
 pub fn has_tag_put(tags: &IndexMap<OpId, bool>) -> bool
     ensures yes { result ≡ true → (i : OpId) × (is_tag (lookup (same_id i) tags.now.entries) ≡ true) }
     ensures no { result ≡ false → (i : OpId) → is_tag (lookup (same_id i) tags.now.entries) ≡ true → ⊥ }
@@ -29,7 +29,7 @@ pub fn has_tag_put(tags: &IndexMap<OpId, bool>) -> bool
     false
 }
 
-/// Whether the folder tag at this place is there.
+/// Whether the changed folder tag at this place is present.
 fn is_tag_at(tags: &IndexMap<OpId, bool>, place: usize) -> bool
     ensures { result ≡ value_at_key is_tag tags.now.entries (slice_get tags.now.entries place) }
 {
@@ -39,7 +39,7 @@ fn is_tag_at(tags: &IndexMap<OpId, bool>, place: usize) -> bool
     }
 }
 
-/// Whether the folder tag with this id is there, by these changes.
+/// Whether the folder tag with this id is present by these changes.
 fn is_tag(tags: &IndexMap<OpId, bool>, id: &OpId) -> bool
     ensures { result ≡ is_tag (lookup (same_id id.now) tags.now.entries) }
 {
@@ -49,7 +49,7 @@ fn is_tag(tags: &IndexMap<OpId, bool>, id: &OpId) -> bool
     }
 }
 
-/// Whether one of these message tags is there.
+/// Whether one of these changed message tags is present.
 pub fn has_change_put(changes: &IndexMap<OpId, TagChange<'_>>) -> bool
     ensures yes { result ≡ true → (i : OpId) × (is_put (lookup (same_id i) changes.now.entries) ≡ true) }
     ensures no { result ≡ false → (i : OpId) → is_put (lookup (same_id i) changes.now.entries) ≡ true → ⊥ }
@@ -64,7 +64,7 @@ pub fn has_change_put(changes: &IndexMap<OpId, TagChange<'_>>) -> bool
     false
 }
 
-/// Whether the message tag at this place is there.
+/// Whether the changed message tag at this place is present.
 fn is_put_at(changes: &IndexMap<OpId, TagChange<'_>>, place: usize) -> bool
     ensures { result ≡ value_at_key is_put changes.now.entries (slice_get changes.now.entries place) }
 {
@@ -74,7 +74,7 @@ fn is_put_at(changes: &IndexMap<OpId, TagChange<'_>>, place: usize) -> bool
     }
 }
 
-/// Whether the message tag with this id is there, by these changes.
+/// Whether the message tag with this id is present by these changes.
 fn is_put(changes: &IndexMap<OpId, TagChange<'_>>, id: &OpId) -> bool
     ensures { result ≡ is_put (lookup (same_id id.now) changes.now.entries) }
 {
@@ -84,7 +84,7 @@ fn is_put(changes: &IndexMap<OpId, TagChange<'_>>, id: &OpId) -> bool
     }
 }
 
-/// Whether a tag that is kept is there.
+/// Whether a stored tag is still present.
 pub fn has_tag_left(tags: &IndexMap<OpId, bool>, messages: &MessagesAhead<'_>) -> bool
     ensures yes { result ≡ true → (i : OpId) × (is_there tags.now.entries messages.now i ≡ true) }
     ensures no { result ≡ false → (i : OpId) → IsKeptTag (kept_of messages.now) i → is_there tags.now.entries messages.now i ≡ true → ⊥ }
@@ -95,7 +95,7 @@ pub fn has_tag_left(tags: &IndexMap<OpId, bool>, messages: &MessagesAhead<'_>) -
     }
 }
 
-/// Whether a tag that this folder keeps is there.
+/// Whether a tag that `folder` stores is still present.
 fn has_tag_left_in(
     tags: &IndexMap<OpId, bool>,
     messages: &MessagesAhead<'_>,
@@ -113,7 +113,7 @@ fn has_tag_left_in(
     false
 }
 
-/// Whether a tag with the id at this place is there.
+/// Whether the tag with the id at this place is present.
 fn is_there_at(
     tags: &IndexMap<OpId, bool>,
     messages: &MessagesAhead<'_>,
@@ -129,7 +129,7 @@ fn is_there_at(
     }
 }
 
-/// Whether a tag with this id is there, of either kind.
+/// Whether a folder tag or a message tag with this id is present.
 fn is_there(
     tags: &IndexMap<OpId, bool>,
     messages: &MessagesAhead<'_>,
@@ -142,7 +142,7 @@ fn is_there(
     has_tag(tags, folder, id) || messages.origin_of(id).is_some()
 }
 
-/// Whether the folder tag with this id is there.
+/// Whether the folder tag with this id is present.
 fn has_tag(tags: &IndexMap<OpId, bool>, folder: &Folder, id: &OpId) -> bool
     ensures { result ≡ tag_over tags.now.entries (Some folder.now) id.now }
 {

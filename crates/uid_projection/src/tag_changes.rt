@@ -1,4 +1,5 @@
-//! What operations change, lent by them.
+//! What pending operations change in a folder: its folder tags, its message tags, and dates and
+//! texts. All is borrowed from the operations.
 
 ghost use Rattle.std.specs.Prelude.{◌≡◌, true, false, None, Some, if◌then◌else◌, OnErr, OnOk};
 ghost use Rattle.std.specs.List.{list_any};
@@ -11,25 +12,26 @@ use indexmap::IndexMap;
 use std::alloc::AllocError;
 use tags_clocks::OpId;
 
-/// What operations leave of a message tag.
+/// A message tag after pending operations.
 #[derive(Clone, Copy)]
 pub struct TagChange<'a> {
-    /// The flags that it carries; None where it is gone.
+    /// The flags that the tag carries, or `None` if it was removed.
     pub flags: Option<&'a Flags>,
     /// The id of the Append that has the message's date and text.
     pub origin: OpId,
 }
 
-/// The date and text of an Append.
+/// The date and text of an Append, borrowed.
 #[derive(Clone, Copy)]
 pub struct LentDatedText<'a> {
     /// When the message was received.
     pub date: &'a DateTime,
-    /// Its octets.
+    /// The message's octets.
     pub text: &'a Text,
 }
 
-/// Notes whether the folder tag with this id is present. An error leaves all as it was.
+/// Notes whether the folder tag with this id is present. `Err` if memory runs out; the notes are
+/// then unchanged.
 pub fn note_tag(tags: &mut IndexMap<OpId, bool>, id: &OpId, present: bool) -> Result<(), AllocError>
     ensures { OnOk result ((i : OpId) → lookup (same_id i) tags.new.entries ≡ (if same_id id.now i then Some present else lookup (same_id i) tags.old.entries)) }
 {
@@ -39,7 +41,7 @@ pub fn note_tag(tags: &mut IndexMap<OpId, bool>, id: &OpId, present: bool) -> Re
     Ok(())
 }
 
-/// Notes that the folder tags with these ids are gone.
+/// Notes that the folder tags with these ids are removed. `Err` if memory runs out.
 pub fn note_tags_gone(tags: &mut IndexMap<OpId, bool>, ids: &[OpId]) -> Result<(), AllocError>
     ensures { OnOk result ((i : OpId) → lookup (same_id i) tags.new.entries ≡ (if list_any (same_id i) ids.now then Some false else lookup (same_id i) tags.old.entries)) }
 {
@@ -49,7 +51,8 @@ pub fn note_tags_gone(tags: &mut IndexMap<OpId, bool>, ids: &[OpId]) -> Result<(
     Ok(())
 }
 
-/// Notes what is left of the message tag with this id. An error leaves all as it was.
+/// Notes the change to the message tag with this id. `Err` if memory runs out; the notes are then
+/// unchanged.
 pub fn note_change<'a>(
     changes: &mut IndexMap<OpId, TagChange<'a>>,
     id: &OpId,
@@ -69,7 +72,8 @@ pub fn note_change<'a>(
     Ok(())
 }
 
-/// Notes the date and text of the Append with this id. An error leaves all as it was.
+/// Notes the date and text of the Append with this id. `Err` if memory runs out; the notes are then
+/// unchanged.
 pub fn note_dated_text<'a>(
     letters: &mut IndexMap<OpId, LentDatedText<'a>>,
     id: &OpId,

@@ -1,4 +1,4 @@
-//! Which messages of a folder operations to come touch, by their UIDs.
+//! Which messages of a folder pending operations change, by their UIDs.
 
 ghost use Rattle.std.specs.Prelude.{◌≡◌, ◌||◌, ◌++◌, ℕ, List, [], Some, IfOk, OnOk, map};
 ghost use Rattle.std.specs.List.{list_any, slice_get};
@@ -28,9 +28,11 @@ use std::alloc::{AllocError, Global};
 use tags_clocks::OpId;
 
 impl Charts {
-    /// The UIDs of the folder's messages that these operations change or expunge, applied next in this order; in no order, and some
-    /// perhaps more than once or although nothing changes. Below the folder's UIDNEXT every other row stays as it is, as long as the
-    /// UIDVALIDITY does. `Err` where there is no memory for them. Cost: what the operations name, a look-up each.
+    /// The UIDs of the folder's messages that these operations change or expunge if they are
+    /// applied next, in this order. The UIDs are in no order; a UID may occur more than once, or
+    /// although its message doesn't change. Below the folder's UIDNEXT, every other row stays
+    /// unchanged as long as the UIDVALIDITY does. `Err` if memory runs out. Cost: a look-up for
+    /// each id that the operations name.
     pub fn touched_uids(
         &self,
         alloc: Global,
@@ -46,7 +48,7 @@ impl Charts {
     }
 }
 
-/// The UIDs of the messages that operations about the folder name.
+/// The UIDs of the messages that operations about the folder name. `Err` if memory runs out.
 fn uids_of_messages_named(
     alloc: Global,
     chart: &Chart,
@@ -62,7 +64,7 @@ fn uids_of_messages_named(
     Ok(uids)
 }
 
-/// Puts the UIDs of the messages that the operation names behind the others, where it is about the folder.
+/// Appends the UIDs of the messages that the operation names, if it is about the folder.
 fn push_uids_named(
     uids: &mut Vec<u32>,
     chart: &Chart,
@@ -81,7 +83,8 @@ fn push_uids_named(
     }
 }
 
-/// Puts the UID of the message of this origin, where it has an entry, behind the others, unless it is there for one of these versions.
+/// Appends the UID of the entry of this origin, if any, unless one of the versions `removed` is of
+/// this origin, so that the UID is listed already.
 fn push_added(
     uids: &mut Vec<u32>,
     chart: &Chart,
@@ -96,7 +99,7 @@ fn push_added(
     push_entry(uids, &chart.entries, origin)
 }
 
-/// Whether one of these is a version of this origin.
+/// Whether one of the versions `removed` is of this origin.
 fn is_lost(chart: &Chart, removed: &[OpId], origin: &OpId) -> bool
     ensures { result ≡ loses (origin_at chart.now.versions.entries) removed.now origin.now }
 {
@@ -108,7 +111,7 @@ fn is_lost(chart: &Chart, removed: &[OpId], origin: &OpId) -> bool
     false
 }
 
-/// Whether the version with this id is one of this origin.
+/// Whether the version with this id is of this origin.
 fn is_at(versions: &IndexMap<OpId, OpId>, id: &OpId, origin: &OpId) -> bool
     ensures { result ≡ is_some_id origin.now (origin_at versions.now.entries id.now) }
 {
@@ -118,7 +121,7 @@ fn is_at(versions: &IndexMap<OpId, OpId>, id: &OpId, origin: &OpId) -> bool
     }
 }
 
-/// Puts the UIDs of the messages of which these are versions behind the others.
+/// Appends the UIDs of the messages that have one of the versions `removed`.
 fn push_uids_of_lost(uids: &mut Vec<u32>, chart: &Chart, removed: &[OpId]) -> Result<(), AllocError>
     ensures { OnOk result (AddsUids (loses (origin_at chart.now.versions.entries) removed.now) chart.now.entries.entries uids.old.items uids.new.items) }
 {
@@ -128,7 +131,7 @@ fn push_uids_of_lost(uids: &mut Vec<u32>, chart: &Chart, removed: &[OpId]) -> Re
     Ok(())
 }
 
-/// Puts the UID of the message of this origin, where there is one and it has an entry, behind the others.
+/// Appends the UID of the entry of this origin, if there are an origin and an entry.
 fn push_origin(
     uids: &mut Vec<u32>,
     entries: &EntryTable,
@@ -142,7 +145,7 @@ fn push_origin(
     }
 }
 
-/// The same of an origin that is there.
+/// Appends the UID of the entry of this origin, if there is one.
 fn push_entry(uids: &mut Vec<u32>, entries: &EntryTable, origin: &OpId) -> Result<(), AllocError>
     ensures { OnOk result (AddsUids (λ g. is_some_id g (Some origin.now)) entries.now.entries uids.old.items uids.new.items) }
 {
@@ -152,7 +155,7 @@ fn push_entry(uids: &mut Vec<u32>, entries: &EntryTable, origin: &OpId) -> Resul
     }
 }
 
-/// Puts the UID of the entry at this place behind the others.
+/// Appends the UID of the entry at this place.
 fn push_at(uids: &mut Vec<u32>, entries: &EntryTable, place: usize) -> Result<(), AllocError>
     ensures { OnOk result (uids.new.items ≡ uids.old.items ++ map (λ e. e.uid) (option_to_list (slice_get entries.now.entries place))) }
 {

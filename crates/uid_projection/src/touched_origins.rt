@@ -1,4 +1,4 @@
-//! The ids that are listed for the origins whose messages may have changed.
+//! Lists of added ids, one list for each origin whose message may have changed.
 
 ghost use Rattle.std.specs.Prelude.{◌≡◌, None, Some, IsSome, OnOk};
 ghost use Rattle.std.specs.Map.{lookup};
@@ -11,7 +11,7 @@ use indexmap::IndexMap;
 use std::alloc::{AllocError, Global};
 use tags_clocks::OpId;
 
-/// Begins a list for this origin, where there is none.
+/// Makes an empty list for this origin, unless it has one. `Err` if memory runs out.
 pub fn touch(
     alloc: Global,
     versions: &mut IndexMap<OpId, Vec<OpId>>,
@@ -26,7 +26,7 @@ pub fn touch(
     begin(versions, origin, Vec::new(alloc))
 }
 
-/// Lists an id for this origin.
+/// Adds an id to the list of this origin. `Err` if memory runs out.
 pub fn list(
     alloc: Global,
     versions: &mut IndexMap<OpId, Vec<OpId>>,
@@ -43,7 +43,7 @@ pub fn list(
     }
 }
 
-/// Puts an id behind the others. An error leaves these.
+/// Appends an id to a list. `Err` if memory runs out; the list is then unchanged.
 fn push(ids: &mut Vec<OpId>, id: &OpId) -> Result<(), AllocError>
     ensures kept { (i : OpId) → IsIn i ids.old.items → IsIn i ids.new.items }
     ensures put { OnOk result (IsIn id.now ids.new.items) }
@@ -52,7 +52,7 @@ fn push(ids: &mut Vec<OpId>, id: &OpId) -> Result<(), AllocError>
     Ok(())
 }
 
-/// Puts a list in for an origin that has none.
+/// Puts in the list of an origin that has none. `Err` if memory runs out.
 fn begin(
     versions: &mut IndexMap<OpId, Vec<OpId>>,
     origin: &OpId,

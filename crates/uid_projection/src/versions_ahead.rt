@@ -1,4 +1,4 @@
-//! Versions in their order.
+//! Lists of versions in ascending order of their ids.
 
 ghost use Rattle.std.specs.Prelude.{◌≡◌, ◌≤◌, OnOk, MatchResult, insert, length};
 ghost use Rattle.crdt_ops.specs.SortedSets.{insert_ordered};
@@ -7,7 +7,8 @@ ghost use Rattle.uid_projection.specs.TagChanges.{by_id};
 use imap_types::Version;
 use std::alloc::AllocError;
 
-/// Puts a version in its place; where its id is there, all stays.
+/// Puts the version in its place. If the list has one with its id, the list is unchanged. `Err` if
+/// memory runs out.
 pub fn place(versions: &mut Vec<Version>, version: Version) -> Result<(), AllocError>
     ensures { OnOk result (versions.new.items ≡ insert_ordered by_id version versions.old.items) }
 {
@@ -19,7 +20,7 @@ pub fn place(versions: &mut Vec<Version>, version: Version) -> Result<(), AllocE
     Ok(())
 }
 
-/// Where a version with this one's id stands, or where this one would be put.
+/// The place of the version with this one's id (`Ok`), or the place where this one belongs (`Err`).
 fn place_of(versions: &[Version], version: &Version) -> Result<usize, usize>
     ensures { MatchResult result
         (λ at. insert_ordered by_id version.now versions.now ≡ versions.now)
