@@ -8,7 +8,7 @@ use Rattle.idle_feed.specs.declared.feed.TakenNotes.TheVariants.{Changes, Resync
 use Rattle.session_view.specs.declared.notes.Note.{Note}
 use Rattle.session_view.specs.declared.view_entry.ViewEntry.{ViewEntry}
 
--- one note more
+-- one further note
 pub missed_stays : (p : Pending) (n : Note) (found : Bool) → p.missed ≡ true → (pending_after p (one n found)).missed ≡ true
 missed_stays p n found m = rw m refl
 
@@ -28,7 +28,7 @@ note_step p n found rest all h =
       ]
     ]
 
--- what is put back in an empty feed
+-- notes that are put back into an empty feed
 pub left_is_noted : (taken : TakenNotes) (rows : List ListedMessage) (goal : List ViewEntry) → IsLeftNoted taken rows goal → NotesAllOf (pending_after no_pending (input_of_restore taken true)) rows goal
 left_is_noted (Changes notes) rows goal h =
     elim (cases_Bool (nat_le (length notes) 4096)) [ inl fits ↦ inr (rw fits h) | inr over ↦ inl (rw over refl) ]

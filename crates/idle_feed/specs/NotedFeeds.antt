@@ -1,3 +1,6 @@
+-- Feeds that name every difference between a view and its mailbox's listing, and the changes of a
+-- view that keep them so.
+
 use Rattle.std.specs.Prelude.{◌≡◌, ◌⊎◌, Bool, true, List, []}
 use Rattle.mailbox_rows.specs.ListedMessage.{ListedMessage}
 use Rattle.idle_feed.specs.declared.view_change.ViewChange.{ViewChange}
@@ -11,30 +14,32 @@ use Rattle.session_view.specs.Views.{AreRising}
 use Rattle.session_view.specs.declared.notes.Note.{Note}
 use Rattle.session_view.specs.declared.view_entry.ViewEntry.{ViewEntry}
 
--- What is to be told names every row that differs between the messages seen and the listing, or says that some was missed.
+-- The feed's notes name every row that differs between the view's messages and the listing, or some
+-- notes were missed.
 abbrev pub NotesAllOf : Pending → List ListedMessage → List ViewEntry → Type 0
 NotesAllOf p rows entries = (p.missed ≡ true) ⊎ NoteAllChanges p.notes rows entries
 
--- What is left names them, or says so.
+-- The taken notes name every such row, or they are a resync.
 abbrev pub IsLeftNoted : TakenNotes → List ListedMessage → List ViewEntry → Type 0
 IsLeftNoted (Changes notes) rows entries = NoteAllChanges notes rows entries
 IsLeftNoted Resync rows entries = Unit {0}
 
--- These notes name them, if they are said to be all.
+-- If `whole` says that these notes are all, they name every such row.
 abbrev pub IsLeftBy : List Note → Bool → List ListedMessage → List ViewEntry → Type 0
 IsLeftBy left whole rows entries = whole ≡ true → NoteAllChanges left rows entries
 
--- The messages seen behind a change.
+-- The view's messages after a change.
 abbrev pub entries_after_change : List ViewEntry → ViewChange → List ViewEntry
 entries_after_change view (InPlace first patch left whole) = patched_entries (after_silent view first.items) patch.gone.items patch.came.items patch.flags.items
 entries_after_change view (Anew entries left whole) = entries.items
 
--- What the change leaves, if it is all, names every row that differs between what is seen then and the listing.
+-- The notes that the change leaves, if they are all, name every row that differs then between the
+-- view and the listing.
 abbrev pub IsChangeTo : List ListedMessage → List ViewEntry → ViewChange → Type 0
 IsChangeTo rows view (InPlace first patch left whole) = IsLeftBy left.items whole rows (patched_entries (after_silent view first.items) patch.gone.items patch.came.items patch.flags.items)
 IsChangeTo rows view (Anew entries left whole) = IsLeftBy left.items whole rows entries.items
 
--- The change can be made with no more memory, and the UIDs ascend behind it.
+-- The change can be made without further memory, and the UIDs ascend after it.
 abbrev pub CanCommit : List ViewEntry → ViewChange → Type 0
 CanCommit view (InPlace first patch left whole) =
     HasRoomForArrivals (after_silent view first.items) patch × AreRising 1 (patched_entries (after_silent view first.items) patch.gone.items patch.came.items patch.flags.items)

@@ -1,4 +1,4 @@
-//! Feeds.
+//! `Feed`: a session's notes of what changed in its mailbox.
 
 ghost use Rattle.std.specs.Prelude.{◌≡◌, ◌⊎◌, ◌≤◌, ◌+◌, ◌-◌, ◌&&◌, [], true, false, nat_lt, length, min, OnOk};
 ghost use Rattle.std.specs.Option.{option_copied};
@@ -9,26 +9,26 @@ use std::alloc::{AllocError, Global};
 use std::marker::Model;
 use std::mem;
 
-/// The most notes that a feed keeps.
+/// The most notes that a feed holds.
 pub const MAX_NOTES: usize = 4_096;
 
-/// What was taken out of a feed.
+/// The notes that were taken out of a feed.
 #[derive(Drop)]
 pub enum TakenNotes {
-    /// All notes since the last time.
+    /// All notes since they were last taken.
     Changes { changes: Changes },
-    /// Some were missed: all of the view is to be compared.
+    /// Some notes were missed, so the whole view has to be compared.
     Resync,
 }
 
-/// Notes of what a session is still to be told.
+/// Notes of what is still to be sent to a session.
 pub struct Feed {
     notes: Vec<Note>,
-    /// Whether some were missed. No notes are kept then.
+    /// Whether some notes were missed. The feed then holds none.
     missed: bool,
 }
 
-// By hand, so that crates above let it go as a whole.
+// By hand, so that crates above drop it whole.
 impl Drop for Feed {
     fn drop(self) {
         let Self {
@@ -50,7 +50,7 @@ impl Model for Feed {
 }
 
 impl Feed {
-    /// A feed with nothing to tell; it has no room.
+    /// A feed without notes and without room.
     pub fn new(alloc: Global) -> Feed
         ensures { result.pending ≡ no_pending }
     {
@@ -60,7 +60,8 @@ impl Feed {
         }
     }
 
-    /// Makes room for so many more notes, or for as many as a feed keeps. `Err` where there is no memory; what is to be told stays anyhow.
+    /// Makes room for `additional` further notes, or for as many as a feed can still hold. `Err` if
+    /// memory runs out; the notes stay unchanged either way.
     pub fn ready(&mut self, additional: usize) -> Result<(), AllocError>
         ensures same { self.new.pending ≡ self.old.pending }
         ensures ok { OnOk result (min additional (4096 - length self.old.pending.notes) ≤ self.new.room) }
@@ -70,7 +71,8 @@ impl Feed {
         self.notes.reserve(additional.min(left))
     }
 
-    /// Notes something; takes no memory. The 4,097th note, and one for which there is no room, are missed.
+    /// Adds a note. Takes no memory. A note for which there is no room is missed, and so is the
+    /// 4,097th.
     pub fn note(&mut self, note: Note)
         ensures pending { self.new.pending ≡ pending_after self.old.pending (one note (nat_lt 0 self.old.room)) }
         ensures room { self.old.room ≤ self.new.room + 1 }
@@ -85,8 +87,8 @@ impl Feed {
         }
     }
 
-    /// Takes all notes that came or were put back since the last time, or tells that some were missed; takes no memory. Nothing is to be
-    /// told then.
+    /// Takes all notes that came or were put back since the last time, or says that some were
+    /// missed. Takes no memory. The feed is empty then.
     pub fn take(&mut self) -> TakenNotes
         ensures taken { result ≡ taken_from self.old.pending }
         ensures rest { self.new.pending ≡ no_pending }
@@ -102,7 +104,7 @@ impl Feed {
         }
     }
 
-    /// Puts back what was taken. It takes no memory where nothing came since.
+    /// Puts back what was taken. Takes no memory if nothing came since.
     pub fn restore(&mut self, taken: TakenNotes)
         ensures back { self.old.pending.notes ≡ [] → self.new.pending ≡ pending_after self.old.pending (input_of_restore taken true) }
         ensures anyhow { (self.new.pending ≡ pending_after self.old.pending (input_of_restore taken true)) ⊎ (self.new.pending ≡ pending_after self.old.pending (input_of_restore taken false)) }
@@ -141,14 +143,14 @@ impl Feed {
         }
     }
 
-    /// What is to be told, in its order; `None` where some was missed.
+    /// The notes in their order, or `None` if some were missed.
     pub fn notes(&self) -> Option<&[Note]>
         ensures { option_copied result ≡ pending_notes self.now.pending }
     {
         if self.missed { None } else { Some(&self.notes) }
     }
 
-    /// Lets all notes go, and keeps their room; takes no memory.
+    /// Drops all notes and keeps their room. Takes no memory.
     pub fn clear(&mut self)
         ensures pending { self.new.pending ≡ no_pending }
         ensures room { self.new.room ≡ self.old.room + length self.old.pending.notes }
@@ -157,14 +159,14 @@ impl Feed {
         self.missed = false;
     }
 
-    /// Whether a note is kept that comes now.
+    /// Whether there is a place for one further note.
     fn has_place(&self) -> bool
         ensures { result ≡ (nat_lt 0 self.now.room && nat_lt (length self.now.pending.notes) 4096) }
     {
         self.notes.len() < self.notes.capacity() && self.notes.len() < MAX_NOTES
     }
 
-    /// Some were missed.
+    /// Drops all notes and says that some were missed.
     fn miss(&mut self)
         ensures pending { self.new.pending ≡ missed_pending }
         ensures room { self.new.room ≡ self.old.room + length self.old.pending.notes }

@@ -1,4 +1,4 @@
-//! What operations changed, noted.
+//! Adds the notes of operations to a feed.
 
 ghost use Rattle.std.specs.Prelude.{◌≡◌, ◌⊎◌, ◌++◌, true, List};
 ghost use Rattle.mailbox_rows.specs.ListedMessage.{ListedMessage};
@@ -10,7 +10,8 @@ ghost use Rattle.idle_feed.specs.NotedFeeds.{NotesAllOf};
 use crate::feed::Feed;
 use session_view::Note;
 
-/// Notes what changed in a view's mailbox; takes no memory. What lacks room is missed, and the feed says so.
+/// Notes what changed in a view's mailbox. Takes no memory. A note for which there is no room is
+/// missed, and the feed says so.
 pub fn note_all(feed: &mut Feed, notes: &[Note])
     ensures noted { (before after : List ListedMessage) (view : List ViewEntry) → NotesAllOf feed.old.pending before view → NoteAllChanges notes.now after (entries_of before) → NotesAllOf feed.new.pending after view }
 {

@@ -1,8 +1,14 @@
-//! What a session is still to be told of the mailbox that it has selected.
+//! Notes of what is still to be sent to a session about its selected mailbox.
 //!
-//! A feed keeps notes of what happened to the mailbox's messages since the session was told last, so that nobody has to compare all of its
-//! view with all of the mailbox. It keeps 4,096 at most: of what it misses it tells that it missed some. A sync of the view by its feed is
-//! planned with all memory that it takes, and done in place without any.
+//! A [`Feed`] holds notes of what happened to the mailbox's messages since the last sync of the
+//! session, so that its whole view needn't be compared with the whole mailbox. It holds at most
+//! 4,096 notes. If it misses some, because there are more or memory ran out, it says so.
+//!
+//! The contract of a feed says that taking its notes gives all that came since the last time, or a
+//! resync if and only if some was missed. [`plan`] plans a sync of the view by its feed and takes
+//! all memory for it; it leaves view and feed unchanged. Its answers are those of a sync by
+//! comparison. [`commit`] then carries the sync out in place without memory, and the notes that it
+//! leaves in the feed name all that still differs.
 #![tactic(auto)]
 
 mod feed;

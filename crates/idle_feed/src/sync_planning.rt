@@ -1,4 +1,4 @@
-//! The plan of a sync.
+//! Plans the sync of a view by its feed.
 
 ghost use Rattle.std.specs.List.{list_any};
 ghost use Rattle.std.specs.Prelude.{◌≡◌, ◌++◌, ◌+◌, ◌/◌, ◌∷◌, [], nat_lt, true, List, IfOk, OnOk};
@@ -21,26 +21,30 @@ use session_view::{
 };
 use std::alloc::{AllocError, Global};
 
-/// What a session is told, and what that does to its view.
+/// The plan of a sync: the answers that it sends, and the change that it makes to the view.
 #[derive(Drop)]
 pub struct PlannedSync {
-    /// What it is told.
+    /// The answers that the sync sends.
     pub answers: Vec<Answer>,
-    /// What that does to its view.
+    /// The change that the sync makes to the view.
     pub change: ViewChange,
 }
 
-/// What names how a view differs from its mailbox's listing.
+/// Notes that name how a view differs from its mailbox's listing.
 #[derive(Drop)]
 pub struct NotedChanges<'a> {
-    /// How the view differs from an earlier listing.
+    /// The differences between the view and an earlier listing.
     pub feed: &'a Feed,
-    /// How that listing differs from the one that is there.
+    /// The differences between that listing and the current one.
     pub notes: &'a [Note],
 }
 
-/// What a sync tells behind these flags, which the session sets itself or was told, over a listing from which the view differs in what is noted. View and feed stay as they were, so that a refused input has nothing to put back. `Err` where there is no
-/// memory. Cost: what the notes and the feed name; where the feed missed some, all of a mailbox may differ, or there are many notes, one pass over the view and the listing.
+/// Plans a sync before which `first` are set: flags that the session set itself or that were
+/// reported to it. `noted` names every row that differs between the view and the listing. View and
+/// feed stay unchanged, so a refused input has nothing to put back. `Err` if memory runs out.
+/// Cost: the number of notes. One pass over the view and the listing if the feed missed some, if
+/// all of a mailbox may differ, or if there are many notes: more than 64 and a sixteenth of the
+/// view's messages.
 pub fn plan(
     alloc: Global,
     view: &mut View,
@@ -68,14 +72,14 @@ pub fn plan(
     plan_in_place(alloc, view, rows, all, first, form)
 }
 
-/// Whether so many notes of so many messages are too many to look each up.
+/// Whether this many notes of this many messages are too many to look each up.
 fn are_many(notes: usize, messages: usize) -> bool
     ensures { result ≡ nat_lt (64 + messages / 16) notes }
 {
     notes > 64 + messages / 16
 }
 
-/// The plan of a sync that looks at all of the view.
+/// The plan of a sync that looks at the whole view.
 fn plan_by_comparison(
     alloc: Global,
     view: &mut View,
@@ -98,7 +102,7 @@ fn plan_by_comparison(
     }
 }
 
-/// The note that all may differ.
+/// The note that all messages may differ. `Err` if memory runs out.
 fn all_may_differ(alloc: Global) -> Result<Vec<Note>, AllocError>
     ensures { IfOk result (λ notes. notes.items ≡ Ended ∷ []) }
 {
@@ -107,7 +111,8 @@ fn all_may_differ(alloc: Global) -> Result<Vec<Note>, AllocError>
     Ok(notes)
 }
 
-/// Whether one of these tells that an incarnation ended, so that all of its messages may differ.
+/// Whether one of these notes says that an incarnation ended, so that all of its messages may
+/// differ.
 fn have_end(notes: &[Note]) -> bool
     ensures { result ≡ list_any is_end notes.now }
 {
@@ -128,7 +133,7 @@ fn is_end(note: &Note) -> bool
     }
 }
 
-/// All of these notes.
+/// All notes of both lists. `Err` if memory runs out.
 fn join_notes(alloc: Global, notes: &[Note], more: &[Note]) -> Result<Vec<Note>, AllocError>
     ensures { IfOk result (λ all. all.items ≡ notes.now ++ more.now) }
 {
@@ -147,7 +152,7 @@ fn push_notes(notes: &[Note], all: &mut Vec<Note>) -> Result<(), AllocError>
     Ok(())
 }
 
-/// The plan of a sync that looks at noted messages alone.
+/// The plan of a sync that looks only at noted messages.
 fn plan_in_place(
     alloc: Global,
     view: &mut View,
@@ -183,7 +188,7 @@ fn plan_in_place(
     })
 }
 
-/// The plan of a sync that compares all of the view.
+/// The plan of a full sync that compares the whole view and rebuilds it.
 fn plan_rebuilt_view(
     alloc: Global,
     view: &View,
@@ -217,7 +222,7 @@ fn plan_rebuilt_view(
     })
 }
 
-/// Whether a full sync leaves as many messages as are listed.
+/// Whether the sync is full and leaves as many messages as are listed.
 fn is_all(kind: SyncKind, count: usize, listed: u32) -> bool
     ensures full { result ≡ true → kind ≡ Full }
     ensures count { result ≡ true → count ≡ listed }

@@ -1,4 +1,4 @@
-//! What a sync does to a view.
+//! `ViewChange`: the change that a planned sync makes to a view, and how it is carried out.
 
 ghost use Rattle.std.specs.Prelude.{◌≡◌, List};
 ghost use Rattle.idle_feed.specs.Feeds.{Pending};
@@ -9,17 +9,19 @@ ghost use Rattle.idle_feed.specs.NotedFeeds.{CanCommit, IsChangeTo, IsLeftNoted,
 use crate::feed::{Feed, TakenNotes};
 use session_view::{Changes, Note, Patch, SilentFlags, View, ViewEntries};
 
-/// What a sync does to a view, with all memory that it takes.
+/// The change that a sync makes to a view, with all memory that it takes.
 #[derive(Drop)]
 pub enum ViewChange {
-    /// The view is changed in place: these flags first, then the patch. These notes stay to be told, if they name all that does.
+    /// The view is changed in place: first these flags are set, then the patch is applied. The
+    /// notes `left` stay in the feed if `whole` says that they name all that differs then.
     InPlace {
         first: Vec<SilentFlags>,
         patch: Patch,
         left: Vec<Note>,
         whole: bool,
     },
-    /// The view shows these messages. These notes stay to be told, if they name all that does.
+    /// The view shows these messages. The notes `left` stay in the feed if `whole` says that they
+    /// name all that differs then.
     Anew {
         entries: ViewEntries,
         left: Vec<Note>,
@@ -27,7 +29,7 @@ pub enum ViewChange {
     },
 }
 
-/// Does what was planned for a view and its feed; takes no memory.
+/// Carries out a planned sync of a view and its feed. Takes no memory.
 pub fn commit(view: &mut View, feed: &mut Feed, change: ViewChange)
     requires { CanCommit view.old.entries change }
     ensures view { view.new ≡ record view.old { entries = entries_after_change view.old.entries change } }
@@ -38,7 +40,8 @@ pub fn commit(view: &mut View, feed: &mut Feed, change: ViewChange)
     feed.restore(left);
 }
 
-/// Does to the view what was planned, and gives what stays to be told; takes no memory.
+/// Carries out a planned change of the view, and returns the notes of what is still to be sent.
+/// Takes no memory.
 fn change_view(view: &mut View, change: ViewChange) -> TakenNotes
     requires { CanCommit view.old.entries change }
     ensures view { view.new ≡ record view.old { entries = entries_after_change view.old.entries change } }
@@ -67,7 +70,7 @@ fn change_view(view: &mut View, change: ViewChange) -> TakenNotes
     }
 }
 
-/// These notes, if they name all that stays to be told.
+/// These notes, if they name all that is still to be sent; else a resync.
 fn notes_if_all(left: Vec<Note>, whole: bool) -> TakenNotes
     ensures { (rows : List ListedMessage) (goal : List ViewEntry) → IsLeftBy left.items whole rows goal → IsLeftNoted result rows goal }
 {

@@ -15,9 +15,10 @@ use mailbox_rows::Rows;
 use std::alloc::{AllocError, Global};
 use uid_projection::Charts;
 
-/// The messages of the folder's listing that changed since this mod-sequence: those with greater ones, by ascending UID, lent by
-/// the folders, which are those that the charts follow; `Err` where there is no memory for them (RFC 7162, section 3.1.4).
-/// Cost: the changes of the folder's messages since, and a look-up of each.
+/// The messages of the folder's listing that changed since this mod-sequence: those with greater
+/// ones, by ascending UID (RFC 7162, section 3.1.4). They are borrowed from `value`, the folders
+/// that the charts follow. `Err` if memory runs out.
+/// Cost: a look-up for each change of the folder's messages since then.
 pub fn changed_since<'a>(
     charts: &'a Charts,
     alloc: Global,

@@ -18,7 +18,7 @@ use Rattle.session_view.proofs.ChangeLemmas.{covers_told}
 use Rattle.session_view.proofs.NoteLemmas.{no_change, no_loss}
 use Rattle.session_view.proofs.SyncLemmas.{rising_count, same_flags_tells}
 
--- ---- nothing came
+-- ---- nothing arrived
 
 -- a view shows nothing of a message above its last one
 none_above : (b uid : ℕ) (es : List ViewEntry) → AreRising (b + 1) es → last_from b es < uid → flags_at uid es ≡ None

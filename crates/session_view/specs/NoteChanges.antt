@@ -1,3 +1,6 @@
+-- Notes of what differs between a view and its mailbox's listing, and the plan of a sync that looks
+-- only at noted messages (RFC 9051, section 7.5).
+
 use Rattle.std.specs.Prelude.{◌≡◌, ◌⊎◌, ℕ, ◌≤◌, ◌==◌, ◌-◌, Bool, true, false, List, [], ◌∷◌, ◌++◌, map, length, Option, Some, None, if◌then◌else◌}
 use Rattle.std.specs.List.{flat_map, list_any}
 use Rattle.imap_answers.specs.declared.answer.Answer.{Answer}
@@ -16,12 +19,12 @@ use Rattle.session_view.specs.Replay.{after_silent, with_flags_at, without_messa
 use Rattle.session_view.specs.Sync.{is_listed, sync_answers, view_after_sync}
 use Rattle.session_view.specs.Views.{AreRising, entries_of}
 
--- What is shown of the message with this UID: its flags, if it is there.
+-- The flags that are shown of the message with this UID, if any message has it.
 abbrev pub flags_at : ℕ → List ViewEntry → Option Flags
 flags_at uid [] = None
 flags_at uid (e ∷ es) = if e.uid == uid then Some e.flags else flags_at uid es
 
--- A note names the message with this UID; the end of an incarnation names all of its messages.
+-- The note names the message with this UID. The end of an incarnation names all of its messages.
 abbrev pub note_names : ℕ → Note → Bool
 note_names uid (New u) = u == uid
 note_names uid (Gone u) = u == uid
@@ -31,11 +34,12 @@ note_names uid Ended = true
 abbrev pub is_noted : List Note → ℕ → Bool
 is_noted notes uid = list_any (note_names uid) notes
 
--- The notes name every row that differs between this view and this listing: of any UID either both show the same, or a note names it.
+-- The notes name every row that differs between this view and this listing: for each UID, both show
+-- the same, or a note names it.
 abbrev pub NoteAllChanges : List Note → List ListedMessage → List ViewEntry → Type 0
 NoteAllChanges notes rows view = (uid : ℕ) → (flags_at uid view ≡ flags_at uid (entries_of rows)) ⊎ (is_noted notes uid ≡ true)
 
--- What stays noted behind a sync: a partial one leaves the messages that are gone.
+-- The notes that a partial sync leaves: those of the messages that are gone.
 abbrev pub gone_notes : List ListedMessage → List ViewEntry → List Note
 gone_notes rows [] = []
 gone_notes rows (e ∷ es) = (if is_listed rows e then [] else Gone e.uid ∷ []) ++ gone_notes rows es
@@ -44,7 +48,7 @@ abbrev pub notes_left_by_sync : SyncKind → List ListedMessage → List ViewEnt
 notes_left_by_sync Full rows view = []
 notes_left_by_sync Partial rows view = gone_notes rows view
 
--- The notes name their messages one by one.
+-- The note is that of an incarnation's end, which names no message by its UID.
 abbrev pub is_end : Note → Bool
 is_end Ended = true
 is_end _ = false
@@ -61,7 +65,7 @@ uids_in notes = flat_map uid_in notes
 abbrev pub uids_of : List ViewEntry → List ℕ
 uids_of view = map (λ e. e.uid) view
 
--- UIDs that don't descend, from low on.
+-- The UIDs don't descend, from `low` on.
 abbrev pub AreAscending : ℕ → List ℕ → Type 0
 AreAscending low [] = Unit {0}
 AreAscending low (u ∷ us) = (low ≤ u) × AreAscending u us
@@ -76,7 +80,7 @@ abbrev pub expunges_of_numbers : List ℕ → List Answer
 expunges_of_numbers [] = []
 expunges_of_numbers (n ∷ ns) = expunges_of_numbers ns ++ Expunge n ∷ []
 
--- The flags that FETCH tells, with their numbers.
+-- The flags that a FETCH reports, with the message's number.
 abbrev pub flags_by : ℕ → Option Flags → List SilentFlags
 flags_by k None = []
 flags_by k (Some flags) = (record { number = k; flags = flags }) ∷ []
@@ -88,11 +92,11 @@ fetched_flags _ = []
 abbrev pub all_fetched_flags : List Answer → List SilentFlags
 all_fetched_flags answers = flat_map fetched_flags answers
 
--- A view without the messages that are gone, with those that came and these flags.
+-- The view's messages without those that are gone, with the new ones, and with these flags.
 abbrev pub patched_entries : List ViewEntry → List ℕ → List ViewEntry → List SilentFlags → List ViewEntry
 patched_entries view gone came flags = after_silent (without_from gone view ++ came) flags
 
--- The note of the message with this number, whose flags the session sets itself or is told.
+-- The note of the message with this number.
 abbrev pub silent_notes : List ViewEntry → ℕ → List Note
 silent_notes [] k = []
 silent_notes (e ∷ es) k = if k == 1 then Changed e.uid ∷ [] else silent_notes es (k - 1)
@@ -101,16 +105,16 @@ abbrev pub named_by_silent : ℕ → List ViewEntry → ℕ → Bool
 named_by_silent uid [] k = false
 named_by_silent uid (e ∷ es) k = if k == 1 then e.uid == uid else named_by_silent uid es (k - 1)
 
--- There is room for what came behind a view, where something came.
+-- There is room for the new messages after the view's, if there are any.
 abbrev pub HasRoomForArrivals : List ViewEntry → Patch → Type 0
 HasRoomForArrivals view patch = (patch.came.items ≡ []) ⊎ ((length view ≤ patch.place.most) × (length patch.came.items ≤ patch.place.room))
 
--- Flags of messages with numbers up to this one.
+-- The flags are of messages with numbers up to this one.
 abbrev pub AreUpTo : ℕ → List SilentFlags → Type 0
 AreUpTo last [] = Unit {0}
 AreUpTo last (s ∷ silents) = (s.number ≤ last) × AreUpTo last silents
 
--- Notes of the messages whose flags are set.
+-- The notes of the messages whose flags are set.
 abbrev pub all_silent_notes : List ViewEntry → List SilentFlags → List Note
 all_silent_notes view silents = flat_map (λ s. silent_notes view s.number) silents
 
@@ -119,7 +123,8 @@ abbrev pub with_flags_restored : List ViewEntry → List SilentFlags → List Vi
 with_flags_restored view [] = view
 with_flags_restored view (s ∷ silents) = with_flags_at (with_flags_restored view silents) s.number s.flags
 
--- What a sync of this view with this listing comes to: what it sends, what it does to the view, with room for it, and what stays to be told.
+-- The plan is that of a sync of this view with this listing: its answers, its changes to the view,
+-- with room for them, and the notes of what it leaves unsent.
 pub record IsSyncPlan (kind : SyncKind) (modseq : Bool) (rows : List ListedMessage) (view : List ViewEntry) (told : SyncPlan) : Type 0 where
   pub answers : told.answers.items ≡ sync_answers kind modseq rows view
   pub patch : patched_entries view told.patch.gone.items told.patch.came.items told.patch.flags.items ≡ view_after_sync kind rows view
@@ -128,7 +133,7 @@ pub record IsSyncPlan (kind : SyncKind) (modseq : Bool) (rows : List ListedMessa
   pub left : told.left.items ≡ notes_left_by_sync kind rows view
   pub whole : told.whole ≡ true → NoteAllChanges told.left.items rows (view_after_sync kind rows view)
 
--- The answer shifts messages' numbers, or shows new ones.
+-- The answer shifts messages' numbers or shows new messages.
 abbrev pub is_shifting : Answer → Bool
 is_shifting (Expunge n) = true
 is_shifting (Exists n) = true

@@ -1,4 +1,4 @@
-//! What a sync sends, and the view behind it.
+//! Syncs that compare the whole view with the listing: the answers, and the new view.
 
 ghost use Rattle.std.specs.Prelude.{◌≡◌, ◌≤◌, ◌+◌, ◌<◌, ◌^◌, ◌++◌, ◌∷◌, [], ℕ, length, get_or, take, drop, IfOk, OnOk, None, Some};
 ghost use Rattle.mailbox_rows.specs.RowViews.{AreRisingRows, rows_after_uid, listed_message};
@@ -14,18 +14,20 @@ use imap_types::Flags;
 use mailbox_rows::{Row, Rows};
 use std::alloc::{AllocError, Global};
 
-/// What a sync comes to.
+/// The result of a sync.
 #[derive(Drop)]
 pub struct SyncOutcome {
-    /// The messages behind it.
+    /// The view's messages after the sync.
     pub entries: ViewEntries,
-    /// What it sends.
+    /// The answers that the sync sends.
     pub answers: Vec<Answer>,
 }
 
-/// The view behind a sync with this listing, and what the sync sends: EXPUNGE for each message that is gone, from the greatest number
-/// down (in a full sync alone), EXISTS if messages came, then FETCH for each message whose flags differ, with its mod-sequence where that
-/// is asked (RFC 7162, section 3.2). It looks each message of the view up in the listing, three times at most. `Err` where there is no memory.
+/// Syncs a view with this listing. The answers are EXPUNGE for each message that is gone, from the
+/// greatest number down (only in a full sync), EXISTS if messages arrived, then FETCH for each
+/// message whose flags differ, with its mod-sequence if `modseq` says so (RFC 7162, section 3.2).
+/// `Err` if memory runs out. Cost: at most three look-ups in the listing for each message of the
+/// view.
 pub fn sync_by_comparison(
     alloc: Global,
     kind: SyncKind,
@@ -46,7 +48,7 @@ pub fn sync_by_comparison(
     Ok(SyncOutcome { entries, answers })
 }
 
-/// The view behind a sync, and EXISTS if messages came.
+/// The view's messages after a sync. Appends EXISTS if messages arrived. `Err` if memory runs out.
 fn refresh_view(
     alloc: Global,
     kind: SyncKind,
@@ -68,7 +70,7 @@ fn refresh_view(
     Ok(entries)
 }
 
-/// What a sync sends of messages that are gone.
+/// Appends the EXPUNGEs that a sync of this kind sends. `Err` if memory runs out.
 fn push_losses(
     kind: SyncKind,
     rows: &Rows<'_>,
@@ -84,7 +86,7 @@ fn push_losses(
     }
 }
 
-/// EXPUNGE for each message that is gone, from the greatest number down.
+/// Appends EXPUNGE for each message that is gone, from the greatest number down.
 fn push_expunges(
     rows: &Rows<'_>,
     view: &ViewEntries,
@@ -99,7 +101,7 @@ fn push_expunges(
     Ok(())
 }
 
-/// EXPUNGE of the message at this place, from 0, if it is gone.
+/// Appends EXPUNGE of the message at this place, from 0 on, if it is gone.
 fn push_loss(
     rows: &Rows<'_>,
     place: usize,
@@ -117,7 +119,7 @@ fn push_loss(
     Ok(())
 }
 
-/// EXISTS, if there are more messages now than before.
+/// Appends EXISTS if there are more messages now than before. `Err` if memory runs out.
 pub fn push_exists(before: u32, now: u32, answers: &mut Vec<Answer>) -> Result<(), AllocError>
     ensures { OnOk result (answers.new.items ≡ answers.old.items ++ exists_if_more before now) }
 {
@@ -127,7 +129,7 @@ pub fn push_exists(before: u32, now: u32, answers: &mut Vec<Answer>) -> Result<(
     Ok(())
 }
 
-/// FETCH for each message that stays and whose flags differ.
+/// Appends FETCH for each message that stays and whose flags differ.
 fn push_changes(
     alloc: Global,
     kind: SyncKind,
@@ -156,7 +158,7 @@ fn push_changes(
     Ok(())
 }
 
-/// FETCH of the message's flags, where they differ.
+/// Appends FETCH of the message's flags if they differ.
 fn push_change(
     alloc: Global,
     modseq: bool,
@@ -173,7 +175,8 @@ fn push_change(
     Ok(())
 }
 
-/// FETCH of a message's UID and flags, and of its mod-sequence where that is asked.
+/// FETCH of a message's UID and flags, with its mod-sequence if `modseq` says so. `Err` if memory
+/// runs out.
 pub fn change_of(
     alloc: Global,
     modseq: bool,
@@ -195,14 +198,14 @@ pub fn change_of(
     })
 }
 
-/// Whether the flags are those of the message now.
+/// Whether the flags are those that the message has now.
 pub fn are_same(flags: &Flags, row: &Row<'_>) -> bool
     ensures { result ≡ same_flags flags.now (listed_message row.now).flags }
 {
     row.versions.has_flags(flags)
 }
 
-/// The messages that stay, with the listing's flags.
+/// The messages that stay, with the listing's flags. `Err` if memory runs out.
 fn staying_entries(
     alloc: Global,
     kind: SyncKind,
@@ -218,7 +221,7 @@ fn staying_entries(
     Ok(kept)
 }
 
-/// Puts a message behind those that are there, if it stays.
+/// Appends the message to those that stay, if it does.
 fn push_kept(
     alloc: Global,
     kind: SyncKind,
@@ -243,7 +246,7 @@ fn push_kept(
     Ok(())
 }
 
-/// Puts the listing's messages with UIDs above this one behind those that are there.
+/// Appends the listing's messages with UIDs above this one. `Err` if memory runs out.
 pub fn push_new<L: MessageList>(
     alloc: Global,
     uid: u32,
@@ -257,7 +260,8 @@ pub fn push_new<L: MessageList>(
     Ok(())
 }
 
-/// Puts so many of the listing's messages from this place on, or as many as there are, behind those that are there.
+/// Appends `count` of the listing's messages from the place `start` on, or as many as there are.
+/// `Err` if memory runs out.
 pub fn push_rows<L: MessageList>(
     alloc: Global,
     rows: &Rows<'_>,
@@ -277,7 +281,7 @@ pub fn push_rows<L: MessageList>(
     Ok(())
 }
 
-/// Puts a message behind those that are there.
+/// Appends a message of the listing.
 fn push_row<L: MessageList>(alloc: Global, row: &Row<'_>, entries: &mut L) -> Result<(), AllocError>
     ensures { OnOk result (L.entries entries.new ≡ L.entries entries.old ++ entries_of (listed_message row.now ∷ [])) }
 {

@@ -1,4 +1,4 @@
-//! Lists at whose end messages are put.
+//! `MessageList`: a list to which messages are appended.
 
 ghost use Rattle.std.specs.Prelude.{◌≡◌, ◌++◌, ◌∷◌, [], List, OnOk};
 ghost use Rattle.session_view.specs.declared.view_entry.ViewEntry.{ViewEntry};
@@ -6,11 +6,11 @@ ghost use Rattle.session_view.specs.declared.view_entry.ViewEntry.{ViewEntry};
 use crate::view_entry::{ViewEntries, ViewEntry};
 use std::alloc::{AllocError, Global};
 
-/// A list at whose end messages are put.
+/// A list to which messages are appended.
 pub trait MessageList {
     ghost entries: { Self → List ViewEntry };
 
-    /// Puts a message behind all others; `Err` where there is no memory for it.
+    /// Appends a message. `Err` if memory runs out.
     fn put(&mut self, alloc: Global, entry: ViewEntry) -> Result<(), AllocError>
         ensures { OnOk result (entries self.new ≡ entries self.old ++ entry ∷ []) };
 }

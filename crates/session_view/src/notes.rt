@@ -1,4 +1,4 @@
-//! What may differ between a view and its mailbox's listing.
+//! Notes of what may differ between a view and its mailbox's listing.
 
 ghost use Rattle.std.specs.Prelude.{◌≡◌, ◌==◌, ℕ, ◌++◌, List, IfOk, OnOk};
 ghost use Rattle.std.specs.List.{list_any};
@@ -11,16 +11,16 @@ use crate::view_entry::ViewEntries;
 use std::alloc::{AllocError, Global};
 use std::marker::Model;
 
-/// What a session may have to be told of its mailbox.
+/// What a session may still have to learn of its mailbox.
 #[derive(Clone, Copy, Debug, PartialEq, Eq)]
 pub enum Note {
-    /// The message with this UID came.
+    /// The message with this UID arrived.
     New { uid: u32 },
     /// The message with this UID is gone.
     Gone { uid: u32 },
-    /// The message with this UID may have changed, or be gone.
+    /// The message with this UID may have changed, or may be gone.
     Changed { uid: u32 },
-    /// The mailbox's incarnation ended: all of its messages are gone.
+    /// The mailbox's incarnation ended, so all of its messages are gone.
     Ended,
 }
 
@@ -40,7 +40,7 @@ impl Model for Changes {
 }
 
 impl Changes {
-    /// These notes, in the same memory.
+    /// Makes changes of these notes, in the same memory.
     pub fn new(notes: Vec<Note>) -> Changes
         ensures { result ≡ notes.items }
     {
@@ -63,7 +63,8 @@ impl Changes {
     }
 }
 
-/// The UIDs that the notes name, ascending: all of the view's where the incarnation ended. `Err` where there is no memory for them.
+/// The UIDs that the notes name, ascending. If the incarnation ended, they are all UIDs of the
+/// view. `Err` if memory runs out.
 pub fn noted_uids(alloc: Global, notes: &[Note], view: &ViewEntries) -> Result<Vec<u32>, AllocError>
     requires { AreRising 1 view.now.items }
     ensures ascending { IfOk result (λ uids. AreAscending 0 uids.items) }
@@ -75,7 +76,7 @@ pub fn noted_uids(alloc: Global, notes: &[Note], view: &ViewEntries) -> Result<V
     ascending_uids(alloc, notes)
 }
 
-/// The UIDs that the notes name one by one, ascending.
+/// The UIDs that the notes name one by one, ascending. `Err` if memory runs out.
 fn ascending_uids(alloc: Global, notes: &[Note]) -> Result<Vec<u32>, AllocError>
     ensures ascending { IfOk result (λ uids. AreAscending 0 uids.items) }
     ensures same { IfOk result (λ uids. (uid : ℕ) → list_any (λ u. u == uid) uids.items ≡ list_any (λ u. u == uid) (uids_in notes.now)) }
@@ -107,7 +108,7 @@ fn push_uid(note: &Note, uids: &mut Vec<u32>) -> Result<(), AllocError>
     Ok(())
 }
 
-/// The UIDs of a view's messages.
+/// The UIDs of a view's messages. `Err` if memory runs out.
 fn uids_of(alloc: Global, view: &ViewEntries) -> Result<Vec<u32>, AllocError>
     ensures { IfOk result (λ uids. uids.items ≡ uids_of view.now.items) }
 {
@@ -118,7 +119,7 @@ fn uids_of(alloc: Global, view: &ViewEntries) -> Result<Vec<u32>, AllocError>
     Ok(uids)
 }
 
-/// Whether the incarnation ended.
+/// Whether one of the notes says that the incarnation ended.
 fn has_ended(notes: &[Note]) -> bool
     ensures { result ≡ list_any is_end notes.now }
 {

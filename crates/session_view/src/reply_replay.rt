@@ -1,4 +1,4 @@
-//! What untagged answers make of a view.
+//! Replays of replies: a view after silent flags and untagged answers.
 
 ghost use Rattle.std.specs.Prelude.{◌≡◌, ◌++◌, IfOk, OnOk};
 ghost use Rattle.mailbox_rows.specs.RowViews.{AreRisingRows};
@@ -12,17 +12,18 @@ use imap_types::Flags;
 use mailbox_rows::Rows;
 use std::alloc::{AllocError, Global};
 
-/// Flags that a session set without being told (RFC 9051, section 6.4.6, .SILENT).
+/// The flags of a message that a session set without an answer (RFC 9051, section 6.4.6, .SILENT).
 #[derive(Drop)]
 pub struct SilentFlags {
     /// The message's number, from 1 on.
     pub number: u32,
-    /// Its flags from then on.
+    /// The flags that the message has from then on.
     pub flags: Flags,
 }
 
-/// What a reply makes of a view: first the flags set in silence, then the answers, one after another, where the listing is this.
-/// `Err` where there is no memory. It copies the view once; what an answer does to a message then costs a look-up of its number.
+/// The view's messages after a reply: first the flags are set that the session set silently, then
+/// the answers are replayed one after another. `rows` is the listing from which EXISTS takes
+/// messages. `Err` if memory runs out. Cost: a copy of the view, and a look-up for each answer.
 pub fn replay_reply(
     alloc: Global,
     rows: &Rows<'_>,
@@ -58,7 +59,7 @@ fn replay_all(
     Ok(entries)
 }
 
-/// Does what an answer tells.
+/// Replays one answer. `Err` if memory runs out.
 fn take_answer(
     alloc: Global,
     rows: &Rows<'_>,
@@ -78,7 +79,7 @@ fn take_answer(
     }
 }
 
-/// Takes the message with this number out, if there is one.
+/// Takes out the message with this number, if there is one. Never fails.
 fn take_out(number: u32, entries: &mut ViewEntries) -> Result<(), AllocError>
     ensures { OnOk result (entries.new.items ≡ without_message entries.old.items number) }
 {
@@ -86,7 +87,7 @@ fn take_out(number: u32, entries: &mut ViewEntries) -> Result<(), AllocError>
     Ok(())
 }
 
-/// Takes the message with this number out, if there is one.
+/// Takes out the message with this number, if there is one. Takes no memory.
 pub fn take_number(number: u32, entries: &mut ViewEntries)
     ensures { entries.new.items ≡ without_message entries.old.items number }
 {
@@ -99,7 +100,7 @@ pub fn take_number(number: u32, entries: &mut ViewEntries)
     let _gone = entries.remove(number as usize - 1);
 }
 
-/// Puts the listing's next messages behind those that are there, until there are so many.
+/// Appends the listing's next messages until there are `count`. `Err` if memory runs out.
 fn take_in(
     alloc: Global,
     rows: &Rows<'_>,
@@ -120,7 +121,8 @@ fn take_in(
     )
 }
 
-/// Sets the flags of the message with this number to a copy of these, if there is one.
+/// Sets the flags of the message with this number to a copy of `flags`, if there is such a message.
+/// `Err` if memory runs out.
 fn set_flags_at(
     alloc: Global,
     number: u32,
@@ -134,7 +136,7 @@ fn set_flags_at(
     Ok(())
 }
 
-/// Sets the flags of the message with this number, if there is one; takes no memory.
+/// Sets the flags of the message with this number, if there is one. Takes no memory.
 pub fn set_flags(number: u32, flags: Flags, entries: &mut ViewEntries)
     ensures { entries.new.items ≡ with_flags_at entries.old.items number flags }
 {

@@ -10,15 +10,15 @@ use crate::view_entry::{ViewEntries, count_of, last_uid};
 use imap_types::{SequenceBound, SequenceRange};
 use std::alloc::{AllocError, Global};
 
-/// Consecutive places of a view, from 0 on, its end left out.
+/// Consecutive places of a view, counted from 0, from `start` up to but not including `end`.
 #[derive(Clone, Copy, Drop)]
 pub struct Span {
     pub start: usize,
     pub end: usize,
 }
 
-/// The numbers of the messages that a set of numbers or UIDs names, ascending. Its ranges are brought in order, and each is found in the
-/// view by binary search.
+/// The numbers of the messages that a set of numbers or UIDs names, ascending. `Err` if memory runs
+/// out. The set's ranges are sorted, and each is found in the view by binary search.
 pub fn numbers_in_set(
     alloc: Global,
     by_uid: bool,
@@ -35,7 +35,7 @@ pub fn numbers_in_set(
     Ok(numbers)
 }
 
-/// The places that a set names, by ascending beginnings.
+/// The places that each range of a set names, sorted by their starts. `Err` if memory runs out.
 fn sorted_spans(
     alloc: Global,
     by_uid: bool,
@@ -51,7 +51,7 @@ fn sorted_spans(
     Ok(spans)
 }
 
-/// The places that each range of a set names.
+/// The places that each range of a set names. `Err` if memory runs out.
 fn spans_of(
     alloc: Global,
     by_uid: bool,
@@ -73,7 +73,7 @@ fn spans_of(
     Ok(spans)
 }
 
-/// The places that a range names, where this is the greatest number or UID.
+/// The places that a range names. `top` is the greatest number or UID.
 fn span_of(by_uid: bool, top: u32, range: &SequenceRange, view: &ViewEntries) -> Span
     requires rising { AreRising 1 view.now.items }
     requires top { top ≡ top_of by_uid view.now.items }
@@ -84,7 +84,7 @@ fn span_of(by_uid: bool, top: u32, range: &SequenceRange, view: &ViewEntries) ->
     span_between(by_uid, first.min(last), first.max(last), view)
 }
 
-/// The places of the messages whose numbers, or UIDs, lie between two, both included.
+/// The places of the messages whose numbers or UIDs are between `first` and `last`, both included.
 fn span_between(by_uid: bool, first: u32, last: u32, view: &ViewEntries) -> Span
     requires { AreRising 1 view.now.items }
     ensures { result ≡ span_between by_uid view.now.items first last }
@@ -102,7 +102,7 @@ fn span_between(by_uid: bool, first: u32, last: u32, view: &ViewEntries) -> Span
     }
 }
 
-/// The number or UID that a bound stands for, where this is the greatest.
+/// The number or UID of a bound. `top` is the greatest one.
 fn bound_of(top: u32, bound: SequenceBound) -> u32
     ensures { result ≡ bound_of top bound }
 {
@@ -112,7 +112,7 @@ fn bound_of(top: u32, bound: SequenceBound) -> u32
     }
 }
 
-/// How many messages have UIDs below this one.
+/// The number of messages with UIDs below this one.
 pub fn count_below(view: &ViewEntries, uid: u64) -> usize
     requires { AreRising 1 view.now.items }
     ensures { result ≡ count_below uid view.now.items }
@@ -120,7 +120,8 @@ pub fn count_below(view: &ViewEntries, uid: u64) -> usize
     view.partition_point(|_, entry| u64::from(entry.uid) < uid)
 }
 
-/// Puts the numbers of the messages at these places behind those that are there, of `count` places in all.
+/// Appends the numbers of the messages at these places of a view of `count` messages. `Err` if
+/// memory runs out.
 fn push_spans(spans: &[Span], count: usize, numbers: &mut Vec<u32>) -> Result<(), AllocError>
     requires count { count < 2 ^ 32 }
     requires sorted { AreSorted 0 spans.now }
@@ -133,7 +134,8 @@ fn push_spans(spans: &[Span], count: usize, numbers: &mut Vec<u32>) -> Result<()
     Ok(())
 }
 
-/// Puts the numbers of a span's places that aren't done behind those that are there, and gives how many places are done then.
+/// Appends the numbers of the messages at the span's places from `done` on, and returns the number
+/// of places that are done then. `Err` if memory runs out.
 fn push_span(
     span: Span,
     done: usize,
@@ -150,7 +152,8 @@ fn push_span(
     Ok(done.max(end))
 }
 
-/// Puts the numbers of the messages at these places behind those that are there.
+/// Appends the numbers of the messages at the places from `start` up to but not including `end`.
+/// `Err` if memory runs out.
 fn push_places(start: usize, end: usize, numbers: &mut Vec<u32>) -> Result<(), AllocError>
     requires { end < 2 ^ 32 }
     ensures { OnOk result (numbers.new.items ≡ numbers.old.items ++ numbered start (end - start)) }

@@ -1,4 +1,4 @@
-//! A command's own answers, as far as they change what the session sees.
+//! Tests whether answers change which messages a session sees.
 
 ghost use Rattle.std.specs.Prelude.{◌≡◌};
 ghost use Rattle.std.specs.List.{list_any};
@@ -6,7 +6,7 @@ ghost use Rattle.session_view.specs.NoteChanges.{is_shifting};
 
 use imap_answers::Answer;
 
-/// Whether some of these answers shift messages' numbers or show new ones.
+/// Whether one of these answers shifts messages' numbers or shows new messages.
 pub fn are_shifting(answers: &[Answer]) -> bool
     ensures { result ≡ list_any is_shifting answers.now }
 {

@@ -1,4 +1,4 @@
-//! Syncs that look at named messages alone.
+//! Plans of syncs that look only at named messages, and how a plan is carried out without memory.
 
 ghost use Rattle.std.specs.Prelude.{◌≡◌, ◌⊎◌, true, ◌≤◌, ◌+◌, ◌-◌, ◌<◌, ◌^◌, ◌++◌, List, [], ℕ, ◌∷◌, drop, length, IfOk, OnOk, Some};
 ghost use Rattle.std.specs.List.{slice_get};
@@ -21,56 +21,59 @@ use imap_answers::Answer;
 use mailbox_rows::{Row, Rows};
 use std::alloc::{AllocError, Global};
 
-/// What a sync does to a view: the numbers of the messages that are gone, ascending, what came behind, and the flags that changed, by
-/// the numbers behind these.
+/// The changes that a sync makes to a view: the numbers of the messages that are gone, ascending;
+/// the new messages; and the changed flags, by the numbers that messages have after that.
 #[derive(Drop)]
 pub struct Patch {
     pub(crate) gone: Vec<u32>,
     pub(crate) came: Vec<ViewEntry>,
     pub(crate) flags: Vec<SilentFlags>,
-    /// Room for what came, where something came: what holds a view doesn't tell whether it has room itself.
+    /// Room for the new messages, if there are any. It is here because a view doesn't say whether
+    /// it has room itself.
     pub(crate) place: ReservedRoom<ViewEntry>,
 }
 
-/// What a sync comes to, with all memory that it takes.
+/// The result of a sync that isn't carried out yet, with all memory that it takes.
 #[derive(Drop)]
 pub struct SyncPlan {
-    /// What it sends.
+    /// The answers that it sends.
     pub answers: Vec<Answer>,
-    /// What it does to the view.
+    /// The changes that it makes to the view.
     pub patch: Patch,
-    /// What stays to be told: of a partial sync the messages that are gone.
+    /// Notes of what it leaves unsent: in a partial sync, the messages that are gone.
     pub left: Vec<Note>,
-    /// Whether that is all that differs behind it, as it is where what the view lacked came after its messages.
+    /// Whether these notes name all that differs after the sync. They do if the messages that the
+    /// view lacked arrived after its own.
     pub whole: bool,
 }
 
-/// What a sync comes to behind flags that are set first.
+/// The plan of a sync before which flags are set.
 #[derive(Drop)]
 pub struct SyncPlanAfterFlags {
-    /// These flags.
+    /// The flags that are set first.
     pub first: Vec<SilentFlags>,
-    /// The sync.
+    /// The plan of the sync.
     pub told: SyncPlan,
 }
 
-/// How far a view has been looked through.
+/// The progress of a sync through a view.
 #[derive(Drop)]
 pub struct SyncWalk {
-    /// How many messages are done.
+    /// The number of messages that are done.
     done: usize,
-    /// The numbers of those that are gone and are told so.
+    /// The numbers of the messages that are gone and are reported as such.
     gone: Vec<u32>,
     /// The flags that changed.
     flags: Vec<SilentFlags>,
-    /// What is told of them.
+    /// The FETCHes that report the changed flags.
     fetches: Vec<Answer>,
-    /// What stays to be told.
+    /// Notes of what is left unsent.
     left: Vec<Note>,
 }
 
-/// What a sync of this view with this listing comes to, where these ascending UIDs are those of all messages of the view that differ, or
-/// more. It looks these up in the view and in the listing, and reads what the listing has behind the view. `Err` where there is no memory.
+/// Plans a sync of this view with this listing. The ascending UIDs include those of all messages of
+/// the view that differ. `Err` if memory runs out. Cost: a look-up in the view and one in the
+/// listing for each UID, and the listing's messages after the view's last.
 pub fn plan_sync(
     alloc: Global,
     form: SyncForm,
@@ -97,7 +100,8 @@ pub fn plan_sync(
     finish_walk(alloc, count, listed, walk, came)
 }
 
-/// What a sync comes to where so many messages were looked through, with a listing of so many, and these come behind.
+/// The plan of a sync after all messages were looked at: the view has `count` messages, the listing
+/// has `listed`, and `came` holds the new ones. `Err` if memory runs out.
 fn finish_walk(
     alloc: Global,
     count: u32,
@@ -142,14 +146,15 @@ fn finish_walk(
     })
 }
 
-/// Whether so many messages are those listed and those that stay to be told.
+/// Whether `count` messages are as many as those listed and those left noted as gone.
 fn is_whole(count: usize, listed: usize, left: usize) -> bool
     ensures { result ≡ true → count ≡ listed + left }
 {
     count >= listed && count - listed == left
 }
 
-/// Room for these messages, where there are some, behind so many.
+/// Room for these messages after `count` others, if there are any messages. `Err` if memory runs
+/// out.
 fn place_for(
     alloc: Global,
     count: usize,
@@ -163,7 +168,7 @@ fn place_for(
     ReservedRoom::new(alloc, count, came.len())
 }
 
-/// The last UID, this one where there is no message.
+/// The last message's UID, or `low` if there is no message.
 fn last_from(low: u32, entries: &[ViewEntry]) -> u32
     ensures { result ≡ last_from low entries.now }
 {
@@ -173,7 +178,8 @@ fn last_from(low: u32, entries: &[ViewEntry]) -> u32
     }
 }
 
-/// What is sent: EXPUNGE of these numbers, the last one first, EXISTS if messages came, and these FETCHes.
+/// The answers of a sync: EXPUNGE of these numbers, the last one first, EXISTS if messages arrived,
+/// and these FETCHes. `Err` if memory runs out.
 fn answers_of_walk(
     alloc: Global,
     count: u32,
@@ -194,7 +200,7 @@ fn answers_of_walk(
     Ok(answers)
 }
 
-/// EXPUNGE of these numbers, the last one first.
+/// Appends EXPUNGE of these numbers, the last one first. `Err` if memory runs out.
 fn push_expunged(gone: &[u32], answers: &mut Vec<Answer>) -> Result<(), AllocError>
     ensures { OnOk result (answers.new.items ≡ answers.old.items ++ expunges_of_numbers gone.now) }
 {
@@ -204,7 +210,8 @@ fn push_expunged(gone: &[u32], answers: &mut Vec<Answer>) -> Result<(), AllocErr
     Ok(())
 }
 
-/// The UID of the last message that stays, 0 where none does. It looks up those behind it, which are gone.
+/// The UID of the last message that stays, or 0 if none does. In a full sync it looks up the last
+/// messages until one is listed.
 fn last_uid_that_stays(kind: SyncKind, rows: &Rows<'_>, view: &ViewEntries) -> u32
     ensures { result ≡ last_uid (entries_staying kind rows.now view.now.items) }
 {
@@ -226,7 +233,7 @@ fn last_listed(rows: &Rows<'_>, view: &ViewEntries) -> u32
     0
 }
 
-/// A view that was looked through by these UIDs.
+/// Looks at the messages of the view with these UIDs. `Err` if memory runs out.
 fn walk_view(
     alloc: Global,
     form: SyncForm,
@@ -253,7 +260,8 @@ fn walk_view(
     Ok(walk)
 }
 
-/// Looks at the message with this UID, if the view has it among those that aren't done.
+/// Looks at the message with this UID, if the view has it among those that aren't done. `Err` if
+/// memory runs out.
 fn walk_one(
     alloc: Global,
     form: SyncForm,
@@ -282,14 +290,14 @@ fn walk_one(
     take_noted(alloc, form, rows, entry, walk)
 }
 
-/// The message at this place, from 0.
+/// The message at this place, from 0 on.
 fn entry_at(view: &ViewEntries, place: usize) -> Option<&ViewEntry>
     ensures { option_copied result ≡ slice_get view.now.items place }
 {
     view.get(place)
 }
 
-/// Takes in the next message.
+/// Looks at the next message. `Err` if memory runs out.
 fn take_noted(
     alloc: Global,
     form: SyncForm,
@@ -316,7 +324,8 @@ fn take_noted(
     }
 }
 
-/// Puts FETCH of a message's flags behind those that are there, and the flags behind theirs, where they differ.
+/// Appends FETCH of the message's flags, and the flags, if they differ from the view's. `Err` if
+/// memory runs out.
 fn push_flag_change(
     alloc: Global,
     modseq: bool,
@@ -340,7 +349,8 @@ fn push_flag_change(
     Ok(())
 }
 
-/// Keeps what is to be done of a message that is gone: its number, or a note of it where that isn't told.
+/// Notes that a message is gone: its number, or, in a partial sync, a note. `Err` if memory runs
+/// out.
 fn push_gone(
     kind: SyncKind,
     number: u32,
@@ -358,7 +368,7 @@ fn push_gone(
     Ok(())
 }
 
-/// Does to a view what a sync comes to, where there is room for what came; takes no memory.
+/// Carries out a sync in the view's messages. There is room for the new ones. Takes no memory.
 pub fn patch_in(entries: &mut ViewEntries, patch: Patch)
     requires { HasRoomForArrivals entries.now.items patch }
     ensures { entries.new.items ≡ patched_entries entries.old.items patch.gone.items patch.came.items patch.flags.items }
@@ -377,7 +387,7 @@ pub fn patch_in(entries: &mut ViewEntries, patch: Patch)
     }
 }
 
-/// Takes the messages with these numbers out, the last one first.
+/// Takes out the messages with these numbers, the last one first.
 fn take_all_out(gone: &[u32], entries: &mut ViewEntries)
     ensures { entries.new.items ≡ without_from gone.now entries.old.items }
 {
@@ -386,7 +396,7 @@ fn take_all_out(gone: &[u32], entries: &mut ViewEntries)
     }
 }
 
-/// Puts messages behind those that are there, in this room; takes no memory.
+/// Appends messages, for which `place` is room. Takes no memory.
 fn append_in_room(came: Vec<ViewEntry>, place: ReservedRoom<ViewEntry>, entries: &mut ViewEntries)
     requires { (came.items ≡ []) ⊎ ((length entries.now.items ≤ place.most) × (length came.items ≤ place.room)) }
     ensures { entries.new.items ≡ entries.old.items ++ came.items }
@@ -398,7 +408,7 @@ fn append_in_room(came: Vec<ViewEntry>, place: ReservedRoom<ViewEntry>, entries:
     move_to_end(came, entries);
 }
 
-/// Puts messages behind those that are there, where there is room for them.
+/// Appends messages, for which the list has room.
 fn move_to_end(came: Vec<ViewEntry>, entries: &mut ViewEntries)
     requires { length came.items ≤ entries.now.room }
     ensures { entries.new.items ≡ entries.old.items ++ came.items }

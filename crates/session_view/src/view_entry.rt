@@ -1,4 +1,4 @@
-//! The messages of a view.
+//! The messages of a view, and the forms of a sync.
 
 ghost use Rattle.std.specs.Prelude.{◌≡◌, ◌↔◌, ◌<◌, ◌^◌, length, get_or, IfOk, IsTrue};
 ghost use Rattle.session_view.specs.Views.{AreRising, last_uid};
@@ -11,17 +11,18 @@ use std::alloc::{AllocError, Global};
 /// A message as a session sees it.
 #[derive(Drop)]
 pub struct ViewEntry {
-    /// Its UID, from 1 (RFC 9051, section 2.3.1.1).
+    /// Its UID, from 1 on (RFC 9051, section 2.3.1.1).
     pub uid: u32,
-    /// The flags that the session was told last.
+    /// The flags that were last reported to the session.
     pub flags: Flags,
 }
 
-/// The messages of a view, in order: each is found, changed and taken out by its place in a look-up's time.
+/// The messages of a view, in order. Each is found, changed and taken out by its place in the time
+/// of a look-up.
 pub type ViewEntries = ChunkList<ViewEntry>;
 
 impl ViewEntry {
-    /// An equal one; `Err` where there is no memory for it.
+    /// A copy of the message. `Err` if memory runs out.
     pub fn copy(&self, alloc: Global) -> Result<ViewEntry, AllocError>
         ensures { IfOk result (λ copied. copied ≡ self.now) }
     {
@@ -32,21 +33,22 @@ impl ViewEntry {
     }
 }
 
-/// How much a sync tells.
+/// How much a sync reports.
 #[derive(Clone, Copy, Debug, PartialEq, Eq)]
 pub enum SyncKind {
     /// Everything.
     Full,
-    /// All but which messages are gone (RFC 9051, section 7.5.1: no EXPUNGE in answer to FETCH, STORE and SEARCH).
+    /// All but which messages are gone (RFC 9051, section 7.5.1: no EXPUNGE in answer to FETCH,
+    /// STORE and SEARCH).
     Partial,
 }
 
-/// How a sync is told (RFC 9051, section 7.5.1; RFC 7162, section 3.2).
+/// The form of a sync's answers (RFC 9051, section 7.5.1; RFC 7162, section 3.2).
 #[derive(Clone, Copy, Debug, PartialEq, Eq)]
 pub struct SyncForm {
-    /// Whether messages that are gone are told.
+    /// Whether the sync reports messages that are gone.
     pub kind: SyncKind,
-    /// Whether mod-sequences are told with flags.
+    /// Whether FETCH reports mod-sequences with flags.
     pub modseq: bool,
 }
 
@@ -64,7 +66,7 @@ pub fn are_rising(entries: &ViewEntries) -> bool
     true
 }
 
-/// Equal messages; `Err` where there is no memory for them.
+/// A copy of the messages. `Err` if memory runs out.
 pub fn copy_entries(alloc: Global, view: &ViewEntries) -> Result<ViewEntries, AllocError>
     ensures { IfOk result (λ copied. copied.items ≡ view.now.items) }
 {
@@ -75,7 +77,7 @@ pub fn copy_entries(alloc: Global, view: &ViewEntries) -> Result<ViewEntries, Al
     Ok(copies)
 }
 
-/// How many messages there are, whose UIDs ascend strictly from 1 on.
+/// The number of messages. Their UIDs ascend strictly from 1 on, so it fits in 32 bits.
 pub fn count_of(view: &ViewEntries) -> u32
     requires { AreRising 1 view.now.items }
     ensures count { result ≡ length view.now.items }
@@ -88,7 +90,7 @@ pub fn count_of(view: &ViewEntries) -> u32
     }
 }
 
-/// The last UID, 0 where there is none.
+/// The last message's UID, or 0 if there is no message.
 pub fn last_uid(view: &ViewEntries) -> u32
     ensures { result ≡ last_uid view.now.items }
 {
@@ -98,7 +100,7 @@ pub fn last_uid(view: &ViewEntries) -> u32
     }
 }
 
-/// The UID of the message at this place, from 0.
+/// The UID of the message at this place, from 0 on.
 pub fn uid_at(view: &ViewEntries, place: usize) -> u32
     requires { place < length view.now.items }
     ensures { (d : ViewEntry) → result ≡ (get_or view.now.items place d).uid }

@@ -9,7 +9,7 @@ use Rattle.session_view.specs.declared.view_entry.SyncKind.{SyncKind}
 use Rattle.session_view.proofs.SyncLemmas.{announced_by, kept_rising, stays_rising, synced_by}
 use Rattle.session_view.proofs.comparison_sync.refresh_view.Goals as goal
 
--- what was put behind what stays
+-- the messages that were appended to those that stay
 module _ (kind : SyncKind) (rows : List ListedMessage) (view kept new : List ViewEntry) (last : ℕ) (k : kept ≡ staying_entries kind rows view) (l : last ≡ last_uid kept) (n : new ≡ kept ++ entries_of (rows_after_uid last rows)) where
   new_entries : new ≡ kept ++ entries_of (rows_after_uid (last_uid kept) rows)
   new_entries = n ∙ ap (λ (u : ℕ). kept ++ entries_of (rows_after_uid u rows)) l
