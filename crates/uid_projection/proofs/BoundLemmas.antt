@@ -203,7 +203,7 @@ carried_words ops folder g flags w i =
     let v = flags_carried ops folder g flags i in
     subst HasWords v.4 (words_by v.0.id v.0.kind v.1 (w v.0 v.2).0.parts.fields v.3)
 
--- so can the union of the flags
+-- the union of the flags can be written too
 words_written : (ops : List Op) (folder : List ℕ) (g : OpId) → AreWritable ops → HasWords (message_of ops folder g).flags
 words_written ops folder g w = (
   (

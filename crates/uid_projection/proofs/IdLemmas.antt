@@ -116,7 +116,7 @@ pub at_key_some : {X : Type 0} (test : Option X → Bool) (es : List (OpId × X)
 at_key_some test es None h = absurd (false≢true h)
 at_key_some test es (Some e) h = (e.0, h)
 
--- no place has it, so no key does
+-- no place has the property, so no key has it
 pub at_no_key : {X : Type 0} (test : Option X → Bool) (es : List (OpId × X)) → (test None ≡ true → ⊥) → ((place : ℕ) → value_at_key test es (slice_get es place) ≡ false) → (i : OpId) → test (lookup (same_id i) es) ≡ true → ⊥
 at_no_key {X} test es none h i t = at (lookup (same_id i) es) refl
   where

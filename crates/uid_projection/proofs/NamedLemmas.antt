@@ -70,7 +70,7 @@ adds_none p es us none = record { kept = λ u i. i; named = λ a e i t. absurd (
 pub adds_alike : (p q : OpId → Bool) (es : List ListingEntry) (old new : List ℕ) → ((g : OpId) → p g ≡ q g) → AddsUids p es old new → AddsUids q es old new
 adds_alike p q es old new h r = record { kept = r.kept; named = λ a e i t. r.named a e i (h e.origin ∙ t) }
 
--- one that is already named
+-- an entry that is named already
 pub adds_covered : (p : OpId → Bool) (o : OpId) (es : List ListingEntry) (a b : List ℕ) → p o ≡ true → AddsUids p es a b → AddsUids (λ g. p g || is_some_id g (Some o)) es a b
 adds_covered p o es a b h r = record {
   kept = r.kept;
