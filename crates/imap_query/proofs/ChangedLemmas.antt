@@ -1,4 +1,4 @@
--- FETCH of those that changed since, out of a listing of these alone.
+-- FETCH with CHANGEDSINCE from a listing of only the messages that changed.
 use Rattle.std.proofs.Common.{◌≡◌, inl, inr, ℕ, ◌+◌, ◌<◌, ◌≤◌, true, false, nat_lt, nat_eq, List, [], ◌∷◌, ◌++◌, refl, sym, ap, ◌∙◌, arith, Option, Some, None, Ok, Err, Result, IfOk, if◌then◌else◌}
 use Rattle.std.proofs.lemmas.Bool.{cases_Bool}
 use Rattle.std.proofs.lemmas.Bool.Decides.{nat_tests}
@@ -20,7 +20,7 @@ none_under uid low (row ∷ rows) k h =
     let is : nat_eq row.uid uid ≡ false = grind (arith, nat_tests) in
     rw is (none_under uid (row.uid + 1) rows (omega (arith, k, first)) h.1)
 
--- A message, where its mod-sequence is above this one.
+-- A message, if its mod-sequence is above this one.
 abbrev above : ℕ → Option ListedMessage → Option ListedMessage
 above modseq None = None
 above modseq (Some row) = if nat_lt modseq row.modseq then Some row else None

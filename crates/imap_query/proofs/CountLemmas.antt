@@ -6,7 +6,7 @@ use Rattle.std.specs.List.{filter, slice_get, sum_by}
 use Rattle.std.specs.Option.{option_to_list}
 use Rattle.std.specs.Prelude.{min}
 
--- what stands at a place comes first of what stands from there on
+-- the item at a place is the first of the items from that place on
 pub from_place : {A : Type 0} (xs : List A) (k : ℕ) → drop k xs ≡ option_to_list (slice_get xs k) ++ drop (k + 1) xs
 from_place [] zero = refl
 from_place [] (suc k) = let e : suc k + 1 ≡ suc (k + 1) = omega arith in rw e refl

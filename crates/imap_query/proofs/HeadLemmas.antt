@@ -1,4 +1,4 @@
--- What is told by heads of rows is what is told by the rows.
+-- FETCH and SEARCH by the heads of rows equal FETCH and SEARCH by the rows.
 use Rattle.std.proofs.Common.{◌≡◌, ◌∙◌, ap, sym, refl, ℕ, ◌+◌, ◌<◌, Bool, true, false, not, ◌&&◌, ◌||◌, List, [], ◌∷◌, ◌++◌, length, drop, get_or, append_assoc, Option, Some, None, option_map, if◌then◌else◌, subst}
 use Rattle.std.proofs.lemmas.Bool.{and_parts, false≢true}
 use Rattle.std.specs.List.{fold, list_any}
@@ -68,7 +68,7 @@ answer_alike items mode shown None h = refl
 answer_alike items mode shown (Some row) h =
     λ i. if kept_alike mode.changed_since row i then Fetch shown.number (items_alike items mode row h i) ∷ [] else []
 
--- One message more that FETCH tells.
+-- FETCH of one further message.
 pub answers_more : (items : List FetchItem) (mode : FetchMode) (rows : List ListedMessage) (named : List ViewedMessage) (k : ℕ) (d : ViewedMessage) (found new total : List Answer) → are_of_heads (parts_of items) ≡ true → k < length named
     → new ≡ found ++ head_answer items mode (get_or named k d) (option_map head_of (row_of (get_or named k d).uid rows))
     → found ++ fetch_answers items mode rows rows (drop k named) ≡ total → new ++ fetch_answers items mode rows rows (drop (k + 1) named) ≡ total
@@ -85,7 +85,7 @@ pub hit_alike : (by_uid : Bool) (test : FlagTest) (last shown : ViewedMessage) (
 hit_alike by_uid test last shown None = refl
 hit_alike by_uid test last shown (Some row) = refl
 
--- What a test was found by.
+-- The steps of a flag test.
 pub flag_steps : (found : Option FlagTest) (test : FlagTest) (steps : List SearchStep) → found ≡ Some test → IfSome found (λ t. steps ≡ Test (System t.flag t.is_set) ∷ []) → steps ≡ Test (System test.flag test.is_set) ∷ []
 flag_steps found test steps e h = subst (λ (o : Option FlagTest). IfSome o (λ t. steps ≡ Test (System t.flag t.is_set) ∷ [])) e h
 

@@ -15,7 +15,7 @@ use Rattle.imap_query.specs.declared.searching.Hit.{Hit}
 abbrev numbers_of_hits : List Hit → List ℕ
 numbers_of_hits hits = map (λ (hit : Hit). hit.number) hits
 
--- rising numbers without one of them, and from a lower number on
+-- rising numbers, from a lower number on or without one of them
 rising_lower : (low high : ℕ) (numbers : List ℕ) → low ≤ high → AreRisingFrom high numbers → AreRisingFrom low numbers
 rising_lower low high [] l h = h
 rising_lower low high (n ∷ numbers) l h = (omega (arith, h.0), h.1)
@@ -31,7 +31,7 @@ rising_on number old new rest m h =
       | inr e ↦ subst (λ xs. AreRisingFrom 1 xs) (sym (ap (λ xs. xs ++ rest) e ∙ append_assoc old (number ∷ []) rest)) h
     ]
 
--- there are no more numbers than the last of them
+-- the last of rising numbers is at least their count
 pub rising_count : (low : ℕ) (hits : List Hit) → AreRisingFrom (low + 1) (numbers_of_hits hits) → low + length hits ≤ last_number low hits
 rising_count low [] h = omega arith
 rising_count low (hit ∷ hits) h =
@@ -43,7 +43,7 @@ pub greatest_more : (numbers : List ℕ) (n : ℕ) → greatest (numbers ++ n �
 greatest_more [] n = omega arith
 greatest_more (m ∷ numbers) n = let e = greatest_more numbers n in ap (λ k. max m k) e ∙ omega arith
 
--- laws of tests
+-- laws of Booleans
 or_none : (a : Bool) → (a || false) ≡ a
 or_none true = refl
 or_none false = refl
@@ -52,7 +52,7 @@ or_assoc : (a b c : Bool) → (a || (b || c)) ≡ ((a || b) || c)
 or_assoc true b c = refl
 or_assoc false b c = refl
 
--- whether the steps of a key name a mod-sequence
+-- the steps of a key have a MODSEQ test exactly if the key has one
 any_append : (xs ys : List SearchStep) → list_any step_names_modseq (xs ++ ys) ≡ (list_any step_names_modseq xs || list_any step_names_modseq ys)
 any_append [] ys = refl
 any_append (x ∷ xs) ys = ap (λ b. step_names_modseq x || b) (any_append xs ys) ∙ or_assoc (step_names_modseq x) (list_any step_names_modseq xs) (list_any step_names_modseq ys)
@@ -67,7 +67,7 @@ modseq_asked (Both this that) =
     any_append (steps_of this ++ steps_of that) (And ∷ []) ∙ or_none (list_any step_names_modseq (steps_of this ++ steps_of that))
     ∙ any_append (steps_of this) (steps_of that) ∙ (λ i. modseq_asked this i || modseq_asked that i)
 
--- the last of some
+-- the last hit, by its place
 pub last_hit_at : (hits : List Hit) (d : Hit) → 0 < length hits → Some (get_or hits (length hits - 1) d) ≡ last_hit hits
 last_hit_at [] d h = absurd (omega arith)
 last_hit_at (a ∷ []) d h = refl
@@ -89,13 +89,13 @@ last_shown_at (a ∷ b ∷ view) d h =
     let n : suc (suc (length view)) - 1 ≡ suc (suc (length view) - 1) = omega arith in
     ap (λ k. get_or (a ∷ b ∷ view) k d) n ∙ last_shown_at (b ∷ view) d (omega arith)
 
--- what stands at a place, and then the rest
+-- the item at a place, and then the rest
 pub drop_at : {A : Type 0} (xs : List A) (k : ℕ) (d : A) → k < length xs → drop k xs ≡ get_or xs k d ∷ drop (k + 1) xs
 drop_at [] k d l = absurd (omega arith)
 drop_at (x ∷ xs) zero d l = refl
 drop_at (x ∷ xs) (suc k) d l = let e : suc k + 1 ≡ suc (k + 1) = omega arith in rw e (drop_at xs k d (omega arith))
 
--- one hit more in the set
+-- one further hit in the set
 pub number_more : (numbers new : List ℕ) (hits : List Hit) (k : ℕ) (d : Hit) (total : List ℕ) → k < length hits → new ≡ numbers ++ (get_or hits k d).number ∷ []
     → numbers ++ numbers_of_hits (drop k hits) ≡ total → new ++ numbers_of_hits (drop (k + 1) hits) ≡ total
 number_more numbers new hits k d total l n i =
@@ -119,7 +119,7 @@ first_above numbers hits k d l i =
     let first : greatest numbers + 1 ≤ (get_or hits k d).number = h.0 in
     omega arith
 
--- one message of the view more
+-- one further message of the view
 pub hits_more : (by_uid : Bool) (key : Key) (last other : ViewedMessage) (rows : List ListedMessage) (view : List ViewedMessage) (k : ℕ) (d : ViewedMessage) (found new total : List Hit) → k < length view → last ≡ other
     → new ≡ found ++ hit_of by_uid key last (get_or view k d) (row_of (get_or view k d).uid rows)
     → found ++ hits_of_rows by_uid key other rows (drop k view) ≡ total → new ++ hits_of_rows by_uid key other rows (drop (k + 1) view) ≡ total

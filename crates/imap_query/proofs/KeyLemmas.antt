@@ -6,11 +6,11 @@ use Rattle.imap_syntax.specs.declared.search.SearchTest.{SearchTest}
 use Rattle.imap_query.specs.KeyHits.{Key, Asks, Lacks, Either, Both, hits, steps_of}
 use Rattle.imap_query.specs.Runs.{run, built}
 
--- where the steps of one key, of another and a last one stand in front
+-- the steps of one key, those of another and a last step, before the rest
 three : (these those : List SearchStep) (last : SearchStep) (rest : List SearchStep) → (these ++ those ++ last ∷ []) ++ rest ≡ these ++ (those ++ (last ∷ rest))
 three these those last rest = append_assoc (these ++ those) (last ∷ []) rest ∙ append_assoc these those (last ∷ rest)
 
--- a key's steps push whether it hits
+-- the steps of a key push whether it matches
 pub run-key : (holds : SearchTest → Bool) (key : Key) (rest : List SearchStep) (results : List Bool) → run holds (steps_of key ++ rest) results ≡ run holds rest (hits holds key ∷ results)
 run-key holds (Asks test) rest results = refl
 run-key holds (Lacks key) rest results =
@@ -31,7 +31,7 @@ nil_behind (x ∷ xs) = ap (λ ys. x ∷ ys) (nil_behind xs)
 pub run-all : (holds : SearchTest → Bool) (key : Key) → run holds (steps_of key) [] ≡ hits holds key ∷ []
 run-all holds key = ap (λ xs. run holds xs []) (sym (nil_behind (steps_of key))) ∙ run-key holds key [] []
 
--- and the key itself, where keys are pushed
+-- and the key itself, if keys are pushed
 pub built-key : (key : Key) (rest : List SearchStep) (keys : List Key) → built (steps_of key ++ rest) keys ≡ built rest (key ∷ keys)
 built-key (Asks test) rest keys = refl
 built-key (Lacks key) rest keys =
@@ -49,7 +49,7 @@ first_or : Key → List Key → Key
 first_or other [] = other
 first_or other (key ∷ keys) = key
 
--- so steps are those of one key at most
+-- so two keys with the same steps are equal
 pub one_key : (a b : Key) → steps_of a ≡ steps_of b → a ≡ b
 unfolding first_or
 one_key a b e =
@@ -71,7 +71,7 @@ first_result : Bool → List Bool → Bool
 first_result other [] = other
 first_result other (b ∷ bs) = b
 
--- steps that are one test alone
+-- steps that are only one test
 pub test_alone : (holds : SearchTest → Bool) (key : Key) (steps : List SearchStep) (test : SearchTest) → steps ≡ Test test ∷ [] → steps ≡ steps_of key → holds test ≡ hits holds key
 unfolding first_result
 test_alone holds key steps test t e =

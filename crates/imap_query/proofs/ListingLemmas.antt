@@ -29,14 +29,14 @@ in_either : {X : Type 0} (x : X) (some more : List X) → IsIn x (some ++ more) 
 in_either x [] more h = inr h
 in_either x (y ∷ some) more h = elim h [ inl e ↦ inl (inl e) | inr t ↦ elim (in_either x some more t) [ inl u ↦ inl (inr u) | inr u ↦ inr u ] ]
 
--- the test of what is shown
+-- the test of a match
 shown_takes : (pattern name : List ℕ) → is_shown pattern name ≡ true → IsMatched pattern name
 shown_takes pattern name h = match_takes (pattern_for name pattern) (fold_inbox name) h
 
 shown_gives : (pattern name : List ℕ) → IsMatched pattern name → is_shown pattern name ≡ true
 shown_gives pattern name h = match_gives (pattern_for name pattern) (fold_inbox name) h
 
--- the test of what is a folder
+-- the test of a folder
 among_takes : (folders : List (List ℕ)) (name : List ℕ) → is_among folders name ≡ true → IsIn name folders
 among_takes [] name h = cc
 among_takes (folder ∷ folders) name h = elim (or_cases (bytes_eq folder name) (is_among folders name) h) [ inl t ↦ inl ((bytes_eq-Decides folder name).0 t) | inr t ↦ inr (among_takes folders name t) ]
@@ -198,7 +198,7 @@ levels_all_give pattern folders (other ∷ some) x upper folder i s h =
       | inr t ↦ in_back x (shown_among pattern folders (levels_from [] other)) (shown_levels pattern folders some) (levels_all_give pattern folders some x upper folder t s h)
     ]
 
--- what is found is what is listed
+-- the entries that the code finds are those that the pattern lists
 found_takes : (pattern : List ℕ) (folders : List (List ℕ)) (x : ListEntry) → IsIn x (entries_found pattern folders) → IsListEntry folders pattern x
 found_takes pattern folders x h =
     elim (in_either x (shown_mailboxes pattern folders) _ h) [
@@ -222,7 +222,7 @@ found_gives pattern folders x h =
           (levels_all_give pattern folders folders x level.0 level.1 level.2 level.3 (h.0, l.0, level.4, l.3)))
     ]
 
--- a name is listed as one entry
+-- each name has one entry
 one_entry : (pattern : List ℕ) (folders : List (List ℕ)) (x y : ListEntry) → IsListEntry folders pattern x → IsListEntry folders pattern y → x.name ≡ y.name → x ≡ y
 one_entry pattern folders x y h k e =
     elim h.1 [
@@ -260,7 +260,7 @@ percent_at (octet ∷ next ∷ rest) d h =
     let less : length (octet ∷ next ∷ rest) - 1 ≡ suc (length (next ∷ rest) - 1) = omega arith in
     ap (λ n. get_or (octet ∷ next ∷ rest) n d == 37) less ∙ percent_at (next ∷ rest) d (omega arith)
 
--- one octet of a folder read
+-- the superior levels after one further octet of a folder is read
 pub levels_read : (folder : List ℕ) (at d : ℕ) → at < length folder → levels_from (take at folder) (drop at folder) ≡ cond (get_or folder at d == 47) (take at folder ∷ levels_from (take (at + 1) folder) (drop (at + 1) folder)) (levels_from (take (at + 1) folder) (drop (at + 1) folder))
 levels_read folder at d h =
     let rest : drop at folder ≡ get_or folder at d ∷ drop (at + 1) folder = grind (arith, common_steps) in

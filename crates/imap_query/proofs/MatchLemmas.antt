@@ -62,7 +62,7 @@ stands_for_less octet letter text w s =
       ]
     ]
 
--- a piece that the octet stands for, and a rest that a test accepts
+-- a piece that the octet matches, and a rest that a test accepts
 abbrev HasPiece : (List ℕ → Bool) → ℕ → List ℕ → Type 0
 HasPiece accepts octet name = (front : List ℕ) × (rest : List ℕ) × (name ≡ front ++ rest) × StandsFor octet front × (accepts rest ≡ true)
 
@@ -128,7 +128,7 @@ match_gives (octet ∷ pattern) name m =
       | inr f ↦ chosen_false (is_wildcard octet) _ _ f ∙ octet_gives (is_match pattern) octet m.0 m.1 f m.3 rest
     ]
 
--- the test answers what the definition says
+-- the test agrees with the definition
 match_is : (pattern name : List ℕ) (answer : Bool) → answer ≡ is_match pattern name → (answer ≡ true) ↔ Matches pattern name
 match_is pattern name answer e = (λ t. match_takes pattern name (sym e ∙ t), λ m. e ∙ match_gives pattern name m)
 

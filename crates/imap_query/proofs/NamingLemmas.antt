@@ -34,7 +34,7 @@ named_entry entry (other ∷ entries) h =
 one_mailbox : (pattern : List ℕ) (names : List (List ℕ)) (x y : ListEntry) → IsMailboxOf pattern names x → IsMailboxOf pattern names y → x.name ≡ y.name → x ≡ y
 one_mailbox pattern names x y h k e = λ i. record { name = e i; is_mailbox = (h.1 ∙ sym k.1) i }
 
--- the subscribed names that are placed are those that match
+-- the subscribed names that are inserted are those that match
 subscribed_is : (pattern : List ℕ) (names : List (List ℕ)) → AreSubscribedNames names pattern (names_of (placed_all (shown_mailboxes pattern names) []))
 subscribed_is pattern names =
     let P : ListEntry → Type 0 = IsMailboxOf pattern names in

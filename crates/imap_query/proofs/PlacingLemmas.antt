@@ -27,7 +27,7 @@ not_before_itself a h = let e : octet_order a a ≡ Equal = tied_itself nat_list
 before_before : (a b c : List ℕ) → ComesBefore a b → ComesBefore b c → ComesBefore a c
 before_before a b c h k = nat_list_cmp_total.trans a b c h k
 
--- an entry put in keeps the names in order
+-- inserting an entry keeps the names in order
 behind_by : (order : Ordering) (first entry next : ListEntry) (others behind : List ListEntry) → ComesBefore first.name entry.name → ComesBefore first.name next.name → AreAscending (names_of (placed_by order entry next others behind)) → AreAscending (names_of (first ∷ placed_by order entry next others behind))
 behind_by Less first entry next others behind lt below k = (lt, k)
 behind_by Equal first entry next others behind lt below k = (below, k)
@@ -50,7 +50,7 @@ ascending_placed : (entry : ListEntry) (entries : List ListEntry) → AreAscendi
 ascending_placed entry [] h = tt
 ascending_placed entry (other ∷ others) h = ascending_by (octet_order entry.name other.name) entry other others refl h (ascending_placed entry others (tail_ascending other others h))
 
--- what is there once an entry is put in
+-- the entries after one is inserted
 has_by : (order : Ordering) (x entry other : ListEntry) (others behind : List ListEntry) → (IsIn x behind → (entry ≡ x) ⊎ IsIn x others) → IsIn x (placed_by order entry other others behind) → (entry ≡ x) ⊎ IsIn x (other ∷ others)
 has_by Less x entry other others behind more h = h
 has_by Equal x entry other others behind more h = inr h
@@ -78,7 +78,7 @@ placed_new : (entry : ListEntry) (entries : List ListEntry) → ((y : ListEntry)
 placed_new entry [] one = inl refl
 placed_new entry (other ∷ others) one = new_by (octet_order entry.name other.name) entry other others (insert_entry entry others) refl (one other (inl refl)) (placed_new entry others (λ y t. one y (inr t)))
 
--- where a name determines the entry, all are there, in order
+-- if names determine entries, all are inserted, in order
 module _ (P : ListEntry → Type 0) (one : (x y : ListEntry) → P x → P y → x.name ≡ y.name → x ≡ y) where
   pub all_ascending : (more entries : List ListEntry) → AreAscending (names_of entries) → AreAscending (names_of (placed_all more entries))
   all_ascending [] entries h = h
@@ -115,7 +115,7 @@ first_before first x (next ∷ others) h i =
       | inr t ↦ before_before first.name next.name x.name h.0 (first_before next x others h.1 t)
     ]
 
--- ascending entries are determined by which they are
+-- two ascending lists of the same entries are equal
 pub same_entries : (xs ys : List ListEntry) → AreAscending (names_of xs) → AreAscending (names_of ys) → ((z : ListEntry) → IsIn z xs ↔ IsIn z ys) → xs ≡ ys
 same_entries [] [] h k s = refl
 same_entries [] (y ∷ ys) h k s = absurd ((s y).1 (inl refl))

@@ -3,7 +3,7 @@ use Rattle.std.proofs.Math.ListN.{replicate}
 use Rattle.std.specs.List.{list_all}
 use Rattle.imap_query.specs.PatternRows.{after_octet, after_wildcard, answer_after, cell, cells, is_match, is_unset, is_wildcard, last_of, may_hold}
 
--- a choice whose test is known
+-- a conditional with a known test
 pub chosen_true : {A : Type 0} (test : Bool) (x y : A) → test ≡ true → cond test x y ≡ x
 chosen_true true x y h = refl
 chosen_true false x y h = cc
@@ -16,7 +16,7 @@ pub either_way : (test : Bool) → (test ≡ true) ⊎ (test ≡ false)
 either_way true = inl refl
 either_way false = inr refl
 
--- laws of tests
+-- laws of Booleans
 or_false : (x : Bool) → (x || false) ≡ x
 or_false true = refl
 or_false false = refl
@@ -70,7 +70,7 @@ nothing_more true b = refl
 nothing_more false true = refl
 nothing_more false false = refl
 
--- whether one of the answers is yes for a front behind which a test accepts the rest of the name
+-- whether an answer is yes for a prefix of the name after which a test accepts the rest
 reaches : (List ℕ → Bool) → Bool → List ℕ → List Bool → Bool
 reaches accepts first [] row = first && accepts []
 reaches accepts first (letter ∷ name) [] = first && accepts (letter ∷ name)
@@ -82,7 +82,7 @@ reaches_or accepts a b [] row = and_or a b (accepts [])
 reaches_or accepts a b (letter ∷ name) [] = and_or a b (accepts (letter ∷ name))
 reaches_or accepts a b (letter ∷ name) (here ∷ row) = and_or_more a b (accepts (letter ∷ name)) (reaches accepts here name row)
 
--- a wildcard read
+-- after a wildcard is read
 reaches_wildcard : (accepts : List ℕ → Bool) (octet : ℕ) (before made : Bool) (name : List ℕ) (row : List Bool) → is_wildcard octet ≡ true → length row ≡ length name → reaches accepts made name (cells octet before made row name) ≡ reaches (after_wildcard accepts octet) made name row
 unfolding reaches
 reaches_wildcard accepts octet before made [] [] t n = refl
@@ -96,7 +96,7 @@ reaches_wildcard accepts octet before made (letter ∷ name) (here ∷ row) t n 
     (more ∙ ap (λ m. reaches (after_wildcard accepts octet) m name row) is ∙ reaches_or (after_wildcard accepts octet) here (made && may_hold octet letter) name row)
     ∙ wildcard_now made (accepts (letter ∷ name)) (may_hold octet letter) (after_wildcard accepts octet name) (reaches (after_wildcard accepts octet) here name row)
 
--- another octet read
+-- after another octet is read
 reaches_octet : (accepts : List ℕ → Bool) (octet : ℕ) (before made : Bool) (name : List ℕ) (row : List Bool) → is_wildcard octet ≡ false → length row ≡ length name → reaches accepts made name (cells octet before made row name) ≡ ((made && accepts name) || reaches (after_octet accepts octet) before name row)
 unfolding reaches
 reaches_octet accepts octet before made [] [] t n = nothing_more (made && accepts []) before
@@ -154,7 +154,7 @@ unfolding reaches
 reaches_all accepts [] = refl
 reaches_all accepts (letter ∷ name) = ap (λ q. accepts (letter ∷ name) || q) (reaches_none accepts name) ∙ or_false _
 
--- read from its beginning, the pattern answers as the test does
+-- read from its first octet, the pattern answers as the test does
 pub answer_is : (pattern name : List ℕ) (row : List Bool) → row ≡ replicate (length name) false → length row ≡ length name → answer_after pattern true row name ≡ is_match pattern name
 answer_is pattern name row e n = answer_reaches pattern true row name n ∙ ap (reaches (is_match pattern) true name) e ∙ reaches_all (is_match pattern) name
 
@@ -165,7 +165,7 @@ reaches_unset accepts (letter ∷ name) [] h = refl
 reaches_unset accepts (letter ∷ name) (true ∷ row) h = absurd cc
 reaches_unset accepts (letter ∷ name) (false ∷ row) h = reaches_unset accepts name row h
 
--- where no front is matched, no more is
+-- once no prefix is matched, none is matched later
 pub unset_never : (pattern name : List ℕ) (first : Bool) (row : List Bool) → is_unset first row ≡ true → length row ≡ length name → answer_after pattern first row name ≡ false
 unset_never pattern name true row h n = absurd cc
 unset_never pattern name false row h n = answer_reaches pattern false row name n ∙ reaches_unset (is_match pattern) name row h

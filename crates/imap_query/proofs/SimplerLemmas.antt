@@ -5,7 +5,7 @@ use Rattle.imap_query.specs.Simpler.{Adds, ends_wild}
 use Rattle.imap_query.proofs.RowLemmas.{chosen_true}
 use Rattle.imap_query.proofs.MatchLemmas.{which}
 
--- laws of tests
+-- laws of Booleans
 absorbed : (a b m : Bool) → ((a || b) || (m && b)) ≡ (a || b)
 absorbed true b m = refl
 absorbed false true m = refl
@@ -38,7 +38,7 @@ star f wildcard (octet ∷ name) =
     ap (λ b. (f (octet ∷ name) || after_wildcard f 42 name) || (may_hold wildcard octet && b)) (star f wildcard name)
     ∙ absorbed (f (octet ∷ name)) (after_wildcard f 42 name) (may_hold wildcard octet)
 
--- what `%` takes `*` takes
+-- what `%` matches, `*` matches
 weaker : (f : List ℕ → Bool) (name : List ℕ) → (after_wildcard f 37 name || after_wildcard f 42 name) ≡ after_wildcard f 42 name
 weaker f [] = itself (f [])
 weaker f (octet ∷ name) = weaker_step (f (octet ∷ name)) (may_hold 37 octet) (after_wildcard f 37 name) (after_wildcard f 42 name) (weaker f name)
@@ -72,7 +72,7 @@ percent_in wildcard rest w = λ k name.
     ∙ sym (percent (is_match rest) wildcard name w)
     ∙ sym (chosen_true (is_wildcard wildcard) _ (after_octet (is_match (37 ∷ rest)) wildcard name) w)) k
 
--- patterns alike behind the same front
+-- patterns that match the same names still do after the same prefix
 in_front : (front a b : List ℕ) → is_match a ≡ is_match b → is_match (front ++ a) ≡ is_match (front ++ b)
 in_front [] a b e = e
 in_front (octet ∷ front) a b e = λ k name. cond (is_wildcard octet) (after_wildcard (in_front front a b e k) octet name) (after_octet (in_front front a b e k) octet name)

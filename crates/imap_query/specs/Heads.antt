@@ -1,4 +1,6 @@
--- What the code tells by heads of rows; proofs/HeadLemmas ties it to Fetching and Search.
+-- FETCH and SEARCH as the code computes them by heads of rows; proofs/HeadLemmas ties them to
+-- Fetching and Search.
+
 use Rattle.std.specs.Prelude.{ℕ, Bool, true, not, ◌&&◌, ◌||◌, nat_lt, List, [], ◌∷◌, Option, Some, None, if◌then◌else◌}
 use Rattle.imap_answers.specs.declared.answer.Answer.{Answer}
 use Rattle.imap_answers.specs.declared.answer.Answer.TheVariants.{Fetch}
@@ -17,16 +19,16 @@ use Rattle.imap_query.specs.declared.keys.FlagTest.{FlagTest}
 use Rattle.imap_query.specs.declared.searching.Hit.{Hit}
 use Rattle.imap_query.specs.declared.viewed_message.ViewedMessage.{ViewedMessage}
 
--- Whether no date, no size and no section is asked.
+-- Whether no date, no size and no section is asked for.
 abbrev pub are_of_heads : FetchParts → Bool
 are_of_heads parts = not parts.date && (not parts.size && (not parts.sections && not parts.seen))
 
--- Whether a message changed since.
+-- Whether a message's mod-sequence is above that of CHANGEDSINCE, if one is given.
 abbrev pub is_kept_head : Option ℕ → ListedHead → Bool
 is_kept_head None head = true
 is_kept_head (Some modseq) head = nat_lt modseq head.modseq
 
--- What is told of a message by its head.
+-- The items reported of a message by its head.
 abbrev pub head_items : List FetchItem → FetchMode → ListedHead → FetchItems
 head_items items mode head = record {
   uid = if_told (mode.by_uid || asks_part part.Uid items) head.uid;
@@ -37,12 +39,12 @@ head_items items mode head = record {
   sections = [];
 }
 
--- What FETCH tells of a message that a view shows, by its head.
+-- The answer of FETCH for a message that a view shows, by its head.
 abbrev pub head_answer : List FetchItem → FetchMode → ViewedMessage → Option ListedHead → List Answer
 head_answer items mode shown None = []
 head_answer items mode shown (Some head) = if is_kept_head mode.changed_since head then Fetch shown.number (head_items items mode head) ∷ [] else []
 
--- The key that is a test of a flag alone.
+-- The key that is only a test of a flag.
 abbrev pub flag_key : FlagTest → Key
 flag_key test = Asks (System test.flag test.is_set)
 

@@ -1,14 +1,17 @@
+-- The names that LIST shows (RFC 9051, section 6.3.9).
+
 use Rattle.std.specs.Prelude.{◌≡◌, ℕ, true, false, ◌⊎◌, ◌↔◌, List, [], ◌∷◌, ◌++◌, map}
 use Rattle.imap_types.specs.Ascending.{AreAscending}
 use Rattle.imap_types.specs.Names.{fold_inbox}
 use Rattle.imap_query.specs.Patterns.{IsIn, IsMatched}
 use Rattle.imap_query.specs.declared.list_entries.ListEntry.{ListEntry}
 
--- A name is a superior level of another: a beginning of it that a separator `/` (47) ends (RFC 9051, section 5.1.1).
+-- A name is a superior level of another: the part before one of its separators `/` (47) (RFC 9051,
+-- section 5.1.1).
 abbrev pub IsSuperior : List ℕ → List ℕ → Type 0
 IsSuperior upper name = (rest : List ℕ) × (name ≡ upper ++ 47 ∷ rest)
 
--- A name is a superior level of one of the folders, where a level INBOX of any case is INBOX.
+-- A name is a superior level of one of the folders; a level that spells INBOX in any case is INBOX.
 abbrev pub IsSuperiorLevel : List (List ℕ) → List ℕ → Type 0
 IsSuperiorLevel folders name =
     (upper : List ℕ) × (folder : List ℕ) × IsIn folder folders × IsSuperior upper folder × (name ≡ fold_inbox upper)
@@ -17,8 +20,8 @@ IsSuperiorLevel folders name =
 abbrev pub EndsInPercent : List ℕ → Type 0
 EndsInPercent pattern = (front : List ℕ) × (pattern ≡ front ++ 37 ∷ [])
 
--- An entry that a pattern lists: matched, and a mailbox of the folders, or where the pattern ends in `%` a superior
--- level of theirs that is none of them (RFC 9051, section 6.3.9).
+-- An entry that a pattern lists: its name matches, and it is one of the folders or, if the pattern
+-- ends in `%`, a superior level of theirs that is no folder (RFC 9051, section 6.3.9).
 abbrev pub IsListEntry : List (List ℕ) → List ℕ → ListEntry → Type 0
 IsListEntry folders pattern entry =
     IsMatched pattern entry.name
@@ -29,13 +32,13 @@ IsListEntry folders pattern entry =
 abbrev pub names_of : List ListEntry → List (List ℕ)
 names_of entries = map (λ (entry : ListEntry). entry.name) entries
 
--- The entries that a pattern lists, in ascending order of their names, none twice.
+-- The entries that a pattern lists, distinct and in ascending order of their names.
 pub record AreListEntries (folders : List (List ℕ)) (pattern : List ℕ) (entries : List ListEntry) : Type 0 where
   pub ascending : AreAscending (names_of entries)
   pub exactly : (entry : ListEntry) → IsIn entry entries ↔ IsListEntry folders pattern entry
 
--- What LIST shows: for an empty pattern the empty name alone, which is no mailbox, and else what reference and pattern
--- list joined (RFC 9051, section 6.3.9).
+-- The entries that LIST shows: for an empty pattern only the empty name, which is no mailbox;
+-- otherwise those that reference and pattern, joined, list (RFC 9051, section 6.3.9).
 abbrev pub Lists : List ℕ → List ℕ → List (List ℕ) → List ListEntry → Type 0
 Lists reference [] folders entries = entries ≡ (record { name = []; is_mailbox = false }) ∷ []
 Lists reference (octet ∷ pattern) folders entries = AreListEntries folders (reference ++ octet ∷ pattern) entries

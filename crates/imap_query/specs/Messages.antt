@@ -1,3 +1,5 @@
+-- Tests of a message's system flags (RFC 9051, section 2.3.2).
+
 use Rattle.std.specs.Prelude.{Bool, not, if◌then◌else◌}
 use Rattle.imap_types.specs.declared.flags.Flags.{Flags}
 use Rattle.imap_syntax.specs.declared.flags.SystemFlag.{SystemFlag}
@@ -12,10 +14,10 @@ has_flag Deleted flags = flags.deleted
 has_flag Seen flags = flags.seen
 has_flag Draft flags = flags.draft
 
--- Whether something is as it is asked to be.
+-- Whether a truth value is the expected one.
 abbrev pub is_as : Bool → Bool → Bool
 is_as wanted is = if wanted then is else not is
 
--- Whether a message has a system flag, or lacks it.
+-- Whether a message has a system flag, or lacks it, as `is_set` asks.
 abbrev pub is_flagged : SystemFlag → Bool → ListedMessage → Bool
 is_flagged flag is_set row = is_as is_set (has_flag flag row.flags)

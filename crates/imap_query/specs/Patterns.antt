@@ -1,38 +1,41 @@
+-- Patterns of LIST and the names that they match (RFC 9051, section 6.3.9).
+
 use Rattle.std.specs.Prelude.{◌≡◌, ◌≢◌, ℕ, Bool, ◌⊎◌, List, [], ◌∷◌, ◌++◌, map, if◌then◌else◌}
 use Rattle.std.specs.Char.{to_ascii_uppercase}
 use Rattle.std.specs.List.{list_any}
 use Rattle.std.specs.Str.{bytes_eq}
 use Rattle.imap_types.specs.Names.{fold_inbox, is_inbox}
 
--- A value is one of a list's.
+-- A value is an element of a list.
 abbrev pub IsIn : {X : Type 0} → X → List X → Type 0
 IsIn value [] = ⊥
 IsIn value (other ∷ others) = (other ≡ value) ⊎ IsIn value others
 
--- Whether a name is one of some names.
+-- Whether a name is in a list of names.
 abbrev pub is_among : List (List ℕ) → List ℕ → Bool
 is_among names name = list_any (λ other. bytes_eq other name) names
 
--- What an octet of a pattern stands for: `*` (42) for any text, `%` (37) for any text without a separator `/` (47),
--- any other octet for itself (RFC 9051, section 6.3.9).
+-- An octet of a pattern matches a text: `*` (42) any text, `%` (37) any text without a separator
+-- `/` (47), any other octet only itself (RFC 9051, section 6.3.9).
 abbrev pub StandsFor : ℕ → List ℕ → Type 0
 StandsFor octet text =
     (octet ≡ 42)
     ⊎ (((octet ≡ 37) × (¬ IsIn 47 text))
     ⊎ ((octet ≢ 42) × (octet ≢ 37) × (text ≡ octet ∷ [])))
 
--- A name that a pattern matches: cut into pieces, it has for each octet of the pattern one that the octet stands for
--- (RFC 9051, section 6.3.9).
+-- A pattern matches a name: the name can be cut into pieces, one for each octet of the pattern,
+-- which that octet matches (RFC 9051, section 6.3.9).
 abbrev pub Matches : List ℕ → List ℕ → Type 0
 Matches [] name = name ≡ []
 Matches (octet ∷ pattern) name =
     (front : List ℕ) × (rest : List ℕ) × (name ≡ front ++ rest) × StandsFor octet front × Matches pattern rest
 
--- The pattern as it is compared with a name: in capitals where the name is INBOX, whose case doesn't count
--- (RFC 9051, sections 5.1 and 6.3.9).
+-- The pattern that is compared with a name: in capitals if the name is INBOX, whose case doesn't
+-- count (RFC 9051, sections 5.1 and 6.3.9).
 abbrev pub pattern_for : List ℕ → List ℕ → List ℕ
 pattern_for name pattern = if is_inbox name then map to_ascii_uppercase pattern else pattern
 
--- A name that a pattern matches, where INBOX as a whole name matches without case (RFC 9051, sections 5.1 and 6.3.9).
+-- A pattern matches a name, with INBOX as a whole name in any case (RFC 9051, sections 5.1 and
+-- 6.3.9).
 abbrev pub IsMatched : List ℕ → List ℕ → Type 0
 IsMatched pattern name = Matches (pattern_for name pattern) (fold_inbox name)

@@ -1,10 +1,12 @@
+-- The steps of a search key, evaluated on a stack (RFC 9051, section 6.4.4).
+
 use Rattle.std.specs.Prelude.{Bool, not, ◌&&◌, ◌||◌, List, [], ◌∷◌}
 use Rattle.imap_syntax.specs.declared.search.SearchStep.{SearchStep}
 use Rattle.imap_syntax.specs.declared.search.SearchStep.TheVariants.{Test, Not, Or, And}
 use Rattle.imap_syntax.specs.declared.search.SearchTest.{SearchTest}
 use Rattle.imap_query.specs.KeyHits.{Key, Asks, Lacks, Either, Both}
 
--- What a step makes of the results so far, the last of them first.
+-- The stack of results after a step, the last result first.
 abbrev pub after_step : (SearchTest → Bool) → SearchStep → List Bool → List Bool
 after_step holds (Test test) results = holds test ∷ results
 after_step holds Not [] = []
@@ -16,12 +18,12 @@ after_step holds And [] = []
 after_step holds And (b ∷ []) = []
 after_step holds And (b ∷ a ∷ results) = (a && b) ∷ results
 
--- What steps make of them.
+-- The stack of results after several steps.
 abbrev pub run : (SearchTest → Bool) → List SearchStep → List Bool → List Bool
 run holds [] results = results
 run holds (step ∷ steps) results = run holds steps (after_step holds step results)
 
--- The same with keys in place of results.
+-- The stack of keys after a step, the last key first: `after_step` with keys in place of results.
 abbrev pub built_step : SearchStep → List Key → List Key
 built_step (Test test) keys = Asks test ∷ keys
 built_step Not [] = []
@@ -33,6 +35,7 @@ built_step And [] = []
 built_step And (b ∷ []) = []
 built_step And (b ∷ a ∷ keys) = Both a b ∷ keys
 
+-- The stack of keys after several steps.
 abbrev pub built : List SearchStep → List Key → List Key
 built [] keys = keys
 built (step ∷ steps) keys = built steps (built_step step keys)

@@ -1,4 +1,5 @@
--- Patterns that match the same names; the code makes one with fewer wildcards.
+-- Patterns that match the same names; the code builds one with fewer wildcards.
+
 use Rattle.std.specs.Prelude.{◌≡◌, ℕ, Bool, false, List, [], ◌∷◌, ◌++◌, map}
 use Rattle.std.specs.Char.{to_ascii_uppercase}
 use Rattle.imap_query.specs.PatternRows.{is_match, is_wildcard}
@@ -7,12 +8,13 @@ use Rattle.imap_query.specs.PatternRows.{is_match, is_wildcard}
 abbrev pub IsAlike : List ℕ → List ℕ → Type 0
 IsAlike pattern other = (name : List ℕ) → is_match other name ≡ is_match pattern name
 
--- One pattern matches the same names as another, and a second one those of the other in capitals.
+-- `plain` matches the same names as the pattern, `capitals` the same as the pattern in capitals.
 pub record AreAlike (pattern plain capitals : List ℕ) : Type 0 where
   pub plain_alike : IsAlike pattern plain
   pub capitals_alike : IsAlike (map to_ascii_uppercase pattern) capitals
 
--- With whatever is still to come, a pattern matches the same names as one with an octet more.
+-- With any rest after it, the new pattern matches the same names as the old one with this octet
+-- added.
 abbrev pub Adds : ℕ → List ℕ → List ℕ → Type 0
 Adds octet made new = (rest : List ℕ) → IsAlike (made ++ octet ∷ rest) (new ++ rest)
 

@@ -1,3 +1,5 @@
+-- The items that STATUS reports (RFC 9051, section 6.3.11; RFC 7162, section 3.1.7).
+
 use Rattle.std.specs.Prelude.{ℕ, Bool, true, false, ◌==◌, List, length, min, Option, Some, None, if◌then◌else◌}
 use Rattle.std.specs.List.{filter, list_any, sum_by}
 use Rattle.imap_answers.specs.declared.mailbox.StatusItems.{StatusItems}
@@ -8,7 +10,7 @@ use Rattle.mailbox_rows.specs.ListedMessage.{ListedMessage}
 use Rattle.imap_query.specs.Messages.{is_flagged}
 use Rattle.imap_query.specs.declared.mailbox_status.MailboxCounters.{MailboxCounters}
 
--- The place of an item among those that STATUS knows.
+-- A number for each item.
 abbrev pub item_number : StatusItem → ℕ
 item_number Messages = 0
 item_number UidNext = 1
@@ -18,11 +20,11 @@ item_number DeletedItem = 4
 item_number Size = 5
 item_number HighestModSeq = 6
 
--- Whether an item is among those asked.
+-- Whether an item is among those requested.
 abbrev pub is_asked : StatusItem → List StatusItem → Bool
 is_asked item items = list_any (λ other. item_number other == item_number item) items
 
--- A number where its item was asked.
+-- A number, if its item was requested.
 abbrev pub if_asked : StatusItem → List StatusItem → ℕ → Option ℕ
 if_asked item items number = if is_asked item items then Some number else None
 
@@ -30,8 +32,9 @@ if_asked item items number = if is_asked item items then Some number else None
 abbrev pub size_of : ListedMessage → ℕ
 size_of row = length row.text
 
--- What STATUS tells of a mailbox's listing and of its marks, each item that was asked once; the octets of all messages stop at the
--- greatest number of 64 bits (RFC 9051, section 6.3.11; RFC 7162, section 3.1.7).
+-- The items that STATUS reports, from a mailbox's listing and its counters, each requested item
+-- once; the sum of all messages' octets stops at the greatest number of 64 bits (RFC 9051,
+-- section 6.3.11; RFC 7162, section 3.1.7).
 abbrev pub status_of : List StatusItem → MailboxCounters → List ListedMessage → StatusItems
 status_of items marks rows = record {
   messages = if_asked Messages items (length rows);

@@ -1,3 +1,5 @@
+-- Single tests of SEARCH (RFC 9051, section 6.4.4; RFC 7162, section 3.1.5).
+
 use Rattle.std.specs.Prelude.{ℕ, ◌+◌, ◌*◌, Bool, true, nat_le, nat_lt, ◌==◌, List, length, codes}
 use Rattle.imap_types.specs.Keywords.{has_keyword}
 pub use Rattle.imap_types.specs.Sets.{bound_of, is_between, range_names, set_names}
@@ -15,7 +17,8 @@ use Rattle.mail_text.specs.TextSearch.{any_field_holds, holds}
 use Rattle.imap_query.specs.Messages.{has_flag, is_as}
 use Rattle.imap_query.specs.declared.viewed_message.ViewedMessage.{ViewedMessage}
 
--- Whether a text holds a word in a place (RFC 9051, section 6.4.4).
+-- Whether a text contains a word in a place: a header field, the body or the whole text (RFC 9051,
+-- section 6.4.4).
 abbrev pub holds_in : TextPlace → List ℕ → List ℕ → Bool
 holds_in places.Bcc word text = any_field_holds (codes "Bcc") word text
 holds_in places.Cc word text = any_field_holds (codes "Cc") word text
@@ -25,17 +28,18 @@ holds_in places.To word text = any_field_holds (codes "To") word text
 holds_in places.Body word text = holds word (body_of text)
 holds_in places.Text word text = holds word text
 
--- Days in the order of the calendar.
+-- A number for a day that rises with the calendar.
 abbrev pub rank : Day → ℕ
 rank day = (day.year * 100 + day.month) * 100 + day.day
 
--- Whether a date-time's day, as it is written, stands so to a day.
+-- Whether a date-time's day, as written, is before, on or since a day.
 abbrev pub is_date_related : DateRelation → Day → List ℕ → Bool
 is_date_related Before day date = nat_lt (rank (written_day date)) (rank day)
 is_date_related On day date = rank (written_day date) == rank day
 is_date_related Since day date = nat_le (rank day) (rank (written_day date))
 
--- Whether a test holds of a message that a view shows, of which this is the last (RFC 9051, section 6.4.4; RFC 7162, section 3.1.5).
+-- Whether a test holds for a message that a view shows; `last` is the last message of the view
+-- (RFC 9051, section 6.4.4; RFC 7162, section 3.1.5).
 abbrev pub test_holds : ViewedMessage → ViewedMessage → ListedMessage → SearchTest → Bool
 test_holds last shown row tests.All = true
 test_holds last shown row (tests.System flag is_set) = is_as is_set (has_flag flag row.flags)

@@ -1,10 +1,11 @@
-//! Room in lists.
+//! Room for one more item in a list.
 
 ghost use Rattle.std.specs.Prelude.{◌≡◌, ◌<◌, vec_capacity, vec_len, OnOk};
 
 use std::alloc::AllocError;
 
-/// Room for one more behind the items, which stay; `Err` where there is no memory for it. Where there is room already, it costs no call.
+/// Makes room for one more item after those in the list, which stay; `Err` if memory runs out. If
+/// there is room already, nothing is called.
 #[inline(always)]
 pub fn make_room<T>(items: &mut Vec<T>) -> Result<(), AllocError>
     ensures items { items.new.items ≡ items.old.items }

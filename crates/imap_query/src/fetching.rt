@@ -1,3 +1,5 @@
+//! The answers to FETCH (RFC 9051, section 6.4.5; RFC 7162, section 3.1.4).
+
 ghost use Rattle.std.specs.Prelude.{◌≡◌, ◌||◌, ◌++◌, ◌∷◌, [], true, false, IfOk, OnOk};
 ghost use Rattle.imap_answers.specs.declared.answer.Answer.TheVariants.{Fetch};
 ghost use Rattle.std.specs.List.{list_any};
@@ -19,26 +21,26 @@ use std::alloc::{AllocError, Global};
 /// How FETCH asks (RFC 9051, section 6.4.5; RFC 7162, section 3.1.4).
 #[derive(Clone, Copy, Debug, PartialEq, Eq)]
 pub struct FetchMode {
-    /// Whether messages are named by UIDs, which are then told.
+    /// Whether messages are named by UIDs, which the answers then include.
     pub by_uid: bool,
-    /// Whether mod-sequences are told with flags (RFC 7162, section 3.1).
+    /// Whether answers with flags include the mod-sequence (RFC 7162, section 3.1).
     pub condstore: bool,
-    /// Whether the mailbox is read-write, so that a section that is read sets `\Seen`.
+    /// Whether the mailbox is read-write, so that reading a section sets `\Seen`.
     pub writable: bool,
-    /// Only messages of mod-sequences above this one.
+    /// CHANGEDSINCE: only messages with mod-sequences above this one are fetched.
     pub changed_since: Option<u64>,
 }
 
-/// What FETCH asks of each message, and how.
+/// A FETCH: its items and its mode.
 #[derive(Clone, Copy)]
 pub(crate) struct FetchSpec<'a> {
     pub(crate) items: &'a [FetchItem],
     pub(crate) mode: FetchMode,
-    /// What the items ask, found out once for all messages.
+    /// The parts that the items ask for, worked out once for all messages.
     pub(crate) parts: FetchParts,
 }
 
-/// Which parts the items of a FETCH ask.
+/// The parts that the items of a FETCH ask for.
 #[derive(Clone, Copy, Debug, PartialEq, Eq)]
 pub(crate) struct FetchParts {
     pub(crate) uid: bool,
@@ -47,11 +49,11 @@ pub(crate) struct FetchParts {
     pub(crate) size: bool,
     pub(crate) modseq: bool,
     pub(crate) sections: bool,
-    /// Whether one of them sets `\Seen`.
+    /// Whether one of the items sets `\Seen`.
     pub(crate) seen: bool,
 }
 
-/// What FETCH asks, but for the sections.
+/// The part that an item of FETCH asks for, without the section that it names.
 #[derive(Clone, Copy, Debug, PartialEq, Eq)]
 enum Part {
     Uid,
@@ -62,9 +64,10 @@ enum Part {
     Section,
 }
 
-/// What FETCH tells of the named messages, in their order, where the listing before the command has them: as they are
-/// after it (RFC 9051, section 6.4.5; RFC 7162, section 3.1.4). A section costs a look at the text up to its end, and a
-/// copy of what is told of it. `Err` where there is no memory for it.
+/// The answers to FETCH for the named messages, in their order, if the listings before and after
+/// the command both have them: the messages as they are after it (RFC 9051, section 6.4.5;
+/// RFC 7162, section 3.1.4). A section costs one reading of the text up to the section's end, and a
+/// copy of the octets returned. `Err` if memory runs out.
 pub fn fetch(
     alloc: Global,
     named: &[ViewedMessage],
@@ -83,8 +86,9 @@ pub fn fetch(
     Ok(answers)
 }
 
-/// The same where the command changes nothing, so that the listing behind it is the one before it: one look at each message, and with
-/// CHANGEDSINCE at those alone that changed, which the listing finds by their mod-sequences. `Err` where there is no memory for it.
+/// The answers of [`fetch`] for a command that changes nothing, so that the listing after it is the
+/// one before it. Each message is looked up once; with CHANGEDSINCE only those that changed, which
+/// the listing finds by their mod-sequences. `Err` if memory runs out.
 pub fn fetch_unchanged(
     alloc: Global,
     named: &[ViewedMessage],
@@ -104,7 +108,8 @@ pub fn fetch_unchanged(
     }
 }
 
-/// For how many answers room is made at once: each message's, and the line that ends the command; of those that changed since, few are told.
+/// The number of answers for which room is made at once: one for each message and one for the line
+/// that completes the command. With CHANGEDSINCE it is 0, since few messages have changed.
 pub(crate) fn answers_at_once(named: &[ViewedMessage], mode: FetchMode) -> usize {
     match mode.changed_since {
         None => named.len().saturating_add(1),
@@ -112,7 +117,7 @@ pub(crate) fn answers_at_once(named: &[ViewedMessage], mode: FetchMode) -> usize
     }
 }
 
-/// What FETCH tells of the named messages out of one listing.
+/// The answers to FETCH for the named messages, from one listing.
 fn fetch_in(
     alloc: Global,
     named: &[ViewedMessage],
@@ -133,7 +138,7 @@ fn fetch_in(
     Ok(answers)
 }
 
-/// These items and this mode, with the parts that the items ask.
+/// These items and this mode, with the parts that the items ask for.
 fn asked_of(items: &[FetchItem], mode: FetchMode) -> FetchSpec<'_>
     ensures items { result.items.now ≡ items.now }
     ensures mode { result.mode ≡ mode }
@@ -157,7 +162,7 @@ fn parts_of(items: &[FetchItem]) -> FetchParts
     }
 }
 
-/// Adds what is told of one message that stays as it is.
+/// Adds the answer for one message that the command leaves unchanged.
 fn push_unchanged(
     alloc: Global,
     rows: &Rows<'_>,
@@ -180,7 +185,7 @@ fn push_unchanged(
     }
 }
 
-/// Adds what is told of one message.
+/// Adds the answer for one message.
 fn push_answer(
     alloc: Global,
     before: &Rows<'_>,
@@ -207,7 +212,7 @@ fn push_answer(
     }
 }
 
-/// Adds an answer, behind room for it, so that it isn't handed back.
+/// Adds an answer after making room for it, so that the push itself can't fail.
 #[inline(always)]
 pub(crate) fn push_fetch(
     answers: &mut Vec<Answer>,
@@ -221,7 +226,8 @@ pub(crate) fn push_fetch(
     Ok(())
 }
 
-/// Whether a message changed since: its mod-sequence is above this one, or none is asked (RFC 7162, section 3.1.4.1).
+/// Whether a message's mod-sequence is above that of CHANGEDSINCE, if one is given (RFC 7162,
+/// section 3.1.4.1).
 pub fn is_kept(changed_since: Option<u64>, old: &Row<'_>) -> bool
     ensures { result ≡ is_above_changed_since changed_since (listed_message old.now) }
 {
@@ -231,7 +237,7 @@ pub fn is_kept(changed_since: Option<u64>, old: &Row<'_>) -> bool
     }
 }
 
-/// What is told of a message that was `old` and is `row`.
+/// The items of a message that was `old` before the command and is `row` after it.
 fn items_of(
     alloc: Global,
     asked: FetchSpec<'_>,
@@ -277,7 +283,7 @@ fn flags_where(alloc: Global, told: bool, row: &Row<'_>) -> Result<Option<Flags>
     Ok(Some(row.versions.flags(alloc)?))
 }
 
-/// Whether flags are told: where they are asked, or where reading a section sets `\Seen`.
+/// Whether flags are reported: if they are asked for, or if reading a section sets `\Seen`.
 fn tells_flags(asked: FetchSpec<'_>, old: &Row<'_>) -> bool
     requires { asked.parts ≡ parts_of asked.items.now }
     ensures { result ≡ tells_flags asked.entry.items.now asked.entry.mode (listed_message old.now) }
@@ -285,7 +291,7 @@ fn tells_flags(asked: FetchSpec<'_>, old: &Row<'_>) -> bool
     asked.parts.flags || sets_seen_on(asked, old)
 }
 
-/// The same as `is_seen_set`.
+/// Equals [`is_seen_set`], by the parts that were worked out before.
 fn sets_seen_on(asked: FetchSpec<'_>, old: &Row<'_>) -> bool
     requires { asked.parts ≡ parts_of asked.items.now }
     ensures { result ≡ is_seen_set asked.entry.items.now asked.entry.mode (listed_message old.now) }
@@ -293,15 +299,15 @@ fn sets_seen_on(asked: FetchSpec<'_>, old: &Row<'_>) -> bool
     asked.mode.writable && asked.parts.seen && !old.versions.seen()
 }
 
-/// Whether reading a section sets `\Seen` on this message: in a read-write mailbox, if it lacks it and an item asks without PEEK
-/// (RFC 9051, section 6.4.5.1).
+/// Whether FETCH sets `\Seen` on this message: if the mailbox is read-write, the message lacks the
+/// flag and an item asks for a section without PEEK (RFC 9051, section 6.4.5.1).
 pub fn is_seen_set(items: &[FetchItem], mode: FetchMode, old: &Row<'_>) -> bool
     ensures { result ≡ is_seen_set items.now mode (listed_message old.now) }
 {
     mode.writable && !old.versions.seen() && set_seen(items)
 }
 
-/// Whether an item sets `\Seen`: a section without PEEK (RFC 9051, section 6.4.5.1).
+/// Whether one of the items sets `\Seen`: a section without PEEK (RFC 9051, section 6.4.5.1).
 pub fn set_seen(items: &[FetchItem]) -> bool
     ensures { result ≡ list_any sets_seen items.now }
 {
@@ -356,7 +362,7 @@ fn part_of(item: &FetchItem) -> Part
     }
 }
 
-/// The sections, where some are asked.
+/// The sections, if some are asked for.
 fn sections_where(
     alloc: Global,
     asked: FetchSpec<'_>,
@@ -371,7 +377,8 @@ fn sections_where(
     sections(alloc, row, asked.items)
 }
 
-/// The sections that are asked, in order, in no more memory than they take: a journal keeps them for good.
+/// The sections that are asked for, in order, in no more memory than they need: a journal stores
+/// them for good.
 fn sections(alloc: Global, row: &Row<'_>, items: &[FetchItem]) -> Result<Sections, AllocError>
     ensures { IfOk result (λ sections. sections ≡ are_sections (listed_message row.now).text items.now) }
 {
@@ -411,7 +418,7 @@ fn push_section(
     }
 }
 
-/// The octets that are told of a section.
+/// The octets of a section that a FETCH returns.
 fn section_of(
     alloc: Global,
     section: &Section,
@@ -432,7 +439,7 @@ fn section_of(
     }
 }
 
-/// The octets that are told of the whole text: shared with the message where all are asked.
+/// The octets of the whole text that a FETCH returns, shared with the message if all are asked for.
 fn whole(alloc: Global, row: &Row<'_>, partial: Option<Partial>) -> Result<Text, AllocError>
     ensures { IfOk result (λ octets. octets ≡ partial_octets partial (listed_message row.now).text) }
 {

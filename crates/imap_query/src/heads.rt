@@ -1,4 +1,4 @@
-//! What FETCH and SEARCH tell by the heads of rows alone, without a look at dates and texts.
+//! FETCH and SEARCH by the heads of rows only, without dates and texts.
 
 ghost use Rattle.std.specs.Prelude.{◌≡◌, ◌++◌, ◌∷◌, [], map, true, IfOk, IfSome, OnOk, option_map};
 ghost use Rattle.imap_types.specs.Numbers.{AreRisingFrom};
@@ -22,14 +22,15 @@ use imap_types::{Flags, Keywords, Version, Versions};
 use mailbox_rows::{RowHead, Rows};
 use std::alloc::{AllocError, Global};
 
-/// Whether heads of rows tell all that is asked.
+/// Whether the heads of rows hold all that these parts ask for.
 pub(crate) fn are_answerable_by_heads(parts: FetchParts) -> bool
     ensures { result ≡ are_of_heads parts }
 {
     !parts.date && !parts.size && !parts.sections && !parts.seen
 }
 
-/// What FETCH tells of the named messages out of one listing, where heads of rows tell all that is asked.
+/// The answers to FETCH for the named messages, from the heads of one listing's rows, which hold
+/// all that is asked for.
 pub(crate) fn fetch_heads(
     alloc: Global,
     named: &[ViewedMessage],
@@ -47,7 +48,7 @@ pub(crate) fn fetch_heads(
     Ok(answers)
 }
 
-/// Adds what is told of one message.
+/// Adds the answer for one message, if the listing has it and it changed since CHANGEDSINCE.
 #[inline(always)]
 fn push_answer(
     alloc: Global,
@@ -71,7 +72,8 @@ fn push_answer(
     }
 }
 
-/// Whether a message changed since: its mod-sequence is above this one, or none is asked (RFC 7162, section 3.1.4.1).
+/// Whether a message's mod-sequence is above that of CHANGEDSINCE, if one is given (RFC 7162,
+/// section 3.1.4.1).
 #[inline(always)]
 fn is_kept(changed_since: Option<u64>, head: &RowHead<'_>) -> bool
     ensures { result ≡ is_kept_head changed_since (listed_head head.now) }
@@ -82,7 +84,7 @@ fn is_kept(changed_since: Option<u64>, head: &RowHead<'_>) -> bool
     }
 }
 
-/// What is told of a message.
+/// The items of a message that FETCH asks for.
 #[inline(always)]
 fn items_of(
     alloc: Global,
@@ -103,6 +105,7 @@ fn items_of(
     })
 }
 
+/// The union of a message's flags, if they are reported.
 #[inline(always)]
 fn flags_where(
     alloc: Global,
@@ -120,7 +123,8 @@ fn flags_where(
     }
 }
 
-/// The union of the flags of versions, where there is one without keywords, as most messages have.
+/// The union of the versions' flags, if there is one version and it has no keywords, as with most
+/// messages; `None` otherwise.
 #[inline(always)]
 fn plain_flags(alloc: Global, versions: &[Version]) -> Option<Flags>
     ensures { IfSome result (λ flags. flags ≡ united_flags versions.now) }
@@ -143,7 +147,7 @@ fn plain_flags(alloc: Global, versions: &[Version]) -> Option<Flags>
     }
 }
 
-/// The messages of which a test of a flag holds, in the view's order.
+/// The messages for which a test of a flag holds, in the view's order.
 pub(crate) fn flagged_hits(
     alloc: Global,
     view: &[ViewedMessage],
@@ -162,7 +166,7 @@ pub(crate) fn flagged_hits(
     Ok(hits)
 }
 
-/// Adds a message that is there and of which the test holds.
+/// Adds a message, if the listing has it and the test holds for it.
 #[inline(always)]
 fn push_flagged(
     rows: &Rows<'_>,
@@ -191,7 +195,7 @@ fn push_flagged(
     }
 }
 
-/// Adds a hit.
+/// Adds a hit; `Err` if memory runs out.
 #[inline(always)]
 pub(crate) fn push_hit(found: &mut Vec<Hit>, hit: Hit) -> Result<(), AllocError>
     ensures { OnOk result (found.new.items ≡ found.old.items ++ hit ∷ []) }

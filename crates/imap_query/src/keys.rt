@@ -1,4 +1,4 @@
-//! Whether a message hits what SEARCH asks (RFC 9051, section 6.4.4).
+//! Whether a message matches the key of a SEARCH (RFC 9051, section 6.4.4).
 
 ghost use Rattle.std.specs.Prelude.{◌≡◌, ◌∷◌, [], reverse, IfOk, IfSome, OnOk};
 ghost use Rattle.imap_syntax.specs.declared.search.SearchStep.TheVariants.{Test};
@@ -20,11 +20,11 @@ use std::alloc::{AllocError, Global};
 #[derive(Clone, Copy)]
 pub(crate) struct FlagTest {
     pub(crate) flag: SystemFlag,
-    /// Whether it is set, or isn't.
+    /// Whether the flag has to be set; otherwise it has to be unset.
     pub(crate) is_set: bool,
 }
 
-/// The test, where the steps are one alone, of a flag.
+/// The test of a system flag, if it is the only step.
 pub(crate) fn flag_test(steps: &[SearchStep]) -> Option<FlagTest>
     ensures { IfSome result (λ test. steps.now ≡ Test (System test.flag test.is_set) ∷ []) }
 {
@@ -37,7 +37,8 @@ pub(crate) fn flag_test(steps: &[SearchStep]) -> Option<FlagTest>
     }
 }
 
-/// Whether a message hits, which a view shows here and of which `last` is the last shown.
+/// Whether a message matches the key with these steps. `shown` is the message as the view shows it,
+/// `last` the last message of the view.
 pub(crate) fn hits(
     alloc: Global,
     last: ViewedMessage,
@@ -61,7 +62,7 @@ pub(crate) fn hits(
     }
 }
 
-/// The test, where the steps are one alone.
+/// The test, if it is the only step.
 fn one_test(steps: &[SearchStep]) -> Option<&SearchTest>
     ensures { IfSome result (λ test. steps.now ≡ Test test.now ∷ []) }
 {
@@ -74,7 +75,7 @@ fn one_test(steps: &[SearchStep]) -> Option<&SearchTest>
     }
 }
 
-/// What a step makes of the results so far.
+/// Applies a step to the stack of results so far.
 fn take_step(
     alloc: Global,
     last: ViewedMessage,
@@ -113,7 +114,7 @@ fn take_step(
     Ok(())
 }
 
-/// Whether a test holds of a message. Time is linear in the text for what looks at texts.
+/// Whether a test holds for a message. A test that reads the text takes time linear in it.
 fn test_holds(
     alloc: Global,
     last: ViewedMessage,
@@ -152,7 +153,7 @@ fn test_holds(
     }
 }
 
-/// Whether a set names a number, where `*` is the number `top`.
+/// Whether a set names a number; `*` is the number `top`.
 fn set_names(top: u32, set: &[SequenceRange], number: u32) -> bool
     ensures { result ≡ set_names top set.now number }
 {
@@ -181,7 +182,7 @@ fn bound_of(top: u32, bound: SequenceBound) -> u32
     }
 }
 
-/// Whether a text holds a word in a place.
+/// Whether a message's text contains a word in a place: a header field, the body or the whole text.
 fn holds_in(alloc: Global, place: TextPlace, word: &[u8], text: &[u8]) -> Result<bool, AllocError>
     ensures { IfOk result (λ is. is ≡ holds_in place word.now text.now) }
 {
@@ -196,7 +197,7 @@ fn holds_in(alloc: Global, place: TextPlace, word: &[u8], text: &[u8]) -> Result
     }
 }
 
-/// Whether a date-time's day, as it is written, stands so to a day.
+/// Whether a date-time's day, as written, is before, on or since a day.
 fn is_date_related(order: DateRelation, day: Day, date: &DateTime) -> bool
     ensures { result ≡ is_date_related order day date.now }
 {
@@ -208,7 +209,7 @@ fn is_date_related(order: DateRelation, day: Day, date: &DateTime) -> bool
     }
 }
 
-/// A number for a day, in the order of the calendar.
+/// A number for a day that rises with the calendar.
 fn rank(day: Day) -> u32
     ensures { result ≡ rank day }
 {

@@ -1,5 +1,19 @@
-//! What clients read of mailboxes: the names that LIST shows (RFC 9051, section 6.3.9), what STATUS tells of a mailbox and
-//! what SEARCH finds in it, from the rows of its listing.
+//! The answers to LIST, STATUS, SEARCH and FETCH, computed from the rows of a mailbox's listing.
+//!
+//! Nothing here changes a mailbox: the functions take folders, rows and the messages that a
+//! session's view shows, and return values. Contracts pin each result by definitions in the terms
+//! of RFC 9051 and RFC 7162: `list` and `list_names` by the names that a pattern matches
+//! (`specs/Patterns`, `specs/ListEntries`, `specs/ListNames`), `status` by counts over the listing
+//! (`specs/Status`), `search` by the key that its steps spell (`specs/KeyHits`, `specs/Search`),
+//! and `fetch` by each named message before and after the command (`specs/Fetching`). An `Err`
+//! always means that memory ran out, and leaves everything as it was.
+//!
+//! # Decided
+//!
+//! - `list` returns entries, and `list_names` the answers to LIST: scripts of cases compare
+//!   entries.
+//! - `status` and `search` return what their answers say, without the mailbox's name and the tag,
+//!   which the command adds.
 #![tactic(auto)]
 
 mod answer_room;

@@ -1,4 +1,4 @@
-//! The answers of LIST, subscriptions included.
+//! The answers to LIST, with subscriptions.
 
 ghost use Rattle.std.specs.Prelude.{◌≡◌, ◌&&◌, ◌++◌, ◌∷◌, [], false, map, IfOk, OnOk, if◌then◌else◌};
 ghost use Rattle.imap_answers.specs.declared.answer.Answer.TheVariants.{List as ListAnswer};
@@ -19,13 +19,13 @@ use std::alloc::{AllocError, Global};
 pub struct ListMode {
     /// The selection option SUBSCRIBED: only subscribed names are shown.
     pub subscribed_only: bool,
-    /// The return option SUBSCRIBED: subscribed names are told to be so.
+    /// The return option SUBSCRIBED: the answers say which names are subscribed.
     pub return_subscribed: bool,
 }
 
-/// What LIST answers, by ascending names (RFC 9051, section 6.3.9). An empty pattern shows the root line whatever the
-/// options. Costs are those of [`list`], and each name that is shown is compared with the folders or subscriptions.
-/// `Err` where there is no memory for it.
+/// The answers to LIST, by ascending names (RFC 9051, section 6.3.9). An empty pattern gives the
+/// root line, whatever the options. It costs what [`list`] costs, and each name shown is compared
+/// with the folders or the subscriptions. `Err` if memory runs out.
 pub fn list_names(
     alloc: Global,
     reference: &[u8],
@@ -46,6 +46,7 @@ pub fn list_names(
     name_answers(alloc, &entries, mode.return_subscribed, subscriptions)
 }
 
+/// The root line: the answer to an empty pattern.
 fn root(alloc: Global) -> Result<Vec<Answer>, AllocError>
     ensures { IfOk result (λ answers. answers.items ≡ ListAnswer [] NoSelect false ∷ []) }
 {
@@ -75,7 +76,7 @@ fn push_list(
     Ok(())
 }
 
-/// The answers for entries that LIST shows.
+/// One answer for each entry; with `returned` it says whether the name is subscribed.
 fn name_answers(
     alloc: Global,
     entries: &[ListEntry],
@@ -103,7 +104,7 @@ fn name_state(is_mailbox: bool) -> MailboxState
     }
 }
 
-/// The answers for the subscribed names that reference and pattern match.
+/// The answers for the subscribed names that match reference and pattern.
 fn subscribed_names(
     alloc: Global,
     reference: &[u8],
@@ -126,7 +127,7 @@ fn append_name(alloc: Global, reference: &[u8], pattern: &[u8]) -> Result<Vec<u8
     Ok(joined)
 }
 
-/// The names that a pattern matches, ascending.
+/// The names that match a pattern, in ascending order.
 fn matching_names(
     alloc: Global,
     pattern: &[u8],

@@ -1,3 +1,5 @@
+//! The names that LIST shows, in order: mailboxes, and superior levels that aren't mailboxes.
+
 ghost use Rattle.std.specs.Prelude.{◌≡◌, ℕ, ◌≤◌, false, List, [], ◌∷◌, ◌++◌, IfOk, OnOk, MatchOption, length};
 ghost use Rattle.std.specs.List.{insert};
 ghost use Rattle.imap_query.specs.ListEntries.{Lists};
@@ -10,20 +12,23 @@ use imap_types::Name;
 use std::alloc::{AllocError, Global};
 use std::cmp::Ordering;
 
-/// A name that LIST shows: a mailbox, or a superior level that is none, which is shown with `\Noselect`.
+/// A name that LIST shows: a mailbox, or a superior level that isn't one, which is shown with
+/// `\Noselect`.
 #[derive(Drop)]
 pub struct ListEntry {
-    /// The name, INBOX in capitals where the folders have it so.
+    /// The name, with INBOX in capitals if the folders spell it so.
     pub name: Name,
     /// Whether it is a mailbox.
     pub is_mailbox: bool,
 }
 
-/// The names that LIST shows of the folders, ascending by octets, none twice (RFC 9051, section 6.3.9). An empty
-/// pattern shows the empty name alone, else reference and pattern are joined. `Err` where there is no memory for it.
+/// The names that LIST shows of the folders, distinct and ascending by octets (RFC 9051,
+/// section 6.3.9). An empty pattern shows only the empty name; otherwise reference and pattern are
+/// joined. `Err` if memory runs out.
 ///
-/// The pattern is read once; each folder, and each of its levels where the pattern ends in `%`, is then matched in the
-/// square of its length at most, and compared with the folders and with the entries so far.
+/// The pattern is read once. Each folder, and each of its superior levels if the pattern ends in
+/// `%`, is then matched in time at most quadratic in its length, and compared with the folders and
+/// with the entries so far.
 pub fn list(
     alloc: Global,
     reference: &[u8],
@@ -40,11 +45,12 @@ pub fn list(
     listed_entries(alloc, &joined, folders)
 }
 
-/// What LIST shows is one list: two that it may show are equal.
+/// LIST determines its entries: two lists that both meet its definition are equal.
 pub fn one_list()
     ensures { (reference pattern : List ℕ) (folders : List (List ℕ)) (entries others : List ListEntry) → Lists reference pattern folders entries → Lists reference pattern folders others → entries ≡ others }
 {}
 
+/// The entry for an empty pattern.
 fn root(alloc: Global) -> Result<Vec<ListEntry>, AllocError>
     ensures { IfOk result (λ entries. entries.items ≡ (record { name = []; is_mailbox = false }) ∷ []) }
 {
@@ -80,6 +86,7 @@ fn ends_in_percent(pattern: &[u8]) -> bool
     }
 }
 
+/// Inserts the entries of the folders that match the pattern.
 pub(crate) fn place_mailboxes(
     alloc: Global,
     pattern: &Pattern,
@@ -103,6 +110,7 @@ pub(crate) fn place_mailboxes(
     Ok(())
 }
 
+/// Inserts the entries of the folders' superior levels, if the pattern ends in `%`.
 fn place_levels(
     alloc: Global,
     pattern: &Pattern,
@@ -120,6 +128,7 @@ fn place_levels(
     Ok(())
 }
 
+/// Inserts the entries of one folder's superior levels.
 fn place_levels_of(
     alloc: Global,
     pattern: &Pattern,
@@ -137,6 +146,7 @@ fn place_levels_of(
     Ok(())
 }
 
+/// Inserts the entry of one superior level, if it matches the pattern and is no folder.
 fn place_level(
     alloc: Global,
     pattern: &Pattern,
@@ -173,7 +183,7 @@ pub(crate) fn is_among(folders: &[Name], name: &[u8]) -> bool
     false
 }
 
-/// Puts the entry at its place, unless there is one of its name.
+/// Inserts the entry at its place, unless one with its name exists.
 fn place(entries: &mut Vec<ListEntry>, entry: ListEntry) -> Result<(), AllocError>
     ensures { OnOk result (entries.new.items ≡ insert_entry entry entries.old.items) }
 {
@@ -186,7 +196,7 @@ fn place(entries: &mut Vec<ListEntry>, entry: ListEntry) -> Result<(), AllocErro
     }
 }
 
-/// The place at which an entry belongs; `None` where there is one of its name.
+/// The place at which an entry belongs; `None` if one with its name exists.
 fn place_of(entries: &[ListEntry], entry: &ListEntry) -> Option<usize>
     ensures { MatchOption result (insert_entry entry.now entries.now ≡ entries.now) (λ at. (at ≤ length entries.now) × (insert_entry entry.now entries.now ≡ insert entries.now at entry.now)) }
 {

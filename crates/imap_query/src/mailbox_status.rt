@@ -1,3 +1,5 @@
+//! The items that STATUS reports of a mailbox.
+
 ghost use Rattle.std.specs.Prelude.{◌≡◌, ◌≤◌, true, false, length, map, min};
 ghost use Rattle.std.specs.List.{filter, slice_get, sum_by};
 ghost use Rattle.std.specs.Option.{option_to_list};
@@ -9,18 +11,20 @@ use imap_answers::StatusItems;
 use imap_syntax::{StatusItem, SystemFlag};
 use mailbox_rows::Rows;
 
-/// What a mailbox counts on, beside its listing.
+/// A mailbox's counters, which its listing doesn't show (RFC 9051, section 2.3.1.1).
 #[derive(Clone, Copy, Debug, PartialEq, Eq)]
 pub struct MailboxCounters {
+    /// UIDVALIDITY: the folder's incarnation.
     pub uidvalidity: u32,
-    /// The UID that the next message takes.
+    /// UIDNEXT: the UID of the next message.
     pub uidnext: u32,
-    /// RFC 7162, section 3.1.2.1.
+    /// HIGHESTMODSEQ: the highest mod-sequence (RFC 7162, section 3.1.2.1).
     pub highest_modseq: u64,
 }
 
-/// What STATUS tells of a mailbox, each item that was asked once (RFC 9051, section 6.3.11; RFC 7162, section 3.1.7).
-/// The octets of all messages stop at the greatest `u64`. Time is linear in the listing.
+/// The items that STATUS reports of a mailbox, each requested item once (RFC 9051, section 6.3.11;
+/// RFC 7162, section 3.1.7). The sum of all messages' octets stops at the greatest `u64`. Time is
+/// linear in the listing.
 pub fn status(rows: &Rows<'_>, items: &[StatusItem], marks: MailboxCounters) -> StatusItems
     ensures { result ≡ status_of items.now marks rows.now }
 {
@@ -39,7 +43,7 @@ pub fn status(rows: &Rows<'_>, items: &[StatusItem], marks: MailboxCounters) -> 
     }
 }
 
-/// Whether an item is among those asked.
+/// Whether an item is among those requested.
 fn is_asked(items: &[StatusItem], item: StatusItem) -> bool
     ensures { result ≡ is_asked item items.now }
 {
@@ -51,7 +55,7 @@ fn is_asked(items: &[StatusItem], item: StatusItem) -> bool
     false
 }
 
-/// How many messages have a flag, or lack it.
+/// The number of messages that have a flag, or lack it, as `is_set` asks.
 fn count(rows: &Rows<'_>, flag: SystemFlag, is_set: bool) -> u32
     ensures { result ≡ length (filter (is_flagged flag is_set) rows.now) }
 {
@@ -62,7 +66,7 @@ fn count(rows: &Rows<'_>, flag: SystemFlag, is_set: bool) -> u32
     count
 }
 
-/// One where the message at this place has the flag, or lacks it.
+/// 1 if the message at this place has the flag, or lacks it, as `is_set` asks; 0 otherwise.
 fn count_at(rows: &Rows<'_>, place: u32, flag: SystemFlag, is_set: bool) -> u32
     ensures counted { result ≡ length (filter (is_flagged flag is_set) (option_to_list (slice_get rows.now place))) }
     ensures bound { result ≤ 1 }
@@ -73,7 +77,7 @@ fn count_at(rows: &Rows<'_>, place: u32, flag: SystemFlag, is_set: bool) -> u32
     }
 }
 
-/// The octets of all messages, or the greatest number.
+/// The sum of all messages' octets, at most the greatest `u64`.
 fn size(rows: &Rows<'_>) -> u64
     ensures { result ≡ min (sum_by size_of rows.now) 18446744073709551615 }
 {
@@ -84,7 +88,7 @@ fn size(rows: &Rows<'_>) -> u64
     size
 }
 
-/// The octets of the message at this place.
+/// The octets of the message at this place, 0 if there is none.
 fn octets(rows: &Rows<'_>, place: u32) -> u64
     ensures { result ≡ sum_by size_of (option_to_list (slice_get rows.now place)) }
 {

@@ -1,4 +1,4 @@
-//! Tests of single messages.
+//! Tests of a single message's system flags.
 
 ghost use Rattle.std.specs.Prelude.{◌≡◌};
 ghost use Rattle.imap_query.specs.Messages.{has_flag, is_as, is_flagged};
@@ -9,7 +9,7 @@ use imap_syntax::SystemFlag;
 use imap_types::Versions;
 use mailbox_rows::Row;
 
-/// Whether a message has a flag, or lacks it.
+/// Whether a message has the flag or lacks it, as `is_set` asks.
 pub(crate) fn is_flagged(row: &Row<'_>, flag: SystemFlag, is_set: bool) -> bool
     ensures { result ≡ is_flagged flag is_set (listed_message row.now) }
 {

@@ -1,3 +1,5 @@
+//! Patterns of LIST: the wildcards `*` and `%` (RFC 9051, section 6.3.9).
+
 ghost use Rattle.std.specs.Prelude.{◌≡◌, ◌&&◌, ◌↔◌, IfOk, IsTrue, OnOk, length, map, not};
 ghost use Rattle.std.specs.List.{list_all};
 ghost use Rattle.std.specs.Char.{to_ascii_uppercase};
@@ -9,23 +11,23 @@ use imap_types::Name;
 use std::alloc::{AllocError, Global};
 use std::marker::Model;
 
-/// Whether a pattern matches a name, octet by octet: `*` stands for any octets, `%` for any but `/`
-/// (RFC 9051, section 6.3.9). Time grows with the product of both lengths at most, memory with the name's; `Err`
-/// where there is no memory for it.
+/// Whether a pattern matches a name, octet by octet: `*` matches any octets, `%` any but `/`
+/// (RFC 9051, section 6.3.9). Time is at most linear in the product of both lengths, memory in the
+/// name's length. `Err` if memory runs out.
 pub fn matches(alloc: Global, pattern: &[u8], name: &[u8]) -> Result<bool, AllocError>
     ensures { IfOk result (λ yes. IsTrue yes ↔ Matches pattern.now name.now) }
 {
     is_match(alloc, pattern, name)
 }
 
-/// A pattern made ready for many names, with neighbouring wildcards taken together. Contracts see it as it was
+/// A pattern prepared for many names: neighbouring wildcards are merged. Contracts see it as
 /// written.
 #[derive(Drop)]
 pub(crate) struct Pattern {
     written: Vec<u8>,
-    /// What matches the same names.
+    /// The pattern with its wildcards merged: it matches the same names.
     plain: Vec<u8>,
-    /// What matches the same names as the pattern in capitals.
+    /// The pattern in capitals, with its wildcards merged.
     capitals: Vec<u8>,
 }
 
@@ -43,7 +45,7 @@ impl Model for Pattern {
 impl Pattern {
     ghost use Rattle.std.specs.Prelude.{◌≡◌, IfOk};
 
-    /// This pattern; `Err` where there is no memory for it.
+    /// Prepares a pattern; `Err` if memory runs out.
     pub(crate) fn new(alloc: Global, pattern: &[u8]) -> Result<Pattern, AllocError>
         ensures { IfOk result (λ made. made ≡ pattern.now) }
     {
@@ -57,7 +59,7 @@ impl Pattern {
         })
     }
 
-    /// The pattern as it was written.
+    /// The pattern as written.
     pub(crate) fn written(&self) -> &[u8]
         ensures { result.now ≡ self.now }
     {
@@ -65,9 +67,9 @@ impl Pattern {
     }
 }
 
-/// Whether a pattern matches a name, INBOX without case. Each octet of the pattern that is no wildcard takes one of the
-/// name's, and reading ends where none is left: time grows with the square of the name's length at most. `Err` where
-/// there is no memory for the answers.
+/// Whether a pattern matches a name, INBOX in any case. Each octet of the pattern that is no
+/// wildcard uses up one of the name's, and reading ends when none is left, so time is at most
+/// quadratic in the name's length. `Err` if memory runs out.
 pub(crate) fn is_shown(alloc: Global, pattern: &Pattern, name: &Name) -> Result<bool, AllocError>
     ensures { IfOk result (λ yes. yes ≡ is_shown pattern.now name.now) }
 {
@@ -77,6 +79,7 @@ pub(crate) fn is_shown(alloc: Global, pattern: &Pattern, name: &Name) -> Result<
     is_match(alloc, &pattern.capitals, b"INBOX")
 }
 
+/// A pattern that matches the same names as this one in capitals, without neighbouring wildcards.
 fn in_capitals(alloc: Global, pattern: &[u8]) -> Result<Vec<u8>, AllocError>
     ensures { IfOk result (λ made. IsAlike (map to_ascii_uppercase pattern.now) made.items) }
 {
@@ -85,7 +88,7 @@ fn in_capitals(alloc: Global, pattern: &[u8]) -> Result<Vec<u8>, AllocError>
     simpler(alloc, &capitals)
 }
 
-/// A pattern that matches the same names, where no two wildcards are neighbours.
+/// A pattern that matches the same names and has no neighbouring wildcards.
 fn simpler(alloc: Global, pattern: &[u8]) -> Result<Vec<u8>, AllocError>
     ensures { IfOk result (λ made. IsAlike pattern.now made.items) }
 {
@@ -96,7 +99,7 @@ fn simpler(alloc: Global, pattern: &[u8]) -> Result<Vec<u8>, AllocError>
     Ok(made)
 }
 
-/// Adds an octet: `*` takes the place of a wildcard before it, and `%` is left out behind one.
+/// Adds an octet: `*` replaces a wildcard before it, and `%` is left out after one.
 fn add(made: &mut Vec<u8>, octet: u8) -> Result<(), AllocError>
     ensures { OnOk result (Adds octet made.old.items made.new.items) }
 {
@@ -111,7 +114,7 @@ fn add(made: &mut Vec<u8>, octet: u8) -> Result<(), AllocError>
     Ok(())
 }
 
-/// Whether this octet and the last of those are wildcards.
+/// Whether this octet and the pattern's last octet are both wildcards.
 fn are_wildcards(made: &[u8], octet: u8) -> bool
     ensures { result ≡ (ends_wild made.now && is_wildcard octet) }
 {
@@ -127,8 +130,8 @@ fn ends_wild(made: &[u8]) -> bool
     }
 }
 
-/// Reads the pattern once, and keeps for each front of the name whether what was read matches it: `first` for the
-/// empty front, `row` for the longer ones. Where it matches none, no more is read.
+/// Reads the pattern once, and notes for each prefix of the name whether the part read matches it:
+/// `first` for the empty prefix, `row` for the longer ones. Once it matches none, reading stops.
 fn is_match(alloc: Global, pattern: &[u8], name: &[u8]) -> Result<bool, AllocError>
     ensures { IfOk result (λ yes. yes ≡ is_match pattern.now name.now) }
 {
@@ -144,7 +147,7 @@ fn is_match(alloc: Global, pattern: &[u8], name: &[u8]) -> Result<bool, AllocErr
     Ok(last_of(first, &row))
 }
 
-/// Whether what was read matches no front.
+/// Whether the part read matches no prefix.
 fn is_unset(first: bool, row: &[bool]) -> bool
     ensures { result ≡ is_unset first row.now }
 {
@@ -162,6 +165,7 @@ fn are_unset(row: &[bool]) -> bool
     true
 }
 
+/// Turns the answers for the part of the pattern read so far into those with one more octet.
 fn advance(octet: u8, first: bool, row: &mut [bool], name: &[u8])
     requires { length row.old ≡ length name.now }
     ensures { row.new ≡ cells octet first (is_wildcard octet && first) row.old name.now }
@@ -176,7 +180,8 @@ fn advance(octet: u8, first: bool, row: &mut [bool], name: &[u8])
     }
 }
 
-/// Whether one more octet of the pattern matches up to one more letter of the name.
+/// Whether the pattern with one more octet matches the name with one more octet: `before` is the
+/// answer without both, `made` without the name's, `here` without the pattern's.
 fn cell(octet: u8, letter: u8, before: bool, made: bool, here: bool) -> bool
     ensures { result ≡ cell octet letter before made here }
 {

@@ -1,3 +1,5 @@
+//! The results of SEARCH (RFC 9051, section 6.4.4; RFC 7162, section 3.1.5).
+
 ghost use Rattle.std.specs.Prelude.{◌≡◌, ◌==◌, ◌&&◌, ◌++◌, [], length, map, not, Some, IfOk, OnOk, if◌then◌else◌};
 ghost use Rattle.std.specs.List.{list_any};
 ghost use Rattle.imap_types.specs.Numbers.{AreRisingFrom, greatest};
@@ -15,28 +17,30 @@ use imap_types::NumberSet;
 use mailbox_rows::Rows;
 use std::alloc::{AllocError, Global};
 
-/// A message that hits.
+/// A message that matches the key of a SEARCH.
 #[derive(Clone, Copy, Debug, PartialEq, Eq)]
 pub struct Hit {
-    /// Its message number, or its UID.
+    /// Its message number, or its UID if messages are named by UIDs; from 1.
     pub number: u32,
+    /// Its mod-sequence.
     pub modseq: u64,
 }
 
-/// What SEARCH looks for in a view.
+/// A SEARCH of a view.
 #[derive(Clone, Copy)]
 struct Sought<'a> {
     /// Whether messages are named by UIDs.
     by_uid: bool,
-    /// The key, in steps.
+    /// The steps of the key.
     steps: &'a [SearchStep],
     /// The last message that the view shows.
     last: ViewedMessage,
 }
 
-/// What SEARCH tells of the messages that a view shows and that the listing has (RFC 9051, section 6.4.4; RFC 7162,
-/// section 3.1.5): by UIDs or by message numbers. The steps are a key's; sets in keys name what the view shows. Each key
-/// costs one look at each message: its text's length for a key on texts. `Err` where there is no memory for it.
+/// The results of SEARCH among the messages that a view shows and the listing has, by UIDs or by
+/// message numbers (RFC 9051, section 6.4.4; RFC 7162, section 3.1.5). The steps are those of a
+/// key; sets in it name messages of the view. Each key costs one test of each message; for a key on
+/// texts that takes time linear in the text. `Err` if memory runs out.
 pub fn search(
     alloc: Global,
     view: &[ViewedMessage],
@@ -52,7 +56,7 @@ pub fn search(
     results(alloc, &hits, options, asks_modseq(steps))
 }
 
-/// The messages that hit, in the view's order.
+/// The messages that match, in the view's order.
 fn hits_in(
     alloc: Global,
     view: &[ViewedMessage],
@@ -80,7 +84,7 @@ fn hits_in(
     Ok(hits)
 }
 
-/// The last message that a view shows.
+/// The last message that a view shows, numbered 0 if the view is empty.
 fn last_shown(view: &[ViewedMessage]) -> ViewedMessage
     ensures { result ≡ last_shown view.now }
 {
@@ -90,7 +94,7 @@ fn last_shown(view: &[ViewedMessage]) -> ViewedMessage
     }
 }
 
-/// Adds a message that is there and hits.
+/// Adds a message, if the listing has it and it matches.
 fn push_hit(
     alloc: Global,
     rows: &Rows<'_>,
@@ -118,7 +122,7 @@ fn push_hit(
     }
 }
 
-/// The number by which a search names a message.
+/// The number by which a SEARCH names a message: its UID or its message number.
 #[inline(always)]
 pub(crate) fn name_of(by_uid: bool, shown: ViewedMessage) -> u32
     ensures { result ≡ number_or_uid by_uid shown }
@@ -126,7 +130,7 @@ pub(crate) fn name_of(by_uid: bool, shown: ViewedMessage) -> u32
     if by_uid { shown.uid } else { shown.number }
 }
 
-/// Whether a key names a mod-sequence.
+/// Whether a key has a MODSEQ test.
 fn asks_modseq(steps: &[SearchStep]) -> bool
     ensures { result ≡ list_any step_names_modseq steps.now }
 {
@@ -147,7 +151,7 @@ fn names_modseq(step: &SearchStep) -> bool
     }
 }
 
-/// What is told of hits.
+/// The results for these hits.
 fn results(
     alloc: Global,
     hits: &[Hit],
@@ -167,7 +171,7 @@ fn results(
     })
 }
 
-/// The numbers of the hits where all are asked.
+/// The numbers of all hits, if they are asked for.
 fn all_numbers(alloc: Global, hits: &[Hit], is_asked: bool) -> Result<NumberSet, AllocError>
     requires { AreRisingFrom 1 (map (λ hit. hit.number) hits.now) }
     ensures { IfOk result (λ numbers. numbers ≡ (if is_asked then map (λ hit. hit.number) hits.now else [])) }
@@ -189,7 +193,7 @@ fn numbers(alloc: Global, hits: &[Hit]) -> Result<NumberSet, AllocError>
     Ok(numbers)
 }
 
-/// Whether a mod-sequence is told.
+/// Whether the results include a mod-sequence.
 fn is_modseq_asked(with_modseq: bool, hits: &[Hit]) -> bool
     ensures { result ≡ (with_modseq && not (length hits.now == 0)) }
 {
@@ -214,7 +218,7 @@ fn last_hit(hits: &[Hit]) -> Option<Hit>
     }
 }
 
-/// The number of a hit, where it is wanted.
+/// The number of a hit, if it is asked for.
 fn number_if_asked(is_wanted: bool, hit: Option<Hit>) -> Option<u32>
     ensures { result ≡ number_where_asked is_wanted (number_in hit) }
 {
@@ -227,7 +231,7 @@ fn number_if_asked(is_wanted: bool, hit: Option<Hit>) -> Option<u32>
     }
 }
 
-/// The mod-sequence of a hit, where it is wanted, and else 0.
+/// The mod-sequence of a hit, if it is asked for; 0 otherwise.
 fn modseq_if_asked(is_wanted: bool, hit: Option<Hit>) -> u64
     ensures { result ≡ modseq_in (number_where_asked is_wanted hit) }
 {
@@ -240,7 +244,7 @@ fn modseq_if_asked(is_wanted: bool, hit: Option<Hit>) -> u64
     }
 }
 
-/// How many hits there are.
+/// The number of hits.
 fn count_of(hits: &[Hit]) -> u32
     requires { AreRisingFrom 1 (map (λ hit. hit.number) hits.now) }
     ensures { result ≡ length hits.now }
@@ -252,7 +256,7 @@ fn count_of(hits: &[Hit]) -> u32
     }
 }
 
-/// The last number, 0 where there is none.
+/// The last hit's number, 0 if there is no hit.
 fn last_number(hits: &[Hit]) -> u32
     ensures { result ≡ last_number 0 hits.now }
 {
@@ -262,7 +266,7 @@ fn last_number(hits: &[Hit]) -> u32
     }
 }
 
-/// The greatest mod-sequence that is told of hits.
+/// The mod-sequence of the results: the greatest of the hits that they name.
 fn modseq_of_result(options: &[SearchOption], hits: &[Hit]) -> u64
     ensures { result ≡ modseq_of_result options.now hits.now }
 {
@@ -284,7 +288,7 @@ fn greatest_modseq(hits: &[Hit]) -> u64
     greatest
 }
 
-/// Whether all hits are asked: by ALL, or by no option at all.
+/// Whether all hits are asked for: by ALL, or by no option at all.
 fn asks_all(options: &[SearchOption]) -> bool
     ensures { result ≡ asks_all options.now }
 {

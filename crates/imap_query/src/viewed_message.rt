@@ -1,3 +1,5 @@
+//! A message as a session's view shows it.
+
 ghost use Rattle.std.specs.Prelude.{◌≡◌, ◌-◌};
 
 /// A message that a view shows (RFC 9051, section 2.3.1).
@@ -5,11 +7,12 @@ ghost use Rattle.std.specs.Prelude.{◌≡◌, ◌-◌};
 pub struct ViewedMessage {
     /// Its message number, from 1.
     pub number: u32,
+    /// Its UID.
     pub uid: u32,
 }
 
 impl ViewedMessage {
-    /// The place, from 0, that it has in a listing of which the view shows all that stands in front of it.
+    /// The message's place, from 0, in a listing whose earlier messages are all in the view.
     pub fn place(&self) -> usize
         ensures { result ≡ self.now.number - 1 }
     {
