@@ -12,18 +12,19 @@ use Rattle.merge_laws.specs.Orders.{IsIn}
 use Rattle.mailbox_rows.specs.ListedMessage.{ListedMessage}
 use Rattle.imap_commands.specs.Selecting.{AreListedKeywords, BearsKeyword}
 
--- A set of keywords with more of them in lower case, and with those of messages, one after another.
+-- A set of keywords after words are added in lower case, and after those of messages are, one after
+-- another.
 abbrev pub with_keywords : List (List ℕ) → List (List ℕ) → List (List ℕ)
 with_keywords words keywords = fold (λ done word. with_word (to_lower_case word) done) keywords words
 
 abbrev pub with_rows : List ListedMessage → List (List ℕ) → List (List ℕ)
 with_rows rows keywords = fold (λ done row. fold (λ done word. with_word (to_lower_case word) done) done row.flags.keywords) keywords rows
 
--- The keywords with those that are given, which are in lower case.
+-- The keywords with the given ones, which are in lower case.
 abbrev pub united : List (List ℕ) → List (List ℕ) → List (List ℕ)
 united given keywords = fold (λ done word. with_word word done) keywords given
 
--- ---- what is there once a text is put in
+-- ---- the keywords after one word is added
 
 has_by : (o : Ordering) (x w v : List ℕ) (vs behind : List (List ℕ)) → (IsIn x behind → (w ≡ x) ⊎ IsIn x vs) → IsIn x (match_ordering o (w ∷ v ∷ vs) (v ∷ vs) (v ∷ behind)) → (w ≡ x) ⊎ IsIn x (v ∷ vs)
 has_by Less x w v vs behind more h = h
@@ -52,7 +53,7 @@ pub text_new : (w : List ℕ) (vs : List (List ℕ)) → IsIn w (with_word w vs)
 text_new w [] = inl refl
 text_new w (v ∷ vs) = new_by (octet_order w v) w v vs (with_word w vs) refl (text_new w vs)
 
--- ---- the same of several keywords
+-- ---- the keywords after several words are added
 
 abbrev IsSpelled : List (List ℕ) → List ℕ → Type 0
 IsSpelled words x = (keyword : List ℕ) × IsIn keyword words × (to_lower_case keyword ≡ x)
@@ -81,7 +82,7 @@ words_set : (words vs : List (List ℕ)) → AreKeywords vs → AreKeywords (wit
 words_set [] vs h = h
 words_set (w ∷ words) vs h = words_set words (with_word (to_lower_case w) vs) (keywords_with w vs h)
 
--- ---- the same of a listing's
+-- ---- the keywords after those of a listing are added
 
 rows_has : (x : List ℕ) (rows : List ListedMessage) (vs : List (List ℕ)) → IsIn x (with_rows rows vs) → BearsKeyword rows x ⊎ IsIn x vs
 rows_has x [] vs h = inr h
@@ -118,7 +119,7 @@ borne rows = record {
   exactly = λ word. (λ h. none_in word rows (rows_has word rows [] h), rows_new word rows []);
 }
 
--- ---- ascending texts are determined by which they are
+-- ---- two ascending lists of the same words are equal
 
 not_before_itself : (a : List ℕ) → ComesBefore a a → ⊥
 not_before_itself a h = let e : octet_order a a ≡ Equal = tied_itself nat_list_cmp_total a in let q : Equal ≡ Less = sym e ∙ h in cc

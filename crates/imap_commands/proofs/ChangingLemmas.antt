@@ -8,7 +8,7 @@ use Rattle.imap_types.specs.Keywords.{AreKeywords, are_keywords, has_keyword, is
 use Rattle.imap_types.proofs.KeywordLemmas.{test_from_keywords}
 use Rattle.imap_commands.specs.FlagChange.{remaining}
 
--- ---- keywords left
+-- ---- the remaining keywords
 
 first_out : (a b : List ℕ) (rest : List (List ℕ)) → ComesBefore a b → AreAscending (b ∷ rest) → AreAscending (a ∷ rest)
 first_out a b [] h i = tt
@@ -34,7 +34,7 @@ filtered test (a ∷ words) h =
       | inr f ↦ rw f (filtered test words (ascending_tail a words h))
     ]
 
--- What holds of all holds of those that are left.
+-- What holds for all words holds for the remaining ones.
 pub all_filtered : (p test : List ℕ → Bool) (words : List (List ℕ)) → list_all p words ≡ true → list_all p (filter test words) ≡ true
 all_filtered p test [] h = refl
 all_filtered p test (a ∷ words) h =

@@ -83,7 +83,7 @@ lowered_in (first ∷ words) word h i =
       | inr t ↦ lowered_in words word parts.1 t
     ]
 
--- of keywords in lower case, one is found where it is one of them
+-- among keywords in lower case a word is found exactly if it is one of them
 found_is : (word : List ℕ) (given : List (List ℕ)) → to_lower_case word ≡ word → list_all is_lower_case given ≡ true → (has_keyword word given ≡ true) ↔ IsIn word given
 found_is word given l all =
     let same = λ (other : List ℕ). bytes_eq (to_lower_case other) (to_lower_case word) in (

@@ -1,4 +1,4 @@
--- What FETCH answers, against the messages that are gone.
+-- If FETCH gives an answer for each number, no message is gone.
 use Rattle.std.proofs.Common.{◌≡◌, inl, inr, ℕ, ◌+◌, ◌≤◌, Bool, true, false, ◌||◌, List, [], ◌∷◌, length, refl, ap, arith, Option, Some, None, length-append}
 use Rattle.std.proofs.lemmas.Bool.{cases_Bool}
 use Rattle.std.proofs.lemmas.Grind.{flat_map-append}
@@ -13,7 +13,7 @@ use Rattle.session_view.specs.declared.view_entry.ViewEntry.{ViewEntry}
 use Rattle.imap_commands.specs.Fetching.{shown_at, shown_of}
 use Rattle.imap_commands.specs.Report.{are_some_gone, entry_at, is_gone, message_at, row_for}
 
--- One for what is so.
+-- 1 for true, 0 for false.
 abbrev one_if : Bool → ℕ
 one_if true = 1
 one_if false = 0
@@ -22,7 +22,7 @@ one_or : (a b : Bool) → one_if (a || b) ≤ one_if a + one_if b
 one_or true b = omega arith
 one_or false b = omega arith
 
--- A message has one answer at most, and none where it is gone.
+-- A message has at most one answer, and none if it is gone.
 one_answer : (items : List FetchItem) (mode : FetchMode) (shown : ViewedMessage) (old row : Option ListedMessage) → length (answer_of items mode shown old row) + one_if (is_gone old) ≤ 1
 one_answer items mode shown None row = omega arith
 one_answer items mode shown (Some old) None = omega arith
@@ -32,7 +32,7 @@ one_answer items mode shown (Some old) (Some row) =
       | inr f ↦ rw f (omega arith)
     ]
 
--- So has a number.
+-- A number has at most one answer, and none if its message is gone.
 numbered : (items : List FetchItem) (mode : FetchMode) (before after : List ListedMessage) (n : ℕ) (e : Option ViewEntry) → length (fetch_answers items mode before after (shown_at n e)) + one_if (is_gone (row_for before e)) ≤ 1
 numbered items mode before after n None = omega arith
 numbered items mode before after n (Some e) =
@@ -40,7 +40,7 @@ numbered items mode before after n (Some e) =
     let one = one_answer items mode shown (row_of e.uid before) (row_of e.uid after) in
     omega (arith, length-append (answer_of items mode shown (row_of e.uid before) (row_of e.uid after)) [], one)
 
--- Where some are gone, there are fewer answers than numbers.
+-- If some messages are gone, there are fewer answers than numbers.
 fewer : (items : List FetchItem) (mode : FetchMode) (before after : List ListedMessage) (view : List ViewEntry) (numbers : List ℕ) → length (fetch_answers items mode before after (shown_of view numbers)) + one_if (are_some_gone before view numbers) ≤ length numbers
 fewer items mode before after view [] = omega arith
 fewer items mode before after view (n ∷ numbers) =
@@ -57,6 +57,6 @@ none_so : (b : Bool) (told all : ℕ) → told + one_if b ≤ all → told ≡ a
 none_so true told all h e = absurd (omega (arith, h, e))
 none_so false told all h e = refl
 
--- As many answers as numbers: none is gone.
+-- If there are as many answers as numbers, no message is gone.
 pub all_told : (items : List FetchItem) (mode : FetchMode) (before after : List ListedMessage) (view : List ViewEntry) (numbers : List ℕ) → length (fetch_answers items mode before after (shown_of view numbers)) ≡ length numbers → are_some_gone before view numbers ≡ false
 all_told items mode before after view numbers e = none_so _ _ _ (fewer items mode before after view numbers) e

@@ -111,7 +111,7 @@ lawful_change Remove old given h i = all_filtered is_lawful_keyword (λ (keyword
 
 -- ---- limits
 
--- an issuable operation, apart from how many keywords and ids it carries
+-- an operation that is issuable, apart from its numbers of keywords and ids
 abbrev IsWanted : List ℕ → List ℕ → List ListedMessage → Kind → Type 0
 IsWanted folder destination rows (Store f flags olds origin) = (f ≡ folder) × (list_all is_lawful_keyword flags.keywords ≡ true) × AreListedWithOrigin rows olds origin
 IsWanted folder destination rows (Expunge f olds) = (f ≡ folder) × AreListedIds rows olds
@@ -143,14 +143,14 @@ none_of_them test (y ∷ xs) x h i =
     let parts = neither (test y) (list_any test xs) h in
     elim i [ inl e ↦ subst (λ z. test z ≡ false) e parts.0 | inr n ↦ none_of_them test xs x parts.1 n ]
 
--- what is within the limits is all that was wanted
+-- within the limits all operations of the intent are issued
 pub within_is : (wanted kinds : List Kind) → within_limits wanted ≡ Ok kinds → kinds ≡ wanted
 within_is wanted kinds h =
     let keywords = unless_refused (list_any has_many_keywords wanted) _ _ kinds h in
     let versions = unless_refused (list_any has_many_versions wanted) _ _ kinds keywords.1 in
     ok_is (λ found. found ≡ wanted) wanted kinds _ refl versions.1 refl
 
--- what is issued within the limits is issuable
+-- operations within the limits are issuable
 within_issuable : (folder destination : List ℕ) (rows : List ListedMessage) (wanted kinds : List Kind) → within_limits wanted ≡ Ok kinds → ((kind : Kind) → IsIn kind wanted → IsWanted folder destination rows kind) → AreIssuable folder destination rows kinds
 within_issuable folder destination rows wanted kinds h w =
     let keywords = unless_refused (list_any has_many_keywords wanted) _ _ kinds h in
@@ -209,7 +209,7 @@ expunge_wants_issuable mailbox destination kinds h =
     let writable = unless_refused mailbox.read_only _ _ kinds h in
     within_issuable mailbox.name destination mailbox.rows (expunges_of mailbox.name mailbox.rows) kinds writable.1 (expunges_wanted mailbox.name destination mailbox.rows)
 
--- CLOSE does too, or issues nothing.
+-- CLOSE issues Expunges of listed messages, or nothing.
 close_by : (read_only : Bool) (folder destination : List ℕ) (rows : List ListedMessage) (kinds : List Kind) → (if read_only then Ok [] else within_limits (expunges_of folder rows)) ≡ Ok kinds → AreIssuable folder destination rows kinds
 close_by true folder destination rows kinds h = ok_is (AreIssuable folder destination rows) [] kinds _ refl h (λ kind i. absurd i)
 close_by false folder destination rows kinds h = within_issuable folder destination rows (expunges_of folder rows) kinds h (expunges_wanted folder destination rows)
@@ -221,7 +221,7 @@ expunge_at_wanted : (folder destination : List ℕ) (rows : List ListedMessage) 
 expunge_at_wanted folder destination rows None m kind i = absurd i
 expunge_at_wanted folder destination rows (Some row) m kind i = expunge_wanted folder destination rows row (m row refl) kind i
 
--- So does UID EXPUNGE.
+-- UID EXPUNGE issues Expunges of listed messages.
 pub uid_expunge_wants_issuable : (mailbox : OpenMailbox) (destination : List ℕ) (uids : List SequenceRange) (kinds : List Kind) → uid_expunge_intent mailbox uids ≡ Ok kinds → AreIssuable mailbox.name destination mailbox.rows kinds
 uid_expunge_wants_issuable mailbox destination uids kinds h =
     let writable = unless_refused mailbox.read_only _ _ kinds h in
@@ -291,7 +291,7 @@ copy_wants_issuable mailbox asked is_there kinds l h =
     let numbers = numbers_in_set asked.by_uid asked.messages view in
     within_issuable folder destination before (appends_of destination before view numbers) kinds found.1 (appends_wanted folder destination before view numbers l)
 
--- MOVE issues these and Expunges of listed messages.
+-- MOVE issues Appends in the destination, with lawful flags, and Expunges of listed messages.
 pub move_wants_issuable : (mailbox : OpenMailbox) (asked : CopyArgs) (is_there : Bool) (kinds : List Kind) → HaveLawfulKeywords mailbox.rows → move_intent mailbox asked is_there ≡ Ok kinds
     → AreIssuable mailbox.name asked.destination mailbox.rows kinds
 move_wants_issuable mailbox asked is_there kinds l h =

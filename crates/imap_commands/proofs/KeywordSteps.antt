@@ -9,7 +9,7 @@ use Rattle.imap_commands.specs.Selecting.{AreListedKeywords}
 use Rattle.imap_commands.proofs.BorneLemmas.{borne, with_keywords, with_rows}
 use Rattle.imap_commands.proofs.PlaceLemmas.{drop_past}
 
--- the keywords of the message at a place, and of those behind it
+-- the keywords of the message at a place, and of those after it
 pub row_read : (rows : List ListedMessage) (place : ℕ) (row : ListedMessage) (keywords : List (List ℕ)) → Some row ≡ slice_get rows place
     → with_rows (drop (place + 1) rows) (with_keywords row.flags.keywords keywords) ≡ with_rows (drop place rows) keywords
 row_read rows place row keywords e =
@@ -22,7 +22,7 @@ row_passed rows place keywords e =
     let from : drop place rows ≡ drop (place + 1) rows = from_place rows place ∙ ap (λ (found : Option ListedMessage). option_to_list found ++ drop (place + 1) rows) (sym e) in
     sym (ap (λ (some : List ListedMessage). with_rows some keywords) from)
 
--- the same where memory was not wanting for them
+-- the keywords of the message at a place and of those after it, if memory didn't run out
 pub row_added : (rows : List ListedMessage) (place : ℕ) (row : ListedMessage) (words keywords new : List (List ℕ)) (r : Result (Unit {0}) AllocError)
     → Some row ≡ slice_get rows place → words ≡ row.flags.keywords → OnOk r (new ≡ with_keywords words keywords)
     → OnOk r (with_rows (drop (place + 1) rows) new ≡ with_rows (drop place rows) keywords)
@@ -30,7 +30,7 @@ row_added rows place row words keywords new (Ok done) e w h =
     ap (with_rows (drop (place + 1) rows)) (h ∙ ap (λ (ws : List (List ℕ)). with_keywords ws keywords) w) ∙ row_read rows place row keywords e
 row_added rows place row words keywords new (Err why) e w h = tt
 
--- behind the last message they are those that all bear
+-- after the last message they are the keywords of all messages
 pub all_borne : (rows : List ListedMessage) (place : ℕ) (keywords : List (List ℕ)) → length rows ≤ place → with_rows (drop place rows) keywords ≡ with_rows rows [] → AreListedKeywords rows keywords
 all_borne rows place keywords l e =
     let all : keywords ≡ with_rows rows [] = sym (ap (λ (some : List ListedMessage). with_rows some keywords) (drop_past rows place l)) ∙ e in

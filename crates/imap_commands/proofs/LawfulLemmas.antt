@@ -22,7 +22,7 @@ use Rattle.imap_commands.specs.Mailboxes.{create_intent, created_name, delete_in
 use Rattle.imap_commands.specs.Selecting.{select_intent}
 use Rattle.imap_commands.proofs.NameLemmas.{lawful_from_test}
 
--- what is given where a result is Ok
+-- the value of an Ok
 given : (wanted kinds : List Kind) → ◌≡◌ {A = Result (List Kind) Refusal} (Ok wanted) (Ok kinds) → wanted ≡ kinds
 given wanted kinds e = cc
 

@@ -19,7 +19,7 @@ at_most_from_test n h = grind (arith, nat_tests)
 test_from_at_most : (n : ℕ) → n ≤ 255 → not (nat_lt 255 n) ≡ true
 test_from_at_most n h = grind (arith, nat_tests)
 
--- the test of a name says whether a mailbox may bear it
+-- the test of a name decides whether a mailbox may bear it
 pub lawful_from_test : (name : List ℕ) → is_lawful_name name ≡ true → IsLawfulName name
 unfolding is_lawful_name
 lawful_from_test name h =
@@ -49,7 +49,7 @@ test_from_lawful name h =
 pub lawful_name_is : (name : List ℕ) → IsTrue (is_lawful_name name) ↔ IsLawfulName name
 lawful_name_is name = (lawful_from_test name, test_from_lawful name)
 
--- a test of what the name is
+-- each test that decides this is equal to it
 pub lawful_by : (name : List ℕ) (b : Bool) → (IsTrue b ↔ IsLawfulName name) → b ≡ is_lawful_name name
 lawful_by name true h = sym (test_from_lawful name (h.0 refl))
 lawful_by name false h =

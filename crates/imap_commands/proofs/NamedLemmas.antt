@@ -18,7 +18,7 @@ use Rattle.imap_commands.specs.Report.{entry_at}
 
 -- ---- rising names
 
--- the least name of what comes, by UID or by number
+-- the least name of the messages to come, by UID or by number
 abbrev pub least : Bool → ℕ → ℕ → ℕ
 least by_uid n low = if by_uid then low else n
 
@@ -72,7 +72,7 @@ rising_from name_uid by_uid top set test view front (e ∷ es) n low v m h =
     one_more name_uid test (name_at name_uid view) (set_names top set (set_name by_uid n e)) n low e.uid (numbers_from by_uid top set (n + 1) es) (name_there name_uid view front e es n v m) h.0
     (rising_from name_uid by_uid top set test view (front ++ e ∷ []) es (n + 1) (e.uid + 1) w k h.1)
 
--- What some of the messages that a set names are named by ascends.
+-- The names of messages that a set names and a test accepts ascend.
 pub names_rising : (name_uid by_uid : Bool) (set : List SequenceRange) (test : ℕ → Bool) (view : List ViewEntry) → AreRising 1 view → AreRisingFrom 1 (names_of name_uid view (filter test (numbers_in_set by_uid set view)))
 names_rising true by_uid set test view h = rising_from true by_uid (top_of by_uid view) set test view [] view 1 1 refl refl h
 names_rising false by_uid set test view h = rising_from false by_uid (top_of by_uid view) set test view [] view 1 1 refl refl h
@@ -82,7 +82,7 @@ pub chosen_rising : (name_uid by_uid : Bool) (set : List SequenceRange) (test : 
 chosen_rising name_uid by_uid set test view seen numbers chosen s h c n =
     subst (λ (ns : List ℕ). AreRisingFrom 1 ns) (sym ((λ i. names_of name_uid (s i) (c i)) ∙ ap (λ (ns : List ℕ). names_of name_uid view (filter test ns)) n)) (names_rising name_uid by_uid set test view h)
 
--- What the messages of a view are named by ascends.
+-- The names of a view's messages ascend.
 pub shown_rising : (by_uid : Bool) (n low : ℕ) (view : List ViewEntry) → AreRising low view → AreRisingFrom (least by_uid n low) (map (shown_name by_uid) (shown_from n view))
 shown_rising true n low [] h = tt
 shown_rising false n low [] h = tt
@@ -93,7 +93,7 @@ pub all_shown_rising : (by_uid : Bool) (view : List ViewEntry) → AreRising 1 v
 all_shown_rising true view h = shown_rising true 1 1 view h
 all_shown_rising false view h = shown_rising false 1 1 view h
 
--- The UIDs of a listing above one of them ascend.
+-- The UIDs of a listing above a UID ascend.
 pub beyond_rising : (uid low : ℕ) (rows : List ListedMessage) → AreRisingRows low rows → AreRisingFrom low (map (λ (row : ListedMessage). row.uid) (rows_after_uid uid rows))
 beyond_rising uid low [] h = tt
 beyond_rising uid low (row ∷ rows) h =
@@ -103,7 +103,7 @@ beyond_rising uid low (row ∷ rows) h =
       | inr f ↦ rw f (rising_lower low (row.uid + 1) (map (λ (row : ListedMessage). row.uid) (rows_after_uid uid rows)) (omega (arith, h.0)) rest)
     ]
 
--- ---- a set of numbers, built
+-- ---- building a set of numbers
 
 greatest_more : (numbers : List ℕ) (n : ℕ) → greatest (numbers ++ n ∷ []) ≡ max (greatest numbers) n
 greatest_more [] n = omega arith

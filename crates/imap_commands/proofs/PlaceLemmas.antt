@@ -20,7 +20,7 @@ expunges_from folder [] (suc k) = let e : suc k + 1 ≡ suc (k + 1) = omega arit
 expunges_from folder (row ∷ rows) zero = refl
 expunges_from folder (row ∷ rows) (suc k) = let e : suc k + 1 ≡ suc (k + 1) = omega arith in rw e (expunges_from folder rows k)
 
--- one message more
+-- one further message
 pub expunges_more : (folder : List ℕ) (rows : List ListedMessage) (k : ℕ) (old new total : List Kind) → new ≡ old ++ expunge_at folder (slice_get rows k) → old ++ flat_map (expunge_of folder) (drop k rows) ≡ total
     → new ++ flat_map (expunge_of folder) (drop (k + 1) rows) ≡ total
 expunges_more folder rows k old new total n t =
@@ -30,7 +30,7 @@ expunges_more folder rows k old new total n t =
     ∙ ap (λ ks. old ++ ks) (sym (expunges_from folder rows k))
     ∙ t
 
--- none left
+-- after the last message
 pub expunges_end : (folder : List ℕ) (rows : List ListedMessage) (k : ℕ) (found total : List Kind) → length rows ≤ k → found ++ flat_map (expunge_of folder) (drop k rows) ≡ total → found ≡ total
 expunges_end folder rows k found total l t =
     sym (append-nil found) ∙ ap (λ rs. found ++ flat_map (expunge_of folder) rs) (sym (drop_past rows k l)) ∙ t

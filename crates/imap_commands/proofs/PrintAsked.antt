@@ -25,7 +25,7 @@ use Rattle.imap_commands.specs.Printing.{AreNonzeroMarks, AreShowable, IsPrintab
 use Rattle.imap_commands.specs.Report.{CommandReport, report_of_answers}
 use Rattle.imap_commands.proofs.PrintSelected.{each_in, each_of, rows_small}
 
--- ---- answers alone
+-- ---- reports of only answers
 
 pub only_printable : (answers : List Answer) → Each IsPrintable answers → IsPrintableTelling (report_of_answers answers)
 only_printable answers h = record { own = h; code = tt }
@@ -156,7 +156,7 @@ status_printable name items marks rows f l m r =
     } in
     only_printable (_ ∷ []) ((f, told), tt)
 
--- ---- ENABLE, and what is always the same
+-- ---- ENABLE, and the constant answers
 
 pub enable_printable : (names : List (List ℕ)) → IsPrintableTelling (enable_report names)
 enable_printable names = record { own = (tt, tt); code = tt }

@@ -19,9 +19,9 @@ use Rattle.imap_commands.proofs.PrintSearched.{set_of}
 use Rattle.imap_commands.proofs.PrintSelected.{each_filtered}
 use Rattle.imap_commands.proofs.PrintViews.{names_small, numbers_nonzero}
 
--- ---- where copies are
+-- ---- UIDs of copies
 
--- UIDs that ascend in 32 bits
+-- UIDs that ascend and have 32 bits
 record AreUids (uids : List ℕ) : Type 0 where
   rising : AreRisingFrom 1 uids
   small : Each IsSmall uids

@@ -29,7 +29,7 @@ use Rattle.imap_commands.specs.Report.{are_some_gone, entry_at, gone_code}
 use Rattle.imap_commands.proofs.PrintSelected.{each_append}
 use Rattle.imap_commands.proofs.PrintViews.{numbers_nonzero, row_showable}
 
--- ---- what may be told
+-- ---- each item of joined lists
 
 pub each_flat : {X Y : Type 0} (Q : X → Type 0) (P : Y → Type 0) (f : X → List Y) (xs : List X) → ((x : X) → Q x → Each P (f x)) → Each Q xs → Each P (flat_map f xs)
 each_flat Q P f [] g h = tt
@@ -72,7 +72,7 @@ any_told false false false false false false h =
       ]
     ]
 
--- the code that tells of messages that are gone
+-- the code for messages that are gone
 pub gone_printable : (rows : List ListedMessage) (view : List ViewEntry) (numbers : List ℕ) → Where IsCode (gone_code rows view numbers)
 gone_printable rows view numbers =
     elim (cases_Bool (are_some_gone rows view numbers)) [
@@ -80,7 +80,7 @@ gone_printable rows view numbers =
       | inr f ↦ rw f tt
     ]
 
--- ---- how long what is told of a text is
+-- ---- the length of a section
 
 header_short : (lines : List (List ℕ)) → length (concat (header_lines lines)) ≤ length (concat lines)
 header_short [] = omega arith
@@ -176,7 +176,7 @@ cut_short : (partial : Option Partial) (octets : List ℕ) → length (partial_o
 cut_short None octets = omega arith
 cut_short (Some range) octets = let t = take_short range.count (drop range.start octets) in let d = drop_short range.start octets in omega (arith, t, d)
 
--- ---- what FETCH tells of a message
+-- ---- the answer of FETCH for one message
 
 origin_small : (partial : Option Partial) → Where (λ (range : Partial). IsSmall range.start) partial → Where IsSmall (origin_of partial)
 origin_small None h = tt

@@ -46,7 +46,7 @@ hits_set (n ∷ numbers) r s = set_of n numbers r s
 abbrev number_at : Hit → ℕ
 number_at hit = hit.number
 
--- a hit that can be told
+-- a hit that can be printed
 abbrev IsTold : Hit → Type 0
 IsTold hit = IsNonzero hit.number × IsModSeq hit.modseq
 
@@ -75,7 +75,7 @@ all_hits_told : (by_uid : Bool) (key : Key) (last : ViewedMessage) (rows : List 
 all_hits_told by_uid key last rows view r b =
     each_flat IsBoth IsTold (λ shown. hit_of by_uid key last shown (row_of shown.uid rows)) view (λ shown k. hit_told by_uid key last shown (row_of shown.uid rows) k (row_showable shown.uid rows r)) b
 
--- one message gives no hit, or one by its name
+-- one message gives at most one hit, by its name
 abbrev IsOneHit : ℕ → List Hit → Type 0
 IsOneHit name found = (found ≡ []) ⊎ ((hit : Hit) × (found ≡ hit ∷ []) × (hit.number ≡ name))
 

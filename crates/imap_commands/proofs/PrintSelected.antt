@@ -13,7 +13,7 @@ use Rattle.imap_commands.specs.Printing.{AreNonzeroMarks, AreShowable, IsPrintab
 use Rattle.imap_commands.specs.Selecting.{AreListedKeywords, IsSelectReport, access_code, closed_answers, flags_in_use, mailbox_answers, permanent_flags}
 use Rattle.imap_commands.specs.Report.{CommandReport}
 
--- ---- each of a list
+-- ---- each item of a list
 
 pub each_of : {X : Type 0} (P : X → Type 0) (xs : List X) → ((x : X) → IsIn x xs → P x) → Each P xs
 each_of P [] h = tt
@@ -41,7 +41,7 @@ all_in test (y ∷ ys) x h i =
     let both = and_parts (test y) (list_all test ys) h in
     elim i [ inl e ↦ subst (λ z. test z ≡ true) e both.0 | inr t ↦ all_in test ys x both.1 t ]
 
--- ---- how many messages a listing has
+-- ---- the number of messages in a listing
 
 pub row_count : (low : ℕ) (rows : List ListedMessage) → AreRisingRows low rows → Each IsShowable rows → low ≤ 4294967296 → low + length rows ≤ 4294967296
 row_count low [] r h l = omega (arith, l)

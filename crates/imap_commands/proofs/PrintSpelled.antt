@@ -91,7 +91,7 @@ names_listed : (names : List (List ℕ)) (text : List ℕ) → listed sp astring
 names_listed [] text h w = absurd h
 names_listed (name ∷ names) text h w = (omega arith, (name_wide name h.0 h.2 (front_wide text h.0 h.1 h.4 w), names_behind names h.1 h.3 (back_wide text h.0 h.1 h.4 w)))
 
--- the width of what stands between parentheses
+-- the width of the text between parentheses
 inner_wide : (P : List ℕ → Type 0) (text : List ℕ) (h : in_parens P text) → IsWide (length text) → IsWide (length h.3.0)
 inner_wide P text h w = front_wide h.1 h.3.0 h.3.1 h.3.4 (back_wide text h.0 h.1 h.4 w)
 

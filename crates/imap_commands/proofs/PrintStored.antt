@@ -21,18 +21,18 @@ use Rattle.imap_commands.proofs.PrintFetched.{IsToldOf, each_flat, gone_printabl
 use Rattle.imap_commands.proofs.PrintSelected.{each_filtered}
 use Rattle.imap_commands.proofs.PrintViews.{greatest_small, names_small, numbers_nonzero, row_showable}
 
--- ---- the messages that STORE takes
+-- ---- the messages that STORE may change
 
 pub message_showable : (rows : List ListedMessage) (e : Option ViewEntry) → Each IsShowable rows → Where IsShowable (row_for rows e)
 message_showable rows None h = tt
 message_showable rows (Some e) h = row_showable e.uid rows h
 
--- what is told of one of them
+-- the answer for one of them
 abbrev stored_items : Bool → Bool → Bool → ListedMessage → FetchItems
 stored_items by_uid with_flags with_modseq row =
     record { uid = if_told by_uid row.uid; flags = if_told with_flags row.flags; date = None; size = None; modseq = if_told with_modseq row.modseq; sections = [] }
 
--- flags are, or else the mod-sequence is
+-- there is at least one item: flags or the mod-sequence
 stored_some : (by_uid with_flags with_modseq : Bool) (row : ListedMessage) → (with_flags || with_modseq) ≡ true → IsToldOf (stored_items by_uid with_flags with_modseq row)
 stored_some by_uid true with_modseq row e = inr (inl refl)
 stored_some by_uid false true row e = inr (inr (inr (inr (inl refl))))
@@ -62,7 +62,7 @@ stored_each after view condstore asked taken e r k =
     each_flat IsNonzero IsPrintable (λ n. stored_answer condstore asked n (message_at after view n)) taken
     (λ n h. stored_one condstore asked n (message_at after view n) e h (message_showable after (entry_at view n) r.each)) k
 
--- where something is told of each, something is told
+-- if STORE gives answers, each has flags or a mod-sequence
 told_of_each : (silent given condstore : Bool) → (silent && not given) ≡ false → (not silent || (given || condstore)) ≡ true
 told_of_each false given condstore e = refl
 told_of_each true true condstore e = refl
@@ -75,7 +75,7 @@ stored_printable after view condstore asked taken r k =
       | inr f ↦ rw f (stored_each after view condstore asked taken (told_of_each asked.action.silent (is_some asked.unchanged_since) condstore f) r k)
     ]
 
--- ---- those that it refuses
+-- ---- the messages that STORE refuses
 
 modified_printable : (refused : List ℕ) (code : Option Code) → AreRisingFrom 1 refused → Each IsSmall refused → Where IsCode code → Where IsCode (modified_code refused code)
 modified_printable [] code r s h = h

@@ -17,7 +17,7 @@ use Rattle.imap_commands.proofs.PrintFetched.{where_is}
 use Rattle.imap_commands.proofs.PrintSelected.{each_append, each_filtered}
 use Rattle.imap_commands.proofs.PrintViews.{last_small, row_showable, view_small}
 
--- ---- what is gone
+-- ---- expunged messages
 
 loss_printable : (rows : List ListedMessage) (n : ℕ) (e : ViewEntry) → IsNonzero n → Each IsPrintable (expunge_if_gone rows n e)
 loss_printable rows n e h = elim (cases_Bool (is_listed rows e)) [ inl t ↦ rw t tt | inr f ↦ rw f (h, tt) ]
@@ -31,7 +31,7 @@ losses_printable : (kind : SyncKind) (rows : List ListedMessage) (view : List Vi
 losses_printable Full rows view v = let l = view_small view v in expunges_printable rows 1 view (omega arith) (omega (arith, l))
 losses_printable Partial rows view v = tt
 
--- ---- what stays
+-- ---- messages that stay
 
 rising_kept : (test : ViewEntry → Bool) (low : ℕ) (view : List ViewEntry) → AreRising low view → AreRising low (filter test view)
 rising_kept test low [] h = tt
@@ -46,9 +46,9 @@ stays_numbered : (kind : SyncKind) (rows : List ListedMessage) (view : List View
 stays_numbered Full rows view v = record { small = each_filtered (λ (e : ViewEntry). IsSmall e.uid) (is_listed rows) view v.small; rising = rising_kept (is_listed rows) 1 view v.rising }
 stays_numbered Partial rows view v = v
 
--- ---- what came
+-- ---- new messages
 
--- UIDs above this one, and from a number on, are no more than there are in 32 bits
+-- the number of UIDs above this one, or from a number on, has 32 bits
 beyond_count : (uid k low : ℕ) (rows : List ListedMessage) → AreRisingRows low rows → Each IsShowable rows → k ≤ 4294967296 → k ≤ max low (uid + 1) → k + length (rows_after_uid uid rows) ≤ 4294967296
 beyond_count uid k low [] r h l m = omega (arith, l)
 beyond_count uid k low (row ∷ rows) r h l m =
@@ -72,7 +72,7 @@ arrivals_printable rows view r v =
     let b = beyond_count (last_uid view) (last_uid view + 1) 1 rows r.rising r.each (omega (arith, l)) (omega arith) in
     announced_printable (length view) (length view + length (rows_after_uid (last_uid view) rows)) (omega (arith, n, b))
 
--- ---- what changed
+-- ---- messages that changed
 
 change_printable : (modseq : Bool) (n : ℕ) (e : ViewEntry) (row : Option ListedMessage) → IsNonzero n → Where IsShowable row → Each IsPrintable (fetch_if_changed modseq n e row)
 change_printable modseq n e None h r = tt

@@ -26,7 +26,7 @@ use Rattle.imap_commands.proofs.PrintSelected.{each_append, each_filtered}
 abbrev pub AreSmall : List ViewEntry → Type 0
 AreSmall view = Each (λ (e : ViewEntry). IsSmall e.uid) view
 
--- ---- how many messages a view has
+-- ---- the number of messages in a view
 
 pub last_small : (b : ℕ) (view : List ViewEntry) → IsSmall b → AreSmall view → IsSmall (last_from b view)
 last_small b [] s h = s
@@ -49,7 +49,7 @@ numbers_at by_uid top set n [] p l = tt
 numbers_at by_uid top set n (e ∷ es) p l =
     numbers_by (set_names top set (set_name by_uid n e)) n (numbers_from by_uid top set (n + 1) es) (p, omega (arith, l)) (numbers_at by_uid top set (n + 1) es (omega (arith, p)) (omega (arith, l)))
 
--- the numbers of messages are from 1 on, in 32 bits
+-- message numbers are at least 1 and have 32 bits
 pub numbers_nonzero : (by_uid : Bool) (set : List SequenceRange) (view : List ViewEntry) → IsNumbered view → Each IsNonzero (numbers_in_set by_uid set view)
 numbers_nonzero by_uid set view v =
     let l = view_small view v in
@@ -73,7 +73,7 @@ pub greatest_small : (numbers : List ℕ) → Each IsSmall numbers → IsSmall (
 greatest_small [] h = omega arith
 greatest_small (n ∷ numbers) h = let g : greatest numbers < 4294967296 = greatest_small numbers h.1 in let k : n < 4294967296 = h.0 in omega (arith, g, k)
 
--- ---- what a listing has of a message
+-- ---- the listing's row for a message
 
 pub row_showable : (uid : ℕ) (rows : List ListedMessage) → Each IsShowable rows → Where IsShowable (row_of uid rows)
 row_showable uid [] h = tt
@@ -83,7 +83,7 @@ row_showable uid (row ∷ rows) h =
       | inr f ↦ rw f (row_showable uid rows h.1)
     ]
 
--- ---- what replaying makes of a view
+-- ---- a view after a replay
 
 small_flagged : (view : List ViewEntry) (k : ℕ) (flags : Flags) → AreSmall view → AreSmall (with_flags_at view k flags)
 small_flagged [] k flags h = tt
@@ -126,7 +126,7 @@ small_silent : (view : List ViewEntry) (silents : List SilentFlags) → AreSmall
 small_silent view [] h = h
 small_silent view (s ∷ silents) h = small_silent (with_flags_at view s.number s.flags) silents (small_flagged view s.number s.flags h)
 
--- whatever is replayed, the UIDs ascend in 32 bits
+-- after any replay the UIDs ascend and have 32 bits
 pub replay_numbered : (rows : List ListedMessage) (view : List ViewEntry) (silents : List SilentFlags) (answers : List Answer) → AreShowable rows → IsNumbered view → IsNumbered (view_after_reply rows view silents answers)
 replay_numbered rows view silents answers r v = record {
   small = small_answers rows r.each (after_silent view silents) answers (small_silent view silents v.small);

@@ -1,4 +1,4 @@
--- Worked examples of what STORE, EXPUNGE, UID EXPUNGE and COPY want and tell.
+-- Worked examples of the intents and reports of STORE, EXPUNGE, UID EXPUNGE and COPY.
 use Rattle.std.proofs.Common.{◌≡◌, refl, ℕ, zero, suc, Bool, true, false, List, [], ◌∷◌, Option, Some, None}
 use Rattle.std.specs.Prelude.{Ok, Err}
 use Rattle.crdt_ops.specs.declared.kind.Kind.TheVariants as kind
@@ -84,7 +84,7 @@ module _ (a b c d e : OpId) (folder : List ℕ) where
   unfolding changed_flags same_flags
   stores_none = refl
 
-  -- A number that no message has is told before EXAMINE is.
+  -- A number that no message has is refused before the read-only mailbox is.
   out_of_range_first : store_intent (selected before view true) (store false (from_to 3 4) None Add false flagged) ≡ Err NoSuchMessage
   out_of_range_first = refl
 
@@ -95,11 +95,12 @@ module _ (a b c d e : OpId) (folder : List ℕ) where
   gone_is_told : uid_expunge_report (selected before (shown 3 ∷ shown 4 ∷ []) false) (from_to 4 4) ≡ record { own = []; silent = []; code = Some ExpungeIssued }
   gone_is_told = refl
 
-  -- COPY 1:2 into a mailbox whose next UID was 7, where UIDs 7 and 8 are then.
+  -- COPY 1:2 into a mailbox whose UIDNEXT was 7, and which then has UIDs 7 and 8.
   copies_are_told : copy_report (selected before view false) (record { by_uid = false; messages = from_to 1 2; destination = folder }) (record { uidvalidity = 65537; uidnext = 7; rows = message 5 2 a bare ∷ message 7 3 d bare ∷ message 8 4 e bare ∷ [] }) ≡ record { own = []; silent = []; code = Some (CopyUid 65537 (1 ∷ 2 ∷ []) (7 ∷ 8 ∷ [])) }
   copies_are_told = refl
 
-  -- A message with two versions, told as one: STORE 1 -FLAGS (\Seen) names both, and so does EXPUNGE.
+  -- A message with two versions, shown as one: STORE 1 -FLAGS (\Seen) names both, and so does
+  -- EXPUNGE.
   stores_for_both : store_intent (selected (versioned 1 4 a (b ∷ d ∷ []) (record flagged { seen = true }) ∷ []) (shown 1 ∷ []) false) (store false (from_to 1 1) None Remove false seen) ≡ Ok (kind.Store folder flagged (b ∷ d ∷ []) a ∷ [])
   unfolding changed_flags same_flags
   stores_for_both = refl
@@ -107,7 +108,8 @@ module _ (a b c d e : OpId) (folder : List ℕ) where
   expunges_both : expunge_intent (selected (versioned 1 4 a (b ∷ d ∷ []) (record bare { deleted = true }) ∷ []) [] false) ≡ Ok (kind.Expunge folder (b ∷ d ∷ []) ∷ [])
   expunges_both = refl
 
-  -- A message with 65 versions can't be changed; with 64 it can. Where nothing changes nothing is refused.
+  -- A message with 65 versions can't be changed; with 64 it can. If nothing changes, nothing is
+  -- refused.
   too_many_for_store : store_intent (selected (versioned 1 66 a (copies 65 b) seen ∷ []) (shown 1 ∷ []) false) (store false (from_to 1 1) None Replace false bare) ≡ Err TooManyVersions
   unfolding changed_flags same_flags
   too_many_for_store = refl

@@ -1,3 +1,5 @@
+-- APPEND (RFC 9051, section 6.3.12).
+
 use Rattle.std.specs.Prelude.{ℕ, nat_lt, Bool, List, [], ◌∷◌, length, Option, Some, None, Result, Ok, Err, if◌then◌else◌}
 use Rattle.std.specs.List.{list_all}
 use Rattle.crdt_ops.specs.declared.kind.Kind.{Kind}
@@ -9,13 +11,15 @@ use Rattle.imap_types.specs.Keywords.{is_lawful_keyword}
 use Rattle.imap_commands.specs.Arguments.{AppendArgs}
 use Rattle.imap_commands.specs.Report.{CommandReport}
 
--- The date that a message is given: the command's own, or else that of the moment (RFC 9051, section 6.3.12).
+-- The date-time of an appended message: that of the command, or the current one, `stamp` (RFC 9051,
+-- section 6.3.12).
 abbrev pub given_date : Option (List ℕ) → List ℕ → List ℕ
 given_date None stamp = stamp
 given_date (Some date) stamp = date
 
--- APPEND (RFC 9051, section 6.3.12) to a mailbox that is there, or isn't. A keyword is too long where no message may bear it: those of a
--- command have no other fault. `stamp` is the date-time of the moment.
+-- The intent of APPEND (RFC 9051, section 6.3.12). `is_there` says whether the mailbox exists;
+-- `stamp` is the current date-time. A keyword that no message may bear is too long, since keywords
+-- in commands have no other fault.
 abbrev pub append_intent : Bool → List ℕ → AppendArgs → Result (List Kind) Refusal
 append_intent is_there stamp asked =
     if is_there
@@ -26,6 +30,6 @@ append_intent is_there stamp asked =
     )
     else Err NoDestination
 
--- What APPEND tells: the UID that the message took (RFC 9051, section 7.1, APPENDUID).
+-- The report of APPEND: APPENDUID with the message's UID (RFC 9051, section 7.1).
 abbrev pub append_report : ℕ → ℕ → CommandReport
 append_report uidvalidity uid = record { own = []; silent = []; code = Some (AppendUid uidvalidity uid) }

@@ -1,3 +1,5 @@
+-- The mailbox that a command works on, and each command's arguments (RFC 9051, section 6).
+
 use Rattle.std.specs.Prelude.{ℕ, Bool, List, Option}
 use Rattle.imap_syntax.specs.declared.fetch.FetchItem.{FetchItem}
 use Rattle.imap_syntax.specs.declared.search.SearchOption.{SearchOption}
@@ -8,28 +10,29 @@ use Rattle.imap_types.specs.declared.sequence_set.SequenceRange.{SequenceRange}
 use Rattle.mailbox_rows.specs.ListedMessage.{ListedMessage}
 use Rattle.session_view.specs.declared.view_entry.ViewEntry.{ViewEntry}
 
--- The mailbox that a session has selected, as a command finds it: its name, its messages, those that the session sees, and whether the
--- session only reads it (RFC 9051, section 6.3.3).
+-- The mailbox that a session has selected, before a command: its name, its listing, the session's
+-- view of it, and whether it was selected read-only (RFC 9051, section 6.3.3).
 pub record OpenMailbox : Type 0 where
   pub name : List ℕ
   pub rows : List ListedMessage
   pub view : List ViewEntry
   pub read_only : Bool
 
--- Where copies come to: the destination's UIDVALIDITY, its UIDNEXT before the command, and its messages behind it.
+-- The destination of a COPY or MOVE: its UIDVALIDITY, its UIDNEXT before the command, and its
+-- listing after it.
 pub record CopyTarget : Type 0 where
   pub uidvalidity : ℕ
   pub uidnext : ℕ
   pub rows : List ListedMessage
 
--- What APPEND asks (RFC 9051, section 6.3.12).
+-- The arguments of APPEND (RFC 9051, section 6.3.12).
 pub record AppendArgs : Type 0 where
   pub name : List ℕ
   pub flags : Flags
   pub date : Option (List ℕ)
   pub text : List ℕ
 
--- What STORE asks (RFC 9051, section 6.4.6; RFC 7162, section 3.1.3).
+-- The arguments of STORE (RFC 9051, section 6.4.6; RFC 7162, section 3.1.3).
 pub record StoreArgs : Type 0 where
   pub by_uid : Bool
   pub messages : List SequenceRange
@@ -37,20 +40,20 @@ pub record StoreArgs : Type 0 where
   pub action : StoreAction
   pub flags : Flags
 
--- What FETCH asks (RFC 9051, section 6.4.5; RFC 7162, section 3.1.4).
+-- The arguments of FETCH (RFC 9051, section 6.4.5; RFC 7162, section 3.1.4).
 pub record FetchArgs : Type 0 where
   pub by_uid : Bool
   pub messages : List SequenceRange
   pub items : List FetchItem
   pub changed_since : Option ℕ
 
--- What COPY and MOVE ask (RFC 9051, sections 6.4.7 and 6.4.8).
+-- The arguments of COPY and MOVE (RFC 9051, sections 6.4.7 and 6.4.8).
 pub record CopyArgs : Type 0 where
   pub by_uid : Bool
   pub messages : List SequenceRange
   pub destination : List ℕ
 
--- What SEARCH asks (RFC 9051, section 6.4.4).
+-- The arguments of SEARCH (RFC 9051, section 6.4.4).
 pub record SearchArgs : Type 0 where
   pub by_uid : Bool
   pub options : List SearchOption

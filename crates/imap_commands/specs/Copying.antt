@@ -1,3 +1,5 @@
+-- COPY and MOVE (RFC 9051, sections 6.4.7 and 6.4.8).
+
 use Rattle.std.specs.Prelude.{ℕ, ◌-◌, Bool, true, not, List, [], ◌∷◌, ◌++◌, map, flat_map, Option, Some, None, Result, Err, if◌then◌else◌}
 use Rattle.crdt_ops.specs.declared.kind.Kind.{Kind}
 use Rattle.crdt_ops.specs.declared.kind.Kind.TheVariants.{Append, Expunge}
@@ -17,7 +19,8 @@ use Rattle.imap_commands.specs.Limits.{within_limits}
 use Rattle.imap_commands.specs.MessageNames.{names_of, existing_messages}
 use Rattle.imap_commands.specs.Report.{CommandReport, gone_code, message_at}
 
--- The Append of a message's copy, with its flags, date and text: one version for all that the message has.
+-- The Append of a message's copy, with its flags, date and text: one version in place of all the
+-- message's versions.
 abbrev pub append_of : List ℕ → Option ListedMessage → List Kind
 append_of destination None = []
 append_of destination (Some row) = Append destination row.flags row.date row.text ∷ []
@@ -26,22 +29,25 @@ append_of destination (Some row) = Append destination row.flags row.date row.tex
 abbrev pub appends_of : List ℕ → List ListedMessage → List ViewEntry → List ℕ → List Kind
 appends_of destination before view numbers = flat_map (λ n. append_of destination (message_at before view n)) numbers
 
--- The Expunge of a message that is moved, marked as deleted or not: it takes all its versions out.
+-- The Expunge of a moved message, with or without `\Deleted`: it removes all its versions.
 abbrev pub expunge_of_moved : List ℕ → Option ListedMessage → List Kind
 expunge_of_moved folder None = []
 expunge_of_moved folder (Some row) = Expunge folder row.versions ∷ []
 
+-- The Expunges of the messages with these numbers.
 abbrev pub expunges_of_moved : List ℕ → List ListedMessage → List ViewEntry → List ℕ → List Kind
 expunges_of_moved folder before view numbers = flat_map (λ n. expunge_of_moved folder (message_at before view n)) numbers
 
--- What COPY issues, or the first reason against it, where the destination is there or isn't (RFC 9051, section 6.4.7).
+-- The intent of COPY, or the first reason for refusing it (RFC 9051, section 6.4.7). `is_there`
+-- says whether the destination exists.
 abbrev pub copy_intent : OpenMailbox → CopyArgs → Bool → Result (List Kind) Refusal
 copy_intent mailbox asked is_there =
     if not (is_in_range asked.by_uid asked.messages mailbox.view) then Err NoSuchMessage
     else (if not is_there then Err NoDestination
     else within_limits (appends_of asked.destination mailbox.rows mailbox.view (numbers_in_set asked.by_uid asked.messages mailbox.view)))
 
--- What MOVE issues, or the first reason against it: first all copies, then what takes the messages out (RFC 9051, section 6.4.8).
+-- The intent of MOVE, or the first reason for refusing it: all Appends first, and then the Expunges
+-- (RFC 9051, section 6.4.8).
 abbrev pub move_intent : OpenMailbox → CopyArgs → Bool → Result (List Kind) Refusal
 move_intent mailbox asked is_there =
     if not (is_in_range asked.by_uid asked.messages mailbox.view) then Err NoSuchMessage
@@ -52,25 +58,27 @@ move_intent mailbox asked is_there =
     ++ expunges_of_moved mailbox.name mailbox.rows mailbox.view (numbers_in_set asked.by_uid asked.messages mailbox.view)
     )))
 
--- The UIDs of the messages that are copied, of those with these numbers.
+-- The UIDs of those of the messages with these numbers that are copied.
 abbrev pub sources_of : List ListedMessage → List ViewEntry → List ℕ → List ℕ
 sources_of before view numbers = names_of true view (existing_messages before view numbers)
 
--- The UIDs of their copies: those of the destination's messages that came with the command, which have UIDs from its UIDNEXT on.
+-- The UIDs of their copies: those of the destination's messages after the command that have at
+-- least its UIDNEXT before the command.
 abbrev pub copies_in : ℕ → List ListedMessage → List ℕ
 copies_in uidnext landed = map (λ row. row.uid) (rows_after_uid (uidnext - 1) landed)
 
--- The code of a COPY: where its copies are, and else the other code.
+-- The code of a COPY: COPYUID, or the other code if nothing was copied.
 abbrev pub copied_code : ℕ → List ℕ → List ℕ → Option Code → Option Code
 copied_code uidvalidity [] copies code = code
 copied_code uidvalidity (n ∷ sources) copies code = Some (codes.CopyUid uidvalidity (n ∷ sources) copies)
 
--- What MOVE tells of itself: where its copies are.
+-- The answers of a MOVE: COPYUID, unless nothing was copied.
 abbrev pub moved_answers : ℕ → List ℕ → List ℕ → List Answer
 moved_answers uidvalidity [] copies = []
 moved_answers uidvalidity (n ∷ sources) copies = Tell (notice.CopyUid uidvalidity (n ∷ sources) copies) ∷ []
 
--- What COPY tells, by the mailbox before it and where its copies are (RFC 9051, sections 6.4.7 and 7.1).
+-- The report of COPY, from the mailbox before it and the destination (RFC 9051, sections 6.4.7 and
+-- 7.1).
 abbrev pub copy_report : OpenMailbox → CopyArgs → CopyTarget → CommandReport
 copy_report mailbox asked landing =
     let numbers = numbers_in_set asked.by_uid asked.messages mailbox.view in
@@ -80,7 +88,7 @@ copy_report mailbox asked landing =
       code = copied_code landing.uidvalidity (sources_of mailbox.rows mailbox.view numbers) (copies_in landing.uidnext landing.rows) (gone_code mailbox.rows mailbox.view numbers);
     }
 
--- What MOVE tells, by the same (RFC 9051, section 6.4.8).
+-- The report of MOVE, from the mailbox before it and the destination (RFC 9051, section 6.4.8).
 abbrev pub move_report : OpenMailbox → CopyArgs → CopyTarget → CommandReport
 move_report mailbox asked landing =
     let numbers = numbers_in_set asked.by_uid asked.messages mailbox.view in

@@ -1,3 +1,5 @@
+-- FETCH (RFC 9051, section 6.4.5; RFC 7162, section 3.1.4).
+
 use Rattle.std.specs.Prelude.{ℕ, Bool, true, false, not, ◌&&◌, List, [], ◌∷◌, flat_map, Option, Some, None, Result, Err, if◌then◌else◌}
 use Rattle.crdt_ops.specs.declared.kind.Kind.{Kind}
 use Rattle.crdt_ops.specs.declared.kind.Kind.TheVariants.{Store}
@@ -15,7 +17,7 @@ use Rattle.imap_commands.specs.Arguments.{FetchArgs, OpenMailbox}
 use Rattle.imap_commands.specs.Limits.{within_limits}
 use Rattle.imap_commands.specs.Report.{CommandReport, entry_at, gone_code, message_at}
 
--- How FETCH asks, with CONDSTORE on or not.
+-- The mode of a FETCH, with CONDSTORE on or off.
 abbrev pub mode_of : OpenMailbox → Bool → FetchArgs → FetchMode
 mode_of mailbox condstore asked = record { by_uid = asked.by_uid; condstore = condstore; writable = not mailbox.read_only; changed_since = asked.changed_since }
 
@@ -23,33 +25,36 @@ mode_of mailbox condstore asked = record { by_uid = asked.by_uid; condstore = co
 abbrev pub seen_flags : Flags → Flags
 seen_flags flags = record flags { seen = true }
 
--- The Store of `\Seen` of a message, in place of all its versions: where the mailbox is read-write, an item sets it, the message was kept
--- by CHANGEDSINCE and none of its versions has it.
+-- The Store of `\Seen` for a message, in place of all its versions: if the mailbox is read-write,
+-- an item sets the flag, CHANGEDSINCE doesn't exclude the message and none of its versions has the
+-- flag.
 abbrev pub seen_store : List ℕ → List FetchItem → FetchMode → Option ListedMessage → List Kind
 seen_store folder items mode None = []
 seen_store folder items mode (Some row) =
     if is_above_changed_since mode.changed_since row && is_seen_set items mode row then Store folder (seen_flags row.flags) row.versions row.origin ∷ [] else []
 
--- The Stores of `\Seen` of the messages with these numbers.
+-- The Stores of `\Seen` for the messages with these numbers.
 abbrev pub seen_stores : OpenMailbox → FetchArgs → List ℕ → List Kind
 seen_stores mailbox asked numbers = flat_map (λ n. seen_store mailbox.name asked.items (mode_of mailbox false asked) (message_at mailbox.rows mailbox.view n)) numbers
 
--- What FETCH issues, or the first reason against it (RFC 9051, section 6.4.5; RFC 7162, section 3.1.4).
+-- The intent of FETCH, or the first reason for refusing it (RFC 9051, section 6.4.5; RFC 7162,
+-- section 3.1.4).
 abbrev pub fetch_intent : OpenMailbox → FetchArgs → Result (List Kind) Refusal
 fetch_intent mailbox asked =
     if not (is_in_range asked.by_uid asked.messages mailbox.view) then Err NoSuchMessage
     else within_limits (seen_stores mailbox asked (numbers_in_set asked.by_uid asked.messages mailbox.view))
 
--- A message of a view as queries see it.
+-- A message of a view as queries take it.
 abbrev pub shown_at : ℕ → Option ViewEntry → List ViewedMessage
 shown_at n None = []
 shown_at n (Some e) = record { number = n; uid = e.uid } ∷ []
 
--- The messages with these numbers.
+-- The view's messages with these numbers, as queries take them.
 abbrev pub shown_of : List ViewEntry → List ℕ → List ViewedMessage
 shown_of view numbers = flat_map (λ n. shown_at n (entry_at view n)) numbers
 
--- What FETCH tells, by the mailbox before it, the listing after it and whether CONDSTORE is on.
+-- The report of FETCH, from the mailbox before it, the listing after it and whether CONDSTORE is
+-- on.
 abbrev pub fetch_report : OpenMailbox → List ListedMessage → Bool → FetchArgs → CommandReport
 fetch_report mailbox after condstore asked =
     let numbers = numbers_in_set asked.by_uid asked.messages mailbox.view in

@@ -1,3 +1,5 @@
+-- A message's flags after STORE (RFC 9051, section 6.4.6).
+
 use Rattle.std.specs.Prelude.{ℕ, not, ◌&&◌, List}
 use Rattle.std.specs.List.{filter}
 use Rattle.imap_syntax.specs.declared.store.StoreMode.{StoreMode}
@@ -6,11 +8,11 @@ use Rattle.imap_types.specs.Keywords.{has_keyword}
 use Rattle.imap_types.specs.declared.flags.Flags.{Flags}
 use Rattle.imap_types.specs.Unions.{with_flags}
 
--- The keywords without those that are given.
+-- These keywords without the given ones.
 abbrev pub remaining : List (List ℕ) → List (List ℕ) → List (List ℕ)
 remaining given keywords = filter (λ keyword. not (has_keyword keyword given)) keywords
 
--- Flags without those that are given.
+-- The old flags without the given ones.
 abbrev pub removed_flags : Flags → Flags → Flags
 removed_flags old given = record {
   answered = old.answered && not given.answered;
@@ -21,8 +23,9 @@ removed_flags old given = record {
   keywords = remaining given.keywords old.keywords;
 }
 
--- What STORE makes of a message's flags, from those and the ones that are given (RFC 9051, section 6.4.6): `added_flags_are_the_union` and
--- `removed_flags_are_the_difference` say which flags the message has then, each keyword once.
+-- A message's flags after STORE, from its old flags and those given (RFC 9051, section 6.4.6). The
+-- laws `added_flags_are_the_union` and `removed_flags_are_the_difference` say which flags these
+-- are, each keyword once.
 unfoldable pub changed_flags : StoreMode → Flags → Flags → Flags
 changed_flags Replace old given = given
 changed_flags Add old given = with_flags old given

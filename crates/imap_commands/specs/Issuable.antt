@@ -1,3 +1,5 @@
+-- The operations that commands may issue: lawful changes of listed messages.
+
 use Rattle.std.specs.Prelude.{◌≡◌, ◌≤◌, ℕ, List, length, IsTrue}
 use Rattle.std.specs.List.{list_all}
 use Rattle.crdt_ops.specs.declared.kind.Kind.{Kind}
@@ -8,21 +10,21 @@ use Rattle.mailbox_rows.specs.ListedMessage.{ListedMessage}
 use Rattle.merge_laws.specs.Orders.{IsIn}
 use Rattle.tags_clocks.specs.declared.id.OpId.{OpId}
 
--- Each keyword of a message of a listing is one that a message may bear. (A message's versions together may have more of them than one
--- operation may carry.)
+-- Each keyword of each listed message is one that a message may bear. (A message's versions
+-- together may have more keywords than one operation may carry.)
 abbrev pub HaveLawfulKeywords : List ListedMessage → Type 0
 HaveLawfulKeywords rows = (row : ListedMessage) → IsIn row rows → IsTrue (list_all is_lawful_keyword row.flags.keywords)
 
--- The ids are those of all versions of a message of the listing.
+-- The ids are those of all versions of a listed message.
 abbrev pub AreListedIds : List ListedMessage → List OpId → Type 0
 AreListedIds rows olds = (row : ListedMessage) × IsIn row rows × (olds ≡ row.versions)
 
--- They are, and the other id is that of the message's Append.
+-- The ids are those of all versions of a listed message, and the other id is that of its Append.
 abbrev pub AreListedWithOrigin : List ListedMessage → List OpId → OpId → Type 0
 AreListedWithOrigin rows olds origin = (row : ListedMessage) × IsIn row rows × (olds ≡ row.versions) × (origin ≡ row.origin)
 
--- A lawful change of a message that a folder's listing has, which names no more ids than one operation may, or a copy with lawful flags
--- in the destination.
+-- A lawful change of a message of the folder's listing, which names no more ids than one operation
+-- may, or a copy with lawful flags in the destination.
 abbrev pub IsIssuable : List ℕ → List ℕ → List ListedMessage → Kind → Type 0
 IsIssuable folder destination rows (Store f flags olds origin) = (f ≡ folder) × IsLawfulFlags flags × (length olds ≤ 64) × AreListedWithOrigin rows olds origin
 IsIssuable folder destination rows (Expunge f olds) = (f ≡ folder) × (length olds ≤ 64) × AreListedIds rows olds
@@ -32,6 +34,6 @@ IsIssuable folder destination rows (Delete f seen) = ⊥
 IsIssuable folder destination rows (Subscribe name) = ⊥
 IsIssuable folder destination rows (Unsubscribe name seen) = ⊥
 
--- All of them are such.
+-- Each of these operations is issuable.
 abbrev pub AreIssuable : List ℕ → List ℕ → List ListedMessage → List Kind → Type 0
 AreIssuable folder destination rows kinds = (kind : Kind) → IsIn kind kinds → IsIssuable folder destination rows kind

@@ -1,3 +1,5 @@
+-- Limits of one operation: keywords and versions of a message. The bounds are this project's own.
+
 use Rattle.std.specs.Prelude.{nat_lt, Bool, false, List, length, Result, Ok, Err, if◌then◌else◌}
 use Rattle.std.specs.List.{list_any}
 use Rattle.crdt_ops.specs.declared.kind.Kind.{Kind}
@@ -5,8 +7,8 @@ use Rattle.crdt_ops.specs.declared.kind.Kind.TheVariants.{Create, Delete, Append
 use Rattle.imap_answers.specs.declared.fixed_words.Refusal.{Refusal}
 use Rattle.imap_answers.specs.declared.fixed_words.Refusal.TheVariants.{TooManyKeywords, TooManyVersions}
 
--- An operation gives a message more than 32 keywords, which none may (the bound is this project's own). A message's versions together
--- may have more.
+-- Whether an operation gives a message more than 32 keywords, which none may. A message's versions
+-- together may have more.
 abbrev pub has_many_keywords : Kind → Bool
 has_many_keywords (Create folder) = false
 has_many_keywords (Delete folder seen) = false
@@ -16,7 +18,8 @@ has_many_keywords (Store folder flags olds origin) = nat_lt 32 (length flags.key
 has_many_keywords (Subscribe name) = false
 has_many_keywords (Unsubscribe name seen) = false
 
--- An operation names more than 64 versions of a message, which none may (the bound is this project's own). A message may have more.
+-- Whether an operation names more than 64 versions of a message, which none may. A message may have
+-- more.
 abbrev pub has_many_versions : Kind → Bool
 has_many_versions (Create folder) = false
 has_many_versions (Delete folder seen) = false
@@ -26,7 +29,8 @@ has_many_versions (Store folder flags olds origin) = nat_lt 64 (length olds)
 has_many_versions (Subscribe name) = false
 has_many_versions (Unsubscribe name seen) = false
 
--- What a change of messages issues: all these operations, unless one gives too many keywords, or else one names too many versions.
+-- The intent of a command that changes messages: all these operations, unless one gives too many
+-- keywords or, otherwise, one names too many versions.
 abbrev pub within_limits : List Kind → Result (List Kind) Refusal
 within_limits kinds =
     if list_any has_many_keywords kinds then Err TooManyKeywords

@@ -1,3 +1,5 @@
+-- CREATE, DELETE, SUBSCRIBE and UNSUBSCRIBE (RFC 9051, sections 6.3.4, 6.3.5, 6.3.7 and 6.3.8).
+
 use Rattle.std.specs.Prelude.{ℕ, ◌-◌, ◌==◌, nat_lt, Bool, not, ◌&&◌, List, [], ◌∷◌, length, take, slice_index, Result, Ok, Err, if◌then◌else◌}
 use Rattle.std.specs.List.{list_all}
 use Rattle.std.specs.Str.{bytes_eq, is_utf8}
@@ -10,8 +12,8 @@ use Rattle.tags_clocks.specs.declared.id.OpId.{OpId}
 
 -- ---- names
 
--- Whether a mailbox may bear a name (RFC 9051, section 5.1; the bounds are this project's own). `lawful_name_is` says that this is
--- `IsLawfulName`.
+-- Whether a mailbox may bear a name (RFC 9051, section 5.1; the bounds are this project's own). The
+-- law `lawful_name_is` says that this decides `IsLawfulName`.
 unfoldable pub is_lawful_name : List ℕ → Bool
 is_lawful_name name =
     not (length name == 0) && not (nat_lt 255 (length name)) && is_utf8 name
@@ -21,38 +23,43 @@ is_lawful_name name =
 abbrev pub without_last_separator : List ℕ → List ℕ
 without_last_separator name = if slice_index name (length name - 1) == 47 then take (length name - 1) name else name
 
--- The name that CREATE makes: without one separator at its end, INBOX in capitals (RFC 9051, sections 5.1 and 6.3.4).
+-- The name of the mailbox that CREATE creates: without one separator at its end, with INBOX in
+-- capitals (RFC 9051, sections 5.1 and 6.3.4).
 abbrev pub created_name : List ℕ → List ℕ
 created_name name = fold_inbox (without_last_separator name)
 
--- ---- what the commands issue
+-- ---- intents
 
--- CREATE (RFC 9051, section 6.3.4), where `is_there` tells whether there is a mailbox of the created name. It makes no superior levels.
+-- The intent of CREATE (RFC 9051, section 6.3.4). `is_there` says whether a mailbox of the created
+-- name exists. No superior levels are created.
 abbrev pub create_intent : Bool → List ℕ → Result (List Kind) Refusal
 create_intent is_there name =
     if is_lawful_name (created_name name)
     then (if is_there then Err MailboxExists else Ok (Create (created_name name) ∷ []))
     else Err NameNotAllowed
 
--- DELETE (RFC 9051, section 6.3.5): it lists the ids of all the folder's tags that are present here.
+-- The intent of DELETE (RFC 9051, section 6.3.5): its operation lists the ids `seen` of all the
+-- folder's present tags.
 abbrev pub delete_intent : Bool → List OpId → List ℕ → Result (List Kind) Refusal
 delete_intent is_there seen name =
     if is_there
     then (if bytes_eq name inbox then Err InboxStays else Ok (Delete name seen ∷ []))
     else Err NoSuchMailbox
 
--- SUBSCRIBE (RFC 9051, section 6.3.7), which needs no mailbox: nothing where the name is subscribed.
+-- The intent of SUBSCRIBE (RFC 9051, section 6.3.7), which needs no mailbox: nothing is issued if
+-- the name is subscribed.
 abbrev pub subscribe_intent : Bool → List ℕ → Result (List Kind) Refusal
 subscribe_intent is_subscribed name =
     if is_lawful_name name
     then Ok (if is_subscribed then [] else Subscribe name ∷ [])
     else Err NameNotAllowed
 
--- The Unsubscribe that lists the ids of a name's present subscription tags; none where there are none.
+-- The Unsubscribe that lists the ids of a name's present subscription tags, if it has any.
 abbrev pub unsubscribes : List OpId → List ℕ → List Kind
 unsubscribes [] name = []
 unsubscribes (id ∷ ids) name = Unsubscribe name (id ∷ ids) ∷ []
 
--- UNSUBSCRIBE (RFC 9051, section 6.3.8): nothing where the name isn't subscribed.
+-- The intent of UNSUBSCRIBE (RFC 9051, section 6.3.8): nothing is issued if the name isn't
+-- subscribed.
 abbrev pub unsubscribe_intent : List OpId → List ℕ → Result (List Kind) Refusal
 unsubscribe_intent seen name = if is_lawful_name name then Ok (unsubscribes seen name) else Err NameNotAllowed

@@ -1,3 +1,5 @@
+-- The messages that a command names (RFC 9051, section 9, sequence-set).
+
 use Rattle.std.specs.Prelude.{◌≡◌, ℕ, Bool, List, []}
 use Rattle.imap_types.specs.declared.sequence_set.SequenceRange.{SequenceRange}
 use Rattle.session_view.specs.Sets.{numbers_in_set}
@@ -5,25 +7,25 @@ use Rattle.session_view.specs.declared.view_entry.ViewEntry.{ViewEntry}
 use Rattle.imap_commands.specs.Arguments.{OpenMailbox, StoreArgs}
 use Rattle.imap_commands.specs.Storing.{taken_messages}
 
--- What a command finds in its mailbox before it is carried out: the numbers of the messages that it names, and of those among them that
--- STORE takes.
+-- The messages that a command names before it is carried out: their numbers, and those of the
+-- messages among them that STORE may change.
 pub record NamedMessages : Type 0 where
   pub numbers : List ℕ
   pub taken : List ℕ
 
--- A command that names no messages finds nothing.
+-- No messages.
 abbrev pub no_messages_named : NamedMessages
 no_messages_named = record { numbers = []; taken = [] }
 
--- The messages of the view that a set names, which is all that FETCH, COPY, MOVE and UID EXPUNGE find.
+-- The messages of the view that a set names, for FETCH, COPY, MOVE and UID EXPUNGE.
 abbrev pub messages_named_by : Bool → List SequenceRange → List ViewEntry → NamedMessages
 messages_named_by by_uid set view = record { numbers = numbers_in_set by_uid set view; taken = [] }
 
--- It is what some set names in the view.
+-- These are the messages that some set names in the view.
 abbrev pub AreNamedBySome : List ViewEntry → NamedMessages → Type 0
 AreNamedBySome view found = (by_uid : Bool) × (set : List SequenceRange) × (found ≡ messages_named_by by_uid set view)
 
--- STORE finds those that it takes, too.
+-- The messages of the view that a STORE names, and those that it may change.
 abbrev pub messages_stored_by : OpenMailbox → StoreArgs → NamedMessages
 messages_stored_by mailbox asked =
     let numbers = numbers_in_set asked.by_uid asked.messages mailbox.view in

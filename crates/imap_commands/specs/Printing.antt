@@ -1,3 +1,6 @@
+-- Reports that can be printed, and the listings and views that give them (RFC 9051, section 9;
+-- RFC 7162, section 7).
+
 use Rattle.std.specs.Prelude.{◌≡◌, ◌<◌, List, length}
 use Rattle.imap_answers.specs.Printable.{AreFlags, Each, IsCode, IsFolded, IsModSeq, IsNonzero, IsPrintable, IsSection, IsSmall, IsWide, Where}
 use Rattle.imap_syntax.specs.declared.command.Command.{Command}
@@ -15,13 +18,14 @@ use Rattle.imap_commands.specs.Arguments.{CopyArgs, CopyTarget, OpenMailbox}
 use Rattle.imap_commands.specs.Copying.{copies_in, sources_of}
 use Rattle.imap_commands.specs.Report.{CommandReport}
 
--- What a command tells can be printed: its own answers, and the code of its tagged line.
+-- A report can be printed: its own answers, and the code of its tagged line.
 pub record IsPrintableTelling (told : CommandReport) : Type 0 where
   pub own : Each IsPrintable told.own
   pub code : Where IsCode told.code
 
--- A message that can be shown: its UID and mod-sequence are numbers from 1 on of 32 and 64 bits, its keywords are atoms in their one
--- spelling, its date is a date-time, and its octets can be counted (RFC 9051, section 9; RFC 7162, section 7).
+-- A message can be shown: its UID and mod-sequence are at least 1 and have 32 and 64 bits, its
+-- keywords are atoms in lower case, its date is a date-time, and its octets can be counted
+-- (RFC 9051, section 9; RFC 7162, section 7).
 pub record IsShowable (row : ListedMessage) : Type 0 where
   pub uid : IsNonzero row.uid
   pub modseq : IsModSeq row.modseq
@@ -29,24 +33,25 @@ pub record IsShowable (row : ListedMessage) : Type 0 where
   pub date : IsDateTime row.date
   pub text : IsWide (length row.text)
 
--- A listing that can be shown: each message can, and their UIDs ascend (RFC 9051, section 2.3.1.1).
+-- A listing can be shown: each of its messages can, and their UIDs ascend (RFC 9051,
+-- section 2.3.1.1).
 pub record AreShowable (rows : List ListedMessage) : Type 0 where
   pub each : Each IsShowable rows
   pub rising : AreRisingRows 1 rows
 
--- A view whose messages have ascending UIDs, from 1 on in 32 bits.
+-- The UIDs of a view's messages ascend, are at least 1 and have 32 bits.
 pub record IsNumbered (view : List ViewEntry) : Type 0 where
   pub small : Each (λ e. IsSmall e.uid) view
   pub rising : AreRising 1 view
 
--- The numbers of a mailbox are from 1 on in their bits.
+-- A mailbox's counters are at least 1: UIDNEXT and UIDVALIDITY of 32 bits, HIGHESTMODSEQ of 64.
 pub record AreNonzeroMarks (marks : MailboxCounters) : Type 0 where
   pub uidnext : IsNonzero marks.uidnext
   pub uidvalidity : IsNonzero marks.uidvalidity
   pub highest : IsModSeq marks.highest_modseq
 
--- What FETCH asks can be told: a section's names of fields are some, and can be counted; a partial begins at a number of 32 bits
--- (RFC 9051, section 9, fetch-att).
+-- An item of FETCH can be printed in an answer: a section names at least one field, and they can be
+-- counted; a partial begins at a number of 32 bits (RFC 9051, section 9, fetch-att).
 abbrev pub IsTellable : FetchItem → Type 0
 IsTellable Uid = Unit {0}
 IsTellable Flags = Unit {0}
@@ -55,17 +60,18 @@ IsTellable Size = Unit {0}
 IsTellable ModSeq = Unit {0}
 IsTellable (Body peek section partial) = IsSection section × Where (λ cut. IsSmall cut.start) partial
 
--- The items of a FETCH can be told, and are one at least.
+-- Each item of a FETCH can be printed in an answer, and there is at least one.
 pub record AreTellable (items : List FetchItem) : Type 0 where
   pub some : 0 < length items
   pub each : Each IsTellable items
 
--- As many messages have come into the destination as the command copies (RFC 9051, section 7.1, COPYUID).
+-- The destination got as many messages as the command copied (RFC 9051, section 7.1, COPYUID).
 abbrev pub AreAsMany : OpenMailbox → CopyArgs → CopyTarget → Type 0
 AreAsMany mailbox asked landing =
     length (sources_of mailbox.rows mailbox.view (numbers_in_set asked.by_uid asked.messages mailbox.view)) ≡ length (copies_in landing.uidnext landing.rows)
 
--- What a command asks can be told: its names have INBOX in capitals, and its items are some and can be told.
+-- A command's arguments can be printed in its answers: names have INBOX in capitals, and there is
+-- at least one item, each of which can be printed.
 abbrev pub IsAnswerable : Command → Type 0
 IsAnswerable (commands.Select name condstore) = IsFolded name
 IsAnswerable (commands.Examine name condstore) = IsFolded name

@@ -1,3 +1,5 @@
+-- SELECT and EXAMINE (RFC 9051, sections 6.3.2 and 6.3.3; RFC 7162, section 3.1.2.1).
+
 use Rattle.std.specs.Prelude.{◌≡◌, ◌↔◌, ℕ, Bool, true, false, List, [], ◌∷◌, ◌++◌, length, Option, Some, None, Result, Ok, Err, if◌then◌else◌}
 use Rattle.crdt_ops.specs.declared.kind.Kind.{Kind}
 use Rattle.imap_answers.specs.declared.answer.Answer.{Answer}
@@ -15,49 +17,52 @@ use Rattle.imap_types.specs.Keywords.{AreKeywords, to_lower_case}
 use Rattle.mailbox_rows.specs.ListedMessage.{ListedMessage}
 use Rattle.imap_commands.specs.Report.{CommandReport}
 
--- What SELECT and EXAMINE issue, which is nothing, where the mailbox is there (RFC 9051, sections 6.3.2 and 6.3.3).
+-- The intent of SELECT and EXAMINE, which issue nothing, if the mailbox exists (RFC 9051,
+-- sections 6.3.2 and 6.3.3).
 abbrev pub select_intent : Bool → Result (List Kind) Refusal
 select_intent is_there = if is_there then Ok [] else Err NoSuchMailbox
 
 -- ---- the keywords of a listing
 
--- Some message of the listing bears a keyword that has this spelling in lower case.
+-- A message of the listing has a keyword that is spelled so in lower case.
 abbrev pub BearsKeyword : List ListedMessage → List ℕ → Type 0
 BearsKeyword rows word =
     (row : ListedMessage) × IsIn row rows × ((keyword : List ℕ) × IsIn keyword row.flags.keywords × (to_lower_case keyword ≡ word))
 
--- The keywords of a listing: the set of those that its messages bear (RFC 9051, section 2.3.2).
+-- The keywords of a listing: the set of the keywords of its messages (RFC 9051, section 2.3.2).
 pub record AreListedKeywords (rows : List ListedMessage) (keywords : List (List ℕ)) : Type 0 where
   pub set : AreKeywords keywords
   pub exactly : (word : List ℕ) → IsIn word keywords ↔ BearsKeyword rows word
 
--- ---- what is told
+-- ---- the report
 
--- The flags that are in use in a mailbox whose messages bear these keywords: the system flags, and them (RFC 9051, section 7.3.5).
+-- The flags in use in a mailbox whose messages have these keywords: the system flags and the
+-- keywords (RFC 9051, section 7.3.5).
 abbrev pub flags_in_use : List (List ℕ) → Flags
 flags_in_use keywords = record { answered = true; flagged = true; deleted = true; seen = true; draft = true; keywords = keywords }
 
--- Those of them that the session can change for good: none in a mailbox that it only reads (RFC 9051, section 7.1, PERMANENTFLAGS).
+-- The flags in use that the session can change permanently: none in a read-only mailbox (RFC 9051,
+-- section 7.1, PERMANENTFLAGS).
 abbrev pub permanent_flags : Bool → Flags → Option Flags
 permanent_flags read_only flags = if read_only then None else Some flags
 
--- What is told of the mailbox that is selected, which has so many messages and uses these flags (RFC 9051, section 6.3.2; RFC 7162,
--- section 3.1.2.1).
+-- The answers about the selected mailbox, which has `count` messages and uses these flags
+-- (RFC 9051, section 6.3.2; RFC 7162, section 3.1.2.1).
 abbrev pub mailbox_answers : Bool → List ℕ → MailboxCounters → ℕ → Flags → List Answer
 mailbox_answers read_only name marks count flags =
     FlagsAnswer flags ∷ Exists count ∷ ListAnswer name There false
     ∷ Tell (UidValidity marks.uidvalidity) ∷ Tell (UidNext marks.uidnext)
     ∷ Tell (PermanentFlags (permanent_flags read_only flags)) ∷ Tell (HighestModSeq marks.highest_modseq) ∷ []
 
--- What is told of a mailbox that is left (RFC 9051, section 7.1, CLOSED).
+-- The answer when another mailbox was selected before (RFC 9051, section 7.1, CLOSED).
 abbrev pub closed_answers : Bool → List Answer
 closed_answers was_selected = if was_selected then Tell Closed ∷ [] else []
 
--- Whether the session may change the mailbox (RFC 9051, section 6.3.2).
+-- The code that says whether the session may change the mailbox (RFC 9051, section 6.3.2).
 abbrev pub access_code : Bool → Code
 access_code read_only = if read_only then ReadOnly else ReadWrite
 
--- What SELECT and EXAMINE tell, where the messages bear these keywords.
+-- The report of SELECT and EXAMINE for a mailbox whose messages have these keywords.
 abbrev pub select_report : Bool → Bool → List ℕ → MailboxCounters → List ListedMessage → List (List ℕ) → CommandReport
 select_report was_selected read_only name marks rows keywords = record {
   own = closed_answers was_selected ++ mailbox_answers read_only name marks (length rows) (flags_in_use keywords);
@@ -65,7 +70,8 @@ select_report was_selected read_only name marks rows keywords = record {
   code = Some (access_code read_only);
 }
 
--- What SELECT and EXAMINE tell, which is one telling, since the keywords of a listing are one set: EXAMINE selects read-only.
+-- The report of SELECT and of EXAMINE, which selects read-only. It is determined, since a listing
+-- has one set of keywords.
 pub record IsSelectReport (was_selected read_only : Bool) (name : List ℕ) (marks : MailboxCounters) (rows : List ListedMessage) (told : CommandReport) : Type 0 where
   pub keywords : List (List ℕ)
   pub borne : AreListedKeywords rows keywords

@@ -1,3 +1,5 @@
+-- STORE (RFC 9051, section 6.4.6; RFC 7162, section 3.1.3).
+
 use Rattle.std.specs.Prelude.{ℕ, nat_le, Bool, true, false, not, ◌&&◌, ◌||◌, is_some, List, [], ◌∷◌, flat_map, Option, Some, None, Result, Err, if◌then◌else◌}
 use Rattle.std.specs.List.{filter, list_all}
 use Rattle.crdt_ops.specs.declared.kind.Kind.{Kind}
@@ -23,33 +25,37 @@ use Rattle.imap_commands.specs.Limits.{within_limits}
 use Rattle.imap_commands.specs.MessageNames.{names_of}
 use Rattle.imap_commands.specs.Report.{CommandReport, entry_at, gone_code, message_at}
 
--- A keyword is none that a message may bear: it is too long, or has octets that no command spells.
+-- Whether a keyword is one that no message may bear: it is too long, or has octets that no command
+-- spells.
 abbrev pub has_unlawful_keyword : Flags → Bool
 has_unlawful_keyword flags = not (list_all is_lawful_keyword flags.keywords)
 
--- The message did not change since UNCHANGEDSINCE, where that stands (RFC 7162, section 3.1.3).
+-- Whether a message hasn't changed since the mod-sequence of UNCHANGEDSINCE, if one is given
+-- (RFC 7162, section 3.1.3).
 abbrev pub is_unchanged : Option ℕ → ListedMessage → Bool
 is_unchanged None row = true
 is_unchanged (Some modseq) row = nat_le row.modseq modseq
 
--- STORE takes a message: it is there and did not change since.
+-- Whether STORE may change a message: the listing has it, and it hasn't changed.
 abbrev pub is_taken : Option ℕ → Option ListedMessage → Bool
 is_taken since None = false
 is_taken since (Some row) = is_unchanged since row
 
--- STORE refuses a message: it is there and changed since.
+-- Whether STORE refuses a message: the listing has it, but it has changed.
 abbrev pub is_refused : Option ℕ → Option ListedMessage → Bool
 is_refused since None = false
 is_refused since (Some row) = not (is_unchanged since row)
 
--- The numbers of the messages that STORE takes, of the listing before it.
+-- The numbers of the messages that STORE may change, by the listing before it.
 abbrev pub taken_messages : List ListedMessage → List ViewEntry → Option ℕ → List ℕ → List ℕ
 taken_messages before view since numbers = filter (λ n. is_taken since (message_at before view n)) numbers
 
+-- The numbers of the messages that STORE refuses, by the listing before it.
 abbrev pub refused_messages : List ListedMessage → List ViewEntry → Option ℕ → List ℕ → List ℕ
 refused_messages before view since numbers = filter (λ n. is_refused since (message_at before view n)) numbers
 
--- The Store of a message, where its flags change: one version with the new flags in place of all that it has.
+-- The Store of a message, if its flags change: one version with the new flags in place of all its
+-- versions.
 abbrev pub store_of : List ℕ → StoreMode → Flags → Option ListedMessage → List Kind
 store_of folder mode given None = []
 store_of folder mode given (Some row) =
@@ -59,7 +65,8 @@ store_of folder mode given (Some row) =
 abbrev pub stores_of : OpenMailbox → StoreArgs → List ℕ → List Kind
 stores_of mailbox asked numbers = flat_map (λ n. store_of mailbox.name asked.action.mode asked.flags (message_at mailbox.rows mailbox.view n)) numbers
 
--- What STORE issues, or the first reason against it (RFC 9051, section 6.4.6; RFC 7162, section 3.1.3).
+-- The intent of STORE, or the first reason for refusing it (RFC 9051, section 6.4.6; RFC 7162,
+-- section 3.1.3).
 abbrev pub store_intent : OpenMailbox → StoreArgs → Result (List Kind) Refusal
 store_intent mailbox asked =
     if not (is_in_range asked.by_uid asked.messages mailbox.view) then Err NoSuchMessage
@@ -67,8 +74,8 @@ store_intent mailbox asked =
     else (if has_unlawful_keyword asked.flags then Err KeywordTooLong
     else within_limits (stores_of mailbox asked (taken_messages mailbox.rows mailbox.view asked.unchanged_since (numbers_in_set asked.by_uid asked.messages mailbox.view)))))
 
--- FETCH of a message as it is behind the command: its flags unless STORE is silent, its mod-sequence where UNCHANGEDSINCE or CONDSTORE asks
--- for it.
+-- The FETCH of a message as it is after the command: with its flags unless STORE is silent, and
+-- with its mod-sequence if UNCHANGEDSINCE is given or CONDSTORE is on.
 abbrev pub stored_answer : Bool → StoreArgs → ℕ → Option ListedMessage → List Answer
 stored_answer condstore asked n None = []
 stored_answer condstore asked n (Some row) =
@@ -81,28 +88,29 @@ stored_answer condstore asked n (Some row) =
       sections = [];
     }) ∷ []
 
--- What STORE tells of the messages that it takes; nothing where it is silent without UNCHANGEDSINCE.
+-- The answers of STORE for the messages that it may change; none if it is silent and has no
+-- UNCHANGEDSINCE.
 abbrev pub stored_answers : List ListedMessage → List ViewEntry → Bool → StoreArgs → List ℕ → List Answer
 stored_answers after view condstore asked taken =
     if asked.action.silent && not (is_some asked.unchanged_since) then []
     else flat_map (λ n. stored_answer condstore asked n (message_at after view n)) taken
 
--- The view's own flags of a message, changed as asked.
+-- The view's flags of a message, changed as STORE asks.
 abbrev pub silent_at : StoreMode → Flags → ℕ → Option ViewEntry → List SilentFlags
 silent_at mode given n None = []
 silent_at mode given n (Some e) = record { number = n; flags = changed_flags mode e.flags given } ∷ []
 
--- The flags that a session takes where STORE is silent.
+-- The flags that the session sets itself if STORE is silent.
 abbrev pub silents_of : List ViewEntry → StoreArgs → List ℕ → List SilentFlags
 silents_of view asked taken = if asked.action.silent then flat_map (λ n. silent_at asked.action.mode asked.flags n (entry_at view n)) taken else []
 
--- The code of a STORE: which messages it refused, and else the other code.
+-- The code of a STORE: MODIFIED with the refused messages, or the other code if there are none.
 abbrev pub modified_code : List ℕ → Option Code → Option Code
 modified_code [] code = code
 modified_code (n ∷ refused) code = Some (Modified (n ∷ refused))
 
--- What STORE tells, by the mailbox before it, the listing after it and whether CONDSTORE is on (RFC 9051, section 6.4.6; RFC 7162, section
--- 3.1.3).
+-- The report of STORE, from the mailbox before it, the listing after it and whether CONDSTORE is on
+-- (RFC 9051, section 6.4.6; RFC 7162, section 3.1.3).
 abbrev pub store_report : OpenMailbox → List ListedMessage → Bool → StoreArgs → CommandReport
 store_report mailbox after condstore asked =
     let numbers = numbers_in_set asked.by_uid asked.messages mailbox.view in

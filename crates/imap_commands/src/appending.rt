@@ -1,4 +1,4 @@
-//! APPEND.
+//! APPEND (RFC 9051, section 6.3.12).
 
 ghost use Rattle.std.specs.Prelude.{◌≡◌, ◌∷◌, [], IfOk};
 ghost use Rattle.std.specs.List.{list_all};
@@ -15,9 +15,10 @@ use imap_answers::{Code, Refusal};
 use imap_types::{DateTime, Flags, MAX_KEYWORDS, Name, Octets, Text, is_lawful_keyword};
 use std::alloc::{AllocError, Global};
 
-/// What APPEND issues, or why it is refused: `NoDestination` where the mailbox isn't there, else `KeywordTooLong` where no message
-/// may bear one of the keywords, else `TooManyKeywords` (RFC 9051, section 6.3.12). Without a date the message takes `stamp`, the
-/// date-time of the moment.
+/// The intent of APPEND (RFC 9051, section 6.3.12), or the first reason for refusing it:
+/// `NoDestination` if the mailbox doesn't exist, `KeywordTooLong` if no message may bear one of the
+/// keywords, `TooManyKeywords` if there are more than 32. A message without a date gets `stamp`,
+/// the current date-time. `NoMemory` may replace any result.
 pub fn append_intent(
     alloc: Global,
     is_there: bool,
@@ -51,6 +52,7 @@ fn are_lawful(keywords: &[Octets]) -> bool
     true
 }
 
+/// The date-time of the command, or `stamp` if it has none.
 fn given_date(date: &Option<DateTime>, stamp: &DateTime) -> DateTime
     ensures { result ≡ given_date date.now stamp.now }
 {
@@ -83,7 +85,8 @@ fn append(
     )
 }
 
-/// What APPEND tells: the UID that the message took, under this UIDVALIDITY (RFC 9051, section 7.1, APPENDUID).
+/// The report of APPEND: the code APPENDUID with the mailbox's UIDVALIDITY and the message's UID
+/// (RFC 9051, section 7.1).
 pub fn append_report(alloc: Global, uidvalidity: u32, uid: u32) -> CommandReport
     ensures { result ≡ append_report uidvalidity uid }
 {

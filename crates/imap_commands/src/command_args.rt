@@ -1,4 +1,4 @@
-//! What a command finds, and what it asks, each as one value.
+//! The mailbox that a command works on, and each command's arguments.
 
 ghost use Rattle.std.specs.Prelude.{◌≡◌};
 ghost use Rattle.std.specs.Option.{option_map};
@@ -12,16 +12,16 @@ use mailbox_rows::{Row, Rows};
 use session_view::View;
 use std::marker::Model;
 
-/// The mailbox that a session has selected, as a command finds it.
+/// The mailbox that a session has selected, before a command is carried out.
 #[derive(Drop)]
 pub struct OpenMailbox<'a> {
     /// Its name.
     pub name: &'a Name,
-    /// Its messages.
+    /// Its listing.
     pub rows: Rows<'a>,
-    /// Those that the session sees.
+    /// The messages that the session was shown.
     pub view: &'a View,
-    /// Whether the session only reads it.
+    /// Whether the session selected it read-only.
     pub read_only: bool,
 }
 
@@ -34,7 +34,8 @@ impl<'a> Model for OpenMailbox<'a> {
 }
 
 impl<'a> OpenMailbox<'a> {
-    /// What it has for the view's message with this number; `None` where it is gone. A binary search.
+    /// The listing's row for the view's message with this number, from 1; `None` if it is gone or
+    /// the view has no such number. A binary search.
     pub fn message_at(&self, number: u32) -> Option<Row<'_>>
         ensures { option_map listed_message result ≡ message_at self.now.rows self.now.view number }
     {
@@ -42,14 +43,14 @@ impl<'a> OpenMailbox<'a> {
     }
 }
 
-/// Where copies come to.
+/// The destination of a COPY or MOVE.
 #[derive(Drop)]
 pub struct CopyTarget<'a> {
     /// The destination's UIDVALIDITY.
     pub uidvalidity: u32,
     /// Its UIDNEXT before the command.
     pub uidnext: u32,
-    /// Its messages behind the command.
+    /// Its listing after the command.
     pub rows: Rows<'a>,
 }
 
@@ -61,16 +62,16 @@ impl<'a> Model for CopyTarget<'a> {
     ghost view = { λ l. record { uidvalidity = l.uidvalidity; uidnext = l.uidnext; rows = l.rows } };
 }
 
-/// What APPEND asks (RFC 9051, section 6.3.12).
+/// The arguments of APPEND (RFC 9051, section 6.3.12).
 #[derive(Drop)]
 pub struct AppendArgs<'a> {
     /// The mailbox.
     pub name: &'a Name,
-    /// The flags that the message takes.
+    /// The message's flags.
     pub flags: &'a Flags,
-    /// The date-time that it takes, if one is given.
+    /// The message's date-time, if one is given.
     pub date: &'a Option<DateTime>,
-    /// The message.
+    /// The message's text.
     pub text: &'a Text,
 }
 
@@ -82,18 +83,18 @@ impl<'a> Model for AppendArgs<'a> {
     ghost view = { λ a. record { name = a.name.now; flags = a.flags.now; date = a.date.now; text = a.text.now } };
 }
 
-/// What STORE asks (RFC 9051, section 6.4.6; RFC 7162, section 3.1.3).
+/// The arguments of STORE (RFC 9051, section 6.4.6; RFC 7162, section 3.1.3).
 #[derive(Drop)]
 pub struct StoreArgs<'a> {
-    /// Whether messages are named by UIDs, and told so.
+    /// Whether messages are named by UIDs, which the answers then include.
     pub by_uid: bool,
     /// The messages.
     pub messages: &'a SequenceSet,
-    /// Only those that did not change since this mod-sequence.
+    /// UNCHANGEDSINCE: only messages that haven't changed since this mod-sequence are stored.
     pub unchanged_since: Option<u64>,
-    /// What becomes of their flags, and whether these are told.
+    /// How their flags change, and whether the answers are silent about that.
     pub action: StoreAction,
-    /// The flags that are given.
+    /// The flags to set, add or remove.
     pub flags: &'a Flags,
 }
 
@@ -105,16 +106,16 @@ impl<'a> Model for StoreArgs<'a> {
     ghost view = { λ a. record { by_uid = a.by_uid; messages = a.messages.now; unchanged_since = a.unchanged_since; action = a.action; flags = a.flags.now } };
 }
 
-/// What FETCH asks (RFC 9051, section 6.4.5; RFC 7162, section 3.1.4).
+/// The arguments of FETCH (RFC 9051, section 6.4.5; RFC 7162, section 3.1.4).
 #[derive(Drop)]
 pub struct FetchArgs<'a> {
-    /// Whether messages are named by UIDs, and told so.
+    /// Whether messages are named by UIDs, which the answers then include.
     pub by_uid: bool,
     /// The messages.
     pub messages: &'a SequenceSet,
-    /// What is told of each.
+    /// The items to fetch of each message.
     pub items: &'a [FetchItem],
-    /// Only those that changed since this mod-sequence.
+    /// CHANGEDSINCE: only messages that have changed since this mod-sequence are fetched.
     pub changed_since: Option<u64>,
 }
 
@@ -126,14 +127,14 @@ impl<'a> Model for FetchArgs<'a> {
     ghost view = { λ a. record { by_uid = a.by_uid; messages = a.messages.now; items = a.items.now; changed_since = a.changed_since } };
 }
 
-/// What COPY and MOVE ask (RFC 9051, sections 6.4.7 and 6.4.8).
+/// The arguments of COPY and MOVE (RFC 9051, sections 6.4.7 and 6.4.8).
 #[derive(Drop)]
 pub struct CopyArgs<'a> {
     /// Whether messages are named by UIDs.
     pub by_uid: bool,
     /// The messages.
     pub messages: &'a SequenceSet,
-    /// The mailbox that their copies come to.
+    /// The destination mailbox.
     pub destination: &'a Name,
 }
 
@@ -145,14 +146,14 @@ impl<'a> Model for CopyArgs<'a> {
     ghost view = { λ a. record { by_uid = a.by_uid; messages = a.messages.now; destination = a.destination.now } };
 }
 
-/// What SEARCH asks (RFC 9051, section 6.4.4).
+/// The arguments of SEARCH (RFC 9051, section 6.4.4).
 #[derive(Drop)]
 pub struct SearchArgs<'a> {
-    /// Whether messages are told by UIDs.
+    /// Whether the results are UIDs, and not message numbers.
     pub by_uid: bool,
-    /// What is told of those found.
+    /// The return options.
     pub options: &'a [SearchOption],
-    /// The key, in steps.
+    /// The steps of the key.
     pub steps: &'a SearchSteps,
 }
 

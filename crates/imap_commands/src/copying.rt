@@ -23,19 +23,21 @@ use imap_types::{Name, NumberSet};
 use mailbox_rows::Rows;
 use std::alloc::{AllocError, Global};
 
-/// What a command copied.
+/// The outcome of a COPY or MOVE.
 #[derive(Drop)]
 struct Copied {
-    /// The UIDs of the messages.
+    /// The UIDs of the messages that were copied.
     source: NumberSet,
     /// The UIDs of their copies, in the same order.
     copies: NumberSet,
-    /// That some messages are gone, if some are.
+    /// The code EXPUNGEISSUED, if some of the named messages are gone.
     gone: Option<Code>,
 }
 
-/// What COPY issues in the destination, and the messages that it found for that, or the first reason against it: `NoSuchMessage`,
-/// `NoDestination`, `TooManyKeywords` (more than 32 on a message). `NoMemory` may come in place of any answer. The copies share the texts.
+/// The intent of COPY (RFC 9051, section 6.4.7): it appends the named messages to the destination,
+/// and the copies share their texts. Otherwise the first reason for refusing it: `NoSuchMessage`,
+/// `NoDestination` (`is_there` says that the destination doesn't exist), `TooManyKeywords` (more
+/// than 32 on a message). `NoMemory` may replace any result.
 pub fn copy_intent(
     alloc: Global,
     mailbox: &OpenMailbox<'_>,
@@ -54,8 +56,11 @@ pub fn copy_intent(
     intent_within_limits(kinds, NamedMessages::new(numbers, Vec::new(alloc)))
 }
 
-/// What MOVE issues, and the messages that it found for that, or the first reason against it: `NoSuchMessage`, `ReadOnly`, `NoDestination`, `TooManyKeywords` (more than 32 on a
-/// message), `TooManyVersions` (more than 64 of one). `NoMemory` may come in place of any answer. It issues all copies in the destination first, then what takes the messages out of the folder. The copies share the texts.
+/// The intent of MOVE (RFC 9051, section 6.4.8): it first appends the named messages to the
+/// destination, all of them, and then expunges them from the folder; the copies share their texts.
+/// Otherwise the first reason for refusing it: `NoSuchMessage`, `ReadOnly`, `NoDestination`
+/// (`is_there` says that the destination doesn't exist), `TooManyKeywords` (more than 32 on a
+/// message), `TooManyVersions` (more than 64 of one). `NoMemory` may replace any result.
 pub fn move_intent(
     alloc: Global,
     mailbox: &OpenMailbox<'_>,
@@ -78,7 +83,7 @@ pub fn move_intent(
     intent_within_limits(kinds, NamedMessages::new(numbers, Vec::new(alloc)))
 }
 
-/// Adds the Appends of the messages with these numbers.
+/// Adds the Appends of those of the messages with these numbers that the listing has.
 fn push_appends(
     alloc: Global,
     destination: &Name,
@@ -118,7 +123,7 @@ fn push_append(
     Ok(())
 }
 
-/// Adds the Expunges of the messages with these numbers.
+/// Adds the Expunges of those of the messages with these numbers that the listing has.
 fn push_removals(
     alloc: Global,
     mailbox: &OpenMailbox<'_>,
@@ -151,8 +156,9 @@ fn push_removal(
     Ok(())
 }
 
-/// What COPY tells, by the mailbox before it and what it found there: where the copies are, and else whether some messages are gone. `Err`
-/// where there is no memory.
+/// The report of COPY, from the mailbox before it and the messages that it names: COPYUID, or if
+/// nothing was copied, EXPUNGEISSUED if some messages are gone (RFC 9051, section 7.1). `Err` if
+/// memory runs out.
 pub fn copy_report(
     alloc: Global,
     mailbox: &OpenMailbox<'_>,
@@ -171,7 +177,9 @@ pub fn copy_report(
     Ok(CommandReport::new(Vec::new(alloc), Vec::new(alloc), code))
 }
 
-/// What MOVE tells, by the same: where the copies are, and by the code whether some messages are gone. `Err` where there is no memory.
+/// The report of MOVE, from the mailbox before it and the messages that it names: COPYUID as an
+/// answer of its own, and the code EXPUNGEISSUED if some messages are gone (RFC 9051,
+/// sections 6.4.8 and 7.1). `Err` if memory runs out.
 pub fn move_report(
     alloc: Global,
     mailbox: &OpenMailbox<'_>,
@@ -190,7 +198,8 @@ pub fn move_report(
     Ok(CommandReport::new(own, Vec::new(alloc), gone))
 }
 
-/// What was copied, by UIDs, and whether some messages are gone.
+/// The UIDs of the messages that were copied and of their copies, and the code for messages that
+/// are gone.
 fn outcome_of(
     alloc: Global,
     mailbox: &OpenMailbox<'_>,
@@ -213,7 +222,7 @@ fn outcome_of(
     })
 }
 
-/// The UIDs of the messages that came with the command.
+/// The UIDs of the messages that the command added to the destination.
 fn copies_in(alloc: Global, uidnext: u32, landed: &Rows<'_>) -> Result<NumberSet, AllocError>
     ensures { IfOk result (λ copies. copies ≡ copies_in uidnext landed.now) }
 {
@@ -221,7 +230,7 @@ fn copies_in(alloc: Global, uidnext: u32, landed: &Rows<'_>) -> Result<NumberSet
     set_of(alloc, &uids)
 }
 
-/// The code of a COPY.
+/// The code of a COPY: COPYUID, or the other code if nothing was copied.
 fn copied_code(
     uidvalidity: u32,
     source: NumberSet,
@@ -240,7 +249,7 @@ fn copied_code(
     })
 }
 
-/// What MOVE tells of itself.
+/// The answers of a MOVE: COPYUID, unless nothing was copied.
 fn moved_answers(
     alloc: Global,
     uidvalidity: u32,
@@ -263,7 +272,7 @@ fn moved_answers(
     Ok(own)
 }
 
-/// The UIDs above this one.
+/// The listing's UIDs above this one.
 fn uids_beyond(alloc: Global, uid: u32, rows: &Rows<'_>) -> Result<Vec<u32>, AllocError>
     ensures uids { IfOk result (λ uids. uids.items ≡ map (λ row. row.uid) (rows_after_uid uid rows.now)) }
     ensures rising { IfOk result (λ uids. AreRisingFrom 1 uids.items) }

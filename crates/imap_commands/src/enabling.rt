@@ -1,4 +1,5 @@
-//! ENABLE, and what else turns mod-sequences on.
+//! ENABLE (RFC 9051, section 6.3.1), and the other commands that turn mod-sequences on (RFC 7162,
+//! section 3.1).
 
 ghost use Rattle.std.specs.Prelude.{◌≡◌, IfOk, false};
 ghost use Rattle.std.specs.List.{filter, list_any};
@@ -12,8 +13,8 @@ use imap_syntax::{FetchItem, SearchStep, SearchTest, StatusItem};
 use imap_types::Octets;
 use std::alloc::{AllocError, Global};
 
-/// What ENABLE tells: which of CONDSTORE and IMAP4rev2 were asked, in the order in which they were asked first, in any case
-/// (RFC 9051, section 6.3.1). `Err` where there is no memory for it.
+/// The report of ENABLE: which of CONDSTORE and IMAP4rev2 were requested, in any case, in the order
+/// of their first requests (RFC 9051, section 6.3.1). `Err` if memory runs out.
 pub fn enable_report(alloc: Global, names: &[Octets]) -> Result<CommandReport, AllocError>
     ensures { IfOk result (λ told. told ≡ enable_report names.now) }
 {
@@ -66,7 +67,7 @@ fn asks_imap4rev2(names: &[Octets]) -> bool
     false
 }
 
-/// Whether CONDSTORE stands in front of IMAP4rev2.
+/// Whether CONDSTORE comes before IMAP4rev2 among the names.
 fn asks_condstore_first(names: &[Octets]) -> bool
     ensures { result ≡ asks_condstore_first names.now }
 {
@@ -105,7 +106,7 @@ pub fn status_asks_modseq(items: &[StatusItem]) -> bool
     false
 }
 
-/// Whether FETCH asks for mod-sequences, or by CHANGEDSINCE (RFC 7162, section 3.1).
+/// Whether FETCH asks for MODSEQ or has CHANGEDSINCE (RFC 7162, section 3.1).
 pub fn fetch_asks_modseq(items: &[FetchItem], changed_since: Option<u64>) -> bool
     ensures { result ≡ fetch_asks_modseq items.now changed_since }
 {
@@ -132,7 +133,7 @@ fn is_modseq_item(item: &FetchItem) -> bool
     }
 }
 
-/// Whether SEARCH has a key MODSEQ, wherever it stands (RFC 7162, section 3.1).
+/// Whether the key of a SEARCH has a MODSEQ test anywhere (RFC 7162, section 3.1).
 pub fn search_asks_modseq(steps: &[SearchStep]) -> bool
     ensures { result ≡ search_asks_modseq steps.now }
 {

@@ -20,9 +20,10 @@ use imap_types::{Name, SequenceSet};
 use mailbox_rows::{Row, Rows};
 use std::alloc::{AllocError, Global};
 
-/// What EXPUNGE issues in the mailbox, or the first reason against it: `ReadOnly`, `TooManyVersions` (more than 64 of a message that it
-/// takes out). `NoMemory` may come in place of any answer. It takes out the messages of the listing that are marked as deleted, those among
-/// them that the session wasn't told of yet. It looks at each message once.
+/// The intent of EXPUNGE (RFC 9051, section 6.4.3): it removes all listed messages with `\Deleted`,
+/// also those that the session hasn't been shown yet. Otherwise the first reason for refusing it:
+/// `ReadOnly`, `TooManyVersions` (more than 64 of a message that it removes). `NoMemory` may
+/// replace any result. Each message is read once.
 pub fn expunge_intent(alloc: Global, mailbox: &OpenMailbox<'_>) -> Result<Vec<Kind>, Refusal>
     ensures { GivesOrLacksMemory (λ kinds. kinds.items) result (expunge_intent mailbox.now) }
 {
@@ -32,7 +33,8 @@ pub fn expunge_intent(alloc: Global, mailbox: &OpenMailbox<'_>) -> Result<Vec<Ki
     within_limits(expunges_of(alloc, mailbox.name, &mailbox.rows)?)
 }
 
-/// What CLOSE issues, or why not (`TooManyVersions`, `NoMemory`): what EXPUNGE does, and nothing in a mailbox that is only read.
+/// The intent of CLOSE (RFC 9051, section 6.4.1): that of EXPUNGE, with `TooManyVersions` and
+/// `NoMemory`; but in a read-only mailbox it issues nothing and isn't refused.
 pub fn close_intent(alloc: Global, mailbox: &OpenMailbox<'_>) -> Result<Vec<Kind>, Refusal>
     ensures { GivesOrLacksMemory (λ kinds. kinds.items) result (close_intent mailbox.now) }
 {
@@ -42,7 +44,7 @@ pub fn close_intent(alloc: Global, mailbox: &OpenMailbox<'_>) -> Result<Vec<Kind
     within_limits(expunges_of(alloc, mailbox.name, &mailbox.rows)?)
 }
 
-/// The Expunges of all messages that are marked as deleted.
+/// The Expunges of all messages with `\Deleted`.
 fn expunges_of(alloc: Global, folder: &Name, before: &Rows<'_>) -> Result<Vec<Kind>, AllocError>
     ensures { IfOk result (λ kinds. kinds.items ≡ expunges_of folder.now before.now) }
 {
@@ -53,7 +55,7 @@ fn expunges_of(alloc: Global, folder: &Name, before: &Rows<'_>) -> Result<Vec<Ki
     Ok(kinds)
 }
 
-/// Adds the Expunge of the message at this place of the listing, where it is marked as deleted.
+/// Adds the Expunge of the message at this place of the listing, if it has `\Deleted`.
 fn push_expunge_at(
     alloc: Global,
     folder: &Name,
@@ -69,7 +71,7 @@ fn push_expunge_at(
     }
 }
 
-/// Adds the Expunge of a message, where it is marked as deleted.
+/// Adds the Expunge of a message, if it has `\Deleted`.
 fn push_expunge(
     alloc: Global,
     folder: &Name,
@@ -88,9 +90,10 @@ fn push_expunge(
     Ok(())
 }
 
-/// What UID EXPUNGE issues, and the messages that it found for that, or the first reason against it: `ReadOnly`, `TooManyVersions` (more than 64 of a message that it takes out).
-/// `NoMemory` may come in place of any answer. It takes out those of the view's messages that the set names by UIDs and that are marked as
-/// deleted.
+/// The intent of UID EXPUNGE (RFC 9051, section 6.4.9): it removes the view's messages that the set
+/// names by UIDs and that have `\Deleted`. Otherwise the first reason for refusing it: `ReadOnly`,
+/// `TooManyVersions` (more than 64 of a message that it removes). `NoMemory` may replace any
+/// result.
 pub fn uid_expunge_intent(
     alloc: Global,
     mailbox: &OpenMailbox<'_>,
@@ -107,7 +110,7 @@ pub fn uid_expunge_intent(
     intent_within_limits(kinds, NamedMessages::new(numbers, Vec::new(alloc)))
 }
 
-/// The Expunges of those messages that are marked as deleted.
+/// The Expunges of those of the messages with these numbers that have `\Deleted`.
 fn expunges_at(
     alloc: Global,
     mailbox: &OpenMailbox<'_>,
@@ -124,7 +127,8 @@ fn expunges_at(
     Ok(kinds)
 }
 
-/// What UID EXPUNGE tells, by the mailbox before it and what it found there: that it names messages that are gone, if it does.
+/// The report of UID EXPUNGE, from the mailbox before it and the messages that it names:
+/// EXPUNGEISSUED if some of them are gone.
 pub fn uid_expunge_report(
     alloc: Global,
     mailbox: &OpenMailbox<'_>,

@@ -26,9 +26,10 @@ use mailbox_rows::Rows;
 use session_view::ViewEntries;
 use std::alloc::{AllocError, Global};
 
-/// What FETCH issues in the mailbox, and the messages that it found for that, or the first reason against it: `NoSuchMessage`,
-/// `TooManyKeywords` (more than 32 on a message that it marks), `TooManyVersions` (more than 64 of such a message). `NoMemory` may come in
-/// place of any answer. It issues Stores of `\Seen`, where it reads a section without PEEK.
+/// The intent of FETCH (RFC 9051, section 6.4.5): it stores `\Seen` on the messages of which it
+/// reads a section without PEEK. Otherwise the first reason for refusing it: `NoSuchMessage`,
+/// `TooManyKeywords` (more than 32 on a message that gets `\Seen`), `TooManyVersions` (more than 64
+/// of such a message). `NoMemory` may replace any result.
 pub fn fetch_intent(
     alloc: Global,
     mailbox: &OpenMailbox<'_>,
@@ -42,7 +43,7 @@ pub fn fetch_intent(
     intent_within_limits(kinds, NamedMessages::new(numbers, Vec::new(alloc)))
 }
 
-/// How FETCH asks, with CONDSTORE on or not.
+/// The mode of a FETCH, with CONDSTORE on or off.
 fn mode_of(mailbox: &OpenMailbox<'_>, condstore: bool, asked: &FetchArgs<'_>) -> FetchMode
     ensures { result ≡ mode_of mailbox.now condstore asked.now }
 {
@@ -54,7 +55,7 @@ fn mode_of(mailbox: &OpenMailbox<'_>, condstore: bool, asked: &FetchArgs<'_>) ->
     }
 }
 
-/// The Stores of `\Seen` of the messages with these numbers.
+/// The Stores of `\Seen` for the messages with these numbers.
 fn seen_stores(
     alloc: Global,
     mailbox: &OpenMailbox<'_>,
@@ -73,7 +74,7 @@ fn seen_stores(
     Ok(kinds)
 }
 
-/// Adds the Store of `\Seen` of a message, if it is one.
+/// Adds the Store of `\Seen` for a message, if the listing has it and FETCH sets the flag on it.
 fn push_seen(
     alloc: Global,
     mailbox: &OpenMailbox<'_>,
@@ -101,7 +102,7 @@ fn push_seen(
     Ok(())
 }
 
-/// The flags of a message's versions together, with `\Seen`.
+/// The union of a message's flags, with `\Seen`.
 fn seen_flags(alloc: Global, versions: &Versions<'_>) -> Result<Flags, AllocError>
     ensures { IfOk result (λ seen. seen ≡ seen_flags (united_flags versions.now.list.now)) }
 {
@@ -110,9 +111,11 @@ fn seen_flags(alloc: Global, versions: &Versions<'_>) -> Result<Flags, AllocErro
     Ok(seen)
 }
 
-/// What FETCH tells, by the mailbox before it, what it found there, the listing after it (where none is given, as of a command that issues nothing, the one before it)
-/// and whether CONDSTORE is on: what `imap_query::fetch` says of the messages named, and whether some are gone. `Err` where there is no memory. It costs what `fetch` of
-/// `imap_query` does, or `fetch_unchanged` where no listing is given, and where some have no answer, a look at each for the code.
+/// The report of FETCH: the answers of `imap_query::fetch` for the named messages, and
+/// EXPUNGEISSUED if some of them are gone. `after` is the listing after the command; `None`, for a
+/// FETCH that issues nothing, means the one before it. `Err` if memory runs out. It costs what
+/// `imap_query::fetch` costs, or `fetch_unchanged` if `after` is `None`, and if a message has no
+/// answer, one look-up of each for the code.
 pub fn fetch_report(
     alloc: Global,
     mailbox: &OpenMailbox<'_>,
@@ -134,7 +137,7 @@ pub fn fetch_report(
     Ok(CommandReport::new(own, Vec::new(alloc), code))
 }
 
-/// The code beside these answers: where each of the messages has one, none is gone.
+/// The code for messages that are gone: none if there is an answer for each message.
 fn code_for_answers(
     told: &[Answer],
     rows: &Rows<'_>,
@@ -150,7 +153,8 @@ fn code_for_answers(
     gone_code(rows, view, numbers)
 }
 
-/// What FETCH answers, by the listing before it and the one after it, which is the same where none is given.
+/// The answers of FETCH, from the listing before it and the one after it; `None` means an unchanged
+/// listing.
 fn fetch_answers_of(
     alloc: Global,
     shown: &[ViewedMessage],
@@ -167,7 +171,7 @@ fn fetch_answers_of(
     }
 }
 
-/// The messages with these numbers, as queries see them.
+/// The view's messages with these numbers, as `imap_query` takes them.
 fn shown_of(
     alloc: Global,
     view: &ViewEntries,

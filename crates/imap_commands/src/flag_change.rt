@@ -8,8 +8,8 @@ use imap_syntax::StoreMode;
 use imap_types::{Flags, Keywords, Octets, add_flags};
 use std::alloc::{AllocError, Global};
 
-/// What STORE makes of a message's flags, from those and the ones that are given. `Err` where there is no memory for them. Keywords are
-/// put in one by one, each in time of how many there are.
+/// A message's flags after STORE, from its old flags and those given. `Err` if memory runs out.
+/// Keywords are added one by one, each in time linear in their number.
 #[tactic(auto, unfolding(crate::specs::FlagChange::changed_flags))]
 pub fn changed_flags(
     alloc: Global,
@@ -26,7 +26,7 @@ pub fn changed_flags(
     }
 }
 
-/// Flags with those that are given.
+/// The old flags with the given ones.
 fn with_flags_added(alloc: Global, old: &Flags, given: &Flags) -> Result<Flags, AllocError>
     ensures { IfOk result (λ flags. flags ≡ with_flags old.now given.now) }
 {
@@ -35,7 +35,7 @@ fn with_flags_added(alloc: Global, old: &Flags, given: &Flags) -> Result<Flags, 
     Ok(flags)
 }
 
-/// Flags without those that are given.
+/// The old flags without the given ones.
 fn with_flags_removed(alloc: Global, old: &Flags, given: &Flags) -> Result<Flags, AllocError>
     ensures { IfOk result (λ flags. flags ≡ removed_flags old.now given.now) }
 {
@@ -49,7 +49,7 @@ fn with_flags_removed(alloc: Global, old: &Flags, given: &Flags) -> Result<Flags
     })
 }
 
-/// The keywords without those that are given.
+/// These keywords without the given ones.
 fn remaining(alloc: Global, given: &Keywords, keywords: &Keywords) -> Result<Keywords, AllocError>
     ensures { IfOk result (λ left. left ≡ remaining given.now keywords.now) }
 {
@@ -59,7 +59,7 @@ fn remaining(alloc: Global, given: &Keywords, keywords: &Keywords) -> Result<Key
     }
 }
 
-/// Those of these keywords that aren't given.
+/// Those of these keywords that aren't among the given ones.
 fn left_of(alloc: Global, given: &Keywords, keywords: &[Octets]) -> Result<Vec<Octets>, AllocError>
     ensures { IfOk result (λ left. left.items ≡ remaining given.now keywords.now) }
 {

@@ -1,4 +1,4 @@
-//! What a command finds before it is carried out, kept for what it tells.
+//! A command's intent: the operations that it issues and the messages that it names.
 
 ghost use Rattle.std.specs.Prelude.{◌≡◌};
 ghost use Rattle.imap_commands.specs.NamedMessages.{no_messages_named};
@@ -7,15 +7,16 @@ use crdt_ops::Kind;
 use std::alloc::Global;
 use std::marker::Model;
 
-/// What a command finds in its mailbox before it is carried out, looked for once: what it issues and what it tells both stand on it.
+/// The messages that a command names, looked up once before it is carried out: the operations that
+/// it issues and its report are both computed from them.
 pub struct NamedMessages {
-    /// The numbers of the messages that it names, ascending.
+    /// The message numbers, ascending.
     numbers: Vec<u32>,
-    /// Those among them that STORE takes.
+    /// The numbers of those that STORE changes.
     taken: Vec<u32>,
 }
 
-// By hand, so that what has it lets it go as a whole.
+// By hand, so that crates above drop it whole.
 impl Drop for NamedMessages {
     fn drop(self) {
         let Self {
@@ -34,14 +35,14 @@ impl Model for NamedMessages {
 }
 
 impl NamedMessages {
-    /// The messages with these numbers, and those that STORE takes, whose memory it takes over.
+    /// Takes over the numbers of the named messages, and of those that STORE changes.
     pub fn new(numbers: Vec<u32>, taken: Vec<u32>) -> NamedMessages
         ensures { result ≡ record { numbers = numbers.items; taken = taken.items } }
     {
         NamedMessages { numbers, taken }
     }
 
-    /// Nothing, which takes no memory.
+    /// No messages; takes no memory.
     pub fn none(alloc: Global) -> NamedMessages
         ensures { result ≡ no_messages_named }
     {
@@ -55,7 +56,7 @@ impl NamedMessages {
         &self.numbers
     }
 
-    /// The numbers of those that STORE takes.
+    /// The numbers of those that STORE changes.
     pub fn stored(&self) -> &[u32]
         ensures { result.now ≡ self.now.taken }
     {
@@ -63,11 +64,11 @@ impl NamedMessages {
     }
 }
 
-/// What a command issues, and what it found for that.
+/// The operations that a command issues, and the messages that it names.
 #[derive(Drop)]
 pub struct Intent {
-    /// The operations that it issues.
+    /// The kinds of the operations.
     pub kinds: Vec<Kind>,
-    /// What it found.
+    /// The messages that the command names.
     pub found: NamedMessages,
 }

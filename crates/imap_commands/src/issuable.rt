@@ -1,4 +1,5 @@
-//! What operations commands issue, as laws: of listed messages alone, naming all their versions, with flags that an operation may carry.
+//! The operations that commands issue: laws. They change only listed messages, name all versions of
+//! each, and have flags that an operation may carry.
 
 ghost use Rattle.std.specs.Prelude.{◌≡◌, ℕ, Bool, List, Ok};
 ghost use Rattle.crdt_ops.specs.declared.kind.Kind.{Kind};
@@ -15,7 +16,8 @@ pub fn stores_are_issuable()
     ensures { (mailbox : OpenMailbox) (destination : List ℕ) (asked : StoreArgs) (kinds : List Kind) → HaveLawfulKeywords mailbox.rows → store_intent mailbox asked ≡ Ok kinds → AreIssuable mailbox.name destination mailbox.rows kinds }
 {}
 
-/// EXPUNGE and UID EXPUNGE issue Expunges of listed messages; CLOSE issues what EXPUNGE does, or nothing.
+/// EXPUNGE and UID EXPUNGE issue Expunges of listed messages; CLOSE issues what EXPUNGE does, or
+/// nothing.
 pub fn expunges_are_issuable()
     ensures all { (mailbox : OpenMailbox) (destination : List ℕ) (kinds : List Kind) → expunge_intent mailbox ≡ Ok kinds → AreIssuable mailbox.name destination mailbox.rows kinds }
     ensures close { (mailbox : OpenMailbox) (destination : List ℕ) (kinds : List Kind) → close_intent mailbox ≡ Ok kinds → AreIssuable mailbox.name destination mailbox.rows kinds }

@@ -1,4 +1,4 @@
-//! What the definitions of commands mean.
+//! Laws that say what the definitions of commands mean.
 
 ghost use Rattle.std.specs.Prelude.{◌≡◌, ◌↔◌, ℕ, List, IsTrue};
 ghost use Rattle.imap_commands.specs.Enabling.{search_asks_modseq};
@@ -11,23 +11,24 @@ ghost use Rattle.imap_types.specs.Names.{IsLawfulName};
 ghost use Rattle.mailbox_rows.specs.ListedMessage.{ListedMessage};
 ghost use Rattle.session_view.specs.declared.view_entry.ViewEntry.{ViewEntry};
 
-/// The test of a name says whether a mailbox may bear it.
+/// The test of a name decides whether a mailbox may bear it (RFC 9051, section 5.1).
 pub fn lawful_name_is()
     ensures { (name : List ℕ) → IsTrue (is_lawful_name name) ↔ IsLawfulName name }
 {}
 
-/// The keywords that the messages of a listing bear are a set: there always is one.
+/// Each listing has a set of the keywords that its messages bear.
 pub fn listed_keywords_are_borne()
     ensures { (rows : List ListedMessage) → (keywords : List (List ℕ)) × AreListedKeywords rows keywords }
 {}
 
-/// They are one set: two sets of the keywords that messages bear are equal.
+/// A listing has one such set: two sets of the keywords that its messages bear are equal.
 pub fn one_set_of_keywords()
     ensures { (rows : List ListedMessage) (these those : List (List ℕ)) → AreListedKeywords rows these → AreListedKeywords rows those → these ≡ those }
 {}
 
-/// What SEARCH wants by the steps of a key is what the key wants: whether it asks for mod-sequences (RFC 7162, section 3.1.5), and whether it
-/// is refused for a number that no message has (RFC 9051, section 6.4.4).
+/// The steps of a SEARCH say the same as its key: whether it has a MODSEQ test (RFC 7162,
+/// section 3.1.5), and whether it is refused for a number that no message has (RFC 9051,
+/// section 6.4.4).
 pub fn searches_are_by_keys()
     ensures modseq { (key : Key) → search_asks_modseq (steps_of key) ≡ asks_modseq key }
     ensures wants { (view : List ViewEntry) (key : Key) → search_intent view (steps_of key) ≡ search_intent_by_key view key }

@@ -1,4 +1,4 @@
-//! How much one operation may carry.
+//! Limits of one operation: keywords and versions of a message.
 
 ghost use Rattle.std.specs.Prelude.{◌≡◌, IfOk};
 ghost use Rattle.std.specs.List.{list_any};
@@ -10,8 +10,8 @@ use crdt_ops::{Kind, MAX_OLD_IDS};
 use imap_answers::Refusal;
 use imap_types::MAX_KEYWORDS;
 
-/// These operations, or the first reason against them: `TooManyKeywords` where one gives a message more than 32 keywords, else
-/// `TooManyVersions` where one names more than 64 versions of a message.
+/// These operations, if all are within the limits. `TooManyKeywords` if one gives a message more
+/// than 32 keywords; otherwise `TooManyVersions` if one names more than 64 versions of a message.
 pub fn within_limits(kinds: Vec<Kind>) -> Result<Vec<Kind>, Refusal>
     ensures { GivesOrLacksMemory (λ kinds. kinds.items) result (within_limits kinds.items) }
 {
@@ -26,7 +26,8 @@ pub fn within_limits(kinds: Vec<Kind>) -> Result<Vec<Kind>, Refusal>
     Ok(kinds)
 }
 
-/// The same of a command that found this.
+/// The intent with these operations and named messages, if all operations are within the limits;
+/// otherwise the error of [`within_limits`].
 pub fn intent_within_limits(kinds: Vec<Kind>, found: NamedMessages) -> Result<Intent, Refusal>
     ensures gives { GivesOrLacksMemory (λ intent. intent.kinds.items) result (within_limits kinds.items) }
     ensures found { IfOk result (λ intent. intent.found ≡ found) }

@@ -1,4 +1,4 @@
-//! LOGIN.
+//! LOGIN (RFC 9051, section 6.2.3).
 
 ghost use Rattle.std.specs.Prelude.{◌≡◌};
 ghost use Rattle.imap_commands.specs.Login.{are_credentials, login_intent};
@@ -10,7 +10,7 @@ use imap_answers::Refusal;
 use imap_types::Octets;
 use std::alloc::Global;
 
-/// What LOGIN issues, which is nothing, or why it is refused: `LoginFailed` where the name or the password isn't the one wanted
+/// The intent of LOGIN, which issues nothing. `LoginFailed` if the name or the password is wrong
 /// (RFC 9051, section 6.2.3).
 pub fn login_intent(
     alloc: Global,
@@ -26,6 +26,7 @@ pub fn login_intent(
     Ok(Vec::new(alloc))
 }
 
+/// Whether name and password are those of the credentials, octet by octet.
 fn are_credentials(credentials: &Credentials, user: &Octets, password: &Octets) -> bool
     ensures { result ≡ are_credentials credentials.now user.now password.now }
 {

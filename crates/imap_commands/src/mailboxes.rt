@@ -1,4 +1,4 @@
-//! CREATE, DELETE, SUBSCRIBE and UNSUBSCRIBE.
+//! CREATE, DELETE, SUBSCRIBE and UNSUBSCRIBE (RFC 9051, sections 6.3.4, 6.3.5, 6.3.7 and 6.3.8).
 
 ghost use Rattle.std.specs.Prelude.{◌≡◌, ◌∷◌, [], IfOk};
 ghost use Rattle.std.specs.Str.{bytes_eq};
@@ -19,8 +19,8 @@ pub fn is_lawful_name(name: &Name) -> bool
     name.is_lawful()
 }
 
-/// The name that CREATE makes of the one that is asked for: without one `/` at its end, INBOX in capitals (RFC 9051, sections 5.1
-/// and 6.3.4). `Err` where there is no memory for it.
+/// The name of the mailbox that CREATE creates: the requested name without one `/` at its end, with
+/// INBOX in capitals (RFC 9051, sections 5.1 and 6.3.4). `Err` if memory runs out.
 pub fn created_name(alloc: Global, name: &Name) -> Result<Name, AllocError>
     ensures { IfOk result (λ made. made ≡ created_name name.now) }
 {
@@ -37,8 +37,9 @@ fn drop_last_separator(octets: &mut Vec<u8>)
     }
 }
 
-/// What CREATE issues, or why it is refused: `NameNotAllowed` where no mailbox may bear the created name, else `MailboxExists`
-/// where `is_there` says that one does (RFC 9051, section 6.3.4). It makes no superior levels.
+/// The intent of CREATE (RFC 9051, section 6.3.4). `NameNotAllowed` if no mailbox may bear the
+/// created name; otherwise `MailboxExists` if `is_there` says that one does. No superior levels are
+/// created.
 pub fn create_intent(alloc: Global, is_there: bool, name: &Name) -> Result<Vec<Kind>, Refusal>
     ensures { GivesOrLacksMemory (λ kinds. kinds.items) result (create_intent is_there name.now) }
 {
@@ -52,8 +53,9 @@ pub fn create_intent(alloc: Global, is_there: bool, name: &Name) -> Result<Vec<K
     Ok(one_kind(alloc, Kind::Create { folder })?)
 }
 
-/// What DELETE issues, or why it is refused: `NoSuchMailbox` where the mailbox isn't there, else `InboxStays` for INBOX (RFC 9051,
-/// section 6.3.5). `seen` has the ids of all the folder's present tags, those of its messages too.
+/// The intent of DELETE (RFC 9051, section 6.3.5). `NoSuchMailbox` if the mailbox doesn't exist;
+/// otherwise `InboxStays` for INBOX. `seen` has the ids of all the folder's present tags, including
+/// those of its messages.
 pub fn delete_intent(
     alloc: Global,
     is_there: bool,
@@ -84,8 +86,8 @@ fn is_inbox(name: &Name) -> bool
     name.as_bytes() == b"INBOX".as_slice()
 }
 
-/// What SUBSCRIBE issues, or why it is refused: `NameNotAllowed` where no mailbox may bear the name. A name that is subscribed
-/// needs nothing, and there need be no mailbox (RFC 9051, section 6.3.7).
+/// The intent of SUBSCRIBE (RFC 9051, section 6.3.7). `NameNotAllowed` if no mailbox may bear the
+/// name. For a name that is subscribed nothing is issued; the mailbox need not exist.
 pub fn subscribe_intent(
     alloc: Global,
     is_subscribed: bool,
@@ -109,8 +111,9 @@ fn subscribe(alloc: Global, name: &Name) -> Result<Vec<Kind>, AllocError>
     one_kind(alloc, Kind::Subscribe { name })
 }
 
-/// What UNSUBSCRIBE issues, or why it is refused: `NameNotAllowed` where no mailbox may bear the name (RFC 9051, section 6.3.8).
-/// `seen` has the ids of the name's present subscription tags; where there are none, nothing is issued.
+/// The intent of UNSUBSCRIBE (RFC 9051, section 6.3.8). `NameNotAllowed` if no mailbox may bear the
+/// name. `seen` has the ids of the name's present subscription tags; if it has none, nothing is
+/// issued.
 pub fn unsubscribe_intent(alloc: Global, seen: Ids, name: &Name) -> Result<Vec<Kind>, Refusal>
     ensures { GivesOrLacksMemory (λ kinds. kinds.items) result (unsubscribe_intent seen name.now) }
 {
@@ -130,7 +133,7 @@ fn unsubscribes(alloc: Global, seen: Ids, name: &Name) -> Result<Vec<Kind>, Allo
     one_kind(alloc, Kind::Unsubscribe { name, seen })
 }
 
-/// This kind alone.
+/// A list of only this kind.
 pub(crate) fn one_kind(alloc: Global, kind: Kind) -> Result<Vec<Kind>, AllocError>
     ensures { IfOk result (λ kinds. kinds.items ≡ kind ∷ []) }
 {

@@ -1,4 +1,4 @@
-//! The messages that a command names.
+//! The messages that a command names, by their numbers in the view.
 
 ghost use Rattle.std.specs.Prelude.{◌≡◌, ◌⊎◌, true, false, IfErr, IfOk};
 ghost use Rattle.imap_answers.specs.declared.fixed_words.Refusal.TheVariants.{NoMemory, NoSuchMessage};
@@ -13,7 +13,8 @@ use mailbox_rows::Rows;
 use session_view::{BadSet, View, ViewEntries};
 use std::alloc::{AllocError, Global};
 
-/// The numbers of the messages that a set names; `NoSuchMessage` exactly where it names one that there isn't, or `NoMemory`.
+/// The numbers of the view's messages that a set names. `NoSuchMessage` if it names a number that
+/// no message has; UIDs may be any. `NoMemory` if memory runs out.
 pub fn messages_named(
     alloc: Global,
     by_uid: bool,
@@ -31,7 +32,7 @@ pub fn messages_named(
     }
 }
 
-/// Those of the numbers whose messages are there.
+/// The numbers among these whose messages the listing has.
 pub fn existing_messages(
     alloc: Global,
     rows: &Rows<'_>,
@@ -49,7 +50,8 @@ pub fn existing_messages(
     Ok(there)
 }
 
-/// What the messages with these numbers are named by.
+/// The names of the messages with these numbers: their UIDs or the numbers. `Err` if memory runs
+/// out.
 pub fn names_of(
     alloc: Global,
     by_uid: bool,
@@ -65,7 +67,7 @@ pub fn names_of(
     Ok(names)
 }
 
-/// What the message with this number is named by: its UID, or its number.
+/// The name of the message with this number: its UID (0 if there is no such message) or the number.
 fn name_at(by_uid: bool, view: &ViewEntries, number: u32) -> u32
     ensures { result ≡ name_at by_uid view.now.items number }
 {
@@ -78,7 +80,7 @@ fn name_at(by_uid: bool, view: &ViewEntries, number: u32) -> u32
     }
 }
 
-/// The set of these numbers, which ascend from 1 on.
+/// The set of these numbers, which ascend and are at least 1. `Err` if memory runs out.
 pub fn set_of(alloc: Global, numbers: &[u32]) -> Result<NumberSet, AllocError>
     requires { AreRisingFrom 1 numbers.now }
     ensures { IfOk result (λ set. set ≡ numbers.now) }

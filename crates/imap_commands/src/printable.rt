@@ -1,4 +1,4 @@
-//! What commands tell can be printed: laws over `specs/Printing.antt`, one for each family.
+//! Reports can be printed: laws over `specs/Printing`, one for each family of commands.
 
 ghost use Rattle.std.specs.Prelude.{ℕ, ◌<◌, Bool, List, length};
 ghost use Rattle.imap_answers.specs.Printable.{Each, IsFolded, IsNonzero, IsPrintable, IsTag, IsWide};
@@ -28,52 +28,54 @@ ghost use Rattle.session_view.specs.declared.reply_replay.SilentFlags.{SilentFla
 ghost use Rattle.session_view.specs.declared.view_entry.SyncKind.{SyncKind};
 ghost use Rattle.imap_answers.specs.declared.answer.Answer.{Answer};
 
-/// What SELECT and EXAMINE tell.
+/// The reports of SELECT and EXAMINE can be printed.
 pub fn select_is_printable()
     ensures { (was_selected read_only : Bool) (name : List ℕ) (marks : MailboxCounters) (rows : List ListedMessage) (told : CommandReport) → IsFolded name → AreNonzeroMarks marks → AreShowable rows
         → IsSelectReport was_selected read_only name marks rows told → IsPrintableTelling told }
 {}
 
-/// Whatever is replayed, and synced, a view keeps ascending UIDs in 32 bits.
+/// After any replay and any sync a view's UIDs ascend and have 32 bits.
 pub fn views_stay_numbered()
     ensures replay { (rows : List ListedMessage) (view : List ViewEntry) (silents : List SilentFlags) (answers : List Answer) → AreShowable rows → IsNumbered view → IsNumbered (view_after_reply rows view silents answers) }
     ensures sync { (kind : SyncKind) (rows : List ListedMessage) (view : List ViewEntry) → AreShowable rows → IsNumbered view → IsNumbered (view_after_sync kind rows view) }
 {}
 
-/// What FETCH tells, where the listing after it can be shown.
+/// The report of FETCH can be printed, if the listing after it can be shown.
 pub fn fetch_is_printable()
     ensures { (mailbox : OpenMailbox) (after : List ListedMessage) (condstore : Bool) (asked : FetchArgs)
         → AreShowable after → IsNumbered mailbox.view → AreTellable asked.items → IsPrintableTelling (fetch_report mailbox after condstore asked) }
 {}
 
-/// What STORE tells, where the listing after it can be shown.
+/// The report of STORE can be printed, if the listing after it can be shown.
 pub fn store_is_printable()
     ensures { (mailbox : OpenMailbox) (after : List ListedMessage) (condstore : Bool) (asked : StoreArgs) → AreShowable after → IsNumbered mailbox.view → IsPrintableTelling (store_report mailbox after condstore asked) }
 {}
 
-/// What UID EXPUNGE tells.
+/// The report of UID EXPUNGE can be printed.
 pub fn uid_expunge_is_printable()
     ensures { (mailbox : OpenMailbox) (uids : List SequenceRange) → IsPrintableTelling (uid_expunge_report mailbox uids) }
 {}
 
-/// What a sync sends: the messages that are gone, how many there are then, and the flags that changed.
+/// The answers of a sync can be printed: the expunged messages, the number of messages then, and
+/// the flags that changed.
 pub fn sync_is_printable()
     ensures { (kind : SyncKind) (modseq : Bool) (rows : List ListedMessage) (view : List ViewEntry) → AreShowable rows → IsNumbered view → Each IsPrintable (sync_answers kind modseq rows view) }
 {}
 
-/// What LIST tells, where the names of the folders and of the subscriptions have INBOX in capitals.
+/// The report of LIST can be printed, if the names of folders and subscriptions have INBOX in
+/// capitals.
 pub fn list_is_printable()
     ensures { (mode : ListMode) (reference pattern : List ℕ) (folders subscriptions : List (List ℕ)) (told : CommandReport) → Each IsFolded folders → Each IsFolded subscriptions
         → IsListReport mode reference pattern folders subscriptions told → IsPrintableTelling told }
 {}
 
-/// What STATUS tells, where it asks for something.
+/// The report of STATUS can be printed, if at least one item is requested.
 pub fn status_is_printable()
     ensures { (name : List ℕ) (items : List StatusItem) (marks : MailboxCounters) (rows : List ListedMessage) → IsFolded name → 0 < length items → AreNonzeroMarks marks → AreShowable rows
         → IsPrintableTelling (status_report name items marks rows) }
 {}
 
-/// What ENABLE, CAPABILITY, NAMESPACE, LOGOUT and the beginning of IDLE tell.
+/// The reports of ENABLE, CAPABILITY, NAMESPACE, LOGOUT and the start of an IDLE can be printed.
 pub fn constant_answers_are_printable()
     ensures enable { (names : List (List ℕ)) → IsPrintableTelling (enable_report names) }
     ensures capability { IsPrintableTelling capability_report }
@@ -82,13 +84,14 @@ pub fn constant_answers_are_printable()
     ensures idle { IsPrintableTelling idle_report }
 {}
 
-/// What SEARCH tells.
+/// The report of SEARCH can be printed.
 pub fn search_is_printable()
     ensures { (mailbox : OpenMailbox) (tag : List ℕ) (asked : SearchArgs) (told : CommandReport)
         → IsTag tag → AreShowable mailbox.rows → IsNumbered mailbox.view → IsSearchReport mailbox tag asked told → IsPrintableTelling told }
 {}
 
-/// What COPY and MOVE tell, where as many messages came into the destination as they copy.
+/// The reports of COPY and MOVE can be printed, if the destination got as many messages as were
+/// copied.
 pub fn copies_are_printable()
     ensures copied { (mailbox : OpenMailbox) (asked : CopyArgs) (landing : CopyTarget)
         → IsNumbered mailbox.view → IsNonzero landing.uidvalidity → AreShowable landing.rows → AreAsMany mailbox asked landing → IsPrintableTelling (copy_report mailbox asked landing) }
@@ -96,12 +99,12 @@ pub fn copies_are_printable()
         → IsNumbered mailbox.view → IsNonzero landing.uidvalidity → AreShowable landing.rows → AreAsMany mailbox asked landing → IsPrintableTelling (move_report mailbox asked landing) }
 {}
 
-/// What APPEND tells.
+/// The report of APPEND can be printed.
 pub fn append_is_printable()
     ensures { (uidvalidity uid : ℕ) → IsNonzero uidvalidity → IsNonzero uid → IsPrintableTelling (append_report uidvalidity uid) }
 {}
 
-/// A frame spells a tag and a command whose parts can be told.
+/// A frame that spells a command spells a tag and arguments that can be printed in answers.
 pub fn spelled_commands_are_answerable()
     ensures { (tagged : Tagged) (octets : List ℕ) → IsSpelled tagged octets → IsWide (length octets) → IsTag tagged.tag × IsAnswerable tagged.command }
 {}

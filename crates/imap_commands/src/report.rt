@@ -1,4 +1,4 @@
-//! What a command itself tells.
+//! A command's report, and the view's messages in a listing.
 
 ghost use Rattle.std.specs.Prelude.{◌≡◌, ◌-◌, [], None, Some, if◌then◌else◌};
 ghost use Rattle.std.specs.List.{list_any};
@@ -12,8 +12,8 @@ use session_view::{SilentFlags, ViewEntries, ViewEntry};
 use std::alloc::Global;
 use std::marker::Model;
 
-/// What a command itself tells: its own answers, the flags that the session set in silence (RFC 9051, section 6.4.6), and the
-/// code of its tagged line (RFC 9051, section 7.1).
+/// A command's report: its own answers, the flags that the session set in silence (RFC 9051,
+/// section 6.4.6), and the code of its tagged line (RFC 9051, section 7.1).
 #[derive(Drop)]
 pub struct CommandReport {
     own: Vec<Answer>,
@@ -30,21 +30,21 @@ impl Model for CommandReport {
 }
 
 impl CommandReport {
-    /// This, whose memory it takes over.
+    /// A report of these parts, which it takes over.
     pub fn new(own: Vec<Answer>, silent: Vec<SilentFlags>, code: Option<Code>) -> CommandReport
         ensures { result ≡ record { own = own.items; silent = silent.items; code = code } }
     {
         CommandReport { own, silent, code }
     }
 
-    /// Nothing.
+    /// A report without answers, silent flags and code; takes no memory.
     pub fn empty(alloc: Global) -> CommandReport
         ensures { result ≡ empty_report }
     {
         CommandReport::new(Vec::new(alloc), Vec::new(alloc), None)
     }
 
-    /// These answers alone, whose memory it takes over.
+    /// A report of only these answers, which it takes over.
     pub fn of_answers(alloc: Global, own: Vec<Answer>) -> CommandReport
         ensures { result ≡ report_of_answers own.items }
     {
@@ -58,14 +58,14 @@ impl CommandReport {
         &self.own
     }
 
-    /// The flags set in silence.
+    /// The flags that the session set in silence.
     pub fn silent(&self) -> &[SilentFlags]
         ensures { result.now ≡ self.now.silent }
     {
         &self.silent
     }
 
-    /// All of it, with its memory.
+    /// The answers, the silent flags and the code, by value.
     pub fn into_parts(self) -> (Vec<Answer>, Vec<SilentFlags>, Option<Code>)
         ensures own { result.0.items ≡ self.own }
         ensures silent { result.1.items ≡ self.silent }
@@ -76,7 +76,7 @@ impl CommandReport {
     }
 }
 
-/// The view's message with this number, from 1 on.
+/// The view's message with this number, from 1; `None` if there is none.
 pub fn entry_at(view: &ViewEntries, number: u32) -> Option<&ViewEntry>
     ensures { option_copied result ≡ entry_at view.now.items number }
 {
@@ -86,14 +86,15 @@ pub fn entry_at(view: &ViewEntries, number: u32) -> Option<&ViewEntry>
     view.get(place_of(number))
 }
 
-/// The place in the view of its message with this number, from 1 on.
+/// The place in the view, from 0, of the message with this number, from 1.
 fn place_of(number: u32) -> usize
     ensures { result ≡ number - 1 }
 {
     (number as usize).saturating_sub(1)
 }
 
-/// What the listing has for the view's message with this number; `None` where it is gone. A look-up.
+/// The listing's row for the view's message with this number, from 1; `None` if it is gone or the
+/// view has no such number. One look-up.
 pub fn message_at<'a>(rows: &'a Rows<'_>, view: &ViewEntries, number: u32) -> Option<Row<'a>>
     ensures { option_map listed_message result ≡ message_at rows.now view.now.items number }
 {
@@ -103,7 +104,8 @@ pub fn message_at<'a>(rows: &'a Rows<'_>, view: &ViewEntries, number: u32) -> Op
     }
 }
 
-/// The code which tells that some of the messages with these numbers are gone (RFC 9051, section 7.1, EXPUNGEISSUED).
+/// The code EXPUNGEISSUED, if some of the view's messages with these numbers are gone (RFC 9051,
+/// section 7.1).
 pub fn gone_code(rows: &Rows<'_>, view: &ViewEntries, numbers: &[u32]) -> Option<Code>
     ensures { result ≡ gone_code rows.now view.now.items numbers.now }
 {

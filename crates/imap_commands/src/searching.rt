@@ -17,7 +17,8 @@ use imap_types::Octets;
 use session_view::{View, ViewEntries, count_of};
 use std::alloc::{AllocError, Global};
 
-/// Nothing, which is what SEARCH issues, or `NoSuchMessage`: a set of numbers in its keys, wherever it stands, names one that no message has.
+/// The intent of SEARCH, which issues nothing. `NoSuchMessage` if a set of message numbers anywhere
+/// in its key names one that no message has (RFC 9051, section 6.4.4).
 pub fn search_intent(alloc: Global, view: &View, steps: &[SearchStep]) -> Result<Vec<Kind>, Refusal>
     ensures { GivesOrLacksMemory (λ kinds. kinds.items) result (search_intent view.now.entries steps.now) }
 {
@@ -56,7 +57,8 @@ fn test_is_in_range(view: &View, test: &SearchTest) -> bool
     }
 }
 
-/// What SEARCH tells: what `imap_query::search` says of the view's messages that are there. `Err` where there is no memory.
+/// The report of SEARCH: the results of `imap_query::search` among the view's messages that the
+/// listing has. `Err` if memory runs out.
 pub fn search_report(
     alloc: Global,
     mailbox: &OpenMailbox<'_>,
@@ -77,7 +79,7 @@ pub fn search_report(
     )
 }
 
-/// What SEARCH finds.
+/// The results of SEARCH in the mailbox.
 fn search_results_of(
     alloc: Global,
     mailbox: &OpenMailbox<'_>,
@@ -97,7 +99,7 @@ fn search_results_of(
     )
 }
 
-/// A view's messages as queries see them.
+/// All messages of a view, as `imap_query` takes them.
 fn all_shown(alloc: Global, view: &ViewEntries) -> Result<Vec<ViewedMessage>, AllocError>
     requires { AreRising 1 view.now.items }
     ensures { IfOk result (λ shown. shown.items ≡ shown_from 1 view.now.items) }

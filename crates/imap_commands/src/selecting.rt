@@ -1,4 +1,4 @@
-//! SELECT and EXAMINE.
+//! SELECT and EXAMINE (RFC 9051, sections 6.3.2 and 6.3.3).
 
 ghost use Rattle.std.specs.Prelude.{◌≡◌, ◌++◌, ◌+◌, ◌∷◌, [], false, drop, length, IfOk, OnOk};
 ghost use Rattle.std.specs.List.{fold};
@@ -18,8 +18,8 @@ use imap_types::{Flags, Keywords, Name, Octets, Versions};
 use mailbox_rows::Rows;
 use std::alloc::{AllocError, Global};
 
-/// What SELECT and EXAMINE issue, which is nothing, or why they are refused: `NoSuchMailbox` where the mailbox isn't there
-/// (RFC 9051, sections 6.3.2 and 6.3.3).
+/// The intent of SELECT and EXAMINE, which issue nothing. `NoSuchMailbox` if the mailbox doesn't
+/// exist (RFC 9051, sections 6.3.2 and 6.3.3).
 pub fn select_intent(alloc: Global, is_there: bool) -> Result<Vec<Kind>, Refusal>
     ensures { GivesOrLacksMemory (λ kinds. kinds.items) result (select_intent is_there) }
 {
@@ -29,9 +29,10 @@ pub fn select_intent(alloc: Global, is_there: bool) -> Result<Vec<Kind>, Refusal
     Ok(Vec::new(alloc))
 }
 
-/// What SELECT and EXAMINE, which selects read-only, tell of a mailbox, behind CLOSED where another was selected (RFC 9051,
-/// sections 6.3.2 and 6.3.3; RFC 7162, section 3.1.2.1). Each message's keywords are looked up among those found so far. `Err`
-/// where there is no memory for it.
+/// The report of SELECT and of EXAMINE, which selects read-only: CLOSED if another mailbox was
+/// selected, and then the answers about the new mailbox (RFC 9051, sections 6.3.2 and 6.3.3;
+/// RFC 7162, section 3.1.2.1). Each message's keywords are looked up among those found so far.
+/// `Err` if memory runs out.
 pub fn select_report(
     alloc: Global,
     was_selected: bool,
@@ -51,7 +52,7 @@ pub fn select_report(
     report_with_flags(alloc, was_selected, &opened, rows, keywords)
 }
 
-/// A mailbox that is selected, and how.
+/// The mailbox that is selected, its counters and the access to it.
 #[derive(Drop)]
 struct Opened<'a> {
     name: &'a Name,
@@ -59,7 +60,7 @@ struct Opened<'a> {
     read_only: bool,
 }
 
-/// What is told where the messages bear these keywords.
+/// The report for a mailbox whose messages bear these keywords.
 fn report_with_flags(
     alloc: Global,
     was_selected: bool,
@@ -80,6 +81,7 @@ fn report_with_flags(
     Ok(CommandReport::new(own, Vec::new(alloc), Some(code)))
 }
 
+/// The code for the session's access to the mailbox.
 fn access_code(read_only: bool) -> Code
     ensures { result ≡ access_code read_only }
 {
@@ -90,6 +92,7 @@ fn access_code(read_only: bool) -> Code
     }
 }
 
+/// Adds the answers about the selected mailbox.
 fn push_mailbox(
     alloc: Global,
     opened: &Opened<'_>,
@@ -112,7 +115,7 @@ fn push_mailbox(
     push_changes(permanent, opened.marks, answers)
 }
 
-/// FLAGS, with these flags, EXISTS and LIST.
+/// Adds FLAGS with these flags, EXISTS and LIST.
 fn push_contents(
     alloc: Global,
     flags: Flags,
@@ -133,7 +136,7 @@ fn push_contents(
     Ok(())
 }
 
-/// UIDVALIDITY and UIDNEXT.
+/// Adds UIDVALIDITY and UIDNEXT.
 fn push_uids(marks: MailboxCounters, answers: &mut Vec<Answer>) -> Result<(), AllocError>
     ensures { OnOk result (answers.new.items ≡ answers.old.items ++ TellAnswer (UidValidityNotice marks.uidvalidity) ∷ TellAnswer (UidNextNotice marks.uidnext) ∷ []) }
 {
@@ -148,7 +151,7 @@ fn push_uids(marks: MailboxCounters, answers: &mut Vec<Answer>) -> Result<(), Al
     Ok(())
 }
 
-/// PERMANENTFLAGS, with these flags, and HIGHESTMODSEQ.
+/// Adds PERMANENTFLAGS with these flags, and HIGHESTMODSEQ.
 fn push_changes(
     permanent: Option<Flags>,
     marks: MailboxCounters,
@@ -167,7 +170,7 @@ fn push_changes(
     Ok(())
 }
 
-/// The flags that can be changed for good, of those in use.
+/// The flags in use that the session can change permanently; `None` if it only reads.
 fn permanent_flags(
     alloc: Global,
     read_only: bool,
@@ -181,7 +184,7 @@ fn permanent_flags(
     Ok(Some(flags.copy(alloc)?))
 }
 
-/// The system flags, and these keywords.
+/// The flags in use in a mailbox: the system flags and these keywords.
 fn flags_in_use(keywords: Keywords) -> Flags
     ensures { result ≡ flags_in_use keywords }
 {

@@ -1,4 +1,4 @@
-//! What a session may do.
+//! A session of a replica and its state (RFC 9051, section 3).
 
 ghost use Rattle.std.specs.Prelude.{◌≡◌, IfOk};
 
@@ -6,7 +6,7 @@ use imap_types::Octets;
 use session_view::View;
 use std::alloc::{AllocError, Global};
 
-/// A user's name and password, as LOGIN gives them (RFC 9051, section 6.2.3).
+/// The name and password of a user, as in LOGIN (RFC 9051, section 6.2.3).
 #[derive(Drop)]
 pub struct Credentials {
     /// The user's name.
@@ -16,7 +16,7 @@ pub struct Credentials {
 }
 
 impl Credentials {
-    /// Equal ones; `Err` where there is no memory for them.
+    /// A copy; `Err` if memory runs out.
     pub fn copy(&self, alloc: Global) -> Result<Credentials, AllocError>
         ensures { IfOk result (λ copied. copied ≡ self.now) }
     {
@@ -27,29 +27,30 @@ impl Credentials {
     }
 }
 
-/// Where a session stands (RFC 9051, section 3).
+/// The state of a session (RFC 9051, section 3).
 #[derive(Drop)]
 pub enum State {
-    /// LOGIN with these credentials first.
+    /// The session needs a LOGIN with these credentials.
     NotAuthenticated {
-        /// What LOGIN has to give.
+        /// The credentials that LOGIN must have.
         credentials: Credentials,
     },
-    /// Every command but those that want a selected mailbox.
+    /// Every command is allowed except those that need a selected mailbox.
     Authenticated,
     /// A mailbox is selected.
     Selected {
-        /// What the session sees of it.
+        /// The messages that the session was shown of it.
         view: View,
-        /// Whether by EXAMINE, so that the session changes nothing in it.
+        /// Whether it was selected by EXAMINE, so that the session changes nothing in it.
         read_only: bool,
     },
-    /// A LOGOUT was answered OK: CAPABILITY, NOOP and LOGOUT alone, until the connection ends.
+    /// A LOGOUT was answered with OK: only CAPABILITY, NOOP and LOGOUT are allowed until the
+    /// connection ends.
     LoggedOut,
 }
 
 impl State {
-    /// An equal one; `Err` where there is no memory for it.
+    /// A copy; `Err` if memory runs out.
     pub fn copy(&self, alloc: Global) -> Result<State, AllocError>
         ensures { IfOk result (λ copied. copied ≡ self.now) }
     {
@@ -70,10 +71,10 @@ impl State {
 /// A session of a replica.
 #[derive(Drop)]
 pub struct Session {
-    /// Where it stands.
+    /// Its state.
     pub state: State,
-    /// Whether mod-sequences are told (RFC 7162, section 3.1).
+    /// Whether mod-sequences are reported (RFC 7162, section 3.1).
     pub condstore: bool,
-    /// The tag of the IDLE that has not ended, if one has not (RFC 2177, section 3).
+    /// The tag of the running IDLE, if any (RFC 2177, section 3).
     pub idling: Option<Octets>,
 }

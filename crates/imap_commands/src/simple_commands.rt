@@ -1,4 +1,5 @@
-//! Commands that only ask: CAPABILITY, LIST, NAMESPACE, STATUS; and the one answer of IDLE and of LOGOUT.
+//! Commands that only read, CAPABILITY, LIST, NAMESPACE and STATUS, and the one answer of IDLE and
+//! of LOGOUT.
 
 ghost use Rattle.std.specs.Prelude.{◌≡◌, ◌∷◌, [], IfOk};
 ghost use Rattle.imap_commands.specs.SimpleCommands.{IsListReport, capability_report, idle_report, logout_report, namespace_report, status_report, status_intent};
@@ -14,8 +15,8 @@ use imap_types::{Name, Octets};
 use mailbox_rows::Rows;
 use std::alloc::{AllocError, Global};
 
-/// What LIST tells of the folders and the subscriptions (RFC 9051, section 6.3.9). It costs what [`list_names`] does. `Err` where
-/// there is no memory for it.
+/// The report of LIST, from the folders and the subscriptions (RFC 9051, section 6.3.9). It costs
+/// what [`list_names`] costs. `Err` if memory runs out.
 pub fn list_report(
     alloc: Global,
     mode: ListMode,
@@ -37,8 +38,8 @@ pub fn list_report(
     Ok(CommandReport::of_answers(alloc, own))
 }
 
-/// What STATUS issues, which is nothing, or why it is refused: `NoSuchMailbox` where the mailbox isn't there (RFC 9051, section
-/// 6.3.11).
+/// The intent of STATUS, which issues nothing (RFC 9051, section 6.3.11). `NoSuchMailbox` if the
+/// mailbox doesn't exist.
 pub fn status_intent(alloc: Global, is_there: bool) -> Result<Vec<Kind>, Refusal>
     ensures { GivesOrLacksMemory (λ kinds. kinds.items) result (status_intent is_there) }
 {
@@ -48,7 +49,8 @@ pub fn status_intent(alloc: Global, is_there: bool) -> Result<Vec<Kind>, Refusal
     Ok(Vec::new(alloc))
 }
 
-/// What STATUS tells of a mailbox. Time is linear in the listing. `Err` where there is no memory for it.
+/// The report of STATUS for a mailbox (RFC 9051, section 6.3.11). Time is linear in the listing.
+/// `Err` if memory runs out.
 pub fn status_report(
     alloc: Global,
     name: &Name,
@@ -63,21 +65,21 @@ pub fn status_report(
     one_answer(alloc, Answer::Status { name, items })
 }
 
-/// What CAPABILITY tells (RFC 9051, section 6.1.1); `Err` where there is no memory for it.
+/// The report of CAPABILITY (RFC 9051, section 6.1.1). `Err` if memory runs out.
 pub fn capability_report(alloc: Global) -> Result<CommandReport, AllocError>
     ensures { IfOk result (λ told. told ≡ capability_report) }
 {
     one_answer(alloc, Answer::Capability)
 }
 
-/// What NAMESPACE tells (RFC 9051, section 6.3.10); `Err` where there is no memory for it.
+/// The report of NAMESPACE (RFC 9051, section 6.3.10). `Err` if memory runs out.
 pub fn namespace_report(alloc: Global) -> Result<CommandReport, AllocError>
     ensures { IfOk result (λ told. told ≡ namespace_report) }
 {
     one_answer(alloc, Answer::Namespace)
 }
 
-/// What LOGOUT tells (RFC 9051, section 6.1.3); `Err` where there is no memory for it.
+/// The report of LOGOUT (RFC 9051, section 6.1.3). `Err` if memory runs out.
 pub fn logout_report(alloc: Global) -> Result<CommandReport, AllocError>
     ensures { IfOk result (λ told. told ≡ logout_report) }
 {
@@ -89,7 +91,7 @@ pub fn logout_report(alloc: Global) -> Result<CommandReport, AllocError>
     )
 }
 
-/// What the beginning of IDLE tells (RFC 2177, section 3); `Err` where there is no memory for it.
+/// The report when an IDLE begins (RFC 2177, section 3). `Err` if memory runs out.
 pub fn idle_report(alloc: Global) -> Result<CommandReport, AllocError>
     ensures { IfOk result (λ told. told ≡ idle_report) }
 {
@@ -101,7 +103,7 @@ pub fn idle_report(alloc: Global) -> Result<CommandReport, AllocError>
     )
 }
 
-/// This answer alone.
+/// A report of only this answer. `Err` if memory runs out.
 pub(crate) fn one_answer(alloc: Global, answer: Answer) -> Result<CommandReport, AllocError>
     ensures { IfOk result (λ told. told ≡ report_of_answers (answer ∷ [])) }
 {

@@ -28,9 +28,11 @@ use mailbox_rows::{Row, Rows};
 use session_view::{SilentFlags, ViewEntries};
 use std::alloc::{AllocError, Global};
 
-/// What STORE issues in the mailbox, and the messages that it found for that, or the first reason against it: `NoSuchMessage`, `ReadOnly`,
-/// `KeywordTooLong` (a keyword that no message may bear), `TooManyKeywords` (more than 32 on a message that it changes), `TooManyVersions`
-/// (more than 64 of such a message). `NoMemory` may come in place of any answer. It looks each named message up twice, by binary search.
+/// The intent of STORE: one Store for each message whose flags change. Otherwise the first reason
+/// for refusing it: `NoSuchMessage`, `ReadOnly`, `KeywordTooLong` (a keyword that no message may
+/// bear), `TooManyKeywords` (more than 32 on a message that it changes), `TooManyVersions` (more
+/// than 64 of such a message). `NoMemory` may replace any result. Each named message is looked up
+/// twice, by binary search.
 pub fn store_intent(
     alloc: Global,
     mailbox: &OpenMailbox<'_>,
@@ -69,7 +71,7 @@ fn are_lawful(keywords: &[Octets]) -> bool
     true
 }
 
-/// Whether a message did not change since.
+/// Whether a message hasn't changed since the mod-sequence of UNCHANGEDSINCE, if one is given.
 fn is_unchanged(since: Option<u64>, row: &Row<'_>) -> bool
     ensures { result ≡ is_unchanged since (listed_message row.now) }
 {
@@ -79,6 +81,7 @@ fn is_unchanged(since: Option<u64>, row: &Row<'_>) -> bool
     }
 }
 
+/// Whether the listing has the message with this number, and it hasn't changed.
 fn is_taken(since: Option<u64>, rows: &Rows<'_>, view: &ViewEntries, number: u32) -> bool
     ensures { result ≡ is_taken since (message_at rows.now view.now.items number) }
 {
@@ -88,6 +91,7 @@ fn is_taken(since: Option<u64>, rows: &Rows<'_>, view: &ViewEntries, number: u32
     }
 }
 
+/// Whether the listing has the message with this number, but it has changed.
 fn is_refused(since: Option<u64>, rows: &Rows<'_>, view: &ViewEntries, number: u32) -> bool
     ensures { result ≡ is_refused since (message_at rows.now view.now.items number) }
 {
@@ -97,7 +101,7 @@ fn is_refused(since: Option<u64>, rows: &Rows<'_>, view: &ViewEntries, number: u
     }
 }
 
-/// The numbers of the messages that STORE takes.
+/// The numbers of the messages that STORE may change: listed and unchanged.
 fn taken_messages(
     alloc: Global,
     before: &Rows<'_>,
@@ -116,7 +120,7 @@ fn taken_messages(
     Ok(taken)
 }
 
-/// The numbers of the messages that STORE refuses.
+/// The numbers of the messages that STORE refuses: listed, but changed.
 fn refused_messages(
     alloc: Global,
     before: &Rows<'_>,
@@ -151,7 +155,7 @@ fn stores_of(
     Ok(kinds)
 }
 
-/// Adds the Store of a message, where its flags change: it takes the place of all its versions.
+/// Adds the Store of a message, if its flags change: it replaces all versions of the message.
 fn push_store(
     alloc: Global,
     mailbox: &OpenMailbox<'_>,
@@ -178,16 +182,18 @@ fn push_store(
     Ok(())
 }
 
-/// Whether both are the same flags.
+/// Whether both are equal.
 fn are_same(flags: &Flags, others: &Flags) -> bool
     ensures { result ≡ same_flags flags.now others.now }
 {
     flags.same(others)
 }
 
-/// What STORE tells, by the mailbox before it, what it found there, the listing after it and whether CONDSTORE is on: FETCH of each message that it takes, the flags that the
-/// session takes where it is silent, and which messages UNCHANGEDSINCE refused or that some are gone. `Err` where there is no memory. It looks each named message up three times
-/// at most, by binary search.
+/// The report of STORE, from the mailbox before it, the listing `after` it and the messages that it
+/// names: a FETCH of each message that it could change, the flags that the session sets itself if
+/// STORE is silent, and the code MODIFIED for the messages that UNCHANGEDSINCE refused, or
+/// EXPUNGEISSUED if some are gone. `condstore` says whether CONDSTORE is on. `Err` if memory runs
+/// out. Each named message is looked up at most three times, by binary search.
 pub fn store_report(
     alloc: Global,
     mailbox: &OpenMailbox<'_>,
@@ -209,7 +215,8 @@ pub fn store_report(
     Ok(CommandReport::new(own, silent, code))
 }
 
-/// The code of a STORE that names messages with these numbers: which it refused, and else whether some are gone.
+/// The code of a STORE: MODIFIED with the refused messages, or if there are none, EXPUNGEISSUED if
+/// some of the named messages are gone.
 fn store_code(
     alloc: Global,
     before: &Rows<'_>,
@@ -230,7 +237,7 @@ fn store_code(
     }))
 }
 
-/// What STORE tells of the messages that it takes.
+/// The answers of STORE for the messages that it could change.
 fn stored_answers(
     alloc: Global,
     after: &Rows<'_>,
@@ -247,14 +254,14 @@ fn stored_answers(
     answers_of(alloc, after, view, condstore, asked, taken)
 }
 
-/// Whether nothing is told of the messages.
+/// Whether STORE gives no answers: it is silent and has no UNCHANGEDSINCE.
 fn answers_nothing(silent: bool, since: Option<u64>) -> bool
     ensures { result ≡ (silent && not (is_some since)) }
 {
     silent && !since.is_some()
 }
 
-/// FETCH of the messages as they are behind the command.
+/// A FETCH of each message as it is after the command.
 fn answers_of(
     alloc: Global,
     after: &Rows<'_>,
@@ -274,7 +281,7 @@ fn answers_of(
     Ok(answers)
 }
 
-/// Adds FETCH of the message with this number as it is behind the command.
+/// Adds the FETCH of the message with this number as it is after the command.
 fn push_answer(
     alloc: Global,
     condstore: bool,
@@ -301,7 +308,7 @@ fn push_answer(
     Ok(())
 }
 
-/// The flags of a message's versions together, where they are told.
+/// The union of a message's flags, if they are reported.
 fn flags_where(
     alloc: Global,
     told: bool,
@@ -315,7 +322,7 @@ fn flags_where(
     Ok(Some(versions.flags(alloc)?))
 }
 
-/// The flags that a session takes where STORE is silent.
+/// The flags that the session sets itself if STORE is silent.
 fn silents_of(
     alloc: Global,
     view: &ViewEntries,
@@ -345,7 +352,7 @@ fn silents(
     Ok(silents)
 }
 
-/// Adds the view's own flags of a message, changed as asked.
+/// Adds the view's flags of a message, changed as STORE asks.
 fn push_silent(
     alloc: Global,
     view: &ViewEntries,

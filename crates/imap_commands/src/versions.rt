@@ -1,4 +1,4 @@
-//! What operations say of a message that may have several versions.
+//! The ids by which operations name all versions of a message.
 
 ghost use Rattle.std.specs.Prelude.{◌≡◌, IfOk};
 ghost use Rattle.imap_types.specs.Unions.{version_ids};
@@ -8,8 +8,8 @@ use imap_types::{Version, Versions};
 use std::alloc::{AllocError, Global};
 use tags_clocks::OpId;
 
-/// The ids of all versions of a message, as operations name them. Those of a listing ascend; of others nothing is promised. `Err` where
-/// there is no memory.
+/// The ids of all versions of a message, as operations name them. A listing's versions have
+/// ascending ids; for other versions the result may be `Err`. `Err` also if memory runs out.
 pub fn old_ids(alloc: Global, versions: &Versions<'_>) -> Result<Ids, AllocError>
     ensures { IfOk result (λ olds. olds ≡ version_ids versions.now.list.now) }
 {
