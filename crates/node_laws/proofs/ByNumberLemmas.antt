@@ -92,7 +92,7 @@ none_noticed start ops state condstore command = elim (cases_Bool (enables_conds
 none_tail : (tag : List ℕ) (command : Command) (code : Option Code) → HasNoExpunge (tagged_lines_of tag command code)
 none_tail tag command code = elim (cases_Bool (is_idle command)) [ inl t ↦ rw t tt | inr f ↦ rw f (tt, tt) ]
 
--- ---- what a command by number tells
+-- ---- the report of a command by number
 
 fetch_none : (mailbox : OpenMailbox) (after : List ListedMessage) (condstore : Bool) (asked : FetchArgs) → HasNoExpunge (fetch_report mailbox after condstore asked).own
 fetch_none mailbox after condstore asked =
@@ -122,7 +122,7 @@ partial_kind : (by_uid : Bool) → not by_uid ≡ true → sync_kind_by by_uid �
 partial_kind false b = refl
 partial_kind true b = absurd (false≢true b)
 
--- the sync behind it is partial
+-- the sync after it is partial
 sync_partial : (command : Command) → is_by_number command ≡ true → sync_of command ≡ Some Partial
 sync_partial (commands.Search asked) b = ap (λ (k : SyncKind). Some k) (partial_kind asked.by_uid b)
 sync_partial (commands.Fetch asked) b = ap (λ (k : SyncKind). Some k) (partial_kind asked.by_uid b)
@@ -170,7 +170,7 @@ no_expunge old new n (inputs.Command moment tagged) (Refused why closed) r b = t
 no_expunge old new n (inputs.Line line) reply r b = absurd (false≢true b)
 no_expunge old new n inputs.Poll reply r b = absurd (false≢true b)
 
--- ---- messages in their places
+-- ---- messages keep their numbers
 
 flagged_uids : (es : List ViewEntry) (k : ℕ) (flags : Flags) → uids_of (with_flags_at es k flags) ≡ uids_of es
 flagged_uids [] k flags = refl

@@ -34,7 +34,7 @@ pub code_parts : (rows : List ListedMessage) (view : List ViewEntry) (numbers : 
 code_parts rows view numbers u v [] sources cs copies e = absurd (gone_is rows view numbers v sources copies e)
 code_parts rows view numbers u v (s ∷ ss) sources cs copies e = (cc, cc, cc)
 
--- ---- the Appends among what is issued
+-- ---- the Appends among the operations issued
 
 kinds_among : (folder : List ℕ) (ops : List Op) → map (λ (o : Op). o.kind) (appends_among folder ops) ≡ filter (is_append_to folder) (map (λ (o : Op). o.kind) ops)
 kinds_among folder [] = refl
@@ -68,7 +68,7 @@ removals_out folder destination rows view (n ∷ numbers) =
     ∙ ap (λ (ks : List Kind). ks ++ filter (is_append_to destination) (expunges_of_moved folder rows view numbers)) (removal_out folder destination m)
     ∙ removals_out folder destination rows view numbers
 
--- of what MOVE issues
+-- the Appends among the operations of MOVE
 pub moves_kept : (folder destination : List ℕ) (rows : List ListedMessage) (view : List ViewEntry) (numbers : List ℕ)
     → filter (is_append_to destination) (appends_of destination rows view numbers ++ expunges_of_moved folder rows view numbers) ≡ appends_of destination rows view numbers
 moves_kept folder destination rows view numbers =

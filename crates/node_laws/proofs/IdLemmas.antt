@@ -46,7 +46,7 @@ pub filter_more : {X : Type 0} (test : X → Bool) (xs ys : List X) → filter t
 filter_more test [] ys = refl
 filter_more test (x ∷ xs) ys = elim (cases_Bool (test x)) [ inl t ↦ rw t (ap (λ zs. x ∷ zs) (filter_more test xs ys)) | inr f ↦ rw f (filter_more test xs ys) ]
 
--- ---- the rows behind them
+-- ---- the rows after them
 
 one_test : (folder : List ℕ) (kind : Kind) → appends_to folder kind ≡ is_append_to folder kind
 one_test folder (kinds.Create name) = refl
@@ -92,7 +92,7 @@ is_begun true false p q = refl
 is_begun true true p q = absurd (false≢true (sym q))
 is_begun false y p q = absurd (false≢true p)
 
--- it takes the former UIDNEXT
+-- its message gets the former UIDNEXT
 pub append_landed : (start : Counters) (folder : List ℕ) (before : List Op) (o : Op) → IsApplied (before ++ o ∷ []) → folder_exists folder (before ++ o ∷ []) ≡ true → is_append_to folder o.kind ≡ true
     → IsLanded (listing start folder (before ++ o ∷ [])) (uidnext_of start folder before) o
 append_landed start folder before o a t is =

@@ -65,7 +65,7 @@ use Rattle.node_laws.specs.Copies.{AreCopied, AreCopiesTold, HasCode, IsAppendTo
 use Rattle.node_laws.proofs.CopyLemmas.{appends_kept, code_parts, copied_all, kinds_are, moves_kept}
 use Rattle.node_laws.proofs.IdLemmas.{append_landed, copying_stays, ids_landed}
 
--- ---- which answers a reply has
+-- ---- the answers of a reply
 
 module _ (P : Answer → Type 0) (exists : (n : ℕ) → P (answers.Exists n)) (expunge : (n : ℕ) → P (answers.Expunge n)) (fetch : (n : ℕ) (items : FetchItems) → P (answers.Fetch n items)) where
   each_loss : (rows : List ListedMessage) (n : ℕ) (e : ViewEntry) → Each P (expunge_if_gone rows n e)
@@ -132,7 +132,7 @@ line_code own sync tag code word wanted n s (t, w, i) =
       ]
     ]
 
--- ---- what was there before
+-- ---- the mailbox before the command
 
 least_next : (start : Counters) (name : List ℕ) (ops : List Op) → 1 ≤ start.uid → 1 ≤ uidnext_of start name ops
 least_next start name ops l = elim (cases_Bool (bytes_eq name inbox)) [ inl t ↦ rw t (omega arith) | inr f ↦ rw f (omega arith) ]
@@ -147,7 +147,7 @@ rows_had start ops view a = under_has ops view.uidvalidity (uidvalidity_of start
 -- ---- COPY
 
 module _ (start : Counters) (before issued : List Op) (wanted : List Kind) (least : 1 ≤ start.uid) (a : IsApplied (before ++ issued)) (m : map (λ (o : Op). o.kind) issued ≡ wanted) (name : List ℕ) (t : incarnations.folder_exists name before ≡ true) where
-  -- kinds that copy leave the mailbox there
+  -- after operations that copy, the mailbox still exists
   copies_under : Each (IsCopying before) wanted → uidvalidity_of start name (before ++ issued) ≡ Some (validity_of start name (before ++ issued))
   copies_under c = validity_is start name (before ++ issued) (stays_there name before issued wanted a m (λ kind i. copying_stays before kind (each_in (IsCopying before) wanted kind c i)) t)
 
@@ -161,7 +161,7 @@ module _ (start : Counters) (before issued : List Op) (wanted : List Kind) (leas
       (kinds_are name issued wanted (appends_of name rows view numbers) m f)
 
 module _ (start : Counters) (before issued : List Op) (stamp : List ℕ) (wanted : List Kind) (least : 1 ≤ start.uid) (b : IsApplied before) (a : IsApplied (before ++ issued)) (m : map (λ (o : Op). o.kind) issued ≡ wanted) where
-  -- what is told of a view's messages
+  -- the reported UIDs of a view's messages are right
   abbrev Tells : List ℕ → ViewState → ℕ → List ℕ → List ℕ → Type 0
   Tells name view v ss cs = (uidvalidity_of start name (before ++ issued) ≡ Some v) × AreCopied (rows_for start before view) (listing start name (before ++ issued)) name ss cs (appends_among name issued)
 
@@ -197,7 +197,7 @@ module _ (start : Counters) (before issued : List Op) (stamp : List ℕ) (wanted
       (told_so transfer.name seen transfer.by_uid transfer.messages v ss cs t (subst (Each (IsCopying before)) (sym is) (appends_copying before transfer.name rows seen.entries numbers))
       (ap (filter (is_append_to transfer.name)) is ∙ appends_kept transfer.name rows seen.entries numbers) p.0 p.1 p.2)
 
--- the operations afterwards
+-- the operations after the command
 whole_of : (old new : NodeState) (issued : List Op) → new.applied ≡ old.applied ++ issued → IsApplied new.applied → IsApplied (old.applied ++ issued)
 whole_of old new issued e a = subst IsApplied e a
 
@@ -320,7 +320,7 @@ module _ (start : Counters) (before issued : List Op) (stamp : List ℕ) (wanted
       (told_so start before issued stamp wanted least b a m transfer.name seen transfer.by_uid transfer.messages v ss cs t (subst (Each (IsCopying before)) (sym is) copying)
       (ap (filter (is_append_to transfer.name)) is ∙ moves_kept seen.name transfer.name rows seen.entries numbers) p.0 p.1 p.2)
 
--- what a reply to MOVE tells where copies are is what the command itself tells
+-- COPYUID in a reply to MOVE is one of the command's own answers
 move_own : (start : Counters) (after : List Op) (session : Session) (tag : List ℕ) (telling : CommandReport) (transfer : Transfer) (v : ℕ) (ss cs : List ℕ)
     → IsIn (answers.Tell (notices.CopyUid v ss cs)) (answers_of_effect start after (command_effect start after session tag (commands.Move transfer) telling)) → IsIn (answers.Tell (notices.CopyUid v ss cs)) telling.own
 move_own start after session tag telling transfer v ss cs i =

@@ -1,3 +1,6 @@
+-- Commands by message numbers, and views in which each message keeps its number (RFC 9051,
+-- section 7.5.1).
+
 use Rattle.std.specs.Prelude.{◌≡◌, ℕ, Bool, false, not, List, [], ◌++◌, Option, Some}
 use Rattle.imap_answers.specs.declared.answer.Answer.{Answer}
 use Rattle.imap_syntax.specs.declared.command.Command.{Command}
@@ -9,35 +12,36 @@ use Rattle.imap_node.specs.declared.input.Input.TheVariants as inputs
 use Rattle.imap_node.specs.declared.reply.Reply.{Reply}
 use Rattle.imap_node.specs.declared.reply.Reply.TheVariants.{Done, Refused}
 
--- FETCH, STORE and SEARCH, which are no UID commands (RFC 9051, section 7.5.1).
+-- Whether a command is FETCH, STORE or SEARCH by message numbers, and not by UIDs (RFC 9051,
+-- section 7.5.1).
 abbrev pub is_by_number : Command → Bool
 is_by_number (commands.Search asked) = not asked.by_uid
 is_by_number (commands.Fetch asked) = not asked.by_uid
 is_by_number (commands.Store asked) = not asked.by_uid
 is_by_number _ = false
 
--- An input that is one of these.
+-- Whether an input is such a command.
 abbrev pub asks_by_number : Input → Bool
 asks_by_number (inputs.Command moment tagged) = is_by_number tagged.command
 asks_by_number (inputs.Line line) = false
 asks_by_number inputs.Poll = false
 
--- The answers in front of the tagged line and that line itself, where the input was carried out.
+-- The answers of a reply, with the tagged line as the last, if the input was carried out.
 abbrev pub answers_in : Reply → List Answer
 answers_in (Done answers silent issued) = answers
 answers_in (Refused why closed) = []
 
--- The list begins with these.
+-- A list begins with these items.
 abbrev pub BeginsWith : List ℕ → List ℕ → Type 0
 BeginsWith front whole = (more : List ℕ) × (whole ≡ front ++ more)
 
--- The mailbox selected is still the same, under the same UIDVALIDITY, and each message seen before has its number still: new ones come
--- behind them.
+-- The same mailbox is still selected, under the same UIDVALIDITY, and each message shown before
+-- still has its number: new messages come after them.
 pub record KeepsPlaces (before after : ViewState) : Type 0 where
   pub name : after.name ≡ before.name
   pub uidvalidity : after.uidvalidity ≡ before.uidvalidity
   pub uids : BeginsWith (uids_of before.entries) (uids_of after.entries)
 
--- Where something was seen, it is still.
+-- If a session had a view, it still has one, in which each message keeps its number.
 abbrev pub AreKeptInPlace : Option ViewState → Option ViewState → Type 0
 AreKeptInPlace before after = (view : ViewState) → before ≡ Some view → (now : ViewState) × (after ≡ Some now) × KeepsPlaces view now

@@ -1,3 +1,5 @@
+-- APPENDUID and COPYUID report the UIDs of the messages appended (RFC 9051, section 7.1).
+
 use Rattle.std.specs.Prelude.{◌≡◌, ℕ, Bool, false, List, [], ◌∷◌, Some}
 use Rattle.std.specs.List.{filter}
 use Rattle.std.specs.Str.{bytes_eq}
@@ -19,7 +21,7 @@ use Rattle.session_view.specs.ViewState.{ViewState}
 use Rattle.uid_projection.specs.Incarnations.{uidvalidity_of}
 use Rattle.uid_projection.specs.Listing.{listing}
 
--- A command with its tag, at a moment.
+-- The input of a command with its tag, at a moment.
 abbrev pub asked : ℕ → List ℕ → Command → Input
 asked moment tag command = inputs.Command moment (record { tag = tag; command = command })
 
@@ -27,12 +29,12 @@ asked moment tag command = inputs.Command moment (record { tag = tag; command = 
 abbrev pub HasCode : Code → List Answer → Type 0
 HasCode code answers = (tag : List ℕ) × (word : CompletedWord) × IsIn (Completed tag (Some code) word) answers
 
--- An operation that appends a message to the mailbox.
+-- Whether an operation appends a message to the mailbox.
 abbrev pub is_append_to : List ℕ → Kind → Bool
 is_append_to name (Append folder flags date text) = bytes_eq name folder
 is_append_to name _ = false
 
--- Those that do, in their order.
+-- The operations that append to the mailbox, in their order.
 abbrev pub appends_among : List ℕ → List Op → List Op
 appends_among name ops = filter (λ (o : Op). is_append_to name o.kind) ops
 
@@ -43,7 +45,7 @@ pub record IsLanded (rows : List ListedMessage) (number : ℕ) (op : Op) : Type 
   pub numbered : row.uid ≡ number
   pub appended : row.origin ≡ op.id
 
--- The operation appends what the message with the one UID bears, and that is the message with the other one.
+-- The operation appends a copy of the message with UID `source`, and the copy has UID `copy`.
 pub record IsCopied (before after : List ListedMessage) (name : List ℕ) (source copy : ℕ) (op : Op) : Type 0 where
   pub message : ListedMessage
   pub there : IsIn message before
@@ -51,19 +53,21 @@ pub record IsCopied (before after : List ListedMessage) (name : List ℕ) (sourc
   pub bears : op.kind ≡ Append name message.flags message.date message.text
   pub landed : IsLanded after copy op
 
--- Sources, copies and operations, each with its own.
+-- Each source has its copy and its operation, at the same place.
 abbrev pub AreCopied : List ListedMessage → List ListedMessage → List ℕ → List ℕ → List ℕ → List Op → Type 0
 AreCopied before after name [] [] [] = Unit {0}
 AreCopied before after name (source ∷ sources) (copy ∷ copies) (op ∷ ops) = IsCopied before after name source copy op × AreCopied before after name sources copies ops
 AreCopied before after name _ _ _ = ⊥
 
--- What COPYUID tells (RFC 9051, section 7.1): the mailbox has this UIDVALIDITY, and each message of the view with a UID of the sources was
--- appended to it as the message with the UID that stands at the same place among the copies.
+-- COPYUID is right (RFC 9051, section 7.1): the mailbox has this UIDVALIDITY, and each message of
+-- the view with a UID of the sources was appended to it as the message with the UID at the same
+-- place among the copies.
 pub record AreCopiesTold (old new : NodeState) (view : ViewState) (name : List ℕ) (issued : List Op) (uidvalidity : ℕ) (sources copies : List ℕ) : Type 0 where
   pub under : uidvalidity_of new.start name new.applied ≡ Some uidvalidity
   pub copied : AreCopied (rows_for old.start old.applied view) (listing new.start name new.applied) name sources copies (appends_among name issued)
 
--- What APPENDUID tells: the mailbox has this UIDVALIDITY, and the one operation that was issued appended the message with this UID.
+-- APPENDUID is right (RFC 9051, section 7.1): the mailbox has this UIDVALIDITY, and the one
+-- operation that was issued appended the message with this UID.
 pub record IsAppendTold (new : NodeState) (name : List ℕ) (issued : List Op) (uidvalidity number : ℕ) : Type 0 where
   pub under : uidvalidity_of new.start name new.applied ≡ Some uidvalidity
   pub op : Op

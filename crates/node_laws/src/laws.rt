@@ -1,4 +1,4 @@
-//! Laws on replies: a contract each.
+//! Laws on the replies of a node: message numbers, APPENDUID and COPYUID.
 
 ghost use Rattle.std.specs.Prelude.{◌≡◌, ◌≤◌, ℕ, true, List, Some};
 ghost use Rattle.crdt_ops.specs.declared.op.Op.{Op};
@@ -23,16 +23,17 @@ ghost use Rattle.session_view.specs.Sync.{HasNoExpunge};
 ghost use Rattle.session_view.specs.declared.reply_replay.SilentFlags.{SilentFlags};
 ghost use Rattle.uid_projection.specs.Applied.{IsApplied};
 
-/// FETCH, STORE and SEARCH, which are no UID commands, are answered without EXPUNGE, and each message that the session saw before has its
-/// number behind them (RFC 9051, section 7.5.1).
+/// FETCH, STORE and SEARCH by message numbers are answered without EXPUNGE, and after them each
+/// message that the session was shown before still has its number (RFC 9051, section 7.5.1).
 pub fn by_number_keeps_places()
     ensures expunges { (old new : NodeState) (n : ℕ) (input : Input) (reply : Reply) → Responds old n input reply new → asks_by_number input ≡ true → HasNoExpunge (answers_in reply) }
     ensures places { (old new : NodeState) (n : ℕ) (input : Input) (reply : Reply) → Responds old n input reply new → asks_by_number input ≡ true
         → AreKeptInPlace (view_at old.sessions n) (view_at new.sessions n) }
 {}
 
-/// What the codes APPENDUID and COPYUID tell is so (RFC 9051, section 7.1): under the mailbox's UIDVALIDITY the UID of an APPEND is that of
-/// the message which its one operation appended; and each copy of a COPY or a MOVE has the UID that stands where its source's does.
+/// APPENDUID and COPYUID report the right UIDs (RFC 9051, section 7.1): under the mailbox's
+/// UIDVALIDITY the UID of an APPEND is that of the message that its one operation appended, and the
+/// copies of a COPY or MOVE have the reported UIDs, in the order of their sources.
 pub fn told_uids_are_those_of_the_messages()
     ensures appends { (old new : NodeState) (n moment : ℕ) (tag : List ℕ) (append : Appended) (told : List Answer) (silent : List SilentFlags) (issued : List Op) (v number : ℕ)
         → IsApplied old.applied → Responds old n (asked moment tag (Append append)) (Done told silent issued) new → HasCode (AppendUid v number) told → IsAppendTold new append.name issued v number }
