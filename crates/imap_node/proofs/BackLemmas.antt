@@ -67,12 +67,12 @@ use Rattle.imap_node.proofs.ReplayLemmas.{closed_sees, closes_alone, left_view, 
 use Rattle.imap_node.proofs.UidLemmas.{IsKnown, IsQuiet, beyond_first, knows_all, listed_uid, partial_from, partial_has, replayed_uids, uid_listed, under_knows}
 use Rattle.crdt_ops.specs.Ops.{clock_of, id_of}
 
--- a view goes back, and its UIDs ascend
+-- a view goes back to an earlier moment, and its UIDs ascend
 pub record IsFine (start : Counters) (ops : List Op) (view : ViewState) : Type 0 where
   pub back : IsOlderView start ops view
   pub rising : AreRising 1 view.entries
 
--- and shows the listing
+-- a view shows the listing
 abbrev pub ShowsAll : Counters → List Op → ViewState → Type 0
 ShowsAll start ops view = view.entries ≡ entries_of (rows_for start ops view)
 
@@ -101,7 +101,7 @@ module _ (start : Counters) (ops : List Op) (l : 1 ≤ start.uid) (a : IsApplied
         under_knows view.uidvalidity (uidvalidity_of start view.name ops) (listing start view.name ops) (view_after_reply (rows_for start ops view) view.entries silent own)
         (λ e. knows_all 1 (listing start view.name ops) (view_after_reply (rows_for start ops view) view.entries silent own) (omega arith) (listing_rises e) (seen_known e))
 
-    -- behind a full sync the view is the listing
+    -- after a full sync the view is the listing
     full_is : view_after_sync Full (rows_for start ops view) (view_after_reply (rows_for start ops view) view.entries silent own) ≡ entries_of (rows_for start ops view)
     full_is =
         full_shows (rows_for start ops view) (view_after_reply (rows_for start ops view) view.entries silent own) (rows_rising start ops view l a)
@@ -131,7 +131,7 @@ module _ (start : Counters) (ops : List Op) (l : 1 ≤ start.uid) (a : IsApplied
           | inr w ↦ subst (λ (u : ℕ). u < uidnext_of start view.name ops) w.2 (row_below start view.name ops w.0 a (subst (IsIn w.0) (rows_are start ops view e) w.1))
         ])
 
-    -- what any sync leaves
+    -- the view after any sync goes back to an earlier moment
     synced_back : (sync : Option SyncKind) → IsOlderView start ops (record view { entries = entries_after_sync sync (rows_for start ops view) (view_after_reply (rows_for start ops view) view.entries silent own) })
     synced_back None = back_by_uids start ops view (view_after_reply (rows_for start ops view) view.entries silent own) same_uids fine.back
     synced_back (Some Full) = listed_back (view_after_sync Full (rows_for start ops view) (view_after_reply (rows_for start ops view) view.entries silent own)) full_is
@@ -162,7 +162,7 @@ module _ (start : Counters) (ops : List Op) (l : 1 ≤ start.uid) (a : IsApplied
       one_ends sync (record view { entries = entries_after_sync sync (rows_for start ops view) (view_after_reply (rows_for start ops view) view.entries silent own) })
       (synced_back view (h view refl) silent own q sync) (synced_shows view (h view refl) silent own q sync)
 
-  -- ---- a mailbox that is selected
+  -- ---- a mailbox that is newly selected
 
   take_length : (xs : List ListedMessage) → take (length xs - 0) xs ≡ xs
   take_length xs = let k : length xs - 0 ≡ length xs = omega arith in rw (k, take-length xs) refl
@@ -216,7 +216,7 @@ module _ (start : Counters) (ops : List Op) (l : 1 ≤ start.uid) (a : IsApplied
   examine_notice state name false true = refl
   examine_notice state name false false = refl
 
-  -- what is seen behind some first answers, and a telling
+  -- the view after some first answers and a report goes back to an earlier moment
   abbrev Shown : List ℕ → ViewState → List Answer → CommandReport → Type 0
   Shown name view first told =
       ◌≡◌ {A = Option ViewState} (Some (record (selected_view name) { entries = view_after_reply (rows_for start ops (selected_view name)) [] told.silent (first ++ told.own) })) (Some view)
@@ -320,7 +320,7 @@ module _ (old new : NodeState) (n : ℕ) (input : Input) (l : 1 ≤ old.start.ui
       (subst (λ (os : List Op). IsBack input old.start os view) (sym c.becomes.applied)
       (input_back old.start ops l whole old.applied session fine c.stamp c.kinds issued input c.course refl c.next.of_kinds c.wanted c.taken view seen))
 
-  -- the sessions that weren't spoken to
+  -- the sessions whose input it wasn't
   other_back : (reply : Reply) → Responds old n input reply new → (m : ℕ) → (m ≡ n → ⊥) → (view : ViewState) → view_at new.sessions m ≡ Some view → IsOlderView new.start new.applied view
   other_back reply r m d view e =
       let issues = issues_well old new n input reply b r in
@@ -357,7 +357,7 @@ pub inputs_show : (old new : NodeState) (n : ℕ) (input : Input) (answers : Lis
     → Responds old n input (Done answers silent issued) new → tells_all input ≡ true → view_at new.sessions n ≡ Some view → view.entries ≡ entries_of (rows_for new.start new.applied view)
 inputs_show old new n input answers silent issued view l b rising back r t e = (spoken_back old new n input l b rising back answers silent issued r view e).1 t
 
--- ---- nodes and sessions that begin and end, and operations of other replicas
+-- ---- nodes, sessions that are opened and closed, and operations of other replicas
 
 pub begins_back : (start : Counters) → AreOlderViews start [] []
 begins_back start = λ n view e. let k : ◌≡◌ {A = Option ViewState} None (Some view) = sym (nothing_seen n) ∙ e in absurd cc
@@ -380,7 +380,7 @@ closes_back start ops old n o h = λ m view e.
       | inr f ↦ h m view (ap view_in (sym (closes_alone old n o m f.1)) ∙ e)
     ]
 
--- more is applied behind
+-- the list of applied operations has grown
 pub grown_back : (old new : NodeState) → new.start ≡ old.start → new.sessions ≡ old.sessions → HasGrown old.applied new.applied → IsApplied new.applied → AreOlderViews old.start old.applied old.sessions → AreOlderViews new.start new.applied new.sessions
 grown_back old new s p g a h = λ m view e.
     let here : view_at old.sessions m ≡ Some view = ap (λ (places : Places). view_at places m) (sym p) ∙ e in

@@ -1,4 +1,4 @@
--- An operation about another folder leaves what a listing shows.
+-- An operation on another folder doesn't change what a listing shows.
 use Rattle.std.specs.List.{cons_option, filter_map}
 use Rattle.std.specs.Option.{option_map}
 use Rattle.std.specs.Str.{bytes_eq}
@@ -35,14 +35,14 @@ filter_map_alike : {X Y : Type 0} (f g : X → Option Y) (xs : List X) → ((x :
 filter_map_alike f g [] h = refl
 filter_map_alike f g (x ∷ xs) h = λ k. cons_option (h x (inl refl) k) (filter_map_alike f g xs (λ y t. h y (inr t)) k)
 
--- versions carry the same flags later
+-- versions carry the same flags after further operations
 flags_later : (folder : List ℕ) (ops more : List Op) (g : OpId) → filter_map (tag_flags_of ops folder) (versions_of ops folder g) ≡ filter_map (tag_flags_of (ops ++ more) folder) (versions_of ops folder g)
 flags_later folder ops more g =
     filter_map_alike (tag_flags_of ops folder) (tag_flags_of (ops ++ more) folder) (versions_of ops folder g) (λ i t.
     let b = present_carries folder ops i (((versions_listed ops folder g).1 i).0 t).0 in
     ap (option_map (λ (x : MessageTagData). x.flags)) (b.1 ∙ sym (given_more (tag_data_from folder i) ops more b.0 b.1)))
 
--- a message with the same versions has the same flags later
+-- a message with the same versions has the same flags after further operations
 pub flags_stay : (folder : List ℕ) (ops more : List Op) (g : OpId) → versions_of (ops ++ more) folder g ≡ versions_of ops folder g → (message_of (ops ++ more) folder g).flags ≡ (message_of ops folder g).flags
 flags_stay folder ops more g e = ap (λ (is : List OpId). union_of (filter_map (tag_flags_of (ops ++ more) folder) is)) e ∙ ap union_of (sym (flags_later folder ops more g))
 
@@ -54,7 +54,7 @@ entries_mapped f (e ∷ es) = entries_cons (f e) (filter_map f es) (filter_map (
     entries_cons None rows es h = h
     entries_cons (Some row) rows es h = ap (λ (more : List ViewEntry). entry_of row ∷ more) h
 
--- what is shown of an entry
+-- what a view shows of an entry
 abbrev shown_by : Bool → ℕ → Flags → Option ViewEntry
 shown_by true uid flags = Some (record { uid = uid; flags = flags })
 shown_by false uid flags = None
@@ -116,7 +116,7 @@ module _ (start : Counters) (folder : List ℕ) (ops : List Op) (o : Op) (a : Is
       no_number true = refl
       no_number false = refl
 
--- what is shown under a UIDVALIDITY
+-- what a view shows of rows under a UIDVALIDITY
 shown_under : (uidvalidity : ℕ) (n m : Option ℕ) (rows others : List ListedMessage) → n ≡ m → entries_of rows ≡ entries_of others → entries_of (rows_under uidvalidity n rows) ≡ entries_of (rows_under uidvalidity m others)
 shown_under uidvalidity n None rows others e h = ap (λ (k : Option ℕ). entries_of (rows_under uidvalidity k rows)) e
 shown_under uidvalidity n (Some m) rows others e h =
@@ -126,7 +126,7 @@ shown_under uidvalidity n (Some m) rows others e h =
     if_entries true = h
     if_entries false = refl
 
--- operations about other folders leave what is shown
+-- operations on other folders don't change what a view shows
 pub all_beside : (start : Counters) (folder : List ℕ) (more ops : List Op) → IsApplied (ops ++ more) → ((o : Op) → IsIn o more → kind_names_folder folder o.kind ≡ false) → (uidvalidity : ℕ)
     → entries_of (rows_under uidvalidity (uidvalidity_of start folder (ops ++ more)) (listing start folder (ops ++ more))) ≡ entries_of (rows_under uidvalidity (uidvalidity_of start folder ops) (listing start folder ops))
 all_beside start folder [] ops a f uidvalidity =

@@ -153,7 +153,7 @@ listed_in ops folder i h =
 delete_covered : (ops : List Op) (folder : List ℕ) (clock : List (ℕ × ℕ)) → IsClockOf id_of ops clock → AreCovered clock (delete_set_of ops folder)
 delete_covered ops folder clock counts = covered_from clock (delete_set_of ops folder) (λ i h. (counts i).1 (listed_in ops folder i h))
 
--- and what an Unsubscribe lists
+-- the clock covers what an Unsubscribe lists, too
 tag_in : (ops : List Op) (name : List ℕ) (i : OpId) → IsIn i (subscription_tags_of ops name) → HasId id_of ops i
 tag_in ops name i h =
     let l = (in_order_lists {order = id_order} id_order_total id_order_same (filter_map (subscription_id name) (present_tags ops))).1 i in
@@ -162,7 +162,7 @@ tag_in ops name i h =
 unsubscribe_covered : (ops : List Op) (name : List ℕ) (clock : List (ℕ × ℕ)) → IsClockOf id_of ops clock → AreCovered clock (subscription_tags_of ops name)
 unsubscribe_covered ops name clock counts = covered_from clock (subscription_tags_of ops name) (λ i h. (counts i).1 (tag_in ops name i h))
 
--- ---- what the commands over mailboxes want
+-- ---- what the commands on mailboxes issue
 
 -- each kind covers only what was applied
 abbrev Covers : List Op → List Kind → Type 0
@@ -190,7 +190,7 @@ ok_is wanted given e = cc
 pub not_ok : {X : Type 0} (why : Refusal) (given : List Kind) → ◌≡◌ {A = Result (List Kind) Refusal} (Err why) (Ok given) → X
 not_ok why given e = absurd cc
 
--- where a test lets it be
+-- a kind that is issued if a test holds
 pub where_true : (test : Bool) (want : Result (List Kind) Refusal) (why : Refusal) (given : List Kind) → (if test then want else Err why) ≡ Ok given → (test ≡ true) × (want ≡ Ok given)
 where_true true want why given e = (refl, e)
 where_true false want why given e = not_ok why given e
@@ -241,7 +241,7 @@ append_covers ops there stamp asked given e =
 pub deleted_there : (there : Bool) (seen : List OpId) (name : List ℕ) (given : List Kind) → delete_intent there seen name ≡ Ok given → there ≡ true
 deleted_there there seen name given e = (where_true there _ _ given e).0
 
--- ---- what the commands over messages want
+-- ---- what the commands on messages issue
 
 chosen : (b : Bool) (rows : List ListedMessage) (row : ListedMessage) → IsIn row (if b then rows else []) → IsIn row rows
 chosen true rows row i = i
@@ -302,7 +302,7 @@ module _ (start : Counters) (ops : List Op) (a : IsApplied ops) where
     pub issuable_all : (given : List Kind) → AreIssuable view.name destination (rows_for start ops view) given → CanIssueAll ops given
     issuable_all given h = λ kind i. issuable_can kind (h kind i)
 
--- a destination that is copied to is there
+-- a copy's destination exists
 not_true : (b : Bool) → not b ≡ false → b ≡ true
 not_true true h = refl
 not_true false h = cc
@@ -318,7 +318,7 @@ move_there mailbox asked there given e =
     let writable = where_false mailbox.read_only _ _ given in_range.1 in
     not_true there (where_false (not there) _ _ given writable.1).0
 
--- ---- what each command wants
+-- ---- what each command issues
 
 pub known_wants : (state : State) (want : Result (List Kind) Refusal) (given : List Kind) → when_known state want ≡ Ok given → want ≡ Ok given
 known_wants state want given e = (where_true (is_known state) want refusals.NotNow given e).1
@@ -342,7 +342,7 @@ nothing_where : (ops : List Op) (test : Bool) (why : Refusal) (given : List Kind
 nothing_where ops test why given e = nothing_wanted ops given (where_true test (Ok []) why given e).1
 
 module _ (start : Counters) (ops : List Op) (a : IsApplied ops) (stamp : List ℕ) (state : State) where
-  -- what a command wants may be issued
+  -- what a command issues may be issued
   pub wanted_can : (command : Command) (given : List Kind) → command_intent start ops stamp state command ≡ Ok given → CanIssueAll ops given
   wanted_can commands.Capability given e = nothing_wanted ops given e
   wanted_can commands.Noop given e = nothing_wanted ops given e

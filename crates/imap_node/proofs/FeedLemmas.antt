@@ -1,4 +1,4 @@
--- What sessions are still to be told, behind what operations changed.
+-- What sessions must still be sent after operations, given their change notes.
 use Rattle.std.specs.List.{list_any}
 use Rattle.std.proofs.Common.{◌≡◌, inl, inr, ℕ, ◌≤◌, true, false, List, [], ◌∷◌, ◌++◌, length, drop, Some, refl, sym, ap, ◌∙◌, subst}
 use Rattle.std.specs.Prelude.{bytes_eq}
@@ -22,7 +22,7 @@ use Rattle.uid_projection.specs.UidsAndModSeqs.{kind_names_folder}
 use Rattle.uid_projection.proofs.Lasting.{about_name}
 use Rattle.imap_node.proofs.BesideLemmas.{all_beside}
 
--- of each mailbox that is named all may differ
+-- everything may differ in each listed mailbox
 abbrev pub AreEnded : List MailboxNotes → Type 0
 AreEnded [] = Unit {0}
 AreEnded (folder ∷ folders) = (folder.notes ≡ Ended ∷ []) × AreEnded folders
@@ -31,7 +31,7 @@ pub ended_more : (folders : List MailboxNotes) (name : List ℕ) → AreEnded fo
 ended_more [] name h = (refl, tt)
 ended_more (folder ∷ folders) name h = (h.0, ended_more folders name h.1)
 
--- the mailboxes named behind these operations
+-- the mailboxes listed after these operations
 abbrev pub all_ended : List MailboxNotes → List Op → List MailboxNotes
 all_ended folders [] = folders
 all_ended folders (o ∷ ops) = all_ended (with_all_differing folders (name_of o.kind)) ops
@@ -93,7 +93,7 @@ notes_unnamed (folder ∷ folders) name k =
       | inr f ↦ rw f (notes_unnamed folders name (rw f at k))
     ]
 
--- such news name what the operations change
+-- such change notes name what the operations change
 pub ended_news : (start : Counters) (list ops : List Op) → IsApplied (list ++ ops) → AreChangeNotes start list (list ++ ops) (all_ended [] ops)
 ended_news start list ops a = λ name uidvalidity uid.
     let folders : List MailboxNotes = all_ended [] ops in
@@ -109,11 +109,11 @@ ended_news start list ops a = λ name uidvalidity uid.
 pub no_news : (start : Counters) (list : List Op) → AreChangeNotes start list list []
 no_news start list = λ name uidvalidity uid. inl refl
 
--- the loop over the operations has ended
+-- the loop over the operations is done
 pub ended_through : (folders : List MailboxNotes) (ops : List Op) (k : ℕ) → length ops ≤ k → all_ended folders (drop k ops) ≡ all_ended [] ops → all_ended [] ops ≡ folders
 ended_through folders ops k l e = sym (sym (ap (all_ended folders) (drop_all k ops l)) ∙ e)
 
--- ---- a session behind which nothing is noted
+-- ---- a session with nothing noted
 
 pub current_by : (start : Counters) (ops : List Op) (places : Places) (feeds : List FeedState) (n : ℕ) (p : Pending) (view : ViewState) → AreAllNoted start ops places feeds → p ≡ pending_at feeds n → p.missed ≡ false → p.notes ≡ [] → view_at places n ≡ Some view → IsCurrent start ops view
 current_by start ops places feeds n p view noted e m o v uid =

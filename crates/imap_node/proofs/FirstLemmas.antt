@@ -1,4 +1,5 @@
--- What is seen first of a mailbox is a front of its listing, and all of it where there are as many.
+-- What a view shows first of a mailbox is an initial part of its listing, and the whole listing if
+-- it has as many messages.
 use Rattle.std.specs.List.{list_any}
 use Rattle.std.proofs.Common.{◌≡◌, inr, inl, ℕ, zero, suc, ◌+◌, ◌-◌, ◌<◌, ◌≤◌, Bool, true, false, ◌||◌, List, [], ◌∷◌, ◌++◌, length, take, drop, Some, refl, sym, ap, ◌∙◌, subst, arith}
 use Rattle.std.specs.Prelude.{nat_lt}
@@ -26,7 +27,7 @@ use Rattle.session_view.specs.declared.view_entry.ViewEntry.{ViewEntry}
 use Rattle.uid_projection.specs.declared.first_numbers.Counters.{Counters}
 use Rattle.imap_node.proofs.GoingLemmas.{same_seen}
 
--- ---- a front of a listing
+-- ---- an initial part of a listing
 
 all_beyond : (uid low : ℕ) (rows : List ListedMessage) → uid < low → AreRisingRows low rows → rows_after_uid uid rows ≡ rows
 all_beyond uid low [] l h = refl
@@ -92,7 +93,7 @@ module _ (rows : List ListedMessage) (r : AreRisingRows 1 rows) where
       let all = all_shown 0 own h in
       all.1 ∙ whole_front rows all.0 (sym (ap length all.1) ∙ l)
 
--- ---- a state that is made anew
+-- ---- a new state
 
 pub all_is_shown : (start : Counters) (ops : List Op) (rows : List ListedMessage) (was now : ViewState) (read_only : Bool) (front : SyncInput) → AreRisingRows 1 rows → rows ≡ rows_for start ops was
     → now ≡ record was { entries = entries_after_sync front.sync rows (view_after_reply rows was.entries front.silent front.own) } → IsFirstSight was.entries front → length now.entries ≡ length rows
@@ -108,6 +109,6 @@ all_is_shown start ops rows was now read_only front r e n first l = λ view q ui
     let here : flags_at uid now.entries ≡ flags_at uid (entries_of (rows_for start ops now)) = ap (flags_at uid) whole ∙ ap (λ (rs : List ListedMessage). flags_at uid (entries_of rs)) same in
     subst (λ (v : ViewState). flags_at uid v.entries ≡ flags_at uid (entries_of (rows_for start ops v))) (same_seen now view q) here
 
--- what it shows is noted, whatever is noted
+-- what it shows needs no notes
 pub shown_noted : (start : Counters) (ops : List Op) (state : State) (all : Bool) (pending : Pending) (view : ViewState) → ShowsAll start ops state all → all ≡ true → view_of state ≡ Some view → IsNotedFor start ops pending view
 shown_noted start ops state all pending view h t q = inr (λ uid. inl (h t view q uid))

@@ -1,4 +1,4 @@
--- What becomes of sessions that go on, and what they are still to be told then.
+-- The change of sessions, and what they must still be sent after it.
 use Rattle.std.specs.List.{list_any}
 use Rattle.std.specs.Option.{option_map}
 use Rattle.std.proofs.Common.{◌≡◌, ◌⊎◌, inl, inr, ℕ, zero, suc, ◌<◌, ◌≤◌, ◌+◌, ◌-◌, Bool, false, List, [], ◌∷◌, ◌++◌, length, take, drop, Option, Some, None, refl, sym, ap, ◌∙◌, subst, arith}
@@ -74,7 +74,7 @@ pub made_for : (start : Counters) (ops : List Op) (state : State) (view : ViewSt
 made_for start ops state view read_only made rows is e h =
     subst (λ (m : Option (List ListedMessage)). IsListingFor start ops (Selected view read_only) m) e (subst (λ (s : State). IsListingFor start ops s made) is h)
 
--- what the sync of a view asks
+-- what the sync of a view requires
 pub asked_in_place : (start : Counters) (before after : List Op) (view : ViewState) (pending : Pending) (news : List MailboxNotes) (rows : List ListedMessage) (notes : List Note) (name : List ℕ) → IsNotedFor start before pending view → AreChangeNotes start before after news
     → rows ≡ rows_for start after view → name ≡ view.name → notes ≡ notes_in news name → (listed : List ListedMessage) × NotesAllOf pending listed view.entries × NoteAllChanges notes rows (entries_of listed)
 asked_in_place start before after view pending news rows notes name noted is r n e = (
@@ -84,7 +84,7 @@ asked_in_place start before after view pending news rows notes name noted is r n
       (subst (λ (ns : List Note). NoteAllChanges ns (rows_for start after view) (entries_of (rows_for start before view))) (sym (e ∙ ap (notes_in news) n)) (is view.name view.uidvalidity)),
 )
 
--- ---- one session that goes on
+-- ---- the change of one session
 
 pub leaves_in : (start : Counters) (ops : List Op) (state : State) (view : ViewState) (read_only : Bool) (given : Option ViewChange) (change : ViewChange) → state ≡ Selected view read_only → given ≡ Some change → ChangeLeaves start ops state given
     → IsChangeTo (rows_for start ops view) view.entries change
@@ -99,7 +99,7 @@ same_seen v w e = cc
 no_view : (v : ViewState) → ◌≡◌ {A = Option ViewState} None (Some v) → ⊥
 no_view v e = cc
 
--- a session's feed, whichever it is
+-- the change of a session keeps its feed right
 abbrev pub GoesOn : Counters → List Op → StateChange → Pending → Pending → Session → Type 0
 GoesOn start ops onward was now s =
     LeavesNoted start ops s.state onward → ((view : ViewState) → view_of s.state ≡ Some view → IsNotedFor start ops was view) → (view : ViewState) → view_of (changed_state s.state onward) ≡ Some view → IsNotedFor start ops now view
@@ -155,7 +155,7 @@ module _ (start : Counters) (ops : List Op) (places : Places) (feeds : List Feed
       none_beyond (x ∷ ks) zero l = absurd (omega arith)
       none_beyond (x ∷ ks) (suc k) l = none_beyond ks k (omega arith)
 
--- the news noted for all
+-- the feeds with the change notes of all mailboxes added
 pub all_behind : (start : Counters) (before after : List Op) (places : Places) (old new : List FeedState) → AreAllNoted start before places old
     → ((n : ℕ) (view : ViewState) → view_in (slice_index_or places n None) ≡ Some view → IsNotedFor start before (slice_index_or old n missing_feed).pending view → IsNotedFor start after (slice_index_or new n missing_feed).pending view)
     → AreAllNoted start after places new
@@ -167,7 +167,7 @@ all_behind start before after places old new noted h n view q =
           h (n - 1) view (ap view_in (sym (place_at places n positive)) ∙ q) (noted n view q)
     ]
 
--- what stands at a place within
+-- the session at a place within the list
 pub own_session : (places : Places) (n : ℕ) (old : Option Session) → 0 < n → n - 1 < length places → old ≡ slice_index_or places (n - 1) old → session_at places n ≡ old
 own_session places n old l within e = place_at places n l ∙ any_default places (n - 1) None old within ∙ sym e
   where
@@ -184,7 +184,7 @@ kept_pending feeds k was within e = any_feed feeds k missing_feed was within ∙
     any_feed (x ∷ ks) zero a b l = refl
     any_feed (x ∷ ks) (suc k) a b l = any_feed ks k a b (omega arith)
 
--- each feed behind the news
+-- each feed with its change notes added
 pub each_behind : (news : List MailboxNotes) (places : Places) (old new : List FeedState) (k : ℕ) → length new ≡ length old → length old ≤ k
     → ((n : ℕ) → n < k → IsFeedAfterNotes news (slice_index_or places n None) (slice_index_or old n missing_feed).pending (slice_index_or new n missing_feed).pending) → ((n : ℕ) → k ≤ n → slice_index_or new n missing_feed ≡ slice_index_or old n missing_feed)
     → (start : Counters) (before after : List Op) → AreChangeNotes start before after news → AreAllNoted start before places old → AreAllNoted start after places new
@@ -202,7 +202,7 @@ each_behind news places old new k e l done rest start before after is noted =
     none_at (x ∷ ks) zero l = absurd (omega arith)
     none_at (x ∷ ks) (suc k) l = none_at ks k (omega arith)
 
--- one feed more behind the news
+-- one further feed with its change notes added
 module _ (news : List MailboxNotes) (places : Places) (old cur : List FeedState) (k : ℕ) (was feed : FeedState) (within : k < length cur) (value : was ≡ slice_index_or cur k was) (one : IsFeedAfterNotes news (slice_index_or places k None) was.pending feed.pending) where
   pub done_more : ((n : ℕ) → n < k → IsFeedAfterNotes news (slice_index_or places n None) (slice_index_or old n missing_feed).pending (slice_index_or cur n missing_feed).pending) → ((n : ℕ) → k ≤ n → slice_index_or cur n missing_feed ≡ slice_index_or old n missing_feed)
       → (n : ℕ) → n < k + 1 → IsFeedAfterNotes news (slice_index_or places n None) (slice_index_or old n missing_feed).pending (slice_index_or (slice_set cur k feed) n missing_feed).pending
@@ -237,7 +237,7 @@ pub awake_view : (place : Option Session) (view : ViewState) → view_in (option
 awake_view None view q = q
 awake_view (Some s) view q = q
 
--- a session that goes on can take its step
+-- a session whose input is carried out can take its step
 pub step_leaves : (start : Counters) (ops : List Op) (next : SessionStep) (going : SessionChange) (s : Session) → next ≡ Goes going → CanStep start ops s next → LeavesNoted start ops s.state going.onward
 step_leaves start ops next going s e h = (subst (CanStep start ops s) e h).leaves
 
@@ -249,13 +249,13 @@ noted_as start start' ops ops' places places' feeds feeds' s o p f h n view q =
     (subst (λ (x : List Op). IsNotedFor start x (pending_at feeds' n) view) (sym o)
     (subst (λ (x : Pending). IsNotedFor start ops x view) (sym (f n)) (h n view (ap (λ (x : Places). view_at x n) (sym p) ∙ q))))
 
--- a list and what stands behind its first part
+-- a list is its first part and the rest
 pub cut_whole : (n : ℕ) (ops : List Op) → take n ops ++ take (length ops - n) (drop n ops) ≡ ops
 cut_whole n ops =
     let l = length-drop n ops in
     ap (λ (back : List Op). take n ops ++ back) (take_all (length ops - n) (drop n ops) (omega (arith, l))) ∙ take-append-drop n ops
 
--- what more is applied
+-- the operations that were newly applied
 module _ (old new : List Op) (g : HasGrown old new) where
   pub grown_long : length old ≤ length new
   grown_long = let e = ap (λ (ops : List Op). length ops) g.1 in let l = length-append old g.0 in omega (arith, e, l)
@@ -263,9 +263,9 @@ module _ (old new : List Op) (g : HasGrown old new) where
   pub grown_take : take (length old) new ≡ old
   grown_take = ap (take (length old)) g.1 ∙ take_at old g.0 (length old) refl
 
--- ---- nothing is to be told
+-- ---- nothing to send
 
--- what is noted of a view's mailbox where nothing is: the view shows it
+-- if a view's mailbox has no notes, the view shows its listing
 pub settled_shows : (start : Counters) (before after : List Op) (view : ViewState) (untold : UnsentChanges) → IsNotedFor start before untold.pending view → AreChangeNotes start before after untold.change_notes → IsSettled untold view
     → NoteAllChanges [] (rows_for start after view) view.entries
 settled_shows start before after view untold noted news settled =
@@ -282,7 +282,7 @@ module _ (start : Counters) (after : List Op) (view : ViewState) (read_only : Bo
   seen_same : view.entries ≡ view_after_reply (rows_for start after view) view.entries front.silent front.own
   seen_same = f ∙ sym (own_replayed (rows_for start after view) view.entries front.silent front.own stays)
 
-  -- by no sync, or one of what the view shows already
+  -- there is no sync, or a sync of what the view shows already
   pub nothing_by : (sync : Option SyncKind) → (sync ≡ None) ⊎ (AreRising 1 view.entries × NoteAllChanges [] (rows_for start after view) view.entries)
       → ([] ≡ answers_of_sync sync front.modseq (rows_for start after view) view.entries) × (view.entries ≡ entries_after_sync sync (rows_for start after view) view.entries)
   nothing_by None h = (refl, refl)
@@ -300,7 +300,8 @@ module _ (start : Counters) (after : List Op) (view : ViewState) (read_only : Bo
         ap (λ (es : List ViewEntry). Selected (record view { entries = es }) read_only) (by.1 ∙ ap (entries_after_sync front.sync rows) seen_same),
       )
 
--- where no flags are to be set, and nothing is synced or nothing is noted, nothing is told and the state stays
+-- if no flags are to be set, and there is no sync or nothing is noted, nothing is sent and the
+-- state stays
 pub shown_as_before : (start : Counters) (before after : List Op) (state : State) (untold : UnsentChanges) (front : SyncInput) (first : List SilentFlags) → list_any is_shifting front.own ≡ false
     → ((view : ViewState) → view_of state ≡ Some view → after_silent view.entries first ≡ after_silent view.entries (front.silent ++ all_fetched_flags front.own)) → first ≡ []
     → ((view : ViewState) → view_of state ≡ Some view → IsNotedFor start before untold.pending view) → AreChangeNotes start before after untold.change_notes

@@ -55,7 +55,7 @@ appends_to folder _ = false
 abbrev pub HasAll : List Op → List OpId → Type 0
 HasAll before ids = (i : OpId) → IsIn i ids → Has before i
 
--- an operation appends a message, or takes out one that came earlier
+-- an operation appends a message, or expunges one that came earlier
 abbrev pub IsCopying : List Op → Kind → Type 0
 IsCopying before (kinds.Append name flags date text) = Unit {0}
 IsCopying before (kinds.Expunge name olds) = HasAll before olds
@@ -79,14 +79,14 @@ elsewhere folder (kinds.Store name flags olds origin) h = refl
 elsewhere folder (kinds.Subscribe name) h = refl
 elsewhere folder (kinds.Unsubscribe name seen) h = refl
 
--- what an Append to the folder is
+-- an Append to the folder
 record Puts (folder : List ℕ) (id : OpId) (kind : Kind) : Type 0 where
   counted : appends_to folder kind ≡ true
   own : is_some_tag (MessageTag folder id) (tag_added_by id kind) ≡ true
   origin : option_map (λ (b : MessageTagData). b.origin) (tag_data_by id kind) ≡ Some id
   keeps : (i : OpId) → list_any (same_tag (MessageTag folder i)) (tags_removed_by kind) ≡ false
 
--- and what an Expunge in it
+-- an Expunge in the folder
 record Takes (before : List Op) (folder : List ℕ) (id : OpId) (kind : Kind) : Type 0 where
   counted : appends_to folder kind ≡ false
   adds_none : (i : OpId) → is_some_tag (MessageTag folder i) (tag_added_by id kind) ≡ false
@@ -203,7 +203,7 @@ at_end : {X : Type 0} (y : X) (xs : List X) → IsIn y (xs ++ y ∷ [])
 at_end y [] = inl refl
 at_end y (z ∷ xs) = inr (at_end y xs)
 
--- ---- the messages behind operations that copy
+-- ---- the messages after operations that copy
 
 -- the ids of those that append a message to the folder
 abbrev pub landing : List ℕ → List Op → List OpId
@@ -233,11 +233,12 @@ same_some : (i j : OpId) → ◌≡◌ {A = Option OpId} (Some i) (Some j) → i
 same_some i j h = cc
 
 module _ (start : Counters) (folder : List ℕ) (before : List Op) (first : ℕ) where
-  -- the message of this origin is there, under a UID from the first one on
+  -- the message of this origin exists, with a UID from `first` on
   abbrev Lands : List Op → OpId → Type 0
   Lands ops g = (has_version folder g ops ≡ true) × (first ≤ uid_of start folder ops g)
 
-  -- these messages have UIDs from the first one on, in this order, and their versions are none that came earlier
+  -- these messages have UIDs from `first` on, in this order, and none of their versions came
+  -- earlier
   pub record Landed (ops : List Op) (origins : List OpId) : Type 0 where
     rises : Rises (uid_of start folder ops) first origins
     are : (g : OpId) → IsIn g origins ↔ Lands ops g
@@ -251,7 +252,7 @@ module _ (start : Counters) (folder : List ℕ) (before : List Op) (first : ℕ)
     fresh : Has ops o.id → ⊥
     fresh = (a.causal ops o [] refl).1
 
-    -- a message of which no version is removed stays, under its UID
+    -- a message none of whose versions is removed stays, with its UID
     lands_still : (g : OpId) → ((i : OpId) → IsVersion ops folder g i → first ≤ uid_of start folder ops g → removes (MessageTag folder i) o ≡ false) → Lands ops g → Lands (ops ++ o ∷ []) g
     lands_still g stays w =
         let v = (version_in folder ops g).0 w.0 in (
@@ -262,7 +263,7 @@ module _ (start : Counters) (folder : List ℕ) (before : List Op) (first : ℕ)
     landed_before : (g : OpId) → has_version folder g ops ≡ true → Lands (ops ++ o ∷ []) g → Lands ops g
     landed_before g b w = (b, subst (λ (k : ℕ). first ≤ k) (uid_stays g b) w.1)
 
-    -- a version behind the operation is none that came earlier
+    -- a version after the operation didn't come earlier
     new_still : ((g i : OpId) → IsVersion ops folder g i → first ≤ uid_of start folder ops g → Has before i → ⊥)
         → (g i : OpId) → IsVersion (ops ++ o ∷ []) folder g i → first ≤ uid_of start folder (ops ++ o ∷ []) g → Has before i → ⊥
     new_still new g i v from had =
@@ -278,7 +279,7 @@ module _ (start : Counters) (folder : List ℕ) (before : List Op) (first : ℕ)
     put_origin : Puts folder o.id o.kind → origin_added folder o ≡ Some o.id
     put_origin puts = ap (option_map (λ (b : MessageTagData). b.origin)) (ap (λ (b : Bool). cond {A = Option MessageTagData} b (tag_data_by o.id o.kind) None) puts.own) ∙ puts.origin
 
-    -- an Append lands one message, under UIDNEXT
+    -- an Append adds one message, under UIDNEXT
     landed_put : (origins : List OpId) → Puts folder o.id o.kind → Landed ops origins → Landed (ops ++ o ∷ []) (origins ++ o.id ∷ [])
     landed_put origins puts l =
         let b = applied_front ops (o ∷ []) a in
@@ -309,7 +310,8 @@ module _ (start : Counters) (folder : List ℕ) (before : List Op) (first : ℕ)
           next = omega (arith, next, up);
         }
 
-    -- an operation that adds no message tag of the folder, and removes none of these messages' versions, leaves them
+    -- an operation that adds no message tag to the folder, and removes none of these messages'
+    -- versions, leaves the messages as they are
     landed_still : (origins : List OpId) → ((i : OpId) → adds (MessageTag folder i) o ≡ true → ⊥) → ((g i : OpId) → IsVersion ops folder g i → first ≤ uid_of start folder ops g → removes (MessageTag folder i) o ≡ false)
         → Landed ops origins → Landed (ops ++ o ∷ []) origins
     landed_still origins adds_none keeps l =
@@ -371,7 +373,7 @@ module _ (start : Counters) (folder : List ℕ) (before : List Op) (first : ℕ)
       let joined : (origins ++ by) ++ landing folder more ≡ origins ++ landing folder (o ∷ more) = append_assoc origins by (landing folder more) ∙ ap (λ (ids : List OpId). origins ++ ids) (sym (landing_more folder o more)) in
       subst (λ (xs : List Op). Landed xs (origins ++ landing folder (o ∷ more))) same (subst (Landed ((ops ++ o ∷ []) ++ more)) joined rest)
 
--- ---- the rows behind them
+-- ---- their rows
 
 abbrev uid_in : ListedMessage → ℕ
 uid_in row = row.uid
@@ -401,7 +403,7 @@ is_over first n l h = elim (cases_Bool (nat_lt (first - 1) n)) [ inl t ↦ t | i
 from_over : (first n : ℕ) → 1 ≤ first → nat_lt (first - 1) n ≡ true → first ≤ n
 from_over first n l h = grind (arith, nat_tests)
 
--- they are those of the messages
+-- the rows beyond a UID are those of the messages
 beyond_lands : (start : Counters) (folder : List ℕ) (before ops : List Op) (first : ℕ) (origins : List OpId) (row : ListedMessage) → 1 ≤ first → ((g : OpId) → IsIn g origins ↔ Lands start folder before first ops g)
     → IsIn row (rows_after_uid (first - 1) (listing start folder ops)) ↔ IsIn row (map (listed_message_of start folder ops) origins)
 beyond_lands start folder before ops first origins row least are =
@@ -419,7 +421,7 @@ beyond_lands start folder before ops first origins row least are =
           f.1 (subst (λ (x : ListedMessage). IsIn x (listing start folder ops)) w.2 (row_from start folder ops w.0 l.0), is_over first row.uid least (subst (λ (x : ListedMessage). first ≤ x.uid) w.2 l.1)),
     )
 
--- the rows with UIDs from the former UIDNEXT on are, in their order, those of the messages that were appended
+-- the rows with UIDs from the former UIDNEXT on are, in their order, those of the appended messages
 pub rows_are_landed : (start : Counters) (folder : List ℕ) (before issued : List Op) → 1 ≤ uidnext_of start folder before → IsApplied (before ++ issued) → AreRisingRows 1 (listing start folder (before ++ issued)) → folder_exists folder before ≡ true
     → ((o : Op) → IsIn o issued → IsCopying before o.kind)
     → rows_after_uid (uidnext_of start folder before - 1) (listing start folder (before ++ issued)) ≡ map (listed_message_of start folder (before ++ issued)) (landing folder issued)
@@ -431,7 +433,7 @@ rows_are_landed start folder before issued least a r t c =
     same_rising uid_in 1 first (rows_after_uid (first - 1) (listing start folder ops)) (map (listed_message_of start folder ops) origins) (beyond_rises (first - 1) 1 (listing start folder ops) r) (listed_rises start folder ops first origins l.rises)
     (λ row. beyond_lands start folder before ops first origins row least l.are)
 
--- so they are as many
+-- so both are equally many
 rows_landed : (start : Counters) (folder : List ℕ) (before issued : List Op) → 1 ≤ uidnext_of start folder before → IsApplied (before ++ issued) → AreRisingRows 1 (listing start folder (before ++ issued)) → folder_exists folder before ≡ true
     → ((o : Op) → IsIn o issued → IsCopying before o.kind)
     → length (rows_after_uid (uidnext_of start folder before - 1) (listing start folder (before ++ issued))) ≡ length (filter (λ (o : Op). appends_to folder o.kind) issued)
@@ -513,7 +515,7 @@ removals_copying before folder rows view (n ∷ numbers) h =
 mapped_copying : (before issued : List Op) (wanted : List Kind) → map (λ (o : Op). o.kind) issued ≡ wanted → Each (IsCopying before) wanted → (o : Op) → IsIn o issued → IsCopying before o.kind
 mapped_copying before issued wanted e h o i = each_in (IsCopying before) wanted o.kind h (subst (IsIn o.kind) e (mapped_in issued o i))
 
--- kinds that copy land as many rows as they append
+-- kinds that copy add as many rows as they append messages
 pub kinds_landed : (start : Counters) (folder : List ℕ) (before issued : List Op) (wanted : List Kind) → 1 ≤ uidnext_of start folder before → IsApplied (before ++ issued) → AreRisingRows 1 (listing start folder (before ++ issued))
     → folder_exists folder before ≡ true
     → map (λ (o : Op). o.kind) issued ≡ wanted → Each (IsCopying before) wanted
@@ -521,7 +523,7 @@ pub kinds_landed : (start : Counters) (folder : List ℕ) (before issued : List 
 kinds_landed start folder before issued wanted least a r t e c =
     rows_landed start folder before issued least a r t (mapped_copying before issued wanted e c) ∙ kinds_counted folder issued ∙ ap (λ ks. length (filter (appends_to folder) ks)) e
 
--- as many come into the destination as have sources
+-- the destination gets as many messages as there are sources
 pub copies_landed : (start : Counters) (folder : List ℕ) (before issued : List Op) (wanted : List Kind) (mailbox : OpenMailbox) (asked : CopyArgs)
     → 1 ≤ uidnext_of start folder before → IsApplied (before ++ issued) → AreRisingRows 1 (listing start folder (before ++ issued)) → folder_exists folder before ≡ true → map (λ (o : Op). o.kind) issued ≡ wanted → Each (IsCopying before) wanted
     → length (filter (appends_to folder) wanted) ≡ length (existing_messages mailbox.rows mailbox.view (numbers_in_set asked.by_uid asked.messages mailbox.view))

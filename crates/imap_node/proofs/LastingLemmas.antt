@@ -18,7 +18,7 @@ use Rattle.uid_projection.specs.Bounds.{IsLasting}
 use Rattle.uid_projection.specs.Exhaustion.{Exhausts, IsExhausted}
 use Rattle.crdt_ops.specs.Ops.{clock_of, id_of}
 
--- one operation more, for which no counter was at its end
+-- one further operation that found no counter used up
 lasts_one : (start : Counters) (ops : List Op) (o : Op) → (Exhausts start [] ops → ⊥) → (Exhausts start ops (o ∷ []) → ⊥) → Exhausts start [] (ops ++ o ∷ []) → ⊥
 lasts_one start ops o l n (front, p, back, e, x) =
     elim (last_cut ops front back o p e) [
@@ -28,7 +28,7 @@ lasts_one start ops o l n (front, p, back, e, x) =
       | inr t ↦ l (front, p, t.0, t.1, x)
     ]
 
--- and several
+-- several further operations that found no counter used up
 lasts_more : (start : Counters) (more ops : List Op) → (Exhausts start [] ops → ⊥) → (Exhausts start ops more → ⊥) → Exhausts start [] (ops ++ more) → ⊥
 lasts_more start [] ops l n = subst (λ (xs : List Op). Exhausts start [] xs → ⊥) (sym (append-nil ops)) l
 lasts_more start (o ∷ more) ops l n =

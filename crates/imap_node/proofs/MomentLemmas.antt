@@ -24,7 +24,7 @@ use Rattle.imap_node.specs.GoingBack.{IsOlderView}
 use Rattle.imap_node.specs.Mailboxes.{rows_for, validity_of}
 use Rattle.imap_node.proofs.UidLemmas.{IsKnown}
 
--- ---- UIDVALIDITY while an incarnation goes on
+-- ---- UIDVALIDITY during an incarnation
 
 stays_now : (start : Counters) (folder : List ℕ) (more ops : List Op) → Stays start folder ops more → folder_exists folder ops ≡ true
 stays_now start folder [] ops s = s
@@ -44,7 +44,7 @@ validity_stays start folder (o ∷ back) more ops s =
     ∙ validity_stays start folder back more (ops ++ o ∷ []) s.1
     ∙ ap (uidvalidity_of start folder) (append_assoc ops (o ∷ []) back)
 
--- between two moments of one incarnation it is the same
+-- UIDVALIDITY is the same at any two moments of one incarnation
 validity_between : (start : Counters) (folder : List ℕ) (front back more : List Op) (v : ℕ) → IsApplied ((front ++ back) ++ more) → uidvalidity_of start folder front ≡ Some v → uidvalidity_of start folder ((front ++ back) ++ more) ≡ Some v
     → uidvalidity_of start folder (front ++ back) ≡ Some v
 validity_between start folder front back more v a t e =
@@ -52,7 +52,7 @@ validity_between start folder front back more v a t e =
     let s = stays_there start folder front (back ++ more) v (subst IsApplied whole a) t (subst (λ (os : List Op). uidvalidity_of start folder os ≡ Some v) whole e) in
     sym (validity_stays start folder back more front s) ∙ t
 
--- a mailbox that is there has one
+-- an existing mailbox has a UIDVALIDITY
 pub validity_is : (start : Counters) (name : List ℕ) (ops : List Op) → folder_exists name ops ≡ true → uidvalidity_of start name ops ≡ Some (validity_of start name ops)
 validity_is start name ops t =
     elim (cases_Bool (bytes_eq name inbox)) [
@@ -64,7 +64,7 @@ validity_is start name ops t =
     some_own None v e = let k : ◌≡◌ {A = Option ℕ} None (Some v) = e in cc
     some_own (Some u) v e = refl
 
--- ---- a view that goes back, later
+-- ---- a view that goes back, after further operations
 
 pub goes_on : (start : Counters) (ops more : List Op) (view : ViewState) → IsApplied (ops ++ more) → IsOlderView start ops view → IsOlderView start (ops ++ more) view
 goes_on start ops more view a g =
@@ -81,7 +81,7 @@ goes_on start ops more view a g =
       below = λ e. g.below (still e);
     }
 
--- the UIDs alone matter
+-- whether a view goes back depends only on its UIDs
 pub back_by_uids : (start : Counters) (ops : List Op) (view : ViewState) (es : List ViewEntry) → uids_of es ≡ uids_of view.entries → IsOlderView start ops view → IsOlderView start ops (record view { entries = es })
 back_by_uids start ops view es u g = record {
   front = g.front;
@@ -92,7 +92,7 @@ back_by_uids start ops view es u g = record {
   below = λ e uid i. g.below e uid (subst (IsIn uid) u i);
 }
 
--- ---- what the listing has that such a view lacks came after it
+-- ---- messages that such a view lacks came after its moment
 
 listed_or_not : (uid : ℕ) (rows : List ListedMessage) → ((a : ListedMessage) × IsIn a rows × (a.uid ≡ uid)) ⊎ ((a : ListedMessage) → IsIn a rows → a.uid ≢ uid)
 listed_or_not uid [] = inr (λ a i. absurd i)
@@ -126,7 +126,7 @@ next_grown start ops view a g e =
     subst (λ (os : List Op). uidnext_of start view.name g.front ≤ uidnext_of start view.name os) (sym g.split)
     (for_good start view.name g.front g.back view.uidvalidity (subst IsApplied g.split a) g.there (subst (λ (os : List Op). uidvalidity_of start view.name os ≡ Some view.uidvalidity) g.split e)).uidnext
 
--- ---- a view that is brought up to now
+-- ---- a view that is brought up to date
 
 pub row_below : (start : Counters) (folder : List ℕ) (ops : List Op) (row : ListedMessage) → IsApplied ops → IsIn row (listing start folder ops) → row.uid < uidnext_of start folder ops
 row_below start folder ops row a i =

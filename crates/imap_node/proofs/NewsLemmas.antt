@@ -1,4 +1,4 @@
--- What operations change in mailboxes, told by the UIDs that they touch and those that are new.
+-- What operations change in mailboxes: the UIDs that they touch, and those that are new.
 use Rattle.std.specs.List.{list_any}
 use Rattle.std.specs.Option.{option_map}
 use Rattle.std.proofs.Common.{◌≡◌, ◌⊎◌, inl, inr, ℕ, ◌<◌, ◌≤◌, ◌+◌, Bool, true, false, List, [], ◌∷◌, ◌++◌, length, drop, get_or, Option, Some, None, refl, sym, ap, ◌∙◌, subst, arith}
@@ -94,7 +94,7 @@ names_in start before ops name ahead now uidnext notes a is u n tells v uid =
           ]
     ]
 
--- one UID more
+-- one further UID
 pub new_told : (notes : List Note) (first at uid : ℕ) → (is_noted notes uid ≡ true) ⊎ ((at ≤ uid) × (uid < first)) → (is_noted (notes ++ New at ∷ []) uid ≡ true) ⊎ ((at + 1 ≤ uid) × (uid < first))
 new_told notes first at uid h =
     elim h [
@@ -144,7 +144,7 @@ all_news start before ops folders a all each name v uid =
       ]) v)))
     ]
 
--- one operation more of which the mailbox is named
+-- one further operation, whose mailbox is listed
 pub rest_named : (old new : List MailboxNotes) (ops : List Op) (i : ℕ) (o : Op) → i < length ops → o ≡ get_or ops i o → ((n : List ℕ) → is_named old n ≡ true → is_named new n ≡ true) → is_named new (name_of o.kind) ≡ true
     → ((p : Op) → IsIn p ops → (is_named old (name_of p.kind) ≡ true) ⊎ IsIn p (drop i ops)) → (p : Op) → IsIn p ops → (is_named new (name_of p.kind) ≡ true) ⊎ IsIn p (drop (i + 1) ops)
 rest_named old new ops i o l e kept own rest p q =

@@ -28,13 +28,13 @@ next_ripe replica applied op n = (
       absurd (omega (arith, bound, n.number)),
 )
 
--- operations that come next are issued, as an inbox says it
+-- operations that come next are issued, in the inbox's terms
 pub next_issued : (replica : ℕ) (applied : List Op) (kinds : List Kind) (ops : List Op) → AreNext replica applied kinds ops → AreIssued id_of clock_of applied ops
 next_issued replica applied kinds ops h = λ front o back e.
     let n = h.next front o back e in
     (n.clock, ap (λ (r : ℕ). count_of o.clock r + 1) n.own ∙ sym n.number)
 
--- the list stays causal with them
+-- the list with them is causal
 pub next_causal : (replica : ℕ) (applied : List Op) (kinds : List Kind) (ops : List Op) → IsCausal id_of clock_of applied → AreNext replica applied kinds ops
     → IsCausal id_of clock_of (applied ++ ops)
 next_causal replica applied kinds ops causal h = causal_append id_of clock_of applied ops causal (λ front o back e. next_ripe replica (applied ++ front) o (h.next front o back e))
@@ -43,7 +43,7 @@ in_both : (xs ys : List Op) (o : Op) → IsIn o (xs ++ ys) → IsIn o xs ⊎ IsI
 in_both [] ys o i = inr i
 in_both (x ∷ xs) ys o i = elim i [ inl e ↦ inl (inl e) | inr t ↦ elim (in_both xs ys o t) [ inl u ↦ inl (inr u) | inr u ↦ inr u ] ]
 
--- and so an applied list
+-- the list with them is an applied list
 pub next_applied : (replica : ℕ) (applied : List Op) (kinds : List Kind) (ops : List Op) → AreSound IsSound applied → IsCausal id_of clock_of applied
     → AreSound IsSound ops → AreNext replica applied kinds ops → IsApplied (applied ++ ops)
 next_applied replica applied kinds ops sound causal more h = record {
@@ -51,9 +51,9 @@ next_applied replica applied kinds ops sound causal more h = record {
   causal = next_causal replica applied kinds ops causal h;
 }
 
--- ---- one more
+-- ---- one further operation
 
--- a cut of a list with one element more is at it, or before it
+-- a cut of a list with an element appended is at that element, or before it
 pub last_cut : (xs front back : List Op) (x o : Op) → xs ++ x ∷ [] ≡ front ++ o ∷ back → ((xs ≡ front) × (x ≡ o)) ⊎ ((rest : List Op) × (xs ≡ front ++ o ∷ rest))
 last_cut [] [] back x o e = inl (refl, cc)
 last_cut [] (y ∷ []) back x o e = absurd cc
@@ -67,7 +67,7 @@ last_cut (y ∷ xs) (z ∷ front) back x o e =
       | inr t ↦ inr (t.0, (λ i. k i ∷ t.1 i))
     ]
 
--- one more operation that comes next behind those that do
+-- a further operation that comes next after those that do
 pub next_more : (replica : ℕ) (applied ops : List Op) (op : Op)
     → ((front : List Op) (o : Op) (back : List Op) → ops ≡ front ++ o ∷ back → IsNext replica (applied ++ front) o)
     → IsNext replica (applied ++ ops) op
@@ -92,7 +92,7 @@ covers_more clock more (Store folder flags olds origin) w h = (covered_more cloc
 covers_more clock more (Subscribe name) w h = tt
 covers_more clock more (Unsubscribe name seen) w h = covered_more clock more seen w h
 
--- what may be issued behind a list may be issued behind a longer one
+-- what may be issued after a list may be issued after a longer one
 pub can_by : (applied more : List Op) (kind : Kind) (before after : List (ℕ × ℕ)) → CanIssue applied kind → IsClockOf id_of applied before → IsClockOf id_of (applied ++ more) after
     → CanIssueBy after kind
 can_by applied more kind before after can b a = record {
@@ -100,7 +100,7 @@ can_by applied more kind before after can b a = record {
   covered = covers_more before after kind (λ i c. (a i).1 (id_in_front id_of i applied more ((b i).0 c))) (can.covered before b);
 }
 
--- two clocks of one list count the same
+-- two clocks of one list have the same counts
 pub counts_within : (ops : List Op) (c d : List (ℕ × ℕ)) → IsClockOf id_of ops c → IsClockOf id_of ops d → (r : ℕ) → count_of c r ≤ count_of d r
 counts_within ops c d hc hd r =
     elim (cases_lt 0 (count_of c r)) [
@@ -113,8 +113,8 @@ counts_within ops c d hc hd r =
 
 -- ---- operations that are made one after another
 
--- Of these kinds operations are made, that come next one behind another; the rest is still to be made, and the clock counts what was applied
--- and made.
+-- Operations of these kinds, which come next one after another; the kinds in `rest` are left, and
+-- the clock counts what was applied and these operations.
 pub record IsMade (replica : ℕ) (applied : List Op) (given rest : List Kind) (ops : List Op) (clock : List (ℕ × ℕ)) : Type 0 where
   pub split : map (λ (o : Op). o.kind) ops ++ rest ≡ given
   pub next : (front : List Op) (op : Op) (back : List Op) → ops ≡ front ++ op ∷ back → IsNext replica (applied ++ front) op

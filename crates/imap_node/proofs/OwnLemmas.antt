@@ -1,4 +1,5 @@
--- A command's own answers that shift no numbers make of a view what the flags make of it that they tell.
+-- A command's own answers, if they shift no numbers, change a view only by the flags that they
+-- report.
 use Rattle.std.specs.List.{list_any}
 use Rattle.std.proofs.Common.{◌≡◌, Bool, true, false, ◌||◌, ℕ, List, [], ◌∷◌, ◌++◌, Option, None, Some, refl, sym, ap, ◌∙◌}
 use Rattle.std.proofs.lemmas.Bool.{false≢true}

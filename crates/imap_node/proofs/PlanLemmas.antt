@@ -43,12 +43,12 @@ use Rattle.uid_projection.specs.declared.first_numbers.Counters.{Counters}
 use Rattle.uid_projection.specs.Applied.{IsApplied}
 use Rattle.crdt_ops.specs.Ops.{clock_of, id_of}
 
--- what holds of either outcome
+-- what is true of either outcome
 pub match_weaker : {T E : Type 0} (r : Result T E) (P P' : T → Type 0) (Q Q' : E → Type 0) → ((t : T) → P t → P' t) → ((e : E) → Q e → Q' e) → MatchResult r P Q → MatchResult r P' Q'
 match_weaker (Ok t) P P' Q Q' f g h = f t h
 match_weaker (Err e) P P' Q Q' f g h = g e h
 
--- what is kept where something is issued
+-- what stays held if something is issued
 pub kept_some : (ops old new : List Op) → (ops ≡ [] → ⊥) → AreHeldStill id_of ops old new → AreHeldAfter ops old new
 kept_some [] old new n h = absurd (n refl)
 kept_some (op ∷ ops) old new n h = h
@@ -65,7 +65,7 @@ module _ (session : Session) where
   left_line true = refl
   left_line false = refl
 
-  -- a refused input leaves the session that its plan says
+  -- a refused input leaves the session that its plan gives
   left_by : (input : Input) (why : Refusal) → place_after_step (Some session) (step_of_refusal session.state input why) ≡ Some (session_after_refusal session input why)
   left_by (inputs.Command moment tagged) why = left_command (is_selected session.state && is_selecting tagged.command)
   left_by (inputs.Line line) why = left_line (ends_idling (inputs.Line line) why)
@@ -106,22 +106,22 @@ module _ (old : NodeState) (n : ℕ) (session : Session) (input : Input) (at : s
   plan_responds (Ok p) h k = done_responds p h
   plan_responds (Err why) h k = refused_responds why k
 
--- what an input wants may be issued
+-- what an input issues may be issued
 pub gives_can : (start : Counters) (ops : List Op) (a : IsApplied ops) (stamp : List ℕ) (state : State) (input : Input) (r : Result Intent Refusal) → GivesOrLacksMemory (λ wanted. wanted.kinds.items) r (input_intent start ops stamp state input) → IfOk r (λ wanted. CanIssueAll ops wanted.kinds.items)
 gives_can start ops a stamp state input (Ok given) g = input_can start ops a stamp state input given.kinds.items g
 gives_can start ops a stamp state input (Err why) g = tt
 
--- why an input is refused by what it wants
+-- the refusal of an input by its intent
 pub refused_by_want : (start : Counters) (ops : List Op) (stamp : List ℕ) (state : State) (input : Input) (why : Refusal) → IsStamp input stamp
     → (why ≡ NoMemory) ⊎ (input_intent start ops stamp state input ≡ Err why) → IsRefused start ops state input why
 refused_by_want start ops stamp state input why s h = elim h [ inl e ↦ inl e | inr e ↦ inr (stamp, s, inl e) ]
 
--- and by what can't be made ready
+-- the refusal of an input whose operations can't be made ready
 pub refused_by_end : (start : Counters) (ops : List Op) (stamp : List ℕ) (state : State) (input : Input) (given : List Kind) (why : Refusal) → IsStamp input stamp → input_intent start ops stamp state input ≡ Ok given
     → IsNotReady start ops given why → IsRefused start ops state input why
 refused_by_end start ops stamp state input given why s w h = elim h [ inl e ↦ inl e | inr e ↦ inr (stamp, s, inr (e.0, given, w, e.1)) ]
 
--- what an input that follows this course is answered
+-- the answers to an input with this effect
 pub answered_by : {E : Type 0} (start : Counters) (before after : List Op) (session : Session) (input : Input) (course : InputEffect) → IsInputEffect start before after session input course → (r : Result PreparedReply E)
     → IfOk r (λ a. a.answers ≡ answers_of_effect start after course) → IfOk r (λ a. a.silent ≡ course.silent) → IfOk r (λ a. changed_session session a.going ≡ session_after start after session input course)
     → IfOk r (λ a. IsPreparedReply start before after session input a)
@@ -148,7 +148,7 @@ plan_planned node n state input (Err why) opened i r w c = record {
   can = λ s e. left_steps node.state.start (node.state.applied ++ []) s (leaves_mailbox state input) (ends_idling input why);
 }
 
--- the same where the room was made behind
+-- a plan can be committed if the room was made after it
 pub plan_planned_behind : (start : Counters) (applied : List Op) (places : Places) (node : NodeWithRoom) (n : ℕ) (state : State) (input : Input) (outcome : Result PreparedInput Refusal) → node.state.start ≡ start → node.state.applied ≡ applied → node.state.sessions ≡ places
     → IsOpen places n → IfOk outcome (λ p. AreIssued id_of clock_of applied p.ops) → IfOk outcome (λ p. (p.ops ≡ [] → ⊥) → HasRoomFor node.state.applied node.room p.ops) → IfOk outcome (λ p. AreChangeNotes start applied (applied ++ p.ops) p.change_notes)
     → ((s : Session) → session_at places n ≡ Some s → IfOk outcome (λ p. CanChangeSession start (applied ++ p.ops) s.state p.answered.going.onward)) → IsPlanned node (plan_by n state input outcome)
@@ -162,7 +162,7 @@ plan_planned_behind start applied places node n state input outcome e f g opened
     subst (λ (x : Counters). IfOk outcome (λ p. CanChangeSession x (node.state.applied ++ p.ops) s.state p.answered.going.onward)) (sym e)
     (subst (λ (os : List Op). IfOk outcome (λ p. CanChangeSession start (os ++ p.ops) s.state p.answered.going.onward)) (sym f) (c s (ap (λ (ps : Places). session_at ps n) (sym g) ∙ at))))
 
--- what a delivery applies
+-- a delivery that applies operations
 pub deliver_grown : {T : Type 0} (arrival : T → Arrival) (old new : ReceivedOps Counters Op) (op : Op) (r : Result T DeliverFault)
     → MatchResult r (λ d. Arrives id_of clock_of Exhausts old op (arrival d) new) (λ e. Refuses id_of clock_of Exhausts old op e) → OnErr r (new ≡ old) → HasGrown old.applied new.applied × (new.start ≡ old.start)
 deliver_grown arrival old new op (Ok d) h e = (
@@ -171,7 +171,7 @@ deliver_grown arrival old new op (Ok d) h e = (
 )
 deliver_grown arrival old new op (Err x) h e = (([], ap (λ (s : ReceivedOps Counters Op). s.applied) e ∙ sym (append-nil old.applied)), ap (λ (s : ReceivedOps Counters Op). s.start) e)
 
--- what a delivery applies that applies one operation
+-- a delivery that applies one operation
 none_more : {X : Type 0} (xs : List X) → length xs ≡ 0 → xs ≡ []
 none_more [] l = refl
 none_more (x ∷ xs) l = absurd (omega (arith, l))
@@ -192,6 +192,6 @@ pub deliver_one : {T : Type 0} (arrival : T → Arrival) (old new : ReceivedOps 
 deliver_one arrival old new op (Ok d) h e l = arrive_one old new op (arrival d) h l
 deliver_one arrival old new op (Err x) h e l = let k = ap (λ (s : ReceivedOps Counters Op). length s.applied) e in absurd (omega (arith, k, l))
 
--- nothing is there where it was found that something is
+-- a list that was found not to be empty
 pub not_empty : (ops os : List Op) (b : Bool) → b ≡ false → b ≡ (length os == 0) → os ≡ ops → ops ≡ [] → ⊥
 not_empty ops os b f h e n = absurd (false≢true (sym f ∙ (h ∙ ap (λ (xs : List Op). length xs == 0) (e ∙ n))))

@@ -1,4 +1,4 @@
--- What an input that can be carried out comes to, behind operations that are ready.
+-- The reply to an input that can be carried out, after operations that are ready.
 use Rattle.std.proofs.Common.{◌≡◌, ℕ, ◌+◌, List, ◌++◌, sym, ap, ◌∙◌, subst}
 use Rattle.std.specs.Prelude.{Ok}
 use Rattle.causal_inbox.specs.Inbox.{AreIssued}
@@ -14,13 +14,14 @@ use Rattle.tags_clocks.specs.Clock.{count_of}
 use Rattle.uid_projection.specs.declared.first_numbers.Counters.{Counters}
 use Rattle.uid_projection.specs.Exhaustion.{Exhausts}
 
--- operations that come next are issued behind what was applied
+-- operations that come next are issued after those applied
 pub issued_next : (replica : ℕ) (applied : List Op) (kinds : List Kind) (ops : List Op) → AreNext replica applied kinds ops → AreIssued id_of clock_of applied ops
 issued_next replica applied kinds ops h = λ front o back e.
     let n = h.next front o back e in
     (n.clock, ap (λ (r : ℕ). count_of o.clock r + 1) n.own ∙ sym n.number)
 
--- an input can be carried out so, where the replica has what it had before when the input is answered
+-- an input can be carried out so, if the replica has the same operations before and when the input
+-- is answered
 pub prepares : (start start' : Counters) (applied applied' : List Op) (session : Session) (input : Input) (stamp : List ℕ) (kinds : List Kind) (ops : List Op) (prepared : PreparedInput) → start' ≡ start → applied' ≡ applied → IsStamp input stamp
     → input_intent start applied stamp session.state input ≡ Ok kinds → AreNext start.replica applied kinds ops → CanFollow start' applied' ops → IsPreparedReply start' applied' (applied' ++ ops) session input prepared.answered
     → prepared.ops ≡ ops → prepared.copies ≡ ops → IsPreparedInput start applied session input prepared

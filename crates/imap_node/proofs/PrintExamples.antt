@@ -21,7 +21,7 @@ fresh_shown = record {
   count = omega arith;
 }
 
--- a session that sees a message, and idles
+-- a session that idles, whose view has a message
 pub flagless : Flags
 flagless = record { answered = false; flagged = false; deleted = false; seen = false; draft = false; keywords = [] }
 

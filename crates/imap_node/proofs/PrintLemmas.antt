@@ -34,9 +34,9 @@ use Rattle.imap_node.specs.Printing.{IsPresentable, SeesNumbered}
 use Rattle.imap_node.specs.Responses.{tagged_lines_of}
 use Rattle.imap_node.proofs.ShownLemmas.{folders_folded, highest_nonzero, listing_showable, marks_nonzero, next_nonzero, rows_showable, shown_before, subscriptions_folded, validity_nonzero}
 
--- ---- what a command tells
+-- ---- what a command reports
 
--- the mailbox that a command names is there
+-- the mailbox that a command names exists
 abbrev pub NamesThere : List Op → Command → State → Type 0
 NamesThere after (commands.Select name condstore) state = folder_exists name after ≡ true
 NamesThere after (commands.Examine name condstore) state = folder_exists name after ≡ true
@@ -46,7 +46,7 @@ NamesThere after (commands.Copy asked) (Selected view read_only) = folder_exists
 NamesThere after (commands.Move asked) (Selected view read_only) = folder_exists asked.name after ≡ true
 NamesThere after _ _ = Unit {0}
 
--- where messages are copied, as many come into the destination
+-- a copy's destination gets as many messages as are copied
 abbrev pub LandsAll : Counters → List Op → List Op → State → Command → Type 0
 LandsAll start before after (Selected view read_only) (commands.Copy asked) =
     AreAsMany (mailbox_in start before view read_only) (record { by_uid = asked.by_uid; messages = asked.messages; destination = asked.name }) (copy_target_in start before after asked.name)
@@ -117,7 +117,7 @@ module _ (start : Counters) (before issued : List Op) (p : IsPresentable start (
   tells_printable (commands.Search asked) LoggedOut modseq tag told t a v n l h = subst IsPrintableTelling (sym h) nothing_printable
   tells_printable _ state modseq tag told t a v n l h = subst IsPrintableTelling (sym h) nothing_printable
 
--- ---- what stands in front of it, and behind
+-- ---- what comes before and after it
 
 highest_printable : (uidvalidity : ℕ) (now : Option ℕ) (highest : ℕ) → IsModSeq highest → Each IsPrintable (highest_answer uidvalidity now highest)
 highest_printable uidvalidity None highest h = tt
@@ -168,7 +168,7 @@ ends_well start ops (Some kind) modseq (Selected view read_only) silent own p v 
       sees = sync_numbered kind modseq rows (view_after_reply rows view.entries silent own) shown seen;
     }
 
--- a course can be answered
+-- an effect can be answered
 pub record IsCourseWell (start : Counters) (ops : List Op) (course : InputEffect) : Type 0 where
   pub printable : Each IsPrintable (answers_of_effect start ops course)
   pub sees : SeesNumbered (sync_result_of start ops course).state

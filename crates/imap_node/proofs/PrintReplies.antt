@@ -51,7 +51,7 @@ use Rattle.imap_node.proofs.LandingLemmas.{HasAll, IsCopying, appends_copying, a
 use Rattle.imap_node.proofs.ShownLemmas.{listing_showable, next_nonzero, shown_before}
 use Rattle.imap_node.proofs.ThereLemmas.{IsNoDelete, append_there, copy_is, copy_there, move_is, move_there, stays_there, wanted_there}
 
--- ---- the mailbox that a command names is there behind it
+-- ---- the mailbox that a command names exists after it
 
 under_lawful : (uidvalidity : ℕ) (now : Option ℕ) (rows : List ListedMessage) → HaveLawfulKeywords rows → HaveLawfulKeywords (rows_under uidvalidity now rows)
 under_lawful uidvalidity None rows h = λ row i. absurd i
@@ -110,7 +110,7 @@ module _ (start : Counters) (before issued : List Op) (stamp : List ℕ) (wanted
   names_there (commands.Move asked) LoggedOut w = tt
   names_there _ state w = tt
 
--- ---- as many come into the destination as are copied
+-- ---- a copy's destination gets as many messages as are copied
 
 under_has : (before : List Op) (uidvalidity : ℕ) (now : Option ℕ) (rows : List ListedMessage) → ((row : ListedMessage) → IsIn row rows → HasAll before row.versions) → (row : ListedMessage) → IsIn row (rows_under uidvalidity now rows) → HasAll before row.versions
 under_has before uidvalidity None rows h = λ row i. absurd i

@@ -43,7 +43,7 @@ quiet_map : {X : Type 0} (f : X → Answer) (xs : List X) → ((x : X) → IsQui
 quiet_map f [] h = tt
 quiet_map f (x ∷ xs) h = (h x, quiet_map f xs h)
 
--- ---- what each command tells
+-- ---- what each command reports
 
 fetch_quiet : (items : List FetchItem) (mode : FetchMode) (shown : ViewedMessage) (old row : Option ListedMessage) → Each IsQuiet (answer_of items mode shown old row)
 fetch_quiet items mode shown None row = tt
@@ -113,7 +113,7 @@ module _ (start : Counters) (before after : List Op) where
   tells_quiet (commands.Search asked) LoggedOut modseq tag told s h = subst (λ (t : CommandReport). Each IsQuiet t.own) (sym h) tt
   tells_quiet _ state modseq tag told s h = subst (λ (t : CommandReport). Each IsQuiet t.own) (sym h) tt
 
--- ---- what stands in front of it
+-- ---- what comes before it
 
 highest_quiet : (uidvalidity : ℕ) (now : Option ℕ) (highest : ℕ) → Each IsQuiet (highest_answer uidvalidity now highest)
 highest_quiet uidvalidity None highest = tt

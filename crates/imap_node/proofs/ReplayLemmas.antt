@@ -47,9 +47,9 @@ use Rattle.imap_node.specs.declared.sessions.Auth.TheVariants.{Preauth, Password
 use Rattle.imap_node.proofs.IssueLemmas.{issues_well}
 use Rattle.imap_node.proofs.SessionLemmas.{open_is, others_stay, session_put}
 
--- ---- a course, replayed
+-- ---- an effect, replayed
 
--- answers that do nothing to any view
+-- answers that change no view
 abbrev AreStill : List Answer → Type 0
 AreStill answers = (rows : List ListedMessage) (view : List ViewEntry) → after_answers rows view answers ≡ view
 
@@ -123,7 +123,7 @@ left_view session (inputs.Command moment tagged) why = refused_view session.stat
 left_view session (inputs.Line line) why = refl
 left_view session inputs.Poll why = refl
 
--- what the session sees that was spoken to
+-- the view of the session whose input it was
 pub seen_now : (old new : NodeState) (ops : List Op) (n : ℕ) (session next : Session) → session_at old.sessions n ≡ Some session → IsNodeAfter old ops (with_session old.sessions n (Some next)) new → view_at new.sessions n ≡ view_of next.state
 seen_now old new ops n session next at h = ap (λ (p : Places). view_at p n) h.sessions ∙ ap view_in (session_put old.sessions n (Some next) session at)
 
@@ -174,7 +174,7 @@ under_rising uidvalidity (Some now) rows h = elim (cases_Bool (nat_eq now uidval
 pub rows_rising : (start : Counters) (ops : List Op) (view : ViewState) → 1 ≤ start.uid → IsApplied ops → AreRisingRows 1 (rows_for start ops view)
 rows_rising start ops view l a = under_rising view.uidvalidity (uidvalidity_of start view.name ops) (listing start view.name ops) (listing_rising start view.name ops l a)
 
--- a view ascends, if there is one
+-- a view's UIDs ascend, if there is one
 abbrev Ascends : Option ViewState → Type 0
 Ascends o = (view : ViewState) → o ≡ Some view → AreRising 1 view.entries
 
@@ -210,7 +210,7 @@ behind_ascends : (start : Counters) (ops : List Op) (o : Option ViewState) (inpu
 behind_ascends start ops o input (Done answers silent issued) l a h = entries_ascend start ops (replay_base_of start ops o input) silent answers l a (based_ascends start ops o input h)
 behind_ascends start ops o input (Refused why with_session_closed) l a h = unless_ascends (selects input) o h
 
--- one session aside, all is as it was
+-- all but one session are as they were
 pub all_ascend : (old new : NodeState) (n : ℕ) → OthersStay old.sessions n new.sessions → ViewsAscend old.sessions → Ascends (view_at new.sessions n) → ViewsAscend new.sessions
 all_ascend old new n others h here = λ m view e.
     elim (eqb_tells m n) [
@@ -251,7 +251,7 @@ opens_ascend old new auth n o h = λ m view e.
       | inr f ↦ h m view (ap view_in (sym (o.others m f.1)) ∙ e)
     ]
 
--- where no session was ever open, nothing is seen
+-- if no session was ever open, there is no view
 vacant : (zeroed : Bool) (i : ℕ) → cond zeroed None (get_or {A = Option Session} [] i None) ≡ None
 vacant true i = refl
 vacant false i = refl

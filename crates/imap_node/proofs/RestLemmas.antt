@@ -1,4 +1,4 @@
--- A NOOP of a session that has nothing to be told comes to its end alone.
+-- The reply to a NOOP of a session that has no unsent changes is only its tagged line.
 use Rattle.std.proofs.Common.{◌≡◌, ◌⊎◌, inl, inr, ap, sym, refl, subst, ℕ, Bool, true, false, List, [], ◌∷◌, ◌++◌, Option, Some, None, append-nil}
 use Rattle.std.specs.Option.{unwrap_or}
 use Rattle.std.specs.Prelude.{Ok}
@@ -30,11 +30,11 @@ use Rattle.imap_node.proofs.NextLemmas.{no_cut}
 pub none_issued : (applied : List Op) → AreIssued id_of clock_of applied []
 none_issued applied = λ front o back e. absurd (no_cut front o back e)
 
--- nothing is news
+-- nothing is noted
 pub none_new : (start : Counters) (applied : List Op) → AreChangeNotes start applied (applied ++ []) []
 none_new start applied = subst (λ (after : List Op). AreChangeNotes start applied after []) (sym (append-nil applied)) (λ name uidvalidity uid. inl refl)
 
--- what the session is told, and where it stands
+-- what the session is sent, and its state
 unmoved : (start : Counters) (applied : List Op) (state : State) (pending : Pending) (modseq : Bool) → ((view : ViewState) → view_of state ≡ Some view → IsNotedFor start applied pending view) → HasNothing state pending
     → ([] ≡ (sync_result_after start (applied ++ []) state (record { silent = []; own = []; sync = Some Full; modseq = modseq })).answers) × (state_with state None ≡ (sync_result_after start (applied ++ []) state (record { silent = []; own = []; sync = Some Full; modseq = modseq })).state)
 unmoved start applied state pending modseq noted settled =
@@ -79,7 +79,7 @@ at_rest start applied session pending input tag noted rests =
       copies = refl;
     })
 
--- a session that is settled has nothing to be told
+-- a settled session has nothing to be sent
 pub nothing_untold : (state : State) (pending : Pending) (news : List MailboxNotes) → news ≡ [] → (Some Full ≡ None) ⊎ ((view : ViewState) → view_of state ≡ Some view → IsSettled (record { pending = pending; change_notes = news }) view) → HasNothing state pending
 nothing_untold state pending news e (inl n) = absurd cc
 nothing_untold state pending news e (inr settled) = λ view is. subst (λ (ns : List MailboxNotes). IsSettled (record { pending = pending; change_notes = ns }) view) e (settled view is)

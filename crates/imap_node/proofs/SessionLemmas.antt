@@ -3,13 +3,13 @@ use Rattle.std.proofs.lemmas.Bool.{cases_lt}
 use Rattle.imap_commands.specs.declared.session.Session.{Session}
 use Rattle.imap_node.specs.Sessions.{OthersStay, Places, session_at, with_session}
 
--- what is put in a place that is there stands in it
+-- a place that exists holds what is put in it
 put_there : (places : Places) (i : ℕ) (place : Option Session) (s : Session) → get_or places i None ≡ Some s → get_or (set places i place) i None ≡ place
 put_there [] i place s h = let e : ◌≡◌ {A = Option Session} None (Some s) = h in cc
 put_there (p ∷ places) zero place s h = refl
 put_there (p ∷ places) (suc i) place s h = put_there places i place s h
 
--- and every other place stays
+-- every other place stays as it was
 put_elsewhere : (places : Places) (i j : ℕ) (place : Option Session) → (i ≡ j → ⊥) → get_or (set places i place) j None ≡ get_or places j None
 put_elsewhere [] i j place d = refl
 put_elsewhere (p ∷ places) zero zero place d = absurd (d refl)
@@ -25,7 +25,7 @@ elsewhere : (zeroed : Bool) (places : Places) (i j : ℕ) (place : Option Sessio
 elsewhere true places i j place d = refl
 elsewhere false places i j place d = put_elsewhere places i j place d
 
--- an open session is this now
+-- an open session is replaced
 pub session_put : (places : Places) (n : ℕ) (place : Option Session) (s : Session) → session_at places n ≡ Some s → session_at (with_session places n place) n ≡ place
 session_put places n place s h = there (eqb n 0) places (n - 1) place s h
 
@@ -41,7 +41,7 @@ numbered_from_one places n s h =
           cc
     ]
 
--- and the others are as they were
+-- the other sessions are as they were
 pub others_stay : (places : Places) (n : ℕ) (place : Option Session) (s : Session) → session_at places n ≡ Some s → OthersStay places n (with_session places n place)
 others_stay places n place s h = λ m d.
     let from = numbered_from_one places n s h in
@@ -52,7 +52,7 @@ others_stay places n place s h = λ m d.
           subst (λ (k : ℕ). session_at (with_session places n place) k ≡ session_at places k) none refl
     ]
 
--- an open session is there
+-- an open session exists
 pub open_is : (o : Option Session) → IsSome o → (s : Session) × (o ≡ Some s)
 open_is None h = absurd cc
 open_is (Some s) h = (s, refl)

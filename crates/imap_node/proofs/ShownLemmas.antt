@@ -73,7 +73,7 @@ under_showable uidvalidity (Some now) rows h =
 pub rows_showable : (start : Counters) (ops : List Op) (view : ViewState) → IsPresentable start ops → AreShowable (rows_for start ops view)
 rows_showable start ops view p = under_showable view.uidvalidity (uidvalidity_of start view.name ops) (listing start view.name ops) (listing_showable start view.name ops p)
 
--- ---- a mailbox's numbers
+-- ---- a mailbox's counters
 
 pub next_nonzero : (start : Counters) (name : List ℕ) (ops : List Op) → IsPresentable start ops → IsNonzero (uidnext_of start name ops)
 next_nonzero start name ops p =
@@ -93,7 +93,7 @@ validity_by start name ops (Some v) u p e s =
     let last = b.validity v e in
     (omega (arith, first), omega (arith, last))
 
--- a mailbox that is there has a UIDVALIDITY
+-- an existing mailbox has a UIDVALIDITY
 pub validity_nonzero : (start : Counters) (name : List ℕ) (ops : List Op) → IsPresentable start ops → folder_exists name ops ≡ true → IsNonzero (validity_of start name ops)
 validity_nonzero start name ops p t =
     elim (cases_Bool (bytes_eq name inbox)) [
@@ -112,7 +112,7 @@ highest_nonzero start name ops p =
 pub marks_nonzero : (start : Counters) (name : List ℕ) (ops : List Op) → IsPresentable start ops → folder_exists name ops ≡ true → AreNonzeroMarks (counters_of start name ops)
 marks_nonzero start name ops p t = record { uidnext = next_nonzero start name ops p; uidvalidity = validity_nonzero start name ops p t; highest = highest_nonzero start name ops p }
 
--- ---- what was there before
+-- ---- what existed before
 
 pub shown_before : (start : Counters) (ops more : List Op) → IsPresentable start (ops ++ more) → IsPresentable start ops
 shown_before start ops more p =

@@ -11,17 +11,17 @@ use Rattle.imap_node.specs.Mailboxes.{mailbox_in}
 use Rattle.session_view.specs.ViewState.{ViewState}
 use Rattle.uid_projection.specs.declared.first_numbers.Counters.{Counters}
 
--- what an Ok holds is also this
+-- a value of `Ok` that equals another one
 pub if_ok_is : {T E : Type 0} (r : Result T E) (x y : T) → x ≡ y → IfOk r (λ t. t ≡ x) → IfOk r (λ t. t ≡ y)
 if_ok_is (Ok t) x y e h = h ∙ e
 if_ok_is (Err why) x y e h = tt
 
--- a list that has none
+-- an empty list
 pub none_there : {X : Type 0} (xs : List X) → nat_eq (length xs) 0 ≡ true → xs ≡ []
 none_there [] h = refl
 none_there (x ∷ xs) h = let none : length xs + 1 ≡ 0 = grind (arith, nat_tests) in absurd (omega (arith, none))
 
--- what a command found of the mailbox that is selected, by the mailbox
+-- the messages that a command names in the selected mailbox
 pub found_there : (start : Counters) (ops : List Op) (state : State) (view : ViewState) (read_only : Bool) (mailbox : OpenMailbox) (find : OpenMailbox → NamedMessages) (found : NamedMessages) → state ≡ Selected view read_only → mailbox ≡ mailbox_in start ops view read_only
     → found ≡ messages_named_if_selected state (λ view read_only. find (mailbox_in start ops view read_only)) → found ≡ find mailbox
 found_there start ops state view read_only mailbox find found selected there f =

@@ -19,7 +19,7 @@ use Rattle.uid_projection.specs.Incarnations.{folder_exists}
 use Rattle.uid_projection.specs.UidsAndModSeqs.{kind_names_folder}
 use Rattle.uid_projection.proofs.Presence.{applied_front, other_there, presence_step, there_tags}
 
--- ---- a folder stays there but for a Delete
+-- ---- only a Delete takes a folder away
 
 abbrev pub IsNoDelete : Kind → Type 0
 IsNoDelete (kinds.Delete folder seen) = ⊥
@@ -61,12 +61,12 @@ pub mapped_in : (ops : List Op) (o : Op) → IsIn o ops → IsIn o.kind (map (λ
 mapped_in [] o i = absurd i
 mapped_in (x ∷ ops) o i = elim i [ inl e ↦ inl (ap (λ (x : Op). x.kind) e) | inr t ↦ inr (mapped_in ops o t) ]
 
--- what is issued by kinds that delete nothing
+-- kinds that delete nothing leave the folder in existence
 pub stays_there : (name : List ℕ) (before issued : List Op) (wanted : List Kind) → IsApplied (before ++ issued) → map (λ (o : Op). o.kind) issued ≡ wanted → ((kind : Kind) → IsIn kind wanted → IsNoDelete kind)
     → folder_exists name before ≡ true → folder_exists name (before ++ issued) ≡ true
 stays_there name before issued wanted a e k t = kept_all name issued before a (λ o i. k o.kind (subst (IsIn o.kind) e (mapped_in issued o i))) t
 
--- ---- what was wanted was there
+-- ---- the mailbox that a command needs existed before
 
 abbrev Wanted : Type 0
 Wanted = Result (List Kind) Refusal
@@ -99,7 +99,7 @@ move_there true false false kinds wanted e = absurd cc
 move_there true true there kinds wanted e = absurd cc
 move_there false read_only there kinds wanted e = absurd cc
 
--- and what they issue
+-- what COPY and MOVE issue
 pub copy_is : (in_range there : Bool) (appends wanted : List Kind) → ◌≡◌ {A = Wanted} (if not in_range then Err NoSuchMessage else (if not there then Err NoDestination else within_limits appends)) (Ok wanted) → wanted ≡ appends
 copy_is true true appends wanted e = within_is appends wanted e
 copy_is true false appends wanted e = absurd cc

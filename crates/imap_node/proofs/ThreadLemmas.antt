@@ -1,5 +1,7 @@
--- A node may be handed to another thread and shared among threads. A balanced tree refers to itself, and the checker finds these facts of no type that holds
--- one by itself: here they are built up, from the held operations to the node, so that no crate above has to search them through all parts.
+-- A node may be sent to another thread and shared among threads. A balanced tree refers to itself,
+-- and the checker finds these facts for no type that holds one by itself. They are built up here,
+-- from the held operations to the node, so that no crate above has to search for them through all
+-- parts.
 use denote.RattleType.{RattleType}
 use denote.Param.Send.{IsSend, IsSync, sendable, view_send, view_sync, recorded_send, recorded_sync, struct_send, struct_sync}
 use denote.Struct.Declared.{shape}

@@ -52,7 +52,7 @@ answers_uids : (rows : List ListedMessage) (es : List ViewEntry) (answers : List
 answers_uids rows es [] q = refl
 answers_uids rows es (answer ∷ answers) q = answers_uids rows (after_answer rows es answer) answers q.1 ∙ quiet_uids rows es answer q.0
 
--- a view with silent flags and quiet answers replayed has its UIDs
+-- a view with silent flags and quiet answers replayed has the same UIDs
 pub replayed_uids : (rows : List ListedMessage) (es : List ViewEntry) (silents : List SilentFlags) (answers : List Answer) → Each IsQuiet answers → uids_of (view_after_reply rows es silents answers) ≡ uids_of es
 replayed_uids rows es silents answers q = answers_uids rows (after_silent es silents) answers q ∙ silent_uids es silents
 
@@ -86,7 +86,7 @@ last_below es n l h =
       | inr w ↦ let below = h w.0.uid (uid_here w.0 es w.1) in let q = w.2 in omega (arith, below, q)
     ]
 
--- ---- a listing in which a view lacks only what came after it
+-- ---- a listing in which a view lacks only what came after the view's moment
 
 -- the view has the UID, or it is above all of the view's
 abbrev pub IsKnown : List ℕ → ℕ → Type 0
@@ -129,7 +129,7 @@ beyond_first uid low (row ∷ rows) l h =
       | inr f ↦ absurd (grind (arith, nat_tests))
     ]
 
--- ---- what a partial sync leaves
+-- ---- the view after a partial sync
 
 kept_uid : (e : ViewEntry) (row : Option ListedMessage) → (refreshed_entry_by e row).uid ≡ e.uid
 kept_uid e None = refl
@@ -150,7 +150,7 @@ uids_append (x ∷ xs) ys = ap (λ (us : List ℕ). x.uid ∷ us) (uids_append x
 above : (uid : ℕ) (row : ListedMessage) → uid < row.uid → nat_lt uid row.uid ≡ true
 above uid row l = elim (cases_Bool (nat_lt uid row.uid)) [ inl t ↦ t | inr f ↦ absurd (grind (arith, nat_tests)) ]
 
--- each listed message, where the view knew it or lacked it rightly
+-- each listed message that the view knew, or rightly lacked
 pub partial_has : (rows : List ListedMessage) (es : List ViewEntry) (row : ListedMessage) → 0 < row.uid → IsIn row rows → IsKnown (uids_of es) row.uid → IsIn row.uid (uids_of (view_after_sync Partial rows es))
 partial_has rows es row l i k =
     subst (IsIn row.uid) (sym (uids_append (map (refreshed_entry rows) es) (entries_of (rows_after_uid (last_uid es) rows))))
@@ -160,7 +160,7 @@ partial_has rows es row l i k =
           (listed_uid row (rows_after_uid (last_uid es) rows) ((in_filter (λ (r : ListedMessage). nat_lt (last_uid es) r.uid) rows row).1 (i, above (last_uid es) row (last_below es row.uid l over))))
     ])
 
--- and no others than those that the view had and listed ones
+-- only UIDs that the view had and listed ones
 pub partial_from : (rows : List ListedMessage) (es : List ViewEntry) (uid : ℕ) → IsIn uid (uids_of (view_after_sync Partial rows es)) → IsIn uid (uids_of es) ⊎ ((row : ListedMessage) × IsIn row rows × (row.uid ≡ uid))
 partial_from rows es uid i =
     elim (in_parts uid (uids_of (map (refreshed_entry rows) es)) (uids_of (entries_of (rows_after_uid (last_uid es) rows))) (subst (IsIn uid) (uids_append (map (refreshed_entry rows) es) (entries_of (rows_after_uid (last_uid es) rows))) i)) [

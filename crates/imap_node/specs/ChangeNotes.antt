@@ -1,3 +1,6 @@
+-- How the notes of what operations change in a mailbox are made: from the mailbox before the
+-- operations, and its UIDVALIDITY and UIDNEXT after them.
+
 use Rattle.std.specs.Prelude.{◌≡◌, ◌⊎◌, ℕ, ◌≤◌, ◌<◌, true, List, ◌++◌, Option}
 use Rattle.crdt_ops.specs.declared.op.Op.{Op}
 use Rattle.merge_laws.specs.Orders.{IsIn}
@@ -11,31 +14,34 @@ use Rattle.uid_projection.specs.UidsAndModSeqs.{uidnext_of}
 use Rattle.uid_projection.specs.Listing.{listing}
 use Rattle.uid_projection.specs.TouchedMessages.{RowsStayExcept}
 
--- What is known of a mailbox before operations.
+-- What is looked up of a mailbox before operations.
 pub record MailboxSnapshot : Type 0 where
   pub name : List ℕ
   pub uidvalidity : Option ℕ
   pub uidnext : ℕ
   pub touched : List ℕ
 
--- It is known so of the mailbox of this name: its UIDVALIDITY, its UIDNEXT, and the UIDs below that whose rows may not stay, as long as the UIDVALIDITY does.
+-- `ahead` is the mailbox `name` before the operations: its UIDVALIDITY, its UIDNEXT, and UIDs below
+-- that outside of which rows don't change, as long as the UIDVALIDITY doesn't.
 pub record IsSnapshotOf (start : Counters) (before ops : List Op) (name : List ℕ) (ahead : MailboxSnapshot) : Type 0 where
   pub name_is : ahead.name ≡ name
   pub uidvalidity : ahead.uidvalidity ≡ uidvalidity_of start name before
   pub uidnext : ahead.uidnext ≡ uidnext_of start name before
   pub stay : IsApplied (before ++ ops) → uidvalidity_of start name (before ++ ops) ≡ uidvalidity_of start name before → RowsStayExcept ahead.touched ahead.uidnext (listing start name before) (listing start name (before ++ ops))
 
--- The notes tell of each of these UIDs, and of each from the one UIDNEXT to the other, where both UIDVALIDITIES are one; else of all.
+-- If the UIDVALIDITY didn't change, the notes name each touched UID and each UID from `first` up to
+-- `uidnext`; otherwise they name every UID.
 abbrev pub TellsOf : Option ℕ → Option ℕ → ℕ → ℕ → List ℕ → List Note → Type 0
 TellsOf before now first uidnext touched notes =
     (((before ≡ now) × ((uid : ℕ) → IsIn uid touched → is_noted notes uid ≡ true) × ((uid : ℕ) → first ≤ uid → uid < uidnext → is_noted notes uid ≡ true))
     ⊎ ((uid : ℕ) → is_noted notes uid ≡ true))
 
--- Each mailbox among these has notes that name what the operations change in it.
+-- Each of these mailboxes has notes that name what the operations change in it.
 abbrev pub AreNamed : Counters → List Op → List Op → List MailboxNotes → Type 0
 AreNamed start before ops folders = (folder : MailboxNotes) → IsIn folder folders → NotesNameIn start before (before ++ ops) folder.name folder.notes
 
--- The mailbox of this name is among the new ones, and what was said of the old ones is said of the new ones.
+-- The mailbox `name` is among the new ones, the old ones still are, and if the old ones' notes name
+-- what the operations change, so do the new ones'.
 pub record AreNotesSoFar (start : Counters) (before ops : List Op) (name : List ℕ) (old new : List MailboxNotes) : Type 0 where
   pub own : is_named new name ≡ true
   pub kept : (other : List ℕ) → is_named old other ≡ true → is_named new other ≡ true

@@ -1,3 +1,6 @@
+-- What each command issues, names and reports, the sync after it and its tagged line, one line per
+-- command (RFC 9051, section 6; RFC 7162; RFC 2177).
+
 use Rattle.std.specs.Prelude.{◌≡◌, ◌==◌, ℕ, Bool, true, false, not, ◌&&◌, List, [], ◌∷◌, Option, Some, None, is_some, Result, Ok, Err, if◌then◌else◌}
 use Rattle.crdt_ops.specs.declared.kind.Kind.{Kind}
 use Rattle.crdt_ops.specs.declared.op.Op.{Op}
@@ -37,37 +40,37 @@ use Rattle.uid_projection.specs.Incarnations.{folder_exists, uidvalidity_of}
 use Rattle.uid_projection.specs.UidsAndModSeqs.{highest_modseq_of, uidnext_of}
 use Rattle.uid_projection.specs.Listing.{listing}
 
--- ---- the states that commands want (RFC 9051, section 3)
+-- ---- the states in which commands are lawful (RFC 9051, section 3)
 
 abbrev pub is_selected : State → Bool
 is_selected (Selected view read_only) = true
 is_selected _ = false
 
--- In a session that has not logged in.
+-- A result only in a session that has not logged in.
 abbrev pub when_new : {X : Type 0} → State → (Credentials → Result X Refusal) → Result X Refusal
 when_new (NotAuthenticated credentials) want = want credentials
 when_new _ want = Err NotNow
 
--- The session's user is known, and has not logged out.
+-- The session's user is known and has not logged out.
 abbrev pub is_known : State → Bool
 is_known (NotAuthenticated credentials) = false
 is_known Authenticated = true
 is_known (Selected view read_only) = true
 is_known LoggedOut = false
 
--- In a session whose user is known.
+-- A result only in a session whose user is known.
 abbrev pub when_known : {X : Type 0} → State → Result X Refusal → Result X Refusal
 when_known state want = if is_known state then want else Err NotNow
 
--- In a session that has selected a mailbox.
+-- A result only in a session that has selected a mailbox.
 abbrev pub when_selected : {X : Type 0} → State → (ViewState → Bool → Result X Refusal) → Result X Refusal
 when_selected (Selected view read_only) want = want view read_only
 when_selected _ want = Err NotNow
 
--- ---- each command's line
+-- ---- what each command issues, names and reports
 
--- What a command issues behind these operations, or the first reason that stands against it. The stamp is the date-time of the
--- command's moment.
+-- What a command issues after the operations `ops`, or the first reason to refuse it. The stamp is
+-- the date-time of the command's moment.
 abbrev pub command_intent : Counters → List Op → List ℕ → State → Command → Result (List Kind) Refusal
 command_intent start ops stamp state commands.Capability = Ok []
 command_intent start ops stamp state commands.Noop = Ok []
@@ -100,7 +103,7 @@ command_intent start ops stamp state (commands.Copy asked) =
 command_intent start ops stamp state (commands.Move asked) =
     when_selected state (λ view read_only. move_intent (mailbox_in start ops view read_only) (record { by_uid = asked.by_uid; messages = asked.messages; destination = asked.name }) (folder_exists asked.name ops))
 
--- A command that names messages of the selected mailbox, and tells what became of them.
+-- The commands that name messages of the selected mailbox and report on them.
 abbrev pub names_messages : Command → Bool
 names_messages (commands.UidExpunge uids) = true
 names_messages (commands.Fetch asked) = true
@@ -109,18 +112,18 @@ names_messages (commands.Copy asked) = true
 names_messages (commands.Move asked) = true
 names_messages _ = false
 
--- A command that asks what the selected mailbox has.
+-- The commands that read the selected mailbox.
 abbrev pub asks_mailbox : Command → Bool
 asks_mailbox commands.Close = true
 asks_mailbox commands.Expunge = true
 asks_mailbox command = names_messages command
 
--- What a command finds in a mailbox that is selected, and nothing where none is.
+-- The messages named in the selected mailbox; none if no mailbox is selected.
 abbrev pub messages_named_if_selected : State → (ViewState → Bool → NamedMessages) → NamedMessages
 messages_named_if_selected (Selected view read_only) find = find view read_only
 messages_named_if_selected _ find = no_messages_named
 
--- What a command finds behind these operations, before its own: the messages that it names.
+-- The messages that a command names, after the operations `ops` and before its own.
 abbrev pub messages_named_by_command : Counters → List Op → State → Command → NamedMessages
 messages_named_by_command start ops state (commands.UidExpunge uids) = messages_named_if_selected state (λ view read_only. messages_named_by true uids view.entries)
 messages_named_by_command start ops state (commands.Fetch asked) = messages_named_if_selected state (λ view read_only. messages_named_by asked.by_uid asked.messages view.entries)
@@ -130,12 +133,13 @@ messages_named_by_command start ops state (commands.Copy asked) = messages_named
 messages_named_by_command start ops state (commands.Move asked) = messages_named_if_selected state (λ view read_only. messages_named_by asked.by_uid asked.messages view.entries)
 messages_named_by_command start ops state _ = no_messages_named
 
--- What a command tells of a mailbox that is selected, and nothing where none is.
+-- A report on the selected mailbox; empty if no mailbox is selected.
 abbrev pub report_if_selected : State → (ViewState → Bool → CommandReport) → CommandReport
 report_if_selected (Selected view read_only) tell = tell view read_only
 report_if_selected _ tell = empty_report
 
--- What a command itself tells, by the operations before it and those with its own; SELECT, EXAMINE, LIST and SEARCH aside.
+-- A command's own report, given the operations before it and those with its own; empty for SELECT,
+-- EXAMINE, LIST and SEARCH, which `IsCommandReport` defines.
 abbrev pub command_report : Counters → List Op → List Op → State → Bool → Command → CommandReport
 command_report start before after state modseq commands.Capability = capability_report
 command_report start before after state modseq commands.Namespace = namespace_report
@@ -161,7 +165,8 @@ abbrev pub IsSearchReportIfSelected : Counters → List Op → State → List �
 IsSearchReportIfSelected start ops (Selected view read_only) tag asked told = IsSearchReport (mailbox_in start ops view read_only) tag asked told
 IsSearchReportIfSelected start ops _ tag asked told = told ≡ empty_report
 
--- What a command itself tells: SELECT, EXAMINE, LIST and SEARCH what the rules for them allow, which is one telling each.
+-- `told` is a command's own report. For SELECT, EXAMINE, LIST and SEARCH it is the one report that
+-- their rules allow.
 abbrev pub IsCommandReport : Counters → List Op → List Op → State → Bool → List ℕ → Command → CommandReport → Type 0
 IsCommandReport start before after state modseq tag (commands.Select name condstore) told =
     IsSelectReport (is_selected state) false name (counters_of start name after) (listing start name after) told
@@ -173,7 +178,8 @@ IsCommandReport start before after state modseq tag (commands.Search asked) told
     IsSearchReportIfSelected start after state tag (record { by_uid = asked.by_uid; options = asked.options; steps = asked.steps }) told
 IsCommandReport start before after state modseq tag command told = told ≡ command_report start before after state modseq command
 
--- The state behind a command, before its answers are replayed. It shows no messages of a mailbox that is selected anew.
+-- The state after a command, before its answers are replayed. A newly selected mailbox shows no
+-- messages yet.
 abbrev pub state_after_command : Counters → List Op → State → Command → State
 state_after_command start ops state (commands.Login user password) = Authenticated
 state_after_command start ops state (commands.Select name condstore) = Selected (record { name = name; uidvalidity = validity_of start name ops; entries = [] }) false
@@ -183,11 +189,12 @@ state_after_command start ops state commands.Unselect = Authenticated
 state_after_command start ops state commands.Close = Authenticated
 state_after_command start ops state _ = state
 
--- Whether messages are named by their numbers, which an EXPUNGE would shift (RFC 9051, section 7.5.1).
+-- The kind of sync: no EXPUNGE if messages are named by their numbers, which it would shift (RFC
+-- 9051, section 7.5.1).
 abbrev pub sync_kind_by : Bool → SyncKind
 sync_kind_by by_uid = if by_uid then Full else Partial
 
--- How much the sync behind a command tells, if there is one.
+-- The kind of sync after a command; `None` if there is no sync.
 abbrev pub sync_of : Command → Option SyncKind
 sync_of (commands.Login user password) = None
 sync_of commands.Logout = None
@@ -212,18 +219,18 @@ is_enabling (commands.Fetch asked) = fetch_asks_modseq asked.items asked.changed
 is_enabling (commands.Store asked) = is_some asked.unchanged_since
 is_enabling _ = false
 
--- A command that leaves the selected mailbox also where it is refused (RFC 9051, section 6.3.2).
+-- The commands that leave the selected mailbox even if they are refused (RFC 9051, section 6.3.2).
 abbrev pub is_selecting : Command → Bool
 is_selecting (commands.Select name condstore) = true
 is_selecting (commands.Examine name condstore) = true
 is_selecting _ = false
 
--- Whether IDLE begins, whose tagged line comes behind its end (RFC 2177, section 3).
+-- IDLE begins; its tagged line comes when it ends (RFC 2177, section 3).
 abbrev pub is_idle : Command → Bool
 is_idle commands.Idle = true
 is_idle _ = false
 
--- The word of the tagged line.
+-- The command's word in the tagged line.
 abbrev pub word_of : Command → CompletedWord
 word_of commands.Capability = words.Capability
 word_of commands.Noop = words.Noop
@@ -253,7 +260,7 @@ word_of (commands.Move asked) = if asked.by_uid then words.UidMove else words.Mo
 
 -- ---- mod-sequences (RFC 7162, section 3.1)
 
--- HIGHESTMODSEQ of a view's mailbox, where its incarnation hasn't ended.
+-- HIGHESTMODSEQ of a view's mailbox, if its incarnation hasn't ended.
 abbrev pub highest_answer : ℕ → Option ℕ → ℕ → List Answer
 highest_answer uidvalidity None highest = []
 highest_answer uidvalidity (Some now) highest = if now == uidvalidity then Tell (HighestModSeq highest) ∷ [] else []
@@ -262,10 +269,11 @@ abbrev pub highest_answer_of : Counters → List Op → State → List Answer
 highest_answer_of start ops (Selected view read_only) = highest_answer view.uidvalidity (uidvalidity_of start view.name ops) (highest_modseq_of view.name ops)
 highest_answer_of start ops _ = []
 
--- A command turns mod-sequences on that weren't, and tells HIGHESTMODSEQ first; SELECT tells it anyway.
+-- A command turns mod-sequences on that were off. SELECT and EXAMINE are left out, since they
+-- report HIGHESTMODSEQ anyway.
 abbrev pub enables_condstore : Bool → Command → Bool
 enables_condstore condstore command = not condstore && (is_enabling command && not (is_selecting command))
 
--- What such a command tells first while a mailbox is selected.
+-- What such a command sends first while a mailbox is selected.
 abbrev pub condstore_answer : Counters → List Op → State → Bool → Command → List Answer
 condstore_answer start ops state condstore command = if enables_condstore condstore command then highest_answer_of start ops state else []

@@ -1,3 +1,6 @@
+-- What a node does with operations of other replicas: it applies, holds or refuses them, and
+-- releases held ones (the IMAP-CRDT's causal delivery).
+
 use Rattle.std.specs.Prelude.{◌≡◌, ℕ, Option}
 use Rattle.causal_inbox.specs.Delivery.{Arrives, Refuses}
 use Rattle.causal_inbox.specs.Inbox.{AreReleasedInTurn, IsLawfulInbox, IsStalled}
@@ -10,13 +13,14 @@ use Rattle.imap_node.specs.Nodes.{NodeState, received_ops}
 use Rattle.imap_node.specs.Operations.{clock_of, id_of}
 use Rattle.uid_projection.specs.Exhaustion.{Exhausts}
 
--- What holds of a node whatever came: the operations applied are a causal list, no id stands both among them and among those
--- held, an id determines the operation, and those held ascend by their ids and are no more than the limit.
+-- True of a node whatever it received: the applied operations are a causal list, no id is both
+-- among them and among the held ones, an id determines its operation, and held operations ascend by
+-- id and are no more than the limit.
 abbrev pub IsOrderly : NodeState → Type 0
 IsOrderly node = IsLawfulInbox id_of clock_of (received_ops node)
 
--- A node takes a delivered operation: it applies it and those that waited for it, or holds it, or has it already. Its
--- sessions stay.
+-- A node receives a delivered operation: it applies it and those that waited for it, or holds it,
+-- or received it before. Its sessions stay as they are.
 pub record Delivers (old : NodeState) (op : Op) (arrival : Arrival) (new : NodeState) : Type 0 where
   pub sessions : new.sessions ≡ old.sessions
   pub arrives : Arrives id_of clock_of Exhausts (received_ops old) op arrival (received_ops new)
@@ -25,16 +29,17 @@ pub record Delivers (old : NodeState) (op : Op) (arrival : Arrival) (new : NodeS
 abbrev pub IsRefusedAt : NodeState → Op → DeliverFault → Type 0
 IsRefusedAt node op why = Refuses id_of clock_of Exhausts (received_ops node) op why
 
--- An operation is held all of whose causes were applied.
+-- An operation is held although all its causes were applied.
 abbrev pub HoldsRipe : NodeState → Type 0
 HoldsRipe node = IsStalled id_of clock_of (received_ops node)
 
--- Why a ripe operation is held, if one is: the next to be released needs a number that a counter lacks, or only memory was wanting.
+-- Why a ripe operation is held, if one is: the next to be released needs a number that a counter
+-- lacks, or only memory ran out.
 abbrev pub StallsAt : NodeState → Option Stall → Type 0
 StallsAt node why = StallsFor id_of clock_of Exhausts (received_ops node) why
 
--- A node goes on with held operations whose causes were applied: so many are, each as it is the ripe one of the least id. Its sessions
--- stay.
+-- A node releases `count` held operations whose causes were applied, each time the ripe one of the
+-- least id. Its sessions stay as they are.
 pub record Drains (old : NodeState) (count : ℕ) (new : NodeState) : Type 0 where
   pub sessions : new.sessions ≡ old.sessions
   pub released : AreReleasedInTurn id_of clock_of Exhausts count (received_ops old) (received_ops new)

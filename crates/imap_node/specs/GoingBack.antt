@@ -1,3 +1,6 @@
+-- Views that are as old as an earlier moment of their mailbox, and inputs whose replies bring a
+-- view up to date (RFC 9051, section 2.3.1.1).
+
 use Rattle.std.specs.Prelude.{◌≡◌, ℕ, ◌<◌, Bool, true, false, ◌||◌, List, ◌++◌, Option, Some, None}
 use Rattle.crdt_ops.specs.declared.op.Op.{Op}
 use Rattle.imap_syntax.specs.declared.command.Command.{Command}
@@ -17,8 +20,9 @@ use Rattle.uid_projection.specs.Incarnations.{uidvalidity_of}
 use Rattle.uid_projection.specs.UidsAndModSeqs.{uidnext_of}
 use Rattle.uid_projection.specs.Listing.{listing}
 
--- A view goes back to an earlier moment of its mailbox's incarnation: as long as that incarnation goes on, the view has each message that
--- was listed at the moment, and no UID but those that were given before it (RFC 9051, section 2.3.1.1).
+-- A view goes back to an earlier moment of its mailbox's incarnation. As long as that incarnation
+-- exists, the view has each message that was listed at that moment, and only UIDs assigned before
+-- it (RFC 9051, section 2.3.1.1).
 pub record IsOlderView (start : Counters) (ops : List Op) (view : ViewState) : Type 0 where
   pub front : List Op
   pub back : List Op
@@ -27,7 +31,7 @@ pub record IsOlderView (start : Counters) (ops : List Op) (view : ViewState) : T
   pub has : uidvalidity_of start view.name ops ≡ Some view.uidvalidity → (row : ListedMessage) → IsIn row (listing start view.name front) → IsIn row.uid (uids_of view.entries)
   pub below : uidvalidity_of start view.name ops ≡ Some view.uidvalidity → (uid : ℕ) → IsIn uid (uids_of view.entries) → uid < uidnext_of start view.name front
 
--- The view of each session does.
+-- The view of each session goes back so.
 abbrev pub AreOlderViews : Counters → List Op → Places → Type 0
 AreOlderViews start ops places = (n : ℕ) (view : ViewState) → view_at places n ≡ Some view → IsOlderView start ops view
 
@@ -37,7 +41,8 @@ is_full None = false
 is_full (Some Full) = true
 is_full (Some Partial) = false
 
--- The inputs whose replies leave nothing untold: those with a full sync, and SELECT and EXAMINE, which tell the whole mailbox.
+-- The commands and the inputs whose replies leave nothing unsent: those with a full sync, and
+-- SELECT and EXAMINE, which show the whole mailbox.
 abbrev pub tells_all_of : Command → Bool
 tells_all_of command = is_full (sync_of command) || is_selecting command
 

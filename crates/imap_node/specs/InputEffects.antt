@@ -1,3 +1,6 @@
+-- The effect of an input that is carried out, apart from its operations; its answers, and the state
+-- after its sync.
+
 use Rattle.std.specs.Prelude.{◌≡◌, Bool, true, false, List, [], ◌++◌, Option, Some, None}
 use Rattle.std.specs.List.{list_any}
 use Rattle.std.specs.Option.{unwrap_or}
@@ -15,7 +18,7 @@ use Rattle.session_view.specs.declared.reply_replay.SilentFlags.{SilentFlags}
 use Rattle.imap_node.specs.Mailboxes.{rows_for}
 use Rattle.uid_projection.specs.declared.first_numbers.Counters.{Counters}
 
--- What a sync makes of the messages seen, and what it sends; nothing where there is none.
+-- The messages of a view after a sync, and what the sync sends; nothing if there is no sync.
 abbrev pub entries_after_sync : Option SyncKind → List ListedMessage → List ViewEntry → List ViewEntry
 entries_after_sync None rows view = view
 entries_after_sync (Some kind) rows view = view_after_sync kind rows view
@@ -24,8 +27,9 @@ abbrev pub answers_of_sync : Option SyncKind → Bool → List ListedMessage →
 answers_of_sync None modseq rows view = []
 answers_of_sync (Some kind) modseq rows view = sync_answers kind modseq rows view
 
--- What an input that is carried out comes to, apart from its operations: the flags that it sets in silence, its own answers, the
--- sync behind them with or without mod-sequences, the state before all these are replayed, and what is sent last.
+-- The effect of an input that is carried out, apart from its operations: the flags that it sets
+-- silently, its own answers, the sync after them with or without mod-sequences, the state before
+-- all these are replayed, and what is sent last.
 pub record InputEffect : Type 0 where
   pub silent : List SilentFlags
   pub own : List Answer
@@ -34,7 +38,7 @@ pub record InputEffect : Type 0 where
   pub state : State
   pub tail : List Answer
 
--- A course whose state, where none stands in it, is the one before.
+-- An effect in which a state that doesn't change is left out.
 pub record EffectDraft : Type 0 where
   pub silent : List SilentFlags
   pub own : List Answer
@@ -50,7 +54,7 @@ abbrev pub effect_from : State → EffectDraft → InputEffect
 effect_from state draft =
     record { silent = draft.silent; own = draft.own; sync = draft.sync; modseq = draft.modseq; state = state_or state draft.moved; tail = draft.tail }
 
--- What is sent behind a command's own answers, and where the session stands then.
+-- What is sent after a command's own answers, and the state then.
 pub record SyncResult : Type 0 where
   pub answers : List Answer
   pub state : State
@@ -69,7 +73,8 @@ sync_result_of start ops course = sync_result start ops course.sync course.modse
 abbrev pub answers_of_effect : Counters → List Op → InputEffect → List Answer
 answers_of_effect start ops course = course.own ++ ((sync_result_of start ops course).answers ++ course.tail)
 
--- What stands in front of a sync, and which one it is: flags that are set in silence, and a command's own answers.
+-- What comes before a sync, and the kind of the sync: flags that are set silently, and a command's
+-- own answers.
 pub record SyncInput : Type 0 where
   pub silent : List SilentFlags
   pub own : List Answer
@@ -79,20 +84,21 @@ pub record SyncInput : Type 0 where
 abbrev pub sync_result_after : Counters → List Op → State → SyncInput → SyncResult
 sync_result_after start ops state front = sync_result start ops front.sync front.modseq state front.silent front.own
 
--- The answer takes a message away, or tells a message's items.
+-- The answer expunges a message, or reports a message's items.
 abbrev pub is_altering : Answer → Bool
 is_altering (Expunge n) = true
 is_altering (Fetch n items) = true
 is_altering _ = false
 
--- Nothing was shown before, nothing is synced, and what stands in front shows messages as the listing has them.
+-- The view was empty, there is no sync, and the answers in `front` show messages as the listing has
+-- them.
 pub record IsFirstSight (entries : List ViewEntry) (front : SyncInput) : Type 0 where
   pub nothing : entries ≡ []
   pub unsynced : front.sync ≡ None
   pub silent : front.silent ≡ []
   pub own : list_any is_altering front.own ≡ false
 
--- The listing that was made for a state, if one was, is what its mailbox has behind these operations.
+-- The listing made for a state, if one was made, is its mailbox's after these operations.
 abbrev pub IsListingFor : Counters → List Op → State → Option (List ListedMessage) → Type 0
 IsListingFor start ops (Selected view read_only) (Some rows) = rows ≡ rows_for start ops view
 IsListingFor start ops state made = Unit {0}

@@ -1,3 +1,5 @@
+-- The operations that a node issues: sound, its own, and new (the IMAP-CRDT's rules for new tags).
+
 use Rattle.std.specs.Prelude.{◌≡◌, List, [], ◌++◌}
 use Rattle.causal_inbox.specs.Inbox.{AreIssued, AreHeldStill}
 use Rattle.crdt_ops.specs.declared.kind.Kind.{Kind}
@@ -10,14 +12,15 @@ use Rattle.merge_laws.specs.Orders.{IsIn}
 use Rattle.uid_projection.specs.Applied.{IsApplied}
 use Rattle.uid_projection.specs.Exhaustion.{Exhausts}
 
--- The operations that a reply issued: none where the input was refused.
+-- The operations that a reply issued; none if the input was refused.
 abbrev pub issued_by : Reply → List Op
 issued_by (Done answers silent issued) = issued
 issued_by (Refused why closed) = []
 
--- The node issued these operations and no others: its list grew by them at its end, and a held operation with the id of one of them was
--- dropped. They come next one behind another, and no counter was at its end for them. Each is sound, bears the node's name, and has an id
--- that nothing applied before has.
+-- The node issued exactly these operations: its list grew by them at its end, and a held operation
+-- with the id of one of them was dropped. They come next, one after another, and found no counter
+-- used up. Each is sound, bears the node's name, and has an id that no operation applied before
+-- has.
 pub record Issues (old : NodeState) (ops : List Op) (new : NodeState) : Type 0 where
   pub start : new.start ≡ old.start
   pub applied : new.applied ≡ old.applied ++ ops

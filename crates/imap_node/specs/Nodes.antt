@@ -1,3 +1,5 @@
+-- What contracts see of a node and of its replica, and the states of a session in it.
+
 use Rattle.std.specs.Prelude.{◌≡◌, ℕ, List, [], Some, None, IsSome}
 use Rattle.causal_inbox.specs.Inbox.{ReceivedOps}
 use Rattle.crdt_ops.specs.declared.op.Op.{Op}
@@ -8,8 +10,8 @@ use Rattle.imap_node.specs.Rooms.{HasRoomFor, Room}
 use Rattle.imap_node.specs.Sessions.{Places, session_at, with_session}
 use Rattle.uid_projection.specs.declared.first_numbers.Counters.{Counters}
 
--- A node: its name and the first numbers of its counters, the operations that it applied, in their order, those that it holds until
--- their causes come, and its sessions.
+-- A node: its name and the first numbers of its counters, the operations that it applied in their
+-- order, those that it holds until their causes come, and its sessions.
 pub record NodeState : Type 0 where
   pub start : Counters
   pub applied : List Op
@@ -20,15 +22,16 @@ pub record NodeState : Type 0 where
 abbrev pub unused_node : Counters → NodeState
 unused_node start = record { start = start; applied = []; held = []; sessions = [] }
 
--- What the counters of a replica that joins begin with: its UIDs and its incarnations count from 1.
+-- The first numbers of a replica that joins: its UIDs and its UIDVALIDITYs count from 1.
 abbrev pub first_numbers : ℕ → Counters
 first_numbers name = record { replica = name; uid = 1; k = 1 }
 
--- A replica of this name that joined with these operations: they are its list, as if each had been delivered to it. It holds nothing and has no sessions.
+-- A replica that joined with these operations: they are its list, as if each had been delivered to
+-- it. It holds nothing and has no sessions.
 abbrev pub joined_node : ℕ → List Op → NodeState
 joined_node name ops = record { start = first_numbers name; applied = ops; held = []; sessions = [] }
 
--- A node with the room that was made in it.
+-- A node, with the room that was made in it.
 pub record NodeWithRoom : Type 0 where
   pub state : NodeState
   pub room : Room
@@ -40,11 +43,12 @@ pub record ReplicaWithRoom : Type 0 where
   pub held : List Op
   pub room : Room
 
--- What was received: the operations applied, and those held.
+-- What a node received: the operations applied, and those held.
 abbrev pub received_ops : NodeState → ReceivedOps Counters Op
 received_ops node = record { start = node.start; applied = node.applied; held = node.held }
 
--- The replica can issue these operations: they come behind those applied, no counter is at its end for them, and where there are any there is room.
+-- The replica can issue these operations: they come after those applied and find no counter used
+-- up, and there is room for them if there are any.
 pub record IsReady (replica : ReplicaWithRoom) (ops : List Op) : Type 0 where
   pub follow : CanFollow replica.start replica.applied ops
   pub room : (ops ≡ [] → ⊥) → HasRoomFor replica.applied replica.room ops
@@ -53,11 +57,11 @@ pub record IsReady (replica : ReplicaWithRoom) (ops : List Op) : Type 0 where
 abbrev pub replica_received : ReplicaWithRoom → ReceivedOps Counters Op
 replica_received replica = record { start = replica.start; applied = replica.applied; held = replica.held }
 
--- The session idles: a DONE is awaited, and nothing else.
+-- The session idles: it awaits a DONE, and nothing else.
 abbrev pub IsIdling : Session → Type 0
 IsIdling session = IsSome session.idling
 
--- The session is open, and idles.
+-- The session is open and idles.
 abbrev pub Idles : NodeState → ℕ → Type 0
 Idles node n = (session : Session) × (session_at node.sessions n ≡ Some session) × IsIdling session
 
@@ -65,7 +69,7 @@ Idles node n = (session : Session) × (session_at node.sessions n ≡ Some sessi
 abbrev pub HasLoggedOut : NodeState → ℕ → Type 0
 HasLoggedOut node n = (session : Session) × (session_at node.sessions n ≡ Some session) × (session.state ≡ LoggedOut)
 
--- The session is open, and goes on.
+-- The session is open and has not logged out.
 abbrev pub IsGoing : NodeState → ℕ → Type 0
 IsGoing node n = (session : Session) × (session_at node.sessions n ≡ Some session) × ((session.state ≡ LoggedOut) → ⊥)
 

@@ -1,3 +1,6 @@
+-- A replica's own operations: which it may issue, which come next, and when a counter is used up
+-- (the IMAP-CRDT's ids and clocks).
+
 use Rattle.std.specs.Prelude.{◌≡◌, ◌⊎◌, ℕ, ◌+◌, ◌<◌, List, ◌∷◌, ◌++◌, length, map}
 use Rattle.causal_inbox.specs.Inbox.{IsClockOf}
 use Rattle.crdt_ops.specs.declared.kind.Kind.{Kind}
@@ -13,29 +16,32 @@ use Rattle.uid_projection.specs.declared.first_numbers.Counters.{Counters}
 use Rattle.uid_projection.specs.Applied.{IsApplied}
 use Rattle.uid_projection.specs.Exhaustion.{Exhausts}
 
--- An operation that comes next at this replica: its clock counts all that was applied there, and its number is one more
--- than those of the replica's operations among these.
+-- The operation comes next at this replica: its clock counts all that was applied there, and its
+-- number is one more than those of the replica's operations among these.
 pub record IsNext (replica : ℕ) (applied : List Op) (op : Op) : Type 0 where
   pub own : op.id.replica ≡ replica
   pub clock : IsClockOf id_of applied op.clock
   pub number : op.id.number ≡ count_of op.clock replica + 1
 
--- Operations of these kinds, in their order, each of which comes next behind those applied and those in front of it.
+-- Operations of these kinds, in their order, each of which comes next after those applied and those
+-- before it.
 pub record AreNext (replica : ℕ) (applied : List Op) (kinds : List Kind) (ops : List Op) : Type 0 where
   pub of_kinds : map (λ (o : Op). o.kind) ops ≡ kinds
   pub next : (front : List Op) (op : Op) (back : List Op) → ops ≡ front ++ op ∷ back → IsNext replica (applied ++ front) op
 
--- The replica's own numbers, which end at 4,294,967,295, don't suffice for operations of these kinds.
+-- The replica's own numbers, which end at 4,294,967,295, don't suffice for operations of these
+-- kinds.
 abbrev pub OwnNumbersEnd : ℕ → List Op → List Kind → Type 0
 OwnNumbersEnd replica applied kinds =
     (clock : List (ℕ × ℕ)) × IsClockOf id_of applied clock × (4294967295 < count_of clock replica + length kinds)
 
--- A counter is at its end for one of these: the replica's own numbers, a folder's UIDs or the UIDVALIDITY's.
+-- Operations of these kinds find a counter used up: the replica's own numbers, a folder's UIDs or
+-- the UIDVALIDITYs.
 abbrev pub IsUsedUp : Counters → List Op → List Kind → Type 0
 IsUsedUp start applied kinds =
     OwnNumbersEnd start.replica applied kinds ⊎ ((ops : List Op) × AreNext start.replica applied kinds ops × Exhausts start applied ops)
 
--- These operations can be applied behind the list, and no counter is at its end for them.
+-- These operations can be applied after the list, and find no counter used up.
 pub record CanFollow (start : Counters) (applied ops : List Op) : Type 0 where
   pub causal : IsApplied (applied ++ ops)
   pub lasts : Exhausts start applied ops → ⊥
@@ -44,22 +50,23 @@ pub record CanFollow (start : Counters) (applied ops : List Op) : Type 0 where
 abbrev pub IsNotReady : Counters → List Op → List Kind → Refusal → Type 0
 IsNotReady start applied kinds why = (why ≡ NoMemory) ⊎ ((why ≡ NumberUsedUp) × IsUsedUp start applied kinds)
 
--- The replica may issue an operation of this kind: its name and flags are lawful, it doesn't delete INBOX, and it names only
--- what was applied.
+-- The replica may issue an operation of this kind: its name and flags are lawful, it doesn't delete
+-- INBOX, and it names only what was applied.
 pub record CanIssue (applied : List Op) (kind : Kind) : Type 0 where
   pub lawful : IsLawfulKind kind
   pub covered : (clock : List (ℕ × ℕ)) → IsClockOf id_of applied clock → CoversReferenced clock kind
 
--- Behind what this clock counts, it may issue an operation of this kind.
+-- The replica may issue an operation of this kind after what this clock counts.
 pub record CanIssueBy (clock : List (ℕ × ℕ)) (kind : Kind) : Type 0 where
   pub lawful : IsLawfulKind kind
   pub covered : CoversReferenced clock kind
 
--- It may issue operations of all these kinds.
+-- The replica may issue operations of all these kinds.
 abbrev pub CanIssueAll : List Op → List Kind → Type 0
 CanIssueAll applied kinds = (kind : Kind) → IsIn kind kinds → CanIssue applied kind
 
--- An operation that a replica issues behind these is sound, bears the replica's name, and has an id that none of them has.
+-- An operation that a replica issues after these is sound, bears the replica's name, and has an id
+-- that none of them has.
 pub record IsFresh (replica : ℕ) (applied : List Op) (op : Op) : Type 0 where
   pub sound : IsSound op
   pub own : op.id.replica ≡ replica

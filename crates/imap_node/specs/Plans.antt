@@ -1,3 +1,5 @@
+-- What `plan` works out, and what `commit` then does: a session's next step, and the node after it.
+
 use Rattle.std.specs.Prelude.{◌≡◌, ℕ, List, [], ◌++◌, Option, Some, None, Result, Ok, Err, if◌then◌else◌}
 use Rattle.causal_inbox.specs.Inbox.{AreIssued}
 use Rattle.crdt_ops.specs.declared.kind.Kind.{Kind}
@@ -23,7 +25,7 @@ use Rattle.imap_node.specs.Sessions.{IsOpen, without_idle, session_at, unselecte
 use Rattle.uid_projection.specs.declared.first_numbers.Counters.{Counters}
 use Rattle.uid_projection.specs.Exhaustion.{Exhausts}
 
--- The answers, the flags set in silence and what becomes of the session are those of an input's course.
+-- The answers, the silent flags and the change of the session are those of an input's effect.
 pub record IsPreparedReply (start : Counters) (before after : List Op) (session : Session) (input : Input) (answered : PreparedReply) : Type 0 where
   pub course : InputEffect
   pub taken : IsInputEffect start before after session input course
@@ -31,7 +33,7 @@ pub record IsPreparedReply (start : Counters) (before after : List Op) (session 
   pub silent : answered.silent ≡ course.silent
   pub becomes : changed_session session answered.going ≡ session_after start after session input course
 
--- An input can be carried out so.
+-- The input can be carried out, and this is its reply, with the operations that it issues.
 pub record IsPreparedInput (start : Counters) (applied : List Op) (session : Session) (input : Input) (prepared : PreparedInput) : Type 0 where
   pub stamp : List ℕ
   pub stamped : IsStamp input stamp
@@ -42,7 +44,7 @@ pub record IsPreparedInput (start : Counters) (applied : List Op) (session : Ses
   pub answered : IsPreparedReply start applied (applied ++ prepared.ops) session input prepared.answered
   pub copies : prepared.copies ≡ prepared.ops
 
--- What becomes of a session.
+-- A session after a step, and the place that holds it.
 abbrev pub session_after_step : Session → SessionStep → Session
 session_after_step session Stays = session
 session_after_step session Leaves = unselected session
@@ -53,13 +55,14 @@ abbrev pub place_after_step : Option Session → SessionStep → Option Session
 place_after_step None next = None
 place_after_step (Some session) next = Some (session_after_step session next)
 
--- A session can take its next step behind these operations.
+-- A session can take its next step after these operations.
 abbrev pub CanStep : Counters → List Op → Session → SessionStep → Type 0
 CanStep start ops session (Goes going) = CanChangeSession start ops session.state going.onward
 CanStep start ops session next = Unit {0}
 
--- The plan can be committed: its session is open, its operations come next, the room for them, if there are any, is there, its news name what they change, and its session can take
--- its next step behind them.
+-- The plan can be committed: its session is open, its operations come next and have room if there
+-- are any, its change notes name what they change, and its session can take its next step after
+-- them.
 pub record IsPlanned (node : NodeWithRoom) (plan : Plan) : Type 0 where
   pub is_open : IsOpen node.state.sessions plan.number
   pub issued : AreIssued id_of clock_of node.state.applied plan.ops
@@ -67,19 +70,19 @@ pub record IsPlanned (node : NodeWithRoom) (plan : Plan) : Type 0 where
   pub change_notes : AreChangeNotes node.state.start node.state.applied (node.state.applied ++ plan.ops) plan.change_notes
   pub can : (session : Session) → session_at node.state.sessions plan.number ≡ Some session → CanStep node.state.start (node.state.applied ++ plan.ops) session plan.next
 
--- The session that a plan leaves behind.
+-- The session after a plan is committed.
 abbrev pub planned_session : NodeState → Plan → Option Session
 planned_session node plan = place_after_step (session_at node.sessions plan.number) plan.next
 
--- The node behind a plan that is committed.
+-- The node after a plan is committed.
 abbrev pub CommitsTo : NodeState → Plan → NodeState → Type 0
 CommitsTo old plan new = IsNodeAfter old plan.ops (with_session old.sessions plan.number (planned_session old plan)) new
 
--- What a plan says is what the node replies, and what it is then once the plan is committed.
+-- The plan's reply is what the node replies, once the plan is committed.
 abbrev pub IsPlanOf : NodeState → ℕ → Input → Plan → Type 0
 IsPlanOf old n input plan = (new : NodeState) → CommitsTo old plan new → Responds old n input plan.reply new
 
--- What becomes of the session of a refused input.
+-- The next step of a session whose input is refused.
 abbrev pub step_of_refusal : State → Input → Refusal → SessionStep
 step_of_refusal state input why = if leaves_mailbox state input then Leaves else (if ends_idling input why then Wakes else Stays)
 
@@ -87,7 +90,7 @@ step_of_refusal state input why = if leaves_mailbox state input then Leaves else
 abbrev pub plan_of_prepared : ℕ → PreparedInput → Plan
 plan_of_prepared n p = record { number = n; reply = Done p.answered.answers p.answered.silent p.copies; ops = p.ops; change_notes = p.change_notes; next = Goes p.answered.going }
 
--- The plan for what was worked out.
+-- The plan for an outcome of `prepare_for`.
 abbrev pub plan_by : ℕ → State → Input → Result PreparedInput Refusal → Plan
 plan_by n state input (Ok p) = plan_of_prepared n p
 plan_by n state input (Err why) = record { number = n; reply = Refused why (answers_closed state input why); ops = []; change_notes = []; next = step_of_refusal state input why }

@@ -1,3 +1,6 @@
+-- When what a node has applied can be shown, and when a session can be answered, so that all
+-- answers can be printed.
+
 use Rattle.std.specs.Prelude.{◌≡◌, ℕ, ◌+◌, List, length, Some}
 use Rattle.crdt_ops.specs.declared.op.Op.{Op}
 use Rattle.imap_answers.specs.declared.answer.Answer.{Answer}
@@ -10,24 +13,26 @@ use Rattle.uid_projection.specs.declared.first_numbers.Counters.{Counters}
 use Rattle.uid_projection.specs.Bounds.{AreWritable, IsLasting, IsLawfulStart}
 use Rattle.imap_node.specs.Sessions.{Places, with_session}
 
--- What a node has applied can be shown: its counters began lawfully and none was at its end, and its operations can be written and counted.
+-- What a node has applied can be shown: its first numbers are lawful, no counter was used up, and
+-- its operations can be written and counted.
 pub record IsPresentable (start : Counters) (ops : List Op) : Type 0 where
   pub lawful : IsLawfulStart start
   pub lasting : IsLasting start ops
   pub writable : AreWritable ops
   pub count : IsWide (1 + length ops)
 
--- The messages that are seen have ascending UIDs in 32 bits.
+-- The messages in the view have ascending UIDs of 32 bits.
 abbrev pub SeesNumbered : State → Type 0
 SeesNumbered (Selected view read_only) = IsNumbered view.entries
 SeesNumbered _ = Unit {0}
 
--- A session can be answered: the messages that it sees can be named, and the IDLE that it is in has a tag.
+-- A session can be answered: the messages in its view can be numbered, and the IDLE that it is in
+-- has a tag.
 pub record IsAnswerableIn (session : Session) : Type 0 where
   pub state : SeesNumbered session.state
   pub idling : Where IsTag session.idling
 
--- All answers can be printed, and the session that is left can be answered again.
+-- All answers can be printed, and the session afterwards can be answered again.
 pub record IsAnsweredWell (old : Places) (n : ℕ) (answers : List Answer) (new : Places) : Type 0 where
   pub printable : Each IsPrintable answers
   pub next : Session

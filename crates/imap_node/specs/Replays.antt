@@ -1,3 +1,5 @@
+-- A session's view after a reply: its silent flags and answers, replayed (RFC 9051, section 7).
+
 use Rattle.std.specs.Prelude.{◌≡◌, ℕ, Bool, false, List, [], Option, Some, None, if◌then◌else◌}
 use Rattle.crdt_ops.specs.declared.op.Op.{Op}
 use Rattle.imap_answers.specs.declared.answer.Answer.{Answer}
@@ -19,7 +21,7 @@ use Rattle.imap_node.specs.declared.reply.Reply.{Reply}
 use Rattle.imap_node.specs.declared.reply.Reply.TheVariants.{Done, Refused}
 use Rattle.uid_projection.specs.declared.first_numbers.Counters.{Counters}
 
--- What a session sees in this state: nothing where no mailbox is selected.
+-- A session's view in this state, and at a place; none if no mailbox is selected.
 abbrev pub view_of : State → Option ViewState
 view_of (Selected view read_only) = Some view
 view_of _ = None
@@ -28,12 +30,13 @@ abbrev pub view_in : Option Session → Option ViewState
 view_in None = None
 view_in (Some session) = view_of session.state
 
--- What the session with this number sees: nothing where it isn't open, or has no mailbox selected.
+-- The view of the session with this number; none if it isn't open or has no mailbox selected.
 abbrev pub view_at : Places → ℕ → Option ViewState
 view_at places n = view_in (session_at places n)
 
--- The view on which the answers of a command that is carried out are replayed: of a mailbox that is selected anew one without messages;
--- none behind CLOSE, UNSELECT and LOGOUT (RFC 9051, sections 6.1.3, 6.3.2, 6.4.1 and 6.4.2); else the view before.
+-- The view on which the answers of a command that is carried out, or of any input, are replayed: an
+-- empty one of a newly selected mailbox; none after CLOSE, UNSELECT and LOGOUT (RFC 9051, sections
+-- 6.1.3, 6.3.2, 6.4.1 and 6.4.2); else the view before.
 abbrev pub replay_base_of_command : Counters → List Op → Option ViewState → Command → Option ViewState
 replay_base_of_command start ops view (commands.Select name condstore) = Some (record { name = name; uidvalidity = validity_of start name ops; entries = [] })
 replay_base_of_command start ops view (commands.Examine name condstore) = Some (record { name = name; uidvalidity = validity_of start name ops; entries = [] })
@@ -47,18 +50,20 @@ replay_base_of start ops view (inputs.Command moment tagged) = replay_base_of_co
 replay_base_of start ops view (inputs.Line line) = view
 replay_base_of start ops view inputs.Poll = view
 
--- A view with flags set in silence and answers replayed, over what its mailbox has now.
+-- A view with silent flags and answers replayed, over what its mailbox has now.
 abbrev pub view_after_replies : Counters → List Op → Option ViewState → List SilentFlags → List Answer → Option ViewState
 view_after_replies start ops None silent answers = None
 view_after_replies start ops (Some view) silent answers = Some (record view { entries = view_after_reply (rows_for start ops view) view.entries silent answers })
 
--- A SELECT or an EXAMINE, which leaves the selected mailbox also where it is refused (RFC 9051, section 6.3.2).
+-- A SELECT or an EXAMINE, which leaves the selected mailbox even if it is refused (RFC 9051,
+-- section 6.3.2).
 abbrev pub selects : Input → Bool
 selects (inputs.Command moment tagged) = is_selecting tagged.command
 selects (inputs.Line line) = false
 selects inputs.Poll = false
 
--- What a reply to an input makes of a view, by these operations: its silent flags and answers, replayed.
+-- A view after the reply to an input, given these operations: its silent flags and answers,
+-- replayed.
 abbrev pub view_after_input : Counters → List Op → Option ViewState → Input → Reply → Option ViewState
 view_after_input start ops view input (Done answers silent issued) = view_after_replies start ops (replay_base_of start ops view input) silent answers
 view_after_input start ops view input (Refused why closed) = if selects input then None else view

@@ -1,3 +1,6 @@
+-- What a node replies to an input, and the node after it (RFC 9051, section 6; RFC 2177, section
+-- 3).
+
 use Rattle.std.specs.Prelude.{◌≡◌, ◌⊎◌, ℕ, Bool, true, false, ◌||◌, ◌&&◌, List, [], ◌∷◌, ◌++◌, Option, Some, None, Result, Ok, Err, if◌then◌else◌}
 use Rattle.causal_inbox.specs.Inbox.{AreHeldStill}
 use Rattle.crdt_ops.specs.declared.kind.Kind.{Kind}
@@ -32,38 +35,40 @@ use Rattle.imap_node.specs.Sessions.{Places, session_at, with_session}
 use Rattle.uid_projection.specs.declared.first_numbers.Counters.{Counters}
 use Rattle.uid_projection.specs.Exhaustion.{Exhausts}
 
--- ---- what an input wants
+-- ---- what an input issues
 
--- The date-time that a command writes down: APPEND that of its moment, and no other one.
+-- The date-time that a command records: APPEND records that of its moment, no other command records
+-- any.
 abbrev pub IsStampFor : Command → ℕ → List ℕ → Type 0
 IsStampFor (commands.Append append) moment stamp = IsCivil moment stamp
 IsStampFor command moment stamp = Unit {0}
 
--- The date-time that an input writes down.
+-- The date-time that an input records.
 abbrev pub IsStamp : Input → List ℕ → Type 0
 IsStamp (inputs.Command moment tagged) stamp = IsStampFor tagged.command moment stamp
 IsStamp (inputs.Line line) stamp = Unit {0}
 IsStamp inputs.Poll stamp = Unit {0}
 
--- What an input issues, or the first reason that stands against it: a line that isn't DONE ends the idling (RFC 2177, section 3).
+-- What an input issues, or the first reason to refuse it. A line that isn't DONE is refused (RFC
+-- 2177, section 3).
 abbrev pub input_intent : Counters → List Op → List ℕ → State → Input → Result (List Kind) Refusal
 input_intent start ops stamp state (inputs.Command moment tagged) = command_intent start ops stamp state tagged.command
 input_intent start ops stamp state (inputs.Line DoneLine) = Ok []
 input_intent start ops stamp state (inputs.Line Other) = Err DoneExpected
 input_intent start ops stamp state inputs.Poll = Ok []
 
--- What an input finds for that.
+-- The messages that an input names.
 abbrev pub messages_named_by_input : Counters → List Op → State → Input → NamedMessages
 messages_named_by_input start ops state (inputs.Command moment tagged) = messages_named_by_command start ops state tagged.command
 messages_named_by_input start ops state _ = no_messages_named
 
 -- ---- an input that is carried out
 
--- Mod-sequences are on, for this command too (RFC 7162, section 3.1).
+-- Mod-sequences are on, including for this command (RFC 7162, section 3.1).
 abbrev pub condstore_is_on : Session → Command → Bool
 condstore_is_on session command = session.condstore || is_enabling command
 
--- The tagged line, which IDLE gets at its end.
+-- The tagged line of a command; none for IDLE, whose tagged line is sent when it ends.
 abbrev pub tagged_lines_of : List ℕ → Command → Option Code → List Answer
 tagged_lines_of tag command code = if is_idle command then [] else Completed tag code (word_of command) ∷ []
 
@@ -72,12 +77,12 @@ abbrev pub tagged_lines_of_idle : Option (List ℕ) → List Answer
 tagged_lines_of_idle None = []
 tagged_lines_of_idle (Some tag) = Completed tag None words.Idle ∷ []
 
--- What a command comes to that tells this behind some first answers.
+-- The effect of a command with this report, whose answers come after the answers `first`.
 abbrev pub report_effect : List Answer → CommandReport → State → Bool → List ℕ → Command → InputEffect
 report_effect first told state modseq tag command =
     record { silent = told.silent; own = first ++ told.own; sync = sync_of command; modseq = modseq; state = state; tail = tagged_lines_of tag command told.code }
 
--- What a command comes to, by what it tells.
+-- The effect of a command, given its report.
 abbrev pub command_effect : Counters → List Op → Session → List ℕ → Command → CommandReport → InputEffect
 command_effect start ops session tag command told =
     report_effect (condstore_answer start ops session.state session.condstore command) told (state_after_command start ops session.state command) (condstore_is_on session command) tag command
@@ -87,21 +92,22 @@ IsCommandEffect start before after session tagged course =
     (told : CommandReport) × IsCommandReport start before after session.state (condstore_is_on session tagged.command) tagged.tag tagged.command told
     × (course ≡ command_effect start after session tagged.tag tagged.command told)
 
--- A full sync alone, with this behind it.
+-- The effect of an input that is only a full sync, with `tail` sent after it.
 abbrev pub sync_effect : Session → List Answer → InputEffect
 sync_effect session tail = record { silent = []; own = []; sync = Some Full; modseq = session.condstore; state = session.state; tail = tail }
 
--- What an input comes to, by the operations before it and those with its own.
+-- The effect of an input, given the operations before it and those with its own.
 abbrev pub IsInputEffect : Counters → List Op → List Op → Session → Input → InputEffect → Type 0
 IsInputEffect start before after session (inputs.Command moment tagged) course = IsCommandEffect start before after session tagged course
 IsInputEffect start before after session (inputs.Line line) course = course ≡ sync_effect session (tagged_lines_of_idle session.idling)
 IsInputEffect start before after session inputs.Poll course = course ≡ sync_effect session []
 
--- The tag of an IDLE that begins.
+-- The tag of the IDLE that a command begins, if it begins one.
 abbrev pub tag_of_idle : Tagged → Option (List ℕ)
 tag_of_idle tagged = if is_idle tagged.command then Some tagged.tag else None
 
--- Whether an idling goes on behind an input, and with which tag.
+-- The tag of the IDLE that continues after an input, if one does; and whether mod-sequences are on
+-- then.
 abbrev pub idling_after : Session → Input → Option (List ℕ)
 idling_after session (inputs.Command moment tagged) = tag_of_idle tagged
 idling_after session (inputs.Line line) = None
@@ -111,25 +117,25 @@ abbrev pub condstore_after : Session → Input → Bool
 condstore_after session (inputs.Command moment tagged) = condstore_is_on session tagged.command
 condstore_after session _ = session.condstore
 
--- The session behind an input that is carried out.
+-- The session after an input that is carried out.
 abbrev pub session_after : Counters → List Op → Session → Input → InputEffect → Session
 session_after start ops session input course =
     record { state = (sync_result_of start ops course).state; condstore = condstore_after session input; idling = idling_after session input }
 
 -- ---- an input that is refused
 
--- A SELECT that is refused leaves no mailbox selected (RFC 9051, section 6.3.2).
+-- A refused SELECT or EXAMINE leaves no mailbox selected (RFC 9051, section 6.3.2).
 abbrev pub leaves_mailbox : State → Input → Bool
 leaves_mailbox state (inputs.Command moment tagged) = is_selected state && is_selecting tagged.command
 leaves_mailbox state _ = false
 
--- A line that isn't DONE ends the idling, but for want of memory.
+-- A line that isn't DONE ends the IDLE; a line refused because memory ran out doesn't.
 abbrev pub ends_idling : Input → Refusal → Bool
 ends_idling (inputs.Line line) NoMemory = false
 ends_idling (inputs.Line line) _ = true
 ends_idling _ why = false
 
--- What a refusal makes of a session.
+-- The session after a refusal.
 abbrev pub session_after_refusal : Session → Input → Refusal → Session
 session_after_refusal session input why = record {
   state = if leaves_mailbox session.state input then Authenticated else session.state;
@@ -137,13 +143,13 @@ session_after_refusal session input why = record {
   idling = if ends_idling input why then None else session.idling;
 }
 
--- Whether it is told that a mailbox was left: not where memory was wanting.
+-- The answer to a refused input says that a mailbox was left; not if memory ran out.
 abbrev pub answers_closed : State → Input → Refusal → Bool
 answers_closed state input NoMemory = false
 answers_closed state input _ = leaves_mailbox state input
 
--- Why an input is refused: the first reason that stands against it, or a counter's end; want of memory may come in place of
--- anything.
+-- Why an input is refused: the first reason to refuse it, or a counter that is used up. Memory
+-- running out may take the place of either.
 abbrev pub IsRefused : Counters → List Op → State → Input → Refusal → Type 0
 IsRefused start ops state input why =
     (why ≡ NoMemory)
@@ -153,20 +159,21 @@ IsRefused start ops state input why =
 
 -- ---- the response
 
--- The held operations that stay where these are issued: all of them where none is.
+-- The held operations after these were issued: all of them if none was issued.
 abbrev pub AreHeldAfter : List Op → List Op → List Op → Type 0
 AreHeldAfter [] old new = new ≡ old
 AreHeldAfter (op ∷ ops) old new = AreHeldStill id_of (op ∷ ops) old new
 
--- The node issues operations, and its sessions are these then: the operations stand behind those applied, and a held one with the id of one
--- of them is dropped.
+-- The node issued these operations, and has these sessions. The operations come after those
+-- applied, and a held one with the id of one of them is dropped.
 pub record IsNodeAfter (old : NodeState) (ops : List Op) (places : Places) (new : NodeState) : Type 0 where
   pub start : new.start ≡ old.start
   pub applied : new.applied ≡ old.applied ++ ops
   pub held : AreHeldAfter ops old.held new.held
   pub sessions : new.sessions ≡ places
 
--- An input is carried out, whole: what it wants is issued, and it is answered by what it comes to.
+-- An input is carried out whole: its operations are issued, and the answers are those of its
+-- effect.
 pub record CarriesOut (old : NodeState) (n : ℕ) (session : Session) (input : Input) (answers : List Answer) (silent : List SilentFlags) (issued : List Op) (new : NodeState) : Type 0 where
   pub stamp : List ℕ
   pub stamped : IsStamp input stamp
@@ -180,7 +187,7 @@ pub record CarriesOut (old : NodeState) (n : ℕ) (session : Session) (input : I
   pub silent_is : silent ≡ course.silent
   pub becomes : IsNodeAfter old issued (with_session old.sessions n (Some (session_after old.start (old.applied ++ issued) session input course))) new
 
--- What a node replies to an input of a session, and what it is then.
+-- What a node replies to an input of a session, and the node after it.
 abbrev pub Replies : NodeState → ℕ → Session → Input → Reply → NodeState → Type 0
 Replies old n session input (Done answers silent issued) new = CarriesOut old n session input answers silent issued new
 Replies old n session input (Refused why closed) new =

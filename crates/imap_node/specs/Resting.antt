@@ -1,4 +1,5 @@
--- A NOOP of a session that has nothing to be told.
+-- A NOOP of a session that has no unsent changes (RFC 9051, section 6.1.2).
+
 use Rattle.std.specs.Prelude.{◌≡◌, ℕ, List, [], ◌∷◌, None, Some}
 use Rattle.idle_feed.specs.Feeds.{Pending}
 use Rattle.imap_answers.specs.declared.answer.Answer.TheVariants.{Completed}
@@ -18,14 +19,15 @@ use Rattle.imap_node.specs.Replays.{view_of}
 abbrev pub IsNoop : Input → List ℕ → Type 0
 IsNoop input tag = (moment : ℕ) × (input ≡ Command moment (record { tag = tag; command = Noop }))
 
--- Nothing is still to be told of the mailbox that is selected, if one is.
+-- Nothing is unsent of the selected mailbox, if one is selected.
 abbrev pub HasNothing : State → Pending → Type 0
 HasNothing state pending = (view : ViewState) → view_of state ≡ Some view → IsSettled (record { pending = pending; change_notes = [] }) view
 
 abbrev pub IsAtRest : State → Pending → Input → List ℕ → Type 0
 IsAtRest state pending input tag = IsNoop input tag × HasNothing state pending
 
--- What comes of it: its end alone is told, nothing is issued, and the session stays as it is.
+-- The reply to such a NOOP: only its tagged line is sent, nothing is issued, and the session stays
+-- as it is.
 abbrev pub noop_at_rest : Session → List ℕ → PreparedInput
 noop_at_rest session tag = record {
   answered = record {

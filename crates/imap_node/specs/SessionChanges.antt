@@ -1,3 +1,5 @@
+-- The change of a session by an input, and what its feed must name afterwards.
+
 use Rattle.std.specs.Prelude.{◌≡◌, Bool, true, List, Option, Some, None}
 use Rattle.crdt_ops.specs.declared.op.Op.{Op}
 use Rattle.imap_commands.specs.declared.session.Session.{Session}
@@ -15,7 +17,7 @@ use Rattle.uid_projection.specs.declared.first_numbers.Counters.{Counters}
 use Rattle.idle_feed.specs.NotedFeeds.{CanCommit, IsChangeTo, entries_after_change}
 use Rattle.idle_feed.specs.declared.view_change.ViewChange.{ViewChange}
 
--- The messages seen behind a change, if there is one.
+-- The messages of a view after a change, if there is one.
 abbrev pub entries_with : List ViewEntry → Option ViewChange → List ViewEntry
 entries_with view None = view
 entries_with view (Some change) = entries_after_change view change
@@ -25,16 +27,16 @@ abbrev pub state_with : State → Option ViewChange → State
 state_with (Selected view read_only) change = Selected (record view { entries = entries_with view.entries change }) read_only
 state_with state change = state
 
--- What becomes of a state.
+-- A state after a change.
 abbrev pub changed_state : State → StateChange → State
 changed_state state (Moves next all) = next
 changed_state state (Stays change) = state_with state change
 
--- What becomes of a session.
+-- A session after a change.
 abbrev pub changed_session : Session → SessionChange → Session
 changed_session session going = record { state = changed_state session.state going.onward; condstore = going.condstore; idling = going.idling }
 
--- The change of a view, if there is one, can be made with no more memory.
+-- The change of a view, if there is one, and of a state, can be made without further memory.
 abbrev pub CanChangeView : State → Option ViewChange → Type 0
 CanChangeView (Selected view read_only) (Some change) = CanCommit view.entries change
 CanChangeView state change = Unit {0}
@@ -43,12 +45,13 @@ abbrev pub CanChangeState : State → StateChange → Type 0
 CanChangeState state (Moves next all) = Unit {0}
 CanChangeState state (Stays change) = CanChangeView state change
 
--- What the change of a view, if there is one, leaves names all that is still to be told, by these operations, if it is said to.
+-- What the change of a view leaves noted names all that is still unsent after these operations, if
+-- the change says so.
 abbrev pub ChangeLeaves : Counters → List Op → State → Option ViewChange → Type 0
 ChangeLeaves start ops (Selected view read_only) (Some change) = IsChangeTo (rows_for start ops view) view.entries change
 ChangeLeaves start ops state change = Unit {0}
 
--- What a state shows that is made anew is all that its mailbox has by these operations, if it is said to be.
+-- If `all` is set, the new state's view shows all that its mailbox has after these operations.
 abbrev pub ShowsAll : Counters → List Op → State → Bool → Type 0
 ShowsAll start ops state all = all ≡ true → (view : ViewState) → view_of state ≡ Some view → IsCurrent start ops view
 
@@ -56,7 +59,7 @@ abbrev pub LeavesNoted : Counters → List Op → State → StateChange → Type
 LeavesNoted start ops state (Moves next all) = ShowsAll start ops next all
 LeavesNoted start ops state (Stays change) = ChangeLeaves start ops state change
 
--- A session can go on so behind these operations.
+-- A session can make this change after these operations.
 pub record CanChangeSession (start : Counters) (ops : List Op) (state : State) (onward : StateChange) : Type 0 where
   pub make : CanChangeState state onward
   pub leaves : LeavesNoted start ops state onward

@@ -1,3 +1,6 @@
+-- What sessions must still be sent: a feed for each session, and change notes, which say what
+-- operations changed in each mailbox.
+
 use Rattle.std.specs.List.{list_any}
 use Rattle.std.specs.Prelude.{◌≡◌, ℕ, ◌-◌, Bool, false, List, [], ◌∷◌, ◌++◌, slice_index_or, bytes_eq, Option, Some, if◌then◌else◌}
 use Rattle.crdt_ops.specs.declared.op.Op.{Op}
@@ -16,68 +19,73 @@ use Rattle.uid_projection.specs.Incarnations.{uidvalidity_of}
 use Rattle.uid_projection.specs.Listing.{listing}
 use Rattle.idle_feed.specs.NotedFeeds.{NotesAllOf}
 
--- A feed that isn't there has missed all.
+-- The feed of a session that has none: it missed everything.
 abbrev pub missing_feed : FeedState
 missing_feed = record { pending = missed_pending; room = 0 }
 
--- What the session with this number is still to be told.
+-- What the session with this number must still be sent.
 abbrev pub pending_at : List FeedState → ℕ → Pending
 pending_at feeds n = (slice_index_or feeds (n - 1) missing_feed).pending
 
--- It names every row that differs between the view and its mailbox's listing, or says that some was missed.
+-- `pending` names every row that differs between the view and its mailbox's listing, or says that
+-- some was missed.
 abbrev pub IsNotedFor : Counters → List Op → Pending → ViewState → Type 0
 IsNotedFor start ops pending view = NotesAllOf pending (rows_for start ops view) view.entries
 
--- That of each session does.
+-- The feed of each session names every row that differs in the session's view, or says that some
+-- was missed.
 abbrev pub AreAllNoted : Counters → List Op → Places → List FeedState → Type 0
 AreAllNoted start ops places feeds = (n : ℕ) (view : ViewState) → view_at places n ≡ Some view → IsNotedFor start ops (pending_at feeds n) view
 
--- What the view shows of any message is what its mailbox's listing has of it.
+-- The view agrees with its mailbox's listing in every message.
 abbrev pub IsCurrent : Counters → List Op → ViewState → Type 0
 IsCurrent start ops view = (uid : ℕ) → flags_at uid view.entries ≡ flags_at uid (entries_of (rows_for start ops view))
 
--- ---- news: what operations changed
+-- ---- change notes: what operations changed
 
 -- What they changed in one mailbox.
 pub record MailboxNotes : Type 0 where
   pub name : List ℕ
   pub notes : List Note
 
--- What they changed in the mailbox of this name: nothing where it isn't among these.
+-- What they changed in the mailbox `name`; nothing if it isn't listed.
 abbrev pub notes_in : List MailboxNotes → List ℕ → List Note
 notes_in [] name = []
 notes_in (folder ∷ folders) name = if bytes_eq folder.name name then folder.notes else notes_in folders name
 
--- The notes name what differs between two moments in the mailbox of this name, in each of its incarnations.
+-- The notes name what differs between two moments in the mailbox `name`, in each of its
+-- incarnations.
 abbrev pub NotesNameIn : Counters → List Op → List Op → List ℕ → List Note → Type 0
 NotesNameIn start before after name notes =
     (uidvalidity : ℕ)
     → NoteAllChanges notes (rows_under uidvalidity (uidvalidity_of start name after) (listing start name after)) (entries_of (rows_under uidvalidity (uidvalidity_of start name before) (listing start name before)))
 
--- The news name what differs between two moments in any mailbox.
+-- The change notes name what differs between two moments in any mailbox.
 abbrev pub AreChangeNotes : Counters → List Op → List Op → List MailboxNotes → Type 0
 AreChangeNotes start before after news = (name : List ℕ) → NotesNameIn start before after name (notes_in news name)
 
--- A session's feed behind news: it names what differs behind them, if it named what differed before.
+-- What a session must still be sent, before and after change notes are added: if it named what
+-- differed before the operations, it names what differs after them.
 pub record IsFeedAfterNotes (news : List MailboxNotes) (place : Option Session) (old new : Pending) : Type 0 where
   pub noted : (start : Counters) (before after : List Op) (view : ViewState) → AreChangeNotes start before after news → view_in place ≡ Some view → IsNotedFor start before old view → IsNotedFor start after new view
 
--- What a session is still to be told, and what operations changed.
+-- What a session must still be sent, and what operations changed.
 pub record UnsentChanges : Type 0 where
   pub pending : Pending
   pub change_notes : List MailboxNotes
 
--- Nothing is noted of a view's mailbox, neither still to be told nor changed by the operations; the view's UIDs ascend, as any view's do.
+-- Nothing is noted of a view's mailbox, neither unsent nor changed by the operations; the view's
+-- UIDs ascend, as any view's do.
 pub record IsSettled (untold : UnsentChanges) (view : ViewState) : Type 0 where
   pub rising : AreRising 1 view.entries
   pub found : untold.pending.missed ≡ false
   pub told : untold.pending.notes ≡ []
   pub unchanged : notes_in untold.change_notes view.name ≡ []
 
--- Whether the mailbox of this name is among these.
+-- The mailbox `name` is listed.
 abbrev pub is_named : List MailboxNotes → List ℕ → Bool
 is_named folders name = list_any (λ folder. bytes_eq folder.name name) folders
 
--- These, with the mailbox of this name among them: of one that wasn't there, all may differ.
+-- These mailboxes, with the mailbox `name` added if it isn't listed; everything in it may differ.
 abbrev pub with_all_differing : List MailboxNotes → List ℕ → List MailboxNotes
 with_all_differing folders name = if is_named folders name then folders else folders ++ record { name = name; notes = Ended ∷ [] } ∷ []

@@ -1,3 +1,5 @@
+-- The sessions of a replica, by their numbers.
+
 use Rattle.std.specs.Prelude.{◌≡◌, ◌≢◌, ℕ, ◌-◌, ◌<◌, ◌==◌, false, List, slice_index_or, slice_set, Option, Some, None, IsSome, IsNone, if◌then◌else◌}
 use Rattle.std.specs.Option.{option_map}
 use Rattle.imap_commands.specs.declared.session.Session.{Session}
@@ -5,12 +7,12 @@ use Rattle.imap_commands.specs.declared.session.State.TheVariants.{Authenticated
 use Rattle.imap_node.specs.declared.sessions.Auth.{Auth}
 use Rattle.imap_node.specs.declared.sessions.Auth.TheVariants.{Preauth, Password}
 
--- The places of a replica's sessions: the session with number n stands at place n - 1, and a place may be vacant. Numbers begin
--- at 1.
+-- The places of a replica's sessions. The session with number n is at place n - 1, and a place may
+-- be vacant. Numbers begin at 1.
 abbrev pub Places : Type 0
 Places = List (Option Session)
 
--- What the session with this number is, if it is open; none has the number 0.
+-- The session with this number, if it is open; none has the number 0.
 abbrev pub session_at : Places → ℕ → Option Session
 session_at places n = if n == 0 then None else slice_index_or places (n - 1) None
 
@@ -18,11 +20,11 @@ session_at places n = if n == 0 then None else slice_index_or places (n - 1) Non
 abbrev pub IsOpen : Places → ℕ → Type 0
 IsOpen places n = IsSome (session_at places n)
 
--- The places with one open session changed, or closed.
+-- The places with one open session replaced, or closed.
 abbrev pub with_session : Places → ℕ → Option Session → Places
 with_session places n place = slice_set places (n - 1) place
 
--- A session that has no mailbox selected, and one that doesn't idle.
+-- A session without a selected mailbox, and one that doesn't idle.
 abbrev pub unselected : Session → Session
 unselected session = record session { state = Authenticated }
 
@@ -37,12 +39,12 @@ with_changed places n change = with_session places n (option_map change (session
 abbrev pub OthersStay : Places → ℕ → Places → Type 0
 OthersStay old n new = (m : ℕ) → m ≢ n → session_at new m ≡ session_at old m
 
--- A session as it begins: the user is known already, or has to log in.
+-- A session at its beginning: the user is known already, or must log in.
 abbrev pub new_session : Auth → Session
 new_session Preauth = record { state = Authenticated; condstore = false; idling = None }
 new_session (Password credentials) = record { state = NotAuthenticated credentials; condstore = false; idling = None }
 
--- The least number that no open session has is open now, and nothing else changed.
+-- A session is opened with the least number that no open session has, and nothing else changes.
 pub record Opens (old : Places) (auth : Auth) (n : ℕ) (new : Places) : Type 0 where
   pub positive : 0 < n
   pub vacant : IsNone (session_at old n)

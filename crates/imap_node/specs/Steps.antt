@@ -1,3 +1,5 @@
+-- What one event, other than an input of a session, does at a node.
+
 use Rattle.std.specs.Prelude.{◌≡◌, ◌↔◌, ℕ, ◌<◌, ◌≤◌, IsTrue, Result, Ok, Err}
 use Rattle.causal_inbox.specs.declared.delivery.DeliverFault.{DeliverFault}
 use Rattle.causal_inbox.specs.declared.delivery.Delivered.{Delivered}
@@ -10,20 +12,18 @@ use Rattle.imap_node.specs.declared.sessions.Auth.{Auth}
 use Rattle.imap_node.specs.declared.sessions.OpenFault.{OpenFault}
 use Rattle.imap_node.specs.declared.sessions.OpenFault.TheVariants.{NoMemory, TooManySessions}
 
--- What one event, other than an input of a session, does at a node.
-
 -- All numbers that a session may have, from 1 to 1,024, are open.
 abbrev pub IsFull : NodeState → Type 0
 IsFull node = (n : ℕ) → 0 < n → n ≤ 1024 → IsOpen node.sessions n
 
--- A session is opened with the least number that isn't open, or nothing changes: too many are open only where all numbers are, and memory may be
--- wanting.
+-- A session is opened with the least number that isn't open; or nothing changes, since all numbers
+-- are open, or memory ran out.
 abbrev pub OpensAt : NodeState → Auth → Result ℕ OpenFault → NodeState → Type 0
 OpensAt old auth (Ok n) new = Opens old.sessions auth n new.sessions × (new ≡ record old { sessions = new.sessions })
 OpensAt old auth (Err TooManySessions) new = IsFull old × (new ≡ old)
 OpensAt old auth (Err NoMemory) new = new ≡ old
 
--- An operation is taken, or refused: then nothing changes.
+-- An operation is received; or it is refused, and nothing changes.
 abbrev pub DeliversAt : NodeState → Op → Result Delivered DeliverFault → NodeState → Type 0
 DeliversAt old op (Ok delivered) new = Delivers old op delivered.arrival new × (IsTrue delivered.stalled ↔ HoldsRipe new)
 DeliversAt old op (Err fault) new = IsRefusedAt old op fault × (new ≡ old)
@@ -32,10 +32,10 @@ DeliversAt old op (Err fault) new = IsRefusedAt old op fault × (new ≡ old)
 abbrev pub DrainsAt : NodeState → Drained → NodeState → Type 0
 DrainsAt old drained new = Drains old drained.applied new × (IsTrue drained.stalled ↔ HoldsRipe new)
 
--- A session that is open closes.
+-- An open session closes.
 abbrev pub ClosesAt : NodeState → ℕ → NodeState → Type 0
 ClosesAt old n new = IsOpen old.sessions n × (new ≡ with_session_closed old n)
 
--- No session of this number is open, and nothing changes.
+-- No session with this number is open, and nothing changes.
 abbrev pub IsAwayAt : NodeState → ℕ → NodeState → Type 0
 IsAwayAt old n new = ¬ IsOpen old.sessions n × (new ≡ old)

@@ -1,4 +1,4 @@
-//! What operations changed in mailboxes.
+//! Change notes: what operations changed, mailbox by mailbox.
 
 ghost use Rattle.std.specs.Prelude.{◌≡◌, ◌⊎◌, ◌≤◌, ◌<◌, ◌++◌, ◌∷◌, ℕ, List, [], true, IfOk, OnOk};
 ghost use Rattle.crdt_ops.specs.declared.op.Op.{Op};
@@ -36,12 +36,12 @@ impl Model for MailboxNotes {
     ghost view = { λ f. record { name = f.name; notes = f.notes.items } };
 }
 
-/// What operations changed in the mailboxes that they name.
+/// What operations changed, for each mailbox that they name.
 pub struct ChangeNotes {
     folders: Vec<MailboxNotes>,
 }
 
-// By hand, so that crates above let it go as a whole.
+// By hand, so that crates above drop it whole.
 impl Drop for ChangeNotes {
     fn drop(self) {
         let Self { folders: _ } = self;
@@ -58,7 +58,7 @@ impl Model for ChangeNotes {
 }
 
 impl ChangeNotes {
-    /// No news.
+    /// No change notes.
     pub fn none(alloc: Global) -> ChangeNotes
         ensures { result ≡ [] }
     {
@@ -67,14 +67,14 @@ impl ChangeNotes {
         }
     }
 
-    /// What was changed in the mailbox of this name.
+    /// The notes of the mailbox `name`; none if it isn't listed.
     pub fn notes_of<'a>(&'a self, name: &Name) -> &'a [Note]
         ensures { result.now ≡ notes_in self.now name.now }
     {
         notes_among(&self.folders, name)
     }
 
-    /// Whether nothing was changed.
+    /// Whether no mailbox is listed.
     pub fn is_empty(&self) -> bool
         ensures { result ≡ true → self.now ≡ [] }
     {
@@ -82,7 +82,7 @@ impl ChangeNotes {
     }
 }
 
-/// What was changed in the mailbox of this name, by what was changed in these.
+/// The notes of the mailbox `name` in `folders`; none if it isn't listed there.
 fn notes_among<'a>(folders: &'a [MailboxNotes], name: &Name) -> &'a [Note]
     ensures { result.now ≡ notes_in folders.now name.now }
 {
@@ -94,7 +94,9 @@ fn notes_among<'a>(folders: &'a [MailboxNotes], name: &Name) -> &'a [Note]
     &[]
 }
 
-/// What is known of a mailbox before operations: what they will change in it is found while the messages that they expunge are still there.
+/// A mailbox before operations that come next: its UIDVALIDITY, its UIDNEXT, and the UIDs whose
+/// rows the operations change. These UIDs are looked up beforehand, while the messages that the
+/// operations expunge still exist.
 pub struct MailboxSnapshot {
     name: Name,
     uidvalidity: Option<u32>,
@@ -102,7 +104,7 @@ pub struct MailboxSnapshot {
     touched: Vec<u32>,
 }
 
-// By hand, so that crates above let it go as a whole.
+// By hand, so that crates above drop it whole.
 impl Drop for MailboxSnapshot {
     fn drop(self) {
         let Self {
@@ -123,8 +125,8 @@ impl Model for MailboxSnapshot {
 }
 
 impl MailboxSnapshot {
-    /// What is known of the mailbox of this name before these operations, which come next; `Err` where there is no memory for it. Cost: what the operations
-    /// name.
+    /// The mailbox `name` before `ops`, which come next; `Err` if memory runs out. Cost:
+    /// proportional to what the operations name.
     pub fn before_ops(
         alloc: Global,
         replica: &ReplicaState,
@@ -149,8 +151,8 @@ impl MailboxSnapshot {
         &self.name
     }
 
-    /// What the operations changed in the mailbox, whose UIDVALIDITY and UIDNEXT are these behind them; `Err` where there is no memory for it. Cost: what they
-    /// changed.
+    /// Notes of what the operations changed in the mailbox, given its UIDVALIDITY and UIDNEXT after
+    /// them; `Err` if memory runs out. Cost: proportional to what they changed.
     pub fn notes(
         self,
         alloc: Global,
@@ -172,8 +174,8 @@ impl MailboxSnapshot {
     }
 }
 
-/// Notes of what may differ in a mailbox: all, where its UIDVALIDITY changed or there was none; else the messages with these UIDs, and those from the one
-/// UIDNEXT to the other.
+/// Notes of what may differ in a mailbox: everything, if its UIDVALIDITY changed or it had none;
+/// else the messages with the UIDs `touched` and those from the old UIDNEXT up to the new one.
 fn notes_after(
     alloc: Global,
     before: Option<u32>,
@@ -193,7 +195,7 @@ fn notes_after(
     Ok(notes)
 }
 
-/// Whether there is a UIDVALIDITY, and it stayed.
+/// Whether there is a UIDVALIDITY, and it didn't change.
 fn is_same(before: Option<u32>, now: Option<u32>) -> bool
     ensures { result ≡ true → before ≡ now }
 {
@@ -203,7 +205,7 @@ fn is_same(before: Option<u32>, now: Option<u32>) -> bool
     }
 }
 
-/// The note that all of a mailbox may differ.
+/// The note that everything in a mailbox may differ.
 fn all_may_differ(alloc: Global) -> Result<Vec<Note>, AllocError>
     ensures { IfOk result (λ notes. notes.items ≡ Ended ∷ []) }
 {
@@ -222,7 +224,7 @@ fn push_changed_notes(uids: &[u32], notes: &mut Vec<Note>) -> Result<(), AllocEr
     Ok(())
 }
 
-/// Notes the messages with the UIDs from the first one up to another as new.
+/// Notes the messages with the UIDs from `first` up to, and without, `end` as new.
 fn push_new(first: u32, end: u32, notes: &mut Vec<Note>) -> Result<(), AllocError>
     ensures { OnOk result ((uid : ℕ) → ((is_noted notes.old.items uid ≡ true) ⊎ ((first ≤ uid) × (uid < end))) → is_noted notes.new.items uid ≡ true) }
 {
@@ -232,7 +234,8 @@ fn push_new(first: u32, end: u32, notes: &mut Vec<Note>) -> Result<(), AllocErro
     Ok(())
 }
 
-/// What a replica's own next operations change in the mailboxes that they name; `Err` where there is no memory for it. Cost: what they name, for each mailbox.
+/// What a replica's own next operations change in the mailboxes that they name; `Err` if memory
+/// runs out. Cost: for each mailbox, proportional to what the operations name.
 pub fn change_notes_of_issue(
     alloc: Global,
     replica: &ReplicaState,
@@ -248,7 +251,8 @@ pub fn change_notes_of_issue(
     Ok(ChangeNotes { folders })
 }
 
-/// Tells what the operations change in the mailbox that one of them names.
+/// Adds what the operations change in the mailbox that one of them names, unless it is listed
+/// already.
 fn push_notes_of_op(
     alloc: Global,
     replica: &ReplicaState,
@@ -267,7 +271,7 @@ fn push_notes_of_op(
     Ok(())
 }
 
-/// What the operations change in the mailbox of this name.
+/// What the operations change in the mailbox `name`.
 fn notes_of_mailbox(
     alloc: Global,
     replica: &ReplicaState,
@@ -286,7 +290,7 @@ fn notes_of_mailbox(
     )
 }
 
-/// What is known of the mailbox that an operation names before it; `Err` where there is no memory for it.
+/// The mailbox that an operation names, before the operation; `Err` if memory runs out.
 pub fn snapshot_of(
     alloc: Global,
     replica: &ReplicaState,
@@ -299,7 +303,8 @@ pub fn snapshot_of(
     MailboxSnapshot::before_ops(alloc, replica, kind.name(), ops)
 }
 
-/// What one operation changed that a replica has just applied, of which this was known before it; `Err` where there is no memory for it. Cost: what it changed.
+/// What an operation changed that a replica has just applied, given its mailbox before it; `Err` if
+/// memory runs out. Cost: proportional to what it changed.
 pub fn change_notes_of_delivery(
     alloc: Global,
     replica: &ReplicaState,
@@ -316,8 +321,8 @@ pub fn change_notes_of_delivery(
     Ok(ChangeNotes { folders })
 }
 
-/// News of operations applied behind others that tell of each mailbox that they name that all of it may differ; `Err` where there is no memory for
-/// them.
+/// Change notes that say of each mailbox named by `ops` that everything in it may differ; for
+/// operations that were applied without a snapshot. `Err` if memory runs out.
 pub fn coarse_change_notes(alloc: Global, ops: &[SoundOp]) -> Result<ChangeNotes, AllocError>
     ensures { IfOk result (λ change_notes. (start : Counters) (list : List Op) → IsApplied (list ++ ops.now) → AreChangeNotes start list (list ++ ops.now) change_notes) }
 {
@@ -328,7 +333,8 @@ pub fn coarse_change_notes(alloc: Global, ops: &[SoundOp]) -> Result<ChangeNotes
     Ok(ChangeNotes { folders })
 }
 
-/// Tells of the mailbox that an operation names that all of it may differ.
+/// Adds the note that everything may differ in the mailbox that an operation names, unless it is
+/// listed already.
 fn push_folder(
     alloc: Global,
     kind: &Kind,
@@ -346,7 +352,7 @@ fn push_folder(
     Ok(())
 }
 
-/// Whether the mailbox of this name is among these.
+/// Whether the mailbox `name` is among these.
 fn is_named(folders: &[MailboxNotes], name: &Name) -> bool
     ensures { result ≡ is_named folders.now name.now }
 {

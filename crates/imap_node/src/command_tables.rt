@@ -1,4 +1,5 @@
-//! What each command is to the frame around it: one line a command in each table.
+//! How the node treats each command, apart from what the command itself issues and reports: tables
+//! with one line per command.
 
 ghost use Rattle.std.specs.Prelude.{◌≡◌};
 ghost use Rattle.imap_node.specs.Commands.{sync_kind_by, is_enabling, is_idle, is_selected, is_selecting, sync_of, word_of};
@@ -19,7 +20,7 @@ pub fn is_selected(state: &State) -> bool
     matches!(state, State::Selected { .. })
 }
 
-/// How much a sync tells: no EXPUNGE where messages are named by their numbers (RFC 9051, section 7.5.1).
+/// The kind of sync: no EXPUNGE if messages are named by their numbers (RFC 9051, section 7.5.1).
 fn by_kind(by_uid: bool) -> SyncKind
     ensures { result ≡ sync_kind_by by_uid }
 {
@@ -30,7 +31,7 @@ fn by_kind(by_uid: bool) -> SyncKind
     }
 }
 
-/// How much the sync behind a command tells, if there is one.
+/// The kind of sync after a command; `None` if there is no sync.
 pub fn sync_of(command: &Command) -> Option<SyncKind>
     ensures { result ≡ sync_of command.now }
 {
@@ -65,14 +66,14 @@ pub fn is_enabling(command: &Command) -> bool
     }
 }
 
-/// Whether mod-sequences are on, for this command too.
+/// Whether mod-sequences are on, including for this command.
 pub fn is_on(session: &Session, command: &Command) -> bool
     ensures { result ≡ condstore_is_on session.now command.now }
 {
     session.condstore || is_enabling(command)
 }
 
-/// Whether a command leaves the selected mailbox also where it is refused (RFC 9051, section 6.3.2).
+/// Whether a command leaves the selected mailbox even if it is refused (RFC 9051, section 6.3.2).
 pub fn is_selecting(command: &Command) -> bool
     ensures { result ≡ is_selecting command.now }
 {
@@ -100,7 +101,7 @@ pub fn leaves(state: &State, input: &Input) -> bool
     }
 }
 
-/// Whether it is told that the refused input left a mailbox.
+/// Whether the answer to a refused input says that a mailbox was left: not if memory ran out.
 pub fn closes(state: &State, input: &Input, why: Refusal) -> bool
     ensures { result ≡ answers_closed state.now input.now why }
 {
@@ -110,7 +111,7 @@ pub fn closes(state: &State, input: &Input, why: Refusal) -> bool
     leaves(state, input)
 }
 
-/// Whether a refused input ends an IDLE.
+/// Whether a refused input ends an IDLE: any line does, unless memory ran out.
 pub fn ends_idling(input: &Input, why: Refusal) -> bool
     ensures { result ≡ ends_idling input.now why }
 {
@@ -120,7 +121,7 @@ pub fn ends_idling(input: &Input, why: Refusal) -> bool
     }
 }
 
-/// The word of the tagged line.
+/// The command's word in the tagged line.
 pub fn word_of(command: &Command) -> CompletedWord
     ensures { result ≡ word_of command.now }
 {

@@ -1,4 +1,4 @@
-//! What each session is still to be told of its mailbox.
+//! What each session must still be sent of its mailbox.
 
 ghost use Rattle.std.specs.Prelude.{◌≡◌, ℕ, false, List, [], Option, Some, None, slice_index_or};
 ghost use Rattle.std.specs.Option.{option_map};
@@ -20,14 +20,15 @@ use imap_commands::{Session, State};
 use std::alloc::Global;
 use std::marker::Model;
 
-/// What each session is still to be told, by its number. One without a feed is told by a comparison of all that it sees.
+/// The feed of each session, by its number. A session without a feed is synced by comparing its
+/// whole view with the listing.
 pub struct Feeds {
     feeds: Vec<Feed>,
-    /// What is lent where there is no feed.
+    /// Serves as the feed of each session that has none.
     lacking: Feed,
 }
 
-// By hand, so that crates above let it go as a whole.
+// By hand, so that crates above drop it whole.
 impl Drop for Feeds {
     fn drop(self) {
         let Self {
@@ -49,7 +50,7 @@ impl Model for Feeds {
 }
 
 impl Feeds {
-    /// No feed.
+    /// No feeds.
     pub fn new(alloc: Global) -> Feeds
         ensures { result ≡ [] }
     {
@@ -59,7 +60,7 @@ impl Feeds {
         }
     }
 
-    /// What the session is still to be told.
+    /// The feed of the session. If it has none, a feed that missed everything.
     pub fn feed_of(&self, session: SessionNo) -> &Feed
         ensures { result.now.pending ≡ pending_at self.now session }
     {
@@ -69,14 +70,16 @@ impl Feeds {
         }
     }
 
-    /// Makes places for the feeds of sessions up to this one, as far as there is memory; what sessions are to be told stays.
+    /// Adds a feed for each session up to this one, as far as memory allows. What sessions must
+    /// still be sent doesn't change.
     pub fn open(&mut self, session: SessionNo)
         ensures { (n : ℕ) → pending_at self.new n ≡ pending_at self.old n }
     {
         open_in(&mut self.feeds, session);
     }
 
-    /// Makes room for news, as far as there is memory; what sessions are to be told stays.
+    /// Reserves room in feeds for these change notes, as far as memory allows. What sessions must
+    /// still be sent doesn't change.
     pub fn ready(&mut self, sessions: &Sessions, change_notes: &ChangeNotes)
         ensures { (n : ℕ) → pending_at self.new n ≡ pending_at self.old n }
     {
@@ -85,21 +88,23 @@ impl Feeds {
         }
     }
 
-    /// Notes news for the sessions whose mailboxes they name; takes no memory.
+    /// Adds change notes to the feeds of the sessions whose mailboxes they name. Takes no memory; a
+    /// feed that lacks room for its notes misses them.
     pub fn note(&mut self, sessions: &Sessions, change_notes: &ChangeNotes)
         ensures { (start : Counters) (before after : List Op) → AreChangeNotes start before after change_notes.now → AreAllNoted start before sessions.now self.old → AreAllNoted start after sessions.now self.new }
     {
         note_in(&sessions.places, change_notes, &mut self.feeds);
     }
 
-    /// All that sessions see is to be compared.
+    /// Drops all feeds, so that each session's next sync compares its whole view.
     pub fn miss_all(&mut self)
         ensures { (start : Counters) (ops : List Op) (sessions : List (Option Session)) → AreAllNoted start ops sessions self.new }
     {
         self.feeds.clear();
     }
 
-    /// An open session goes on, and what its change leaves stays to be told; takes no memory.
+    /// Applies a change to an open session, and leaves in its feed what must still be sent after
+    /// it. Takes no memory.
     pub fn advance(&mut self, sessions: &mut Sessions, session: SessionNo, going: SessionChange)
         requires opened { IsOpen sessions.old session }
         requires can { (s : Session) → session_at sessions.old session ≡ Some s → CanChangeState s.state going.onward }
@@ -110,7 +115,7 @@ impl Feeds {
     }
 }
 
-/// Whether a session in this state may have something to be told that this feed keeps, or missed.
+/// Whether a session in this state may have unsent changes: notes in its feed, or missed ones.
 pub fn may_be_told(state: &State, feed: &Feed) -> bool
     ensures missed { result ≡ false → (view : ViewState) → view_of state.now ≡ Some view → feed.now.pending.missed ≡ false }
     ensures none { result ≡ false → (view : ViewState) → view_of state.now ≡ Some view → feed.now.pending.notes ≡ [] }
@@ -124,7 +129,7 @@ pub fn may_be_told(state: &State, feed: &Feed) -> bool
     }
 }
 
-/// A feed that missed all.
+/// A feed that missed everything.
 fn missed_feed(alloc: Global) -> Feed
     ensures { result.pending ≡ missed_pending }
 {
@@ -141,7 +146,7 @@ fn open_in(feeds: &mut Vec<Feed>, session: SessionNo)
     }
 }
 
-/// Puts a feed that missed all behind the others, if there is memory.
+/// Appends a feed that missed everything, if there is memory.
 fn push_missed_feed(feeds: &mut Vec<Feed>)
     ensures { (n : ℕ) → pending_at feeds.new.items n ≡ pending_at feeds.old.items n }
 {
@@ -162,7 +167,7 @@ fn ready_in(places: &[Option<Session>], change_notes: &ChangeNotes, feeds: &mut 
     }
 }
 
-/// Makes room for what this session is to be told of these news.
+/// Reserves room in a session's feed for the change notes of its mailbox.
 fn ready_at(place: &Option<Session>, change_notes: &ChangeNotes, feed: &mut Feed)
     ensures { feed.new.pending ≡ feed.old.pending }
 {
@@ -185,7 +190,7 @@ fn note_in(places: &[Option<Session>], change_notes: &ChangeNotes, feeds: &mut V
     }
 }
 
-/// Notes for the session at this place, if there is one, what the news tell of its mailbox.
+/// Adds the change notes of its mailbox to the feed of the session at this place, if there is one.
 fn note_at(places: &[Option<Session>], place: usize, change_notes: &ChangeNotes, feed: &mut Feed)
     ensures { IsFeedAfterNotes change_notes.now (slice_index_or places.now place None) feed.old.pending feed.new.pending }
 {
@@ -194,7 +199,7 @@ fn note_at(places: &[Option<Session>], place: usize, change_notes: &ChangeNotes,
     }
 }
 
-/// The same of this session.
+/// Adds the change notes of its mailbox to the feed of this session, if there is one.
 fn note_one(place: &Option<Session>, change_notes: &ChangeNotes, feed: &mut Feed)
     ensures { IsFeedAfterNotes change_notes.now place.now feed.old.pending feed.new.pending }
 {
@@ -228,7 +233,7 @@ fn go_in(
     }
 }
 
-/// The same of this session, with its feed.
+/// Applies a change to this session and its feed.
 fn go(place: &mut Option<Session>, feed: &mut Feed, going: SessionChange)
     requires { (s : Session) → place.old ≡ Some s → CanChangeState s.state going.onward }
     ensures place { place.new ≡ option_map (λ s. changed_session s going) place.old }
@@ -249,7 +254,7 @@ fn go(place: &mut Option<Session>, feed: &mut Feed, going: SessionChange)
     }
 }
 
-/// What becomes of a state, with what is still to be told then.
+/// Applies a change to a state, and leaves in the feed what must still be sent after it.
 fn go_on(state: &mut State, feed: &mut Feed, onward: StateChange)
     requires { CanChangeState state.old onward }
     ensures state { state.new ≡ changed_state state.old onward }
@@ -270,7 +275,7 @@ fn go_on(state: &mut State, feed: &mut Feed, onward: StateChange)
     }
 }
 
-/// The view of the mailbox that is selected, if one is, is changed so.
+/// Applies a change to the view of the selected mailbox, if one is selected.
 fn change_in(state: &mut State, feed: &mut Feed, change: Option<ViewChange>)
     requires { CanChangeView state.old change }
     ensures state { state.new ≡ state_with state.old change }

@@ -1,9 +1,9 @@
-//! What comes from a session's client, or from its feeder.
+//! Inputs of a session: what its client sends, and polls.
 
 use imap_syntax::{IdleLine, Tagged};
 use imap_types::Moment;
 
-/// What a node replies to.
+/// An input that a node replies to.
 #[derive(Drop)]
 pub enum Input {
     /// A command of a session that doesn't idle.
@@ -15,9 +15,9 @@ pub enum Input {
     },
     /// A line in IDLE (RFC 2177, section 3).
     Line {
-        /// Whether it ends the IDLE as it should.
+        /// Whether it is DONE, which ends the IDLE well.
         line: IdleLine,
     },
-    /// A look at what an idling session has to be told.
+    /// A request to send an idling session what has changed.
     Poll,
 }

@@ -1,4 +1,4 @@
-//! What an input that is carried out comes to, apart from its operations.
+//! The effect of an input that is carried out, apart from its operations.
 
 ghost use Rattle.std.specs.Prelude.{◌≡◌, ◌++◌, ◌∷◌, [], IfOk, OnOk, Some};
 ghost use Rattle.imap_answers.specs.declared.answer.Answer.TheVariants.{Completed};
@@ -24,18 +24,19 @@ use session_view::{SilentFlags, SyncKind, View};
 use std::alloc::{AllocError, Global};
 use std::marker::Model;
 
-/// What an input that is carried out comes to, apart from its operations.
+/// The effect of an input that is carried out, apart from its operations. A state that doesn't
+/// change is left out.
 #[derive(Drop)]
 pub struct EffectDraft {
-    /// The flags that it sets in silence.
+    /// The flags that it sets silently (RFC 9051, section 6.4.6).
     pub silent: Vec<SilentFlags>,
     /// Its own answers.
     pub own: Vec<Answer>,
-    /// The sync behind them, if there is one.
+    /// The sync after them, if there is one.
     pub sync: Option<SyncKind>,
-    /// Whether the sync tells mod-sequences.
+    /// Whether the sync reports mod-sequences.
     pub modseq: bool,
-    /// The state before all these are replayed, where it isn't the one before.
+    /// The state on which all these are replayed; `None` if it is the state before the input.
     pub moved: Option<State>,
     /// What is sent last.
     pub tail: Vec<Answer>,
@@ -49,7 +50,7 @@ impl Model for EffectDraft {
     ghost view = { λ c. record { silent = c.silent.items; own = c.own.items; sync = c.sync; modseq = c.modseq; moved = c.moved; tail = c.tail.items } };
 }
 
-/// What an input comes to behind its operations, by what it found before them.
+/// The effect of an input after its operations, using the messages that it named before them.
 pub fn draft_effect(
     alloc: Global,
     replica: &ReplicaState,
@@ -73,7 +74,7 @@ pub fn draft_effect(
     }
 }
 
-/// A full sync alone, with this behind it.
+/// The effect of an input that is only a full sync, with `tail` sent after it.
 fn draft_sync_effect(
     alloc: Global,
     session: &Session,
@@ -101,7 +102,7 @@ fn idle_tail(alloc: Global, idling: &Option<Octets>) -> Result<Vec<Answer>, Allo
     }
 }
 
-/// A tagged OK alone.
+/// Only a tagged OK.
 pub fn completed_line(
     alloc: Global,
     tag: &Octets,
@@ -116,7 +117,7 @@ pub fn completed_line(
     Ok(tail)
 }
 
-/// What a command comes to behind its operations, by what it found before them.
+/// The effect of a command after its operations, using the messages that it named before them.
 fn draft_command_effect(
     alloc: Global,
     replica: &ReplicaState,
@@ -147,7 +148,7 @@ fn draft_command_effect(
     draft_report_effect(alloc, first, told, moved, modseq, tagged)
 }
 
-/// The course of a command that tells this.
+/// The effect of a command with this report, whose answers come after the answers `first`.
 fn draft_report_effect(
     alloc: Global,
     first: Vec<Answer>,
@@ -176,7 +177,7 @@ fn draft_report_effect(
     }
 }
 
-/// A command's own answers behind the first ones, and its tagged line.
+/// A command's own answers after those in `first`, and its tagged line.
 fn effect_with_answers(
     alloc: Global,
     first: Vec<Answer>,
@@ -198,7 +199,7 @@ fn effect_with_answers(
     Ok((own, tail))
 }
 
-/// The tagged line of a command, which IDLE gets at its end.
+/// The tagged line of a command. IDLE gets none now, since its tagged line is sent when it ends.
 fn tail_of(
     alloc: Global,
     tag: &Octets,
@@ -214,7 +215,7 @@ fn tail_of(
     completed_line(alloc, tag, code, word_of(command))
 }
 
-/// All these answers, in order.
+/// The answers, then the others.
 pub fn append_answers(answers: Vec<Answer>, others: Vec<Answer>) -> Result<Vec<Answer>, AllocError>
     ensures { IfOk result (λ all. all.items ≡ answers.items ++ others.items) }
 {
@@ -232,7 +233,8 @@ pub fn append_answers(answers: Vec<Answer>, others: Vec<Answer>) -> Result<Vec<A
     Ok(all)
 }
 
-/// HIGHESTMODSEQ, which a command tells first that turns mod-sequences on while a mailbox is selected (RFC 7162, section 3.1).
+/// HIGHESTMODSEQ, which a command sends before its own answers if it turns mod-sequences on while a
+/// mailbox is selected (RFC 7162, section 3.1).
 fn notice(
     alloc: Global,
     replica: &ReplicaState,
@@ -294,7 +296,7 @@ fn highest_answer(
     Ok(first)
 }
 
-/// Whether mod-sequences are on behind an input.
+/// Whether mod-sequences are on after an input.
 pub fn condstore_after(session: &Session, input: &Input) -> bool
     ensures { result ≡ condstore_after session.now input.now }
 {
@@ -304,7 +306,7 @@ pub fn condstore_after(session: &Session, input: &Input) -> bool
     }
 }
 
-/// The tag of the IDLE that goes on behind an input, if one does.
+/// The tag of the IDLE that continues after an input, if one does.
 pub fn idling_after(
     alloc: Global,
     session: &Session,
@@ -319,7 +321,7 @@ pub fn idling_after(
     }
 }
 
-/// The tag of an IDLE that begins.
+/// The tag of the IDLE that a command begins, if it begins one.
 fn tag_of_idle(alloc: Global, tagged: &Tagged) -> Result<Option<Octets>, AllocError>
     ensures { IfOk result (λ idling. idling ≡ tag_of_idle tagged.now) }
 {

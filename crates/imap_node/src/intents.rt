@@ -1,4 +1,4 @@
-//! What each input wants: one line a command.
+//! What each input issues: one line per command.
 
 ghost use Rattle.std.specs.Prelude.{◌≡◌, ◌++◌, ℕ, Bool, List, Result, [], true, Ok, Err, IfOk};
 ghost use Rattle.imap_answers.specs.declared.fixed_words.Refusal.{Refusal};
@@ -36,7 +36,8 @@ use imap_types::{DateTime, Flags, Name, Octets, SequenceSet, Text};
 use std::alloc::{AllocError, Global};
 use tags_clocks::OpId;
 
-/// What an input issues, and what it found for that, or the first reason that stands against it. `stamp` is the date-time of its moment.
+/// What an input issues, with the messages that it names, or the first reason to refuse it. `stamp`
+/// is the date-time of its moment.
 pub fn input_intent(
     alloc: Global,
     replica: &ReplicaState,
@@ -65,7 +66,7 @@ pub fn input_intent(
     }
 }
 
-/// Operations only, of an input that names no messages.
+/// The intent of an input that names no messages.
 fn intent_without_messages(
     alloc: Global,
     kinds: Result<Vec<Kind>, Refusal>,
@@ -82,7 +83,7 @@ fn intent_without_messages(
     }
 }
 
-/// What a command issues, and what it found for that, or the first reason that stands against it.
+/// What a command issues, with the messages that it names, or the first reason to refuse it.
 fn command_intent(
     alloc: Global,
     replica: &ReplicaState,
@@ -160,14 +161,14 @@ fn command_intent(
     }
 }
 
-/// Whether the session's user is known, and has not logged out.
+/// Whether the session's user is known and has not logged out.
 fn is_known(state: &State) -> bool
     ensures { result ≡ is_known state.now }
 {
     matches!(state, State::Authenticated | State::Selected { .. })
 }
 
-/// Nothing, where the session's user is known.
+/// No operations, if the session's user is known.
 fn no_kinds_if_known(alloc: Global, state: &State) -> Result<Vec<Kind>, Refusal>
     ensures { GivesOrLacksMemory (λ kinds. kinds.items) result (when_known state.now (Ok [])) }
 {
@@ -177,7 +178,7 @@ fn no_kinds_if_known(alloc: Global, state: &State) -> Result<Vec<Kind>, Refusal>
     Ok(Vec::new(alloc))
 }
 
-/// Nothing, where a mailbox is selected.
+/// No operations, if a mailbox is selected.
 fn no_kinds_if_selected(alloc: Global, state: &State) -> Result<Vec<Kind>, Refusal>
     ensures { GivesOrLacksMemory (λ kinds. kinds.items) result (when_selected state.now (λ view read_only. Ok [])) }
 {
@@ -331,7 +332,7 @@ fn intent_to_search(
     search_intent(alloc, view, steps)
 }
 
-/// What a command issues that asks what the selected mailbox has, and what it found for that.
+/// The intent of a command that depends on the selected mailbox, with the messages that it names.
 fn selected_intent(
     alloc: Global,
     replica: &ReplicaState,
@@ -351,7 +352,7 @@ fn selected_intent(
     wanted
 }
 
-/// The same of this mailbox.
+/// The intent of a command that depends on the selected mailbox, given that mailbox.
 fn mailbox_intent(
     alloc: Global,
     replica: &ReplicaState,

@@ -1,4 +1,5 @@
-//! What holds of whatever a node replies and receives. Laws without code: a contract each.
+//! Laws of whatever a node replies and receives. Each is a contract of a function that does
+//! nothing.
 
 ghost use Rattle.std.specs.Prelude.{◌≡◌, ℕ, ◌≤◌, true, List, [], None, Some};
 ghost use Rattle.causal_inbox.specs.ReceivedSets.{HasGrown};
@@ -24,26 +25,27 @@ ghost use Rattle.uid_projection.specs.Applied.{IsApplied};
 ghost use Rattle.uid_projection.specs.Bounds.{IsLasting};
 ghost use Rattle.uid_projection.specs.declared.first_numbers.Counters.{Counters};
 
-/// What a reply issued is sound, bears the node's name, comes next behind what was applied, and has ids that nothing applied has. The node's
-/// list grew by it at its end, and by nothing else.
+/// What a reply issued is sound, bears the node's name, has the next numbers, and has ids that no
+/// applied operation has. The node's list grew at its end by exactly these operations.
 pub fn issued_are_sound_and_new()
     ensures { (old new : NodeState) (n : ℕ) (input : Input) (reply : Reply) → IsApplied old.applied → Responds old n input reply new → Issues old (issued_by reply) new }
 {}
 
-/// The flags that a reply sets in silence and its answers, replayed on what the session saw, give what it sees: after a command, a
-/// line in IDLE and a poll, carried out or refused.
+/// A reply's silent flags and answers, replayed on what the session saw before, give what it sees
+/// after: for a command, a line in IDLE and a poll, carried out or refused.
 pub fn replies_replay()
     ensures { (old new : NodeState) (n : ℕ) (input : Input) (reply : Reply) → Responds old n input reply new → view_at new.sessions n ≡ view_after_input new.start new.applied (view_at old.sessions n) input reply }
 {}
 
-/// An input changes no other session, nor does the end of a session, which sees nothing then.
+/// An input changes no other session. Nor does closing a session, which has no view afterwards.
 pub fn other_sessions_stay()
     ensures inputs { (old new : NodeState) (n : ℕ) (input : Input) (reply : Reply) → Responds old n input reply new → OthersStay old.sessions n new.sessions }
     ensures closes { (old : NodeState) (n : ℕ) → IsOpen old.sessions n → OthersStay old.sessions n (with_session_closed old n).sessions }
     ensures ended { (old : NodeState) (n : ℕ) → IsOpen old.sessions n → view_at (with_session_closed old n).sessions n ≡ None }
 {}
 
-/// The UIDs of each session's view ascend, whatever comes: inputs, sessions that begin and end, operations of other replicas.
+/// The UIDs of each session's view ascend, whatever happens: inputs, sessions that are opened and
+/// closed, operations of other replicas.
 pub fn views_ascend()
     ensures begins { ViewsAscend [] }
     ensures inputs { (old new : NodeState) (n : ℕ) (input : Input) (reply : Reply) → 1 ≤ old.start.uid → IsApplied old.applied → Responds old n input reply new → ViewsAscend old.sessions → ViewsAscend new.sessions }
@@ -53,8 +55,9 @@ pub fn views_ascend()
     ensures drains { (old new : NodeState) (count : ℕ) → Drains old count new → ViewsAscend old.sessions → ViewsAscend new.sessions }
 {}
 
-/// Each session's view goes back to an earlier moment of its mailbox's incarnation, whatever comes: what it lacks came after that. `grows`:
-/// more is applied, whichever way.
+/// Each session's view goes back to an earlier moment of its mailbox's incarnation, whatever
+/// happens: messages that it lacks came after that moment. `grows`: the list of applied operations
+/// has grown, in any way.
 pub fn views_go_back()
     ensures begins { (start : Counters) → AreOlderViews start [] [] }
     ensures inputs { (old new : NodeState) (n : ℕ) (input : Input) (reply : Reply) → 1 ≤ old.start.uid → IsApplied old.applied → ViewsAscend old.sessions → AreOlderViews old.start old.applied old.sessions
@@ -66,15 +69,15 @@ pub fn views_go_back()
     ensures drains { (old new : NodeState) (count : ℕ) → IsApplied new.applied → Drains old count new → AreOlderViews old.start old.applied old.sessions → AreOlderViews new.start new.applied new.sessions }
 {}
 
-/// Behind a full sync, and behind a SELECT or an EXAMINE, a session sees what its mailbox lists, flags included; and nothing where its
-/// mailbox's incarnation has ended.
+/// After a full sync, and after a SELECT or an EXAMINE, a session sees exactly what its mailbox
+/// lists, flags included, and nothing if its mailbox's incarnation has ended.
 pub fn full_syncs_show_listing()
     ensures { (old new : NodeState) (n : ℕ) (input : Input) (answers : List Answer) (silent : List SilentFlags) (issued : List Op) (view : ViewState) → 1 ≤ old.start.uid → IsApplied old.applied → ViewsAscend old.sessions
         → AreOlderViews old.start old.applied old.sessions → Responds old n input (Done answers silent issued) new → tells_all input ≡ true → view_at new.sessions n ≡ Some view → view.entries ≡ entries_of (rows_for new.start new.applied view) }
 {}
 
-/// No counter was ever at its end for an operation that a node has applied: neither for those that it issued, nor for those that a
-/// delivery or a drain released.
+/// No operation that a node has applied found a counter used up: neither one that it issued, nor
+/// one that a delivery or a drain released.
 pub fn counters_last()
     ensures begins { (start : Counters) → IsLasting start [] }
     ensures inputs { (old new : NodeState) (n : ℕ) (input : Input) (reply : Reply) → IsLasting old.start old.applied → Responds old n input reply new → IsLasting new.start new.applied }

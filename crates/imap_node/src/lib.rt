@@ -1,9 +1,50 @@
-//! One replica with its sessions.
+//! One replica with its sessions, for every command of the profile, lines of IDLE and polls.
 //!
-//! A node answers from its own state alone. `command`, `done` and `poll` are each a plan, which makes all the room that is wanted and
-//! leaves the node as it was, and its commit, which takes no memory. What each command wants and tells stands in `imap_commands`; here
-//! stands what they have in common: which listings they look at, the operations that they issue, the sync and the tagged line behind their
-//! own answers, and what they make of their session.
+//! A node answers only from its own state. `command`, `done` and `poll` are each a plan and its
+//! commit. The plan makes all the room that the input needs and leaves the node as it was; the
+//! commit takes no memory. What each command issues and reports is defined in `imap_commands`. This
+//! crate holds what commands have in common: the listings they read, the operations they issue, the
+//! sync and the tagged line after their own answers, and their effect on the session.
+//!
+//! What the contracts promise:
+//!
+//! - The reply and the node after it are the defined ones (`Responds`, `specs/Responses`). An input
+//!   is carried out whole, or refused for a defined reason. A refusal leaves everything as it was,
+//!   except that a refused SELECT or EXAMINE leaves its mailbox and a line that isn't DONE ends an
+//!   IDLE.
+//! - What a node issues is sound, new and its own. A reply, replayed, gives the session's view,
+//!   whose UIDs ascend; after a full sync the view equals the mailbox's listing (`laws`).
+//! - `deliver` and `drain` receive operations of other replicas as the inbox defines, and change no
+//!   session.
+//! - Whatever a node answers can be printed (`printable`).
+//!
+//! # Decided
+//!
+//! - `Node::command`, `done` and `poll` require only that the session is open. A command of a
+//!   session that idles, or a line or poll of one that doesn't, is a refused input, since a
+//!   conversation can't know what another thread's call has done meanwhile. `Node::session` returns
+//!   a reference to a session's state, for contracts of conversations.
+//! - A node's replies are defined over the list of applied operations followed by what the command
+//!   issues. A command's own answers and the sync show values after the command's operations;
+//!   CHANGEDSINCE, UNCHANGEDSINCE and expunged messages are judged before them.
+//! - The node's room is a part of what contracts see, apart from its state; "as before" speaks only
+//!   of the state. A commit that issues nothing leaves what is held as it is.
+//! - `Node::new` takes one `Counters`, a replica's name with both of its first numbers. The numbers
+//!   mean nothing without the replica they belong to, and three numbers side by side are passed in
+//!   the wrong order sooner or later.
+//! - `Node::folders` and `Node::subs` return references to what the operations led to;
+//!   `Node::replica` returns a reference to all of a node but its sessions, for dumps.
+//! - What a reply lists (answers, silent flags, issued operations) is stored once, in memory that
+//!   its copies share (`SharedList`), so that the journal, the caller's pass and the connection
+//!   that prints it hold one reply between them. A copy takes no memory (`Reply::copy`, and above
+//!   it `Outcome::copy`). It fails only if more copies share a list than can be counted.
+//! - SELECT and EXAMINE leave nothing unsent. What they show is an initial part of the listing,
+//!   since answers that expunge nothing and report no items add the listing's next messages; if the
+//!   view has as many messages as the listing, it is the whole listing (`ShowsAll`,
+//!   `specs/SessionChanges`). So the code compares two lengths, and no messages.
+//! - Sessions are a list of places in what contracts see, not a function from numbers, since a
+//!   value of a model can't hold a function. Number 0 is never open, and what another session does
+//!   requires that this one is open, so that no two numbers mean one session.
 #![tactic(auto)]
 
 mod change_notes;

@@ -49,15 +49,15 @@ use subs_state::Subs;
 use tags_clocks::{Clock, ReplicaId};
 use uid_projection::Counters;
 
-/// A replica with its sessions. It answers from its own state alone.
+/// A replica with its sessions. It answers only from its own state.
 pub struct Node {
     replica: ReplicaState,
     sessions: Sessions,
-    /// What each session is still to be told.
+    /// What each session must still be sent.
     feeds: Feeds,
 }
 
-// By hand, so that crates above let it go as a whole.
+// By hand, so that crates above drop it whole.
 impl Drop for Node {
     fn drop(self) {
         let Self {
@@ -94,8 +94,8 @@ impl Node {
     ghost use Rattle.merge_laws.specs.Orders.{AreSound};
     ghost use Rattle.uid_projection.specs.Listing.{listing};
 
-    /// A replica of this name that has received nothing, without sessions, and with these first numbers, UIDs from 1 on; `Err` where there is no memory for
-    /// it.
+    /// A replica with the name and the first numbers in `start`, and UIDs from 1 on, that has
+    /// received nothing and has no sessions; `Err` if memory runs out.
     pub fn new(alloc: Global, start: Counters) -> Result<Node, AllocError>
         requires { 1 ≤ start.uid }
         ensures { IfOk result (λ node. node.state ≡ record { start = start; applied = []; held = []; sessions = [] }) }
@@ -109,7 +109,7 @@ impl Node {
 
     // ---- sessions
 
-    /// What this session is; `None` where it isn't open.
+    /// The session with this number; `None` if it isn't open.
     pub fn session(&self, session: SessionNo) -> Option<&Session>
         ensures { option_copied result ≡ session_at self.now.state.sessions session }
     {
@@ -123,7 +123,8 @@ impl Node {
         self.session(session).is_some()
     }
 
-    /// Whether the session is open and idles: a DONE is awaited, and nothing else (RFC 2177, section 3).
+    /// Whether the session is open and idles: it then awaits a DONE, and nothing else (RFC 2177,
+    /// section 3).
     pub fn is_idling(&self, session: SessionNo) -> bool
         ensures { IsTrue result ↔ Idles self.now.state session }
     {
@@ -133,8 +134,9 @@ impl Node {
         }
     }
 
-    /// Whether the session may have something to be told of its mailbox: `false` only where what it sees of any message is what the mailbox's listing has of it,
-    /// and where it isn't open or has none selected. A look at its feed.
+    /// Whether the session may have unsent changes of its mailbox. `false` only if its view agrees
+    /// with the mailbox's listing in every message, or if it isn't open or has no mailbox selected.
+    /// Cost: a look at its feed.
     pub fn may_be_behind(&self, session: SessionNo) -> bool
         ensures { result ≡ false → (view : ViewState) → view_at self.now.state.sessions session ≡ Some view → IsCurrent self.now.state.start self.now.state.applied view }
     {
@@ -144,7 +146,7 @@ impl Node {
         }
     }
 
-    /// No session above this number is open.
+    /// A number above which no session is open.
     pub fn last_session(&self) -> usize
         ensures bound { result ≤ 1024 }
         ensures none { (n : ℕ) → result < n → session_at self.now.state.sessions n ≡ None }
@@ -152,8 +154,9 @@ impl Node {
         self.sessions.last()
     }
 
-    /// Opens a session, with the least number that isn't open: `TooManySessions` exactly where all numbers from 1 to 1,024 are, unless memory
-    /// is wanting. An error leaves the node as it was.
+    /// Opens a session with the least number that isn't open. An error leaves the node as it was:
+    /// `TooManySessions` exactly if all numbers from 1 to 1,024 are open, unless memory runs out;
+    /// `NoMemory`.
     pub fn open(&mut self, auth: Auth) -> Result<SessionNo, OpenFault>
         ensures ok { IfOk result (λ session. Opens self.old.state.sessions auth session self.new.state.sessions) }
         ensures full { result ≡ Err TooManySessions → (n : ℕ) → 0 < n → n ≤ 1024 → IsOpen self.old.state.sessions n }
@@ -176,14 +179,21 @@ impl Node {
 
     // ---- inputs
 
-    /// Carries out a command of a session that is open and doesn't idle, whole, or refuses it. `moment` is when it came.
+    /// Carries out a command of a session that is open and doesn't idle, whole, or refuses it.
+    /// `moment` is when it came.
     ///
-    /// What it costs: a mailbox's name is a look-up, whatever else there is; a subscription is looked for among all. A mailbox's messages are a window on what the
-    /// replica keeps, which is made anew for each question and costs nothing by itself; behind operations of the command's own it costs what these change, and they are copied once.
-    /// STORE, FETCH, COPY, MOVE and UID EXPUNGE look each message that they name up a few times. SELECT, EXAMINE, SEARCH, STATUS of sizes, EXPUNGE and CLOSE go over all messages of their mailbox.
-    /// With a mailbox selected the sync behind each command, or poll, looks at what changed since the last one; where the session's feed missed some, it goes once over what the session sees and what the mailbox has. DELETE names all tags of its folder. LIST costs
-    /// what `list_names` of `imap_query` says; SEARCH and FETCH go once over a text for each key or section that asks for it, but for a whole text, which the
-    /// answer shares with the message; APPEND, COPY and MOVE share texts and go over none. LOGIN, ENABLE, NAMESPACE, CAPABILITY and LOGOUT cost what they name.
+    /// Cost: finding a mailbox by name is one look-up, however many there are; a subscription is
+    /// searched for among all of them. A mailbox's messages are a window on the replica's tables,
+    /// which costs nothing to make, and is made for each question. After operations of the
+    /// command's own, a window costs as much as they change, and they are copied once. STORE,
+    /// FETCH, COPY, MOVE and UID EXPUNGE look up each message that they name a few times. SELECT,
+    /// EXAMINE, SEARCH, STATUS of sizes, EXPUNGE and CLOSE go over all messages of their mailbox.
+    /// With a mailbox selected, the sync after each command or poll looks at what has changed since
+    /// the last one; if the session's feed missed some of that, it goes once over the view and the
+    /// listing. DELETE names all tags of its folder. LIST costs what `list_names` of `imap_query`
+    /// says. SEARCH and FETCH go once over a text for each key or section that asks for it; a whole
+    /// text costs nothing, since the answer shares it with the message. APPEND, COPY and MOVE share
+    /// texts and go over none. LOGIN, ENABLE, NAMESPACE, CAPABILITY and LOGOUT cost what they name.
     pub fn command(
         &mut self,
         alloc: Global,
@@ -207,7 +217,7 @@ impl Node {
         self.commit(plan)
     }
 
-    /// Tells a session that idles what changed (RFC 2177, section 3).
+    /// Sends a session that idles what has changed (RFC 2177, section 3).
     pub fn poll(&mut self, alloc: Global, session: SessionNo) -> Reply
         requires { IsOpen self.old.state.sessions session }
         ensures { Responds self.old.state session inputs.Poll result self.new.state }
@@ -216,8 +226,8 @@ impl Node {
         self.commit(plan)
     }
 
-    /// Works out what the node will do with an input, and makes the room for it. The node stays as it was. A `Done` is planned where all
-    /// room was made; any refusal is in the plan's reply.
+    /// Works out what the node will do with an input, and makes the room for it. The node stays as
+    /// it was. The plan's reply is `Done` only if all room was made; every refusal is in it too.
     pub fn plan(&mut self, alloc: Global, session: SessionNo, input: Input) -> Plan
         requires { IsOpen self.old.state.sessions session }
         ensures same { self.new.state ≡ self.old.state }
@@ -229,7 +239,7 @@ impl Node {
         plan
     }
 
-    /// As `plan`, for an input that is lent.
+    /// `plan`, for an input that is borrowed.
     pub fn plan_for(&mut self, alloc: Global, session: SessionNo, input: &Input) -> Plan
         requires { IsOpen self.old.state.sessions session }
         ensures same { self.new.state ≡ self.old.state }
@@ -251,7 +261,7 @@ impl Node {
         plan_by(alloc, session, &found.state, input, outcome)
     }
 
-    /// Does what was planned, where the node is as the plan left it; takes no memory.
+    /// Does what was planned, if the node is as the plan left it. Takes no memory.
     pub fn commit(&mut self, plan: Plan) -> Reply
         requires { IsPlanned self.old plan }
         ensures reply { result ≡ plan.reply }
@@ -272,12 +282,14 @@ impl Node {
 
     // ---- other replicas
 
-    /// Receives an operation: applies it where its causes were all applied, with the held ones that waited for it, the least
-    /// id first; holds it where it is early; or has it already. No session changes. An error leaves the node as it was:
-    /// `Conflict` where another operation has its id, `HeldFull` for an early one where 65,536 are held, `Exhausted` where a counter is at
-    /// its end for it, `NoMemory`.
+    /// Receives an operation. It is applied if all its causes were applied, and so are the held
+    /// operations that waited for it, the least id first; it is held if it is early; or it was
+    /// received before, and nothing changes. No session changes. An error leaves the node as it
+    /// was: `Conflict` if another operation has its id, `HeldFull` if it is early and 65,536 are
+    /// held, `Exhausted` if it finds a counter used up, `NoMemory`.
     ///
-    /// It looks through the operations received, and through those held once for each that it applies.
+    /// Cost: it looks through the operations received, and once through those held for each
+    /// operation that it applies.
     pub fn deliver(&mut self, alloc: Global, op: SoundOp) -> Result<Delivered, DeliverFault>
         ensures answer { MatchResult result (λ d. Delivers self.old.state op d.arrival self.new.state) (λ e. IsRefusedAt self.old.state op e) }
         ensures stalled { IfOk result (λ d. IsTrue d.stalled ↔ HoldsRipe self.new.state) }
@@ -297,8 +309,8 @@ impl Node {
         delivered
     }
 
-    /// Applies held operations whose causes were all applied, the least id first, until there is none or one is refused. No
-    /// session changes.
+    /// Applies held operations whose causes were all applied, the least id first, until there is
+    /// none or one is refused. No session changes.
     pub fn drain(&mut self, alloc: Global) -> Drained
         ensures released { Drains self.old.state result.applied self.new.state }
         ensures stalled { IsTrue result.stalled ↔ HoldsRipe self.new.state }
@@ -310,8 +322,8 @@ impl Node {
         drained
     }
 
-    /// Why a ripe operation is held, if one is: `Exhausted` where a drain could not go on for a counter's end, `Drainable` where it could but for
-    /// memory. The node stays as it was.
+    /// Why a ripe operation is held, if one is: `Exhausted` if a drain couldn't continue because a
+    /// counter is used up, `Drainable` if it could continue given memory. The node stays as it was.
     pub fn stall(&mut self, alloc: Global) -> Option<Stall>
         ensures same { self.new.state ≡ self.old.state }
         ensures stalls { StallsAt self.old.state result }
@@ -319,7 +331,8 @@ impl Node {
         self.replica.stall(alloc)
     }
 
-    /// The operations applied, in their order, which is causal. They are sound, and none has the id of one that is held.
+    /// The operations applied, in their order, which is causal. They are sound, and none has the id
+    /// of one that is held.
     pub fn op_list(&self) -> &[SoundOp]
         ensures applied { result.now ≡ self.now.state.applied }
         ensures orderly { IsOrderly self.now.state }
@@ -344,35 +357,36 @@ impl Node {
         self.replica.clock()
     }
 
-    /// Copies of the operations applied that the clock doesn't cover, in their order; `Err` where there is no memory for them.
+    /// Copies of the operations applied that the clock doesn't cover, in their order; `Err` if
+    /// memory runs out.
     pub fn ops_since(&self, alloc: Global, clock: &Clock) -> Result<Vec<SoundOp>, AllocError>
         ensures { IfOk result (λ ops. ops.items ≡ uncovered_ops id_of clock.now self.now.state.applied) }
     {
         self.replica.ops_since(alloc, clock)
     }
 
-    /// The mailbox's listing; `Err` where there is no memory for it.
+    /// The mailbox's listing; `Err` if memory runs out.
     pub fn listing(&self, alloc: Global, name: &Name) -> Result<Rows<'_>, AllocError>
         ensures { IfOk result (λ rows. rows ≡ listing self.now.state.start name.now self.now.state.applied) }
     {
         self.replica.rows(alloc, name)
     }
 
-    /// The folders and messages to which the operations applied led.
+    /// The folders and messages that result from the operations applied.
     pub fn folders(&self) -> &Folders
         ensures { IsMadeBy (contents_of result.now) self.now.state.applied }
     {
         self.replica.folders_now()
     }
 
-    /// The subscriptions to which the operations applied led.
+    /// The subscriptions that result from the operations applied.
     pub fn subs(&self) -> &Subs
         ensures { AreMadeBy (subscriptions_of result.now) self.now.state.applied }
     {
         self.replica.subs_now()
     }
 
-    /// The replica's part of the node: what its operations lead to.
+    /// All of the node but its sessions.
     pub fn replica(&self) -> &ReplicaState
         ensures start { result.now.start ≡ self.now.state.start }
         ensures applied { result.now.applied ≡ self.now.state.applied }
@@ -397,7 +411,8 @@ fn issue(replica: &mut ReplicaState, ops: ReadyOps)
     replica.issue(ops.into_vec());
 }
 
-/// Makes a place for a session's feed, if it has none, and room for the news of its input, if it can be carried out; what sessions are to be told stays.
+/// Adds a feed for a session that has none, and room in all feeds for the change notes of its
+/// input, if it can be carried out. What sessions must still be sent doesn't change.
 fn make_room(
     feeds: &mut Feeds,
     sessions: &Sessions,
@@ -413,7 +428,7 @@ fn make_room(
     }
 }
 
-/// Makes of an open session what was planned.
+/// Takes the planned step of an open session.
 fn set_next(sessions: &mut Sessions, feeds: &mut Feeds, number: SessionNo, next: SessionStep)
     requires opened { IsOpen sessions.old number }
     requires can { (start : Counters) × (ops : List Op) × ((s : Session) → session_at sessions.old number ≡ Some s → CanStep start ops s next) }
@@ -428,7 +443,8 @@ fn set_next(sessions: &mut Sessions, feeds: &mut Feeds, number: SessionNo, next:
     }
 }
 
-/// Notes what a delivered operation changed, of which this was known before it; those that waited for it are noted as `note_since` says.
+/// Notes what a delivered operation changed, given its mailbox before it. Operations that waited
+/// for it are noted as `note_since` says.
 fn note_delivered(
     alloc: Global,
     replica: &ReplicaState,
@@ -456,7 +472,7 @@ fn note_delivered(
     note_since(alloc, replica, count, sessions, feeds);
 }
 
-/// Notes what the operations changed that were applied since there were so many.
+/// Notes what was changed by the operations applied after the first `count`.
 fn note_since(
     alloc: Global,
     replica: &ReplicaState,
@@ -480,7 +496,7 @@ fn note_since(
     }
 }
 
-/// The plan for what was worked out.
+/// The plan for an outcome of `prepare_for`.
 fn plan_by(
     alloc: Global,
     number: SessionNo,
@@ -533,7 +549,7 @@ fn plan_of_prepared(number: SessionNo, prepared: PreparedInput) -> Plan
     }
 }
 
-/// What becomes of the session of a refused input.
+/// The next step of the session whose input is refused.
 fn step_of_refusal(state: &State, input: &Input, why: Refusal) -> SessionStep
     ensures { result ≡ step_of_refusal state.now input.now why }
 {

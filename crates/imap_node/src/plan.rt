@@ -1,4 +1,4 @@
-//! The plan of an input: all that takes memory.
+//! The plan of an input: all of its work that takes memory.
 
 ghost use Rattle.std.specs.Prelude.{◌≡◌, ◌++◌, ℕ, List, [], IfOk, IfErr, IsSome, Some};
 ghost use Rattle.causal_inbox.specs.Inbox.{AreIssued};
@@ -46,7 +46,7 @@ use mailbox_rows::Rows;
 use session_view::{SilentFlags, SyncKind};
 use std::alloc::{AllocError, Global};
 
-/// What becomes of a session.
+/// A session's next step.
 #[derive(Drop)]
 pub enum SessionStep {
     /// It stays as it is.
@@ -55,11 +55,11 @@ pub enum SessionStep {
     Leaves,
     /// It no longer idles.
     Wakes,
-    /// Its input is carried out, and it goes on so.
+    /// Its input is carried out, which changes it so.
     Goes { going: SessionChange },
 }
 
-/// What a node will do with an input, with all memory that it takes.
+/// What a node will do with an input, with all the memory that this takes.
 #[derive(Drop)]
 pub struct Plan {
     pub(crate) number: SessionNo,
@@ -78,7 +78,7 @@ impl Plan {
     }
 }
 
-/// What an input is answered, and what becomes of the session.
+/// The answers to an input, and the change of its session.
 #[derive(Drop)]
 pub struct PreparedReply {
     pub answers: Answers,
@@ -95,8 +95,9 @@ pub struct PreparedInput {
     pub change_notes: ChangeNotes,
 }
 
-/// Makes the room for an input of an open session that can be carried out, and works out what it is answered. An error leaves the operations received as
-/// they were; the sessions stay in any case.
+/// Makes the room for an input of an open session, and works out the reply to it. An error is the
+/// reason to refuse the input, and leaves what was received as it was. The sessions stay in any
+/// case.
 pub fn prepare_for(
     alloc: Global,
     replica: &mut ReplicaState,
@@ -132,7 +133,7 @@ pub fn prepare_for(
     )
 }
 
-/// The same of the session at this place.
+/// `prepare_for`, given the session's place.
 fn prepare_at(
     alloc: Global,
     replica: &mut ReplicaState,
@@ -159,7 +160,7 @@ fn prepare_at(
     }
 }
 
-/// The same of this session.
+/// `prepare_for`, given the session.
 fn prepare(
     alloc: Global,
     replica: &mut ReplicaState,
@@ -185,7 +186,8 @@ fn prepare(
     }
 }
 
-/// The tag of a NOOP whose session has nothing to be told; `None` of any other input, and where it may have something.
+/// The tag of a NOOP whose session has no unsent changes; `None` for any other input, and if the
+/// session may have some.
 fn tag_at_rest<'a>(
     alloc: Global,
     session: &Session,
@@ -218,7 +220,8 @@ fn noop_tag(input: &Input) -> Option<&Octets>
     }
 }
 
-/// What a NOOP with this tag comes to whose session has nothing to be told: its end alone, without a look at the replica.
+/// The reply to a NOOP with this tag whose session has no unsent changes: only its tagged line,
+/// without a look at the replica.
 fn noop_at_rest(alloc: Global, session: &Session, tag: &Octets) -> Result<PreparedInput, AllocError>
     ensures { IfOk result (λ prepared. prepared ≡ noop_at_rest session.now tag.now) }
 {
@@ -241,7 +244,7 @@ fn noop_at_rest(alloc: Global, session: &Session, tag: &Octets) -> Result<Prepar
     })
 }
 
-/// The same of any input.
+/// `prepare`, for any input.
 fn prepare_any(
     alloc: Global,
     replica: &mut ReplicaState,
@@ -267,7 +270,7 @@ fn prepare_any(
     Ok(prepared_reply(alloc, replica, session, feed, input, &found, ops)?)
 }
 
-/// The date-time that an input writes down.
+/// The date-time that an input records.
 fn stamp_of(input: &Input) -> DateTime
     ensures { IsStamp input.now result }
 {
@@ -277,7 +280,7 @@ fn stamp_of(input: &Input) -> DateTime
     }
 }
 
-/// The date-time that a command writes down which came at this moment: none but APPEND does.
+/// The date-time recorded by a command that came at this moment: only APPEND records one.
 fn stamp_for(command: &Command, moment: Moment) -> DateTime
     ensures { IsStampFor command.now moment result }
 {
@@ -287,7 +290,7 @@ fn stamp_for(command: &Command, moment: Moment) -> DateTime
     }
 }
 
-/// What an input issues, all of which the replica may issue, and what it found for that.
+/// What an input issues, all of which the replica may issue, and the messages that it names.
 fn intent_within_numbers(
     alloc: Global,
     replica: &ReplicaState,
@@ -303,7 +306,8 @@ fn intent_within_numbers(
     input_intent(alloc, replica, stamp, &session.state, input)
 }
 
-/// What an input is answered behind its operations, by what it found before them, with a copy of these for the other replicas, and what they change.
+/// The reply to an input after its operations, using the messages that it named before them, with a
+/// copy of the operations for the other replicas, and their change notes.
 fn prepared_reply(
     alloc: Global,
     replica: &ReplicaState,
@@ -355,7 +359,8 @@ fn shared_copies(alloc: Global, ops: &[SoundOp]) -> Result<Issued, AllocError>
     Issued::new(copies)
 }
 
-/// What an input is answered behind its operations, by what it found before them, and what becomes of the session.
+/// The answers to an input after its operations, using the messages that it named before them, and
+/// the change of the session.
 fn answers_to(
     alloc: Global,
     replica: &ReplicaState,
@@ -401,7 +406,8 @@ fn answers_to(
     })
 }
 
-/// What the mailbox that is selected has behind the operations, made once for all that looks at it; none where none is, or the operations change nothing in it.
+/// The listing of the selected mailbox after the operations, made once for all that read it; `None`
+/// if no mailbox is selected, or if the operations change nothing in it.
 fn listing_behind<'a>(
     alloc: Global,
     replica: &'a ReplicaState,
@@ -423,14 +429,14 @@ fn listing_behind<'a>(
     }
 }
 
-/// What an input is answered, the flags that it sets in silence, and what becomes of the state.
+/// The answers to an input, the flags that it sets silently, and the change of the state.
 struct ReplyParts {
     answers: Answers,
     silent: Silents,
     onward: StateChange,
 }
 
-/// What an input is answered that comes to this, and what becomes of the state.
+/// The answers to an input with this effect, and the change of the state.
 fn reply_of_effect(
     alloc: Global,
     replica: &ReplicaState,
@@ -479,7 +485,8 @@ fn reply_of_effect(
     }
 }
 
-/// All that is sent, in order, and the flags set in silence, each in memory that copies share.
+/// All answers in the order in which they are sent, and the silent flags, each in memory that
+/// copies share.
 fn share_reply(
     own: Vec<Answer>,
     synced: Vec<Answer>,
@@ -500,14 +507,15 @@ fn share_reply(
     Ok((answers, silent))
 }
 
-/// All that is sent, in order.
+/// All answers, in the order in which they are sent.
 fn all_sent(own: Vec<Answer>, synced: Vec<Answer>, tail: Vec<Answer>) -> Result<Answers, AllocError>
     ensures { IfOk result (λ sent. sent ≡ own.items ++ (synced.items ++ tail.items)) }
 {
     Answers::new(append_answers(own, append_answers(synced, tail)?)?)
 }
 
-/// The sync, and what becomes of the state, behind what moved it, if something did.
+/// The answers of a sync, and the change of the state, which begins with `moved`, if the input
+/// changed the state.
 fn sync_and_change(
     alloc: Global,
     applied: &ReplicaAfter<'_>,

@@ -1,4 +1,4 @@
-//! What a node answers can be printed.
+//! Laws: what a node answers can be printed.
 
 ghost use Rattle.std.specs.Prelude.{ℕ, List, [], ◌∷◌, length};
 ghost use Rattle.crdt_ops.specs.declared.op.Op.{Op};
@@ -23,16 +23,17 @@ ghost use Rattle.session_view.specs.ViewState.{ViewState};
 ghost use Rattle.uid_projection.specs.Listing.{listing};
 ghost use Rattle.uid_projection.specs.declared.first_numbers.Counters.{Counters};
 
-/// What a node lists can be shown, and what a view's mailbox has now.
+/// What a node lists can be shown, and so can what a view's mailbox has now.
 pub fn listings_are_showable()
     ensures listed { (start : Counters) (name : List ℕ) (ops : List Op) → IsPresentable start ops → AreShowable (listing start name ops) }
     ensures viewed { (start : Counters) (ops : List Op) (view : ViewState) → IsPresentable start ops → AreShowable (rows_for start ops view) }
 {}
 
-/// Whatever a session sends, it is answered by answers that can be printed, so that the reader of answers finds them again: the answers
-/// to a command that a frame spells, to a line while it idles, and to a poll, as long as what the node has applied then can be shown and
-/// the session can be answered. The session that is left can be answered again, also by a refusal. And where a command is refused, its
-/// tagged line can be printed, and CLOSED in front of it.
+/// Whatever a session sends, its answers can be printed, so that the reader of answers reads them
+/// back: the answers to a command that a frame spells, to a line while it idles, and to a poll, as
+/// long as what the node has applied by then can be shown and the session can be answered. The
+/// session afterwards can be answered again, even by a refusal. If a command is refused, its tagged
+/// line can be printed, and CLOSED before it.
 pub fn answers_are_printable()
     ensures commands { (old new : NodeState) (n : ℕ) (session : Session) (answers : List Answer) (silent : List SilentFlags) (issued : List Op) → IsAnswerableIn session → IsPresentable old.start new.applied
         → (moment : ℕ) (tagged : Tagged) (octets : List ℕ) → IsSpelled tagged octets → IsWide (length octets)

@@ -1,4 +1,4 @@
-//! The replica's own next operations.
+//! A replica's own next operations, made ready to be issued.
 
 ghost use Rattle.std.specs.Prelude.{◌≡◌, ◌↔◌, ◌++◌, ◌+◌, ◌<◌, ◌≤◌, ◌⊎◌, ℕ, List, false, IfOk, IfErr, OnOk, IsTrue, length};
 ghost use Rattle.causal_inbox.specs.Inbox.{IsClockOf};
@@ -24,7 +24,7 @@ pub struct ReadyOps {
     ops: Vec<SoundOp>,
 }
 
-// By hand, so that what has them lets them go as a whole.
+// By hand, so that crates above drop it whole.
 impl Drop for ReadyOps {
     fn drop(self) {
         let Self { ops: _ } = self;
@@ -64,8 +64,9 @@ impl ReadyOps {
     }
 }
 
-/// The replica's next operations, of these kinds, with room for issuing them where there are any. An error leaves what was received as it was:
-/// `NumberUsedUp` where a counter is at its end for one of them.
+/// The replica's next operations, of these kinds, with the room to issue them if there are any. An
+/// error leaves what was received as it was: `NumberUsedUp` if one of them finds a counter used up,
+/// `NoMemory`.
 pub fn ready_next_ops(
     alloc: Global,
     replica: &mut ReplicaState,
@@ -93,7 +94,7 @@ pub fn ready_next_ops(
     }
 }
 
-/// Makes room for issuing operations that come next, if there are any.
+/// Makes room to issue operations that come next, if there are any.
 fn make_room(alloc: Global, replica: &mut ReplicaState, ops: &[SoundOp]) -> Result<(), Refusal>
     requires sound { AreSound IsSound ops.now }
     requires next { (kinds : List Kind) × AreNext replica.old.start.replica replica.old.applied kinds ops.now }
@@ -114,7 +115,7 @@ fn make_room(alloc: Global, replica: &mut ReplicaState, ops: &[SoundOp]) -> Resu
     }
 }
 
-/// Whether the replica's own numbers suffice for so many operations more.
+/// Whether the replica's own numbers suffice for `count` further operations.
 fn has_numbers(replica: &ReplicaState, count: usize) -> bool
     ensures yes { IsTrue result → (clock : List (ℕ × ℕ)) → IsClockOf id_of replica.now.applied clock → count_of clock replica.now.start.replica + count ≤ 4294967295 }
     ensures no { result ≡ false → (kinds : List Kind) → count ≡ length kinds → OwnNumbersEnd replica.now.start.replica replica.now.applied kinds }
@@ -147,7 +148,7 @@ fn next_ops(
     Ok(ops)
 }
 
-/// The operation of this kind that comes next behind those that the clock counts.
+/// The operation of this kind that comes next after those that the clock counts.
 fn next_op(
     alloc: Global,
     replica: ReplicaId,

@@ -1,4 +1,5 @@
-//! A replica without its sessions: the operations that it received, and what they lead to.
+//! A replica without its sessions: the operations that it received, and the tables that result from
+//! them.
 
 ghost use Rattle.std.specs.Prelude.{◌≡◌, ◌↔◌, ◌≤◌, ◌++◌, [], IfOk, OnOk, OnErr, IsTrue, Err, MatchResult};
 ghost use Rattle.causal_inbox.specs.Delivery.{Arrives, Refuses};
@@ -40,7 +41,7 @@ pub struct ReplicaState {
     inbox: Inbox<Pair<Folders, Subs>, FirstFollower<Charts>>,
 }
 
-// By hand, so that crates above let it go as a whole.
+// By hand, so that crates above drop it whole.
 impl Drop for ReplicaState {
     fn drop(self) {
         let Self { inbox: _ } = self;
@@ -60,7 +61,8 @@ impl Model for ReplicaState {
 }
 
 impl ReplicaState {
-    /// A replica of this name and these first numbers that has received nothing; `Err` where there is no memory for it.
+    /// A replica with the name and the first numbers in `start` that has received nothing; `Err` if
+    /// memory runs out.
     pub fn new(alloc: Global, start: Counters) -> Result<ReplicaState, AllocError>
         requires { 1 ≤ start.uid }
         ensures start { IfOk result (λ replica. replica.start ≡ start) }
@@ -112,15 +114,16 @@ impl ReplicaState {
         self.inbox.clock()
     }
 
-    /// Copies of the operations applied that the clock doesn't cover, in their order; `Err` where there is no memory for them.
+    /// Copies of the operations applied that the clock doesn't cover, in their order; `Err` if
+    /// memory runs out.
     pub fn ops_since(&self, alloc: Global, clock: &Clock) -> Result<Vec<SoundOp>, AllocError>
         ensures { IfOk result (λ ops. ops.items ≡ uncovered_ops id_of clock.now self.now.applied) }
     {
         self.inbox.ops_since(alloc, clock)
     }
 
-    /// Makes room for issuing these operations, which come next. An error leaves what was received as it was: `Exhausted` exactly where a
-    /// counter is at its end for one of them.
+    /// Makes room to issue these operations, which come next. An error leaves what was received as
+    /// it was: `Exhausted` exactly if one of them finds a counter used up.
     pub fn ready(&mut self, alloc: Global, ops: &[SoundOp]) -> Result<(), IssueFault>
         ensures start { self.new.start ≡ self.old.start }
         ensures applied { self.new.applied ≡ self.old.applied }
@@ -131,7 +134,7 @@ impl ReplicaState {
         self.inbox.ready(alloc, ops)
     }
 
-    /// Applies the replica's own next operations, for which there is room; takes no memory.
+    /// Applies the replica's own next operations, for which there is room. Takes no memory.
     pub fn issue(&mut self, ops: Vec<SoundOp>)
         requires room { HasRoomFor self.old.applied self.old.room ops.items }
         requires issued { AreIssued id_of clock_of self.old.applied ops.items }
@@ -142,8 +145,8 @@ impl ReplicaState {
         self.inbox.issue(ops);
     }
 
-    /// Receives an operation: applies it and those that waited for it, or holds it where it is early. An error leaves the
-    /// replica as it was.
+    /// Receives an operation: applies it and those that waited for it, or holds it if it is early.
+    /// An error leaves the replica as it was.
     pub fn deliver(&mut self, alloc: Global, op: SoundOp) -> Result<Delivered, DeliverFault>
         ensures answer { MatchResult result (λ d. Arrives id_of clock_of Exhausts (replica_received self.old) op d.arrival (replica_received self.new)) (λ e. Refuses id_of clock_of Exhausts (replica_received self.old) op e) }
         ensures stalled { IfOk result (λ d. IsTrue d.stalled ↔ IsStalled id_of clock_of (replica_received self.new)) }
@@ -152,7 +155,8 @@ impl ReplicaState {
         self.inbox.deliver(alloc, op)
     }
 
-    /// Applies held operations whose causes were all applied, the least id first, until there is none or one is refused.
+    /// Applies held operations whose causes were all applied, the least id first, until there is
+    /// none or one is refused.
     pub fn drain(&mut self, alloc: Global) -> Drained
         ensures released { AreReleasedInTurn id_of clock_of Exhausts result.applied (replica_received self.old) (replica_received self.new) }
         ensures stalled { IsTrue result.stalled ↔ IsStalled id_of clock_of (replica_received self.new) }
@@ -161,7 +165,7 @@ impl ReplicaState {
         self.inbox.drain(alloc)
     }
 
-    /// Why a ripe operation is held, if one is. What was received stays.
+    /// Why a ripe operation is held, if one is. What was received stays as it was.
     pub fn stall(&mut self, alloc: Global) -> Option<Stall>
         ensures same { replica_received self.new ≡ replica_received self.old }
         ensures stalls { StallsFor id_of clock_of Exhausts (replica_received self.old) result }
@@ -169,59 +173,59 @@ impl ReplicaState {
         self.inbox.stall(alloc)
     }
 
-    // ---- what the operations lead to
+    // ---- what results from the operations
 
-    /// Whether the mailbox is there. INBOX always is. Takes no memory.
+    /// Whether the mailbox exists. INBOX always does. Takes no memory.
     pub fn exists(&self, name: &Name) -> bool
         ensures { result ≡ folder_exists name.now self.now.applied }
     {
         self.folders_now().exists(name)
     }
 
-    /// The mailboxes, ascending, none twice; `Err` where there is no memory for them.
+    /// The mailboxes' names, ascending and distinct; `Err` if memory runs out.
     pub fn folders(&self, alloc: Global) -> Result<Vec<Name>, AllocError>
         ensures { IfOk result (λ names. names.items ≡ folders_of self.now.applied) }
     {
         self.folders_now().names(alloc)
     }
 
-    /// The ids of the folder's present folder tags, ascending; `Err` where there is no memory for them.
+    /// The ids of the folder's present folder tags, ascending; `Err` if memory runs out.
     pub fn tags(&self, alloc: Global, name: &Name) -> Result<Ids, AllocError>
         ensures { IfOk result (λ ids. ids ≡ folder_tags_of self.now.applied name.now) }
     {
         self.folders_now().tags(alloc, name)
     }
 
-    /// The ids of the folder's present tags, ascending, of folders and messages alike; `Err` where there is no memory for
-    /// them.
+    /// The ids of the folder's present tags, of the folder and of its messages, ascending; `Err` if
+    /// memory runs out.
     pub fn delete_set(&self, alloc: Global, name: &Name) -> Result<Ids, AllocError>
         ensures { IfOk result (λ ids. ids ≡ delete_set_of self.now.applied name.now) }
     {
         self.folders_now().delete_set(alloc, name)
     }
 
-    /// The folder's messages, ascending by their ids; `Err` where there is no memory for them.
+    /// The folder's messages, ascending by their ids; `Err` if memory runs out.
     pub fn messages(&self, alloc: Global, name: &Name) -> Result<Vec<Message>, AllocError>
         ensures { IfOk result (λ messages. messages.items ≡ messages_of self.now.applied name.now) }
     {
         self.folders_now().messages(alloc, name)
     }
 
-    /// The names that are subscribed to, ascending, none twice; `Err` where there is no memory for them.
+    /// The names that are subscribed to, ascending and distinct; `Err` if memory runs out.
     pub fn subscribed_names(&self, alloc: Global) -> Result<Vec<Name>, AllocError>
         ensures { IfOk result (λ names. names.items ≡ subscribed_names_of self.now.applied) }
     {
         self.subs_now().names(alloc)
     }
 
-    /// The ids of the name's present subscription tags, ascending; `Err` where there is no memory for them.
+    /// The ids of the name's present subscription tags, ascending; `Err` if memory runs out.
     pub fn subscription_tags(&self, alloc: Global, name: &Name) -> Result<Ids, AllocError>
         ensures { IfOk result (λ ids. ids ≡ subscription_tags_of self.now.applied name.now) }
     {
         self.subs_now().tags(alloc, name)
     }
 
-    /// The UIDVALIDITY of the mailbox, `None` where it isn't there. Takes no memory.
+    /// The UIDVALIDITY of the mailbox; `None` if it doesn't exist. Takes no memory.
     pub fn uidvalidity(&self, name: &Name) -> Option<u32>
         ensures { result ≡ uidvalidity_of self.now.start name.now self.now.applied }
     {
@@ -235,7 +239,7 @@ impl ReplicaState {
         self.charts_now().uidnext(name)
     }
 
-    /// Both, as `uidvalidity` and `uidnext` tell them. Takes no memory.
+    /// The mailbox's `uidvalidity` and `uidnext`. Takes no memory.
     pub fn numbers(&self, name: &Name) -> (Option<u32>, u32)
         ensures uidvalidity { result.0 ≡ uidvalidity_of self.now.start name.now self.now.applied }
         ensures uidnext { result.1 ≡ uidnext_of self.now.start name.now self.now.applied }
@@ -243,7 +247,8 @@ impl ReplicaState {
         self.charts_now().numbers(name)
     }
 
-    /// The UIDs of the mailbox's messages that these operations change or expunge, applied next; `Err` where there is no memory for them.
+    /// The UIDs of the mailbox's messages that these operations, applied next, change or expunge;
+    /// `Err` if memory runs out.
     pub fn touched_uids(
         &self,
         alloc: Global,
@@ -256,14 +261,14 @@ impl ReplicaState {
         self.charts_now().touched_uids(alloc, name, ops)
     }
 
-    /// The mailbox's listing; `Err` where there is no memory for it.
+    /// The mailbox's listing; `Err` if memory runs out.
     pub fn rows(&self, alloc: Global, name: &Name) -> Result<Rows<'_>, AllocError>
         ensures { IfOk result (λ rows. rows ≡ listing self.now.start name.now self.now.applied) }
     {
         self.charts_now().rows(alloc, self.folders_now(), name)
     }
 
-    /// The mailbox's UIDVALIDITY and its listing, as `uidvalidity` and `rows` tell them; `Err` where there is no memory for it.
+    /// The mailbox's `uidvalidity` and `rows`; `Err` if memory runs out.
     pub fn numbered_rows(
         &self,
         alloc: Global,
@@ -276,7 +281,7 @@ impl ReplicaState {
             .numbered_rows(alloc, self.folders_now(), name)
     }
 
-    /// The UIDVALIDITY that the mailbox has behind these operations.
+    /// The mailbox's UIDVALIDITY after these operations; `None` if it doesn't exist then.
     pub fn uidvalidity_after(&self, name: &Name, ops: &[SoundOp]) -> Option<u32>
         requires { IsReady self.now ops.now }
         ensures { result ≡ uidvalidity_of self.now.start name.now (self.now.applied ++ ops.now) }
@@ -288,7 +293,7 @@ impl ReplicaState {
             .uidvalidity_after(self.folders_now(), name, ops)
     }
 
-    /// The UIDNEXT that the mailbox has behind these operations.
+    /// The mailbox's UIDNEXT after these operations.
     pub fn uidnext_after(&self, name: &Name, ops: &[SoundOp]) -> u32
         requires { IsReady self.now ops.now }
         ensures { result ≡ uidnext_of self.now.start name.now (self.now.applied ++ ops.now) }
@@ -297,7 +302,7 @@ impl ReplicaState {
             .uidnext_after(self.folders_now(), name, ops)
     }
 
-    /// The HIGHESTMODSEQ that the mailbox has behind these operations.
+    /// The mailbox's HIGHESTMODSEQ after these operations.
     pub fn highest_after(&self, name: &Name, ops: &[SoundOp]) -> u64
         requires { IsReady self.now ops.now }
         ensures { result ≡ highest_modseq_of name.now (self.now.applied ++ ops.now) }
@@ -309,7 +314,8 @@ impl ReplicaState {
             .highest_after(self.folders_now(), name, ops)
     }
 
-    /// The listing that the mailbox has behind these operations; `Err` where there is no memory for it. Where there are none, it is the one before them.
+    /// The mailbox's listing after these operations, which is `rows` if there are none; `Err` if
+    /// memory runs out.
     pub fn rows_after<'a>(
         &'a self,
         alloc: Global,
@@ -326,7 +332,7 @@ impl ReplicaState {
             .rows_after(alloc, self.folders_now(), name, ops)
     }
 
-    /// The folders to which the operations applied led.
+    /// The folders that result from the operations applied.
     pub(crate) fn folders_now(&self) -> &Folders
         ensures { IsMadeBy (contents_of result.now) self.now.applied }
     {
@@ -334,7 +340,7 @@ impl ReplicaState {
         &self.inbox.value().first
     }
 
-    /// The subscriptions to which the operations applied led.
+    /// The subscriptions that result from the operations applied.
     pub(crate) fn subs_now(&self) -> &Subs
         ensures { AreMadeBy (subscriptions_of result.now) self.now.applied }
     {

@@ -1,4 +1,4 @@
-//! What a node replies to an input.
+//! A node's reply to an input.
 
 ghost use Rattle.std.specs.Prelude.{◌≡◌, IfOk, IsOk, false};
 ghost use Rattle.imap_node.specs.Replies.{is_done};
@@ -16,7 +16,7 @@ pub struct Answers {
     answers: SharedList<Answer>,
 }
 
-// By hand, so that crates above let it go as a whole.
+// By hand, so that crates above drop it whole.
 impl Drop for Answers {
     fn drop(self) {
         let Self { answers: _ } = self;
@@ -33,7 +33,7 @@ impl Model for Answers {
 }
 
 impl Answers {
-    /// These answers, whose memory it takes over; `Err` where there is no memory to share them.
+    /// These answers, whose memory it takes over; `Err` if memory to share them runs out.
     pub fn new(answers: Vec<Answer>) -> Result<Answers, AllocError>
         ensures { IfOk result (λ shared. shared ≡ answers.items) }
     {
@@ -49,7 +49,7 @@ impl Answers {
         self.answers.as_slice()
     }
 
-    /// The same answers, in the same memory. `Err` where so many copies share it that they can't be counted.
+    /// The same answers, in the same memory. `Err` if more copies share it than can be counted.
     pub fn copy(&self) -> Result<Answers, AllocError>
         ensures { IfOk result (λ copied. copied ≡ self.now) }
     {
@@ -59,12 +59,13 @@ impl Answers {
     }
 }
 
-/// Flags that a session set in silence, in their order (RFC 9051, section 6.4.6). Copies share one memory.
+/// Flags that a session set silently, in their order (RFC 9051, section 6.4.6). Copies share one
+/// memory.
 pub struct Silents {
     silents: SharedList<SilentFlags>,
 }
 
-// By hand, so that crates above let it go as a whole.
+// By hand, so that crates above drop it whole.
 impl Drop for Silents {
     fn drop(self) {
         let Self { silents: _ } = self;
@@ -81,7 +82,7 @@ impl Model for Silents {
 }
 
 impl Silents {
-    /// These, whose memory it takes over; `Err` where there is no memory to share them.
+    /// These flags, whose memory it takes over; `Err` if memory to share them runs out.
     pub fn new(silents: Vec<SilentFlags>) -> Result<Silents, AllocError>
         ensures { IfOk result (λ shared. shared ≡ silents.items) }
     {
@@ -97,7 +98,7 @@ impl Silents {
         self.silents.as_slice()
     }
 
-    /// The same, in the same memory. `Err` where so many copies share it that they can't be counted.
+    /// The same flags, in the same memory. `Err` if more copies share it than can be counted.
     pub fn copy(&self) -> Result<Silents, AllocError>
         ensures { IfOk result (λ copied. copied ≡ self.now) }
     {
@@ -112,7 +113,7 @@ pub struct Issued {
     ops: SharedList<SoundOp>,
 }
 
-// By hand, so that crates above let it go as a whole.
+// By hand, so that crates above drop it whole.
 impl Drop for Issued {
     fn drop(self) {
         let Self { ops: _ } = self;
@@ -129,7 +130,7 @@ impl Model for Issued {
 }
 
 impl Issued {
-    /// These operations, whose memory it takes over; `Err` where there is no memory to share them.
+    /// These operations, whose memory it takes over; `Err` if memory to share them runs out.
     pub fn new(ops: Vec<SoundOp>) -> Result<Issued, AllocError>
         ensures { IfOk result (λ shared. shared ≡ ops.items) }
     {
@@ -145,7 +146,7 @@ impl Issued {
         self.ops.as_slice()
     }
 
-    /// The same operations, in the same memory. `Err` where so many copies share it that they can't be counted.
+    /// The same operations, in the same memory. `Err` if more copies share it than can be counted.
     pub fn copy(&self) -> Result<Issued, AllocError>
         ensures { IfOk result (λ copied. copied ≡ self.now) }
     {
@@ -155,30 +156,32 @@ impl Issued {
     }
 }
 
-/// What a node replies to an input.
+/// A node's reply to an input.
 #[derive(Drop)]
 pub enum Reply {
     /// The input was carried out.
     Done {
         /// All answers, in the order in which they are sent.
         answers: Answers,
-        /// The flags that the session set in silence, before the answers.
+        /// The flags that the session set silently, before the answers.
         silent: Silents,
         /// The operations that it issued, for the other replicas.
         issued: Issued,
     },
-    /// The input was refused. Nothing changed, but that a refused SELECT or EXAMINE leaves no mailbox selected, and that any line but DONE ends
-    /// an IDLE.
+    /// The input was refused. Nothing changed, except that a refused SELECT or EXAMINE leaves no
+    /// mailbox selected, and that any line but DONE ends an IDLE.
     Refused {
-        /// Why.
+        /// The reason.
         why: Refusal,
-        /// Whether `* OK [CLOSED] ok` goes in front of the tagged line, since a mailbox was left (RFC 9051, section 7.1, CLOSED).
+        /// Whether `* OK [CLOSED] ok` goes before the tagged line, since a mailbox was left (RFC
+        /// 9051, section 7.1, CLOSED).
         closed: bool,
     },
 }
 
 impl Reply {
-    /// The same reply, in the same memory. `Err` where so many copies share it that they can't be counted, as those of a refusal can.
+    /// The same reply, in the same memory. `Err` if more copies share it than can be counted, which
+    /// never happens to a refusal.
     pub fn copy(&self) -> Result<Reply, AllocError>
         ensures copied { IfOk result (λ copied. copied ≡ self.now) }
         ensures refused { is_done self.now ≡ false → IsOk result }
@@ -201,7 +204,7 @@ impl Reply {
     }
 }
 
-/// Equal operations, in their order.
+/// Copies of the operations, in their order.
 pub fn copied_ops(alloc: Global, ops: &[SoundOp]) -> Result<Vec<SoundOp>, AllocError>
     ensures { IfOk result (λ copies. copies.items ≡ ops.now) }
 {

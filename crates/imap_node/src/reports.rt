@@ -1,4 +1,4 @@
-//! What each command tells: one line a command.
+//! What each command reports: one line per command.
 
 ghost use Rattle.std.specs.Prelude.{◌≡◌, ◌++◌, List, true, IfOk, if◌then◌else◌};
 ghost use Rattle.std.specs.Option.{option_map, unwrap_or};
@@ -35,7 +35,8 @@ use mailbox_rows::Rows;
 use session_view::View;
 use std::alloc::{AllocError, Global};
 
-/// What a command itself tells, behind the operations applied and its own, by what it found before these and the listing behind them, where that was made.
+/// A command's own report, after the operations applied and its own, using the messages that it
+/// named before its own, and the listing after them if it was made.
 pub fn command_report(
     alloc: Global,
     replica: &ReplicaState,
@@ -130,7 +131,7 @@ pub fn command_report(
     }
 }
 
-/// What a view's mailbox has behind these operations, of the view's own incarnation.
+/// The rows of a view's mailbox after these operations, in the view's own incarnation.
 pub fn rows_after<'a>(
     alloc: Global,
     replica: &'a ReplicaState,
@@ -144,7 +145,7 @@ pub fn rows_after<'a>(
     Ok(view.rows_under(alloc, replica.uidvalidity_after(view.name(), ops), rows))
 }
 
-/// What a session that has this view finds its mailbox to be before these operations.
+/// The mailbox of a session with this view, before these operations.
 pub fn mailbox_before<'a>(
     alloc: Global,
     replica: &'a ReplicaState,
@@ -162,7 +163,7 @@ pub fn mailbox_before<'a>(
     })
 }
 
-/// The same behind these operations.
+/// The mailbox of a session with this view, after these operations.
 fn mailbox_after<'a>(
     alloc: Global,
     replica: &'a ReplicaState,
@@ -182,7 +183,7 @@ fn mailbox_after<'a>(
     })
 }
 
-/// Where copies come to in a mailbox, with these operations.
+/// The destination of copies, with these operations.
 fn copy_target_of<'a>(
     alloc: Global,
     replica: &'a ReplicaState,
@@ -200,7 +201,7 @@ fn copy_target_of<'a>(
     })
 }
 
-/// What a view's mailbox has before these operations.
+/// The rows of a view's mailbox before these operations.
 fn rows_before<'a>(
     alloc: Global,
     replica: &'a ReplicaState,
@@ -212,7 +213,7 @@ fn rows_before<'a>(
     Ok(view.rows_under(alloc, uidvalidity, rows))
 }
 
-/// The UIDVALIDITY of a mailbox that is there behind these operations.
+/// The UIDVALIDITY of a mailbox that exists after these operations.
 pub fn validity_after(replica: &ReplicaState, ops: &[SoundOp], name: &Name) -> u32
     requires { IsReady replica.now ops.now }
     ensures { result ≡ validity_of replica.now.start name.now (replica.now.applied ++ ops.now) }
@@ -220,7 +221,7 @@ pub fn validity_after(replica: &ReplicaState, ops: &[SoundOp], name: &Name) -> u
     replica.uidvalidity_after(name, ops).unwrap_or(0)
 }
 
-/// The numbers of a mailbox that is there behind these operations.
+/// The counters of a mailbox that exists after these operations.
 fn counters_after(replica: &ReplicaState, ops: &[SoundOp], name: &Name) -> MailboxCounters
     requires { IsReady replica.now ops.now }
     ensures { result ≡ counters_of replica.now.start name.now (replica.now.applied ++ ops.now) }

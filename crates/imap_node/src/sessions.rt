@@ -1,3 +1,5 @@
+//! The sessions of a replica, by their numbers.
+
 ghost use Rattle.std.specs.Prelude.{◌≡◌, ◌≢◌, ◌+◌, ◌-◌, ◌<◌, ◌≤◌, ◌↔◌, ◌++◌, ◌∷◌, [], ℕ, IsTrue, IsNone, IsSome, None, Some, Err, IfOk, IfErr, OnOk, OnErr, SomeIff, length, max, ◌==◌, if◌then◌else◌, slice_index_or, slice_set};
 ghost use Rattle.std.specs.Option.{option_copied, option_map};
 ghost use Rattle.imap_node.specs.Sessions.{IsOpen, without_idle, new_session, session_at, unselected, with_changed};
@@ -30,7 +32,7 @@ impl Model for SessionNo {
 }
 
 impl SessionNo {
-    /// The session with this number; `None` outside 1 to 1,024.
+    /// The session number `number`; `None` outside 1 to 1,024.
     pub fn new(number: usize) -> Option<SessionNo>
         ensures { SomeIff result ((0 < number) × (number ≤ MAX_SESSIONS)) number }
     {
@@ -58,9 +60,9 @@ impl SessionNo {
 pub enum Auth {
     /// The user is known before the session begins (RFC 9051, section 7.1.4, PREAUTH).
     Preauth,
-    /// The user has to log in.
+    /// The user must log in.
     Password {
-        /// What LOGIN has to give.
+        /// The user and the password that LOGIN must give.
         credentials: Credentials,
     },
 }
@@ -71,7 +73,7 @@ pub enum OpenFault {
     /// 1,024 sessions are open.
     #[error("too many sessions")]
     TooManySessions,
-    /// There was no memory for one more.
+    /// Memory ran out for another session.
     #[error("no memory")]
     NoMemory,
 }
@@ -81,7 +83,7 @@ pub struct Sessions {
     pub(crate) places: Vec<Option<Session>>,
 }
 
-// By hand, so that crates above let it go as a whole.
+// By hand, so that crates above drop it whole.
 impl Drop for Sessions {
     fn drop(self) {
         let Self { places: _ } = self;
@@ -102,7 +104,7 @@ impl Model for Sessions {
 impl Sessions {
     ghost use Rattle.imap_node.specs.Sessions.{Opens, with_session};
 
-    /// No session.
+    /// No sessions.
     pub fn new(alloc: Global) -> Sessions
         ensures { result ≡ [] }
     {
@@ -111,14 +113,14 @@ impl Sessions {
         }
     }
 
-    /// What this session is; `None` where it isn't open.
+    /// The session with this number; `None` if it isn't open.
     pub fn get(&self, session: SessionNo) -> Option<&Session>
         ensures { option_copied result ≡ session_at self.now session }
     {
         session_in(&self.places, session)
     }
 
-    /// No session above this number is open.
+    /// A number above which no session is open.
     pub fn last(&self) -> usize
         ensures bound { result ≤ 1024 }
         ensures none { (n : ℕ) → result < n → session_at self.now n ≡ None }
@@ -126,7 +128,8 @@ impl Sessions {
         self.places.len()
     }
 
-    /// Opens the session with the least number that isn't open. An error leaves the sessions as they were.
+    /// Opens the session with the least number that isn't open. An error leaves the sessions as
+    /// they were.
     pub fn open(&mut self, auth: Auth) -> Result<SessionNo, OpenFault>
         ensures ok { IfOk result (λ session. Opens self.old auth session self.new) }
         ensures full { result ≡ Err TooManySessions → (n : ℕ) → 0 < n → n ≤ 1024 → IsOpen self.old n }
@@ -140,7 +143,7 @@ impl Sessions {
         open_in(&mut self.places, vacant, new_session(auth))
     }
 
-    /// Changes an open session, or closes it by `None`.
+    /// Replaces an open session; `None` closes it.
     pub fn set(&mut self, session: SessionNo, place: Option<Session>)
         requires { IsOpen self.old session }
         ensures { self.new ≡ with_session self.old session place }
@@ -165,7 +168,7 @@ impl Sessions {
     }
 }
 
-/// A session as it begins.
+/// A session at its beginning.
 fn new_session(auth: Auth) -> Session
     ensures { result ≡ new_session auth }
 {
@@ -190,7 +193,7 @@ fn leave_in(places: &mut Vec<Option<Session>>, session: SessionNo)
     }
 }
 
-/// The session has no mailbox selected, and nothing else of it changes.
+/// Leaves the session without a selected mailbox; nothing else of it changes.
 fn unselect(place: &mut Option<Session>)
     ensures { place.new ≡ option_map unselected place.old }
 {
@@ -209,7 +212,7 @@ fn wake_in(places: &mut Vec<Option<Session>>, session: SessionNo)
     }
 }
 
-/// The session doesn't idle, and nothing else of it changes.
+/// Ends the session's IDLE; nothing else of it changes.
 fn wake(place: &mut Option<Session>)
     ensures { place.new ≡ option_map without_idle place.old }
 {
@@ -227,7 +230,7 @@ fn session_in(places: &[Option<Session>], session: SessionNo) -> Option<&Session
     }
 }
 
-/// The first vacant place, or the place behind all.
+/// The first vacant place, or the place after the last.
 fn vacant_place(places: &[Option<Session>]) -> usize
     ensures within { result ≤ length places.now }
     ensures before { (k : ℕ) → k < result → IsSome (slice_index_or places.now k None) }
@@ -241,7 +244,7 @@ fn vacant_place(places: &[Option<Session>]) -> usize
     places.len()
 }
 
-/// Opens the session of a vacant place, which may stand behind all others.
+/// Opens the session of a vacant place, which may be the place after the last.
 fn open_in(
     places: &mut Vec<Option<Session>>,
     vacant: usize,
@@ -265,7 +268,7 @@ fn open_in(
     Ok(session)
 }
 
-/// Puts a place behind all others.
+/// Appends a place.
 fn push_place(places: &mut Vec<Option<Session>>, place: Option<Session>) -> Result<(), OpenFault>
     ensures ok { OnOk result (places.new.items ≡ places.old.items ++ place ∷ []) }
     ensures err { IfErr result (λ fault. (fault ≡ NoMemory) × (places.new.items ≡ places.old.items)) }

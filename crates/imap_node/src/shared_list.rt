@@ -6,7 +6,8 @@ use std::alloc::{AllocError, Global};
 use std::marker::Model;
 use std::sync::ArcSlice;
 
-/// A list that stays as it is. Its copies share one memory, which is given back with the last of them; a list without items takes none.
+/// A list that doesn't change. Its copies share one memory, which is freed with the last of them;
+/// an empty list takes none.
 #[derive(Drop)]
 pub struct SharedList<T> {
     items: Option<ArcSlice<T>>,
@@ -23,7 +24,8 @@ impl<T> Model for SharedList<T> {
 }
 
 impl<T: Drop> SharedList<T> {
-    /// The list of these items, whose memory it takes over, all but the room for more; `Err` where there is no memory to share them.
+    /// The list of these items, whose memory it takes over, without spare room; `Err` if memory to
+    /// share them runs out.
     pub fn new(items: Vec<T>) -> Result<SharedList<T>, AllocError>
         ensures { IfOk result (λ shared. shared ≡ items.items) }
     {
@@ -47,7 +49,7 @@ impl<T: Drop> SharedList<T> {
         }
     }
 
-    /// The same list, in the same memory. `Err` where so many copies share it that they can't be counted.
+    /// The same list, in the same memory. `Err` if more copies share it than can be counted.
     pub fn copy(&self) -> Result<SharedList<T>, AllocError>
         ensures { IfOk result (λ copied. copied ≡ self.now) }
     {

@@ -1,4 +1,4 @@
-//! What stands behind an input's own answers: the sync, and what the session sees then.
+//! What follows an input's own answers: the sync, and the session's state after it.
 
 ghost use Rattle.std.specs.Prelude.{◌≡◌, ◌⊎◌, ◌++◌, List, true, [], IfOk, None, Some};
 ghost use Rattle.imap_commands.specs.declared.session.State.{State};
@@ -38,7 +38,8 @@ use session_view::{
 use std::alloc::{AllocError, Global};
 use std::marker::Model;
 
-/// The state behind a command, before its answers are replayed, where it isn't the one before. It shows no messages of a mailbox that is selected anew.
+/// The state after a command, before its answers are replayed; `None` if it is the state before the
+/// command. A newly selected mailbox shows no messages yet.
 pub fn state_after_command(
     alloc: Global,
     replica: &ReplicaState,
@@ -76,16 +77,16 @@ fn selected_state(
     }))
 }
 
-/// What stands in front of a sync, and which one it is.
+/// What comes before a sync, and the kind of the sync.
 #[derive(Drop)]
 pub struct SyncInput<'a> {
-    /// Flags that are set in silence.
+    /// Flags that are set silently.
     pub silent: &'a [SilentFlags],
     /// A command's own answers.
     pub own: &'a [Answer],
     /// The sync, if there is one.
     pub sync: Option<SyncKind>,
-    /// Whether it tells mod-sequences.
+    /// Whether it reports mod-sequences.
     pub modseq: bool,
 }
 
@@ -97,10 +98,10 @@ impl<'a> Model for SyncInput<'a> {
     ghost view = { λ f. record { silent = f.silent.now; own = f.own.now; sync = f.sync; modseq = f.modseq } };
 }
 
-/// What a session is still to be told, and what an input's own operations changed.
+/// What a session must still be sent, and what an input's own operations changed.
 #[derive(Drop)]
 pub struct UnsentChanges<'a> {
-    /// What the session is still to be told.
+    /// What the session must still be sent.
     pub feed: &'a Feed,
     /// What the operations changed.
     pub change_notes: &'a ChangeNotes,
@@ -114,7 +115,7 @@ impl<'a> Model for UnsentChanges<'a> {
     ghost view = { λ u. record { pending = u.feed.now.pending; change_notes = u.change_notes.now } };
 }
 
-/// A replica, and the operations of an input behind those that it applied.
+/// A replica, and an input's operations, which come after those that it applied.
 #[derive(Drop)]
 pub struct ReplicaAfter<'a> {
     /// The replica.
@@ -123,18 +124,18 @@ pub struct ReplicaAfter<'a> {
     pub ops: &'a [SoundOp],
 }
 
-/// The sync behind what stands in front of it, and a state that is made anew.
+/// The answers of a sync, and the state after it, which is a new one.
 #[derive(Drop)]
 pub struct RebuiltState {
     /// What the sync sends.
     pub answers: Vec<Answer>,
-    /// The state then.
+    /// The state afterwards.
     pub state: State,
-    /// Whether all that the mailbox has is surely shown then, as it is behind SELECT.
+    /// Whether the state surely shows all that its mailbox has, as after SELECT.
     pub shows_all: bool,
 }
 
-/// The sync behind what stands in front of it, and the state then, which is made anew.
+/// The sync after `front`, and the state after it, rebuilt from `state`. `Err` if memory runs out.
 pub fn sync_rebuilt_state(
     alloc: Global,
     replica: &ReplicaState,
@@ -171,7 +172,7 @@ pub fn sync_rebuilt_state(
     }
 }
 
-/// Whether nothing was shown, and what stands in front shows messages as the mailbox has them.
+/// Whether the view was empty, and the answers in `front` show messages as the mailbox has them.
 fn is_first_sight(view: &View, front: &SyncInput<'_>) -> bool
     ensures { result ≡ true → IsFirstSight view.now.entries front.now }
 {
@@ -181,7 +182,7 @@ fn is_first_sight(view: &View, front: &SyncInput<'_>) -> bool
     view.entries().is_empty() && front.silent.is_empty() && !are_altering(front.own)
 }
 
-/// Whether some of these answers take a message away or tell one's items.
+/// Whether some of these answers expunge a message or report a message's items.
 fn are_altering(answers: &[Answer]) -> bool
     ensures { result ≡ list_any is_altering answers.now }
 {
@@ -203,8 +204,9 @@ fn is_altering(answer: &Answer) -> bool
     }
 }
 
-/// The sync behind what stands in front of it, and what becomes of the state, which stays as it was until then. Cost: what the session is still to be told and what the operations
-/// changed; where the feed missed some, one pass over the view and the listing.
+/// The sync after `front`, and the change of the state, which itself stays as it was; `Err` if
+/// memory runs out. Cost: proportional to what the session must still be sent and what the
+/// operations changed; if the feed missed some, one pass over the view and the listing.
 pub fn sync_in_place(
     alloc: Global,
     applied: &ReplicaAfter<'_>,
@@ -256,7 +258,8 @@ pub fn sync_in_place(
     }
 }
 
-/// The sync of a view behind the flags that are set first, and what it changes in the view, which stays as it was.
+/// The sync of a view after the flags `first` are set, and its change of the view, which itself
+/// stays as it was.
 fn plan_sync_of_view(
     alloc: Global,
     applied: &ReplicaAfter<'_>,
@@ -295,7 +298,7 @@ fn plan_sync_of_view(
     planned
 }
 
-/// The sync, and the state then, on a copy of the state.
+/// The sync, and the state after it, on a copy of the state.
 fn rebuild_state(
     alloc: Global,
     replica: &ReplicaState,
@@ -317,7 +320,8 @@ fn rebuild_state(
     Ok((answers, StateChange::Moves { state, shows_all }))
 }
 
-/// The flags that are set in front of a sync: in silence, and by the answers that tell them, but for those that the messages of the view have already.
+/// The flags that are set before a sync, silently and by FETCH answers, without those that the
+/// messages of the view have already.
 fn flags_before_sync(
     alloc: Global,
     state: &State,
@@ -331,8 +335,8 @@ fn flags_before_sync(
     }
 }
 
-/// Whether a sync has nothing to tell: there is none, or nothing is noted of the mailbox that is selected, if one is, neither missed nor still to be told, nor
-/// changed by the operations.
+/// Whether a sync has nothing to send: there is no sync or no selected mailbox, or the mailbox has
+/// no notes, neither unsent ones nor those of the operations, and the feed missed none.
 pub fn is_settled(state: &State, unsent: &UnsentChanges<'_>, sync: Option<SyncKind>) -> bool
     ensures { result ≡ true → (sync ≡ None) ⊎ ((view : ViewState) → view_of state.now ≡ Some view → IsSettled unsent.now view) }
 {
@@ -353,7 +357,7 @@ fn shows_all(view: &View, unsent: &UnsentChanges<'_>) -> bool
     notes.is_empty() && unsent.change_notes.notes_of(view.name()).is_empty()
 }
 
-/// What the sync sends behind what stands in front of it, and what a view shows then.
+/// The answers of the sync after `front`, and the view after it.
 fn answers_and_view(
     alloc: Global,
     rows: &Rows<'_>,

@@ -9,7 +9,7 @@ use Rattle.imap_node.proofs.GoingLemmas.{all_kept, awake_view, step_leaves}
 use Rattle.imap_node.proofs.SessionLemmas.{open_is}
 use Rattle.imap_node.proofs.node.set_next.Goals as goal
 
--- a session that left its mailbox sees none
+-- a session that left its mailbox has no view
 sees_none : (place : Option Session) (view : ViewState) → view_in (option_map unselected place) ≡ Some view → ⊥
 sees_none None view q = let e : ◌≡◌ {A = Option ViewState} None (Some view) = q in cc
 sees_none (Some s) view q = let e : ◌≡◌ {A = Option ViewState} None (Some view) = q in cc

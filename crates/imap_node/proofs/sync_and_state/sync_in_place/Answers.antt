@@ -15,7 +15,7 @@ use Rattle.session_view.specs.ViewState.{ViewState}
 use Rattle.uid_projection.specs.declared.first_numbers.Counters.{Counters}
 use Rattle.imap_node.proofs.sync_and_state.sync_in_place.Goals as goal
 
--- where no mailbox is selected, nothing is told and the state stays
+-- if no mailbox is selected, nothing is sent and the state stays
 told_nothing : (start : Counters) (after : List Op) (state : State) (front : SyncInput) (answers : List Answer) → answers ≡ [] → ((view : ViewState) (read_only : Bool) → state ≡ Selected view read_only → ⊥)
     → (answers ≡ (sync_result_after start after state front).answers) × (state_with state None ≡ (sync_result_after start after state front).state)
 told_nothing start after (Selected view read_only) front answers e n = absurd (n view read_only refl)
