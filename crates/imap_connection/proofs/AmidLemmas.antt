@@ -11,7 +11,7 @@ use Rattle.imap_connection.specs.declared.turn.Turn.{Turn}
 use Rattle.imap_connection.proofs.PlaceLemmas.{goes_or_not}
 use Rattle.imap_connection.proofs.StreamLemmas.{items_joined, state_joined}
 
--- nothing came meanwhile
+-- nothing came in between
 quiet : (session : ℕ) (node : NodeState) → SomeOtherSteps session node node
 quiet session node = (zero, refl)
 
@@ -19,7 +19,7 @@ quiet session node = (zero, refl)
 abbrev pub visit_at : NodeState → Piece → PieceAt
 visit_at node piece = record { node = node; piece = piece }
 
--- the items of one piece alone
+-- the items of a single piece
 alone : (old mid new : NodeState) (session : ℕ) (items : List TimedItem) (turns : List Turn) → SomeOtherSteps session old mid → Converses mid session items turns new
     → ConversesBetweenOthers old session (record { node = mid; items = items } ∷ []) turns new
 alone old mid new session items turns w c = (
@@ -33,7 +33,7 @@ alone old mid new session items turns w c = (
   ],
 )
 
--- piece by piece it is the conversation over what each piece completes
+-- piece by piece, the turns are the conversation over what each piece completes
 pub talks_amid : (old new : NodeState) (session : ℕ) (limits : Limits) (state end : Result FrameProgress FrameFaultKind) (visits : List PieceAt) (turns : List Turn) → TalksBetweenOthers old session limits state visits turns new end
     → ConversesBetweenOthers old session (items_at_each limits state visits) turns new × (end ≡ (cut_onward limits state (octets_of_pieces visits)).1)
 talks_amid old new session limits state end [] turns t = ((t.0, t.1), t.2)
@@ -50,7 +50,7 @@ talks_amid old new session limits state end (visit ∷ visits) turns t =
       later.1 ∙ ap (λ s. (cut_onward limits s (octets_of_pieces visits)).1) here ∙ sym (state_joined limits state visit.piece.octets (octets_of_pieces visits)),
     )
 
--- with a last piece behind, which may end the session
+-- with a last piece after them, which may end the session
 pub talks_amid_to_end : (old mid new : NodeState) (session : ℕ) (limits : Limits) (state between : Result FrameProgress FrameFaultKind) (visits : List PieceAt) (piece : Piece) (turns more : List Turn)
     → TalksBetweenOthers old session limits state visits turns mid between → Converses mid session (cut_by limits between piece).0 more new
     → ConversesBetweenOthers old session (items_at_each limits state (visits ++ visit_at mid piece ∷ [])) (turns ++ more) new
@@ -79,7 +79,7 @@ untimed_all : (moment : ℕ) (items : List Item) → items_without_moments (item
 untimed_all moment [] = refl
 untimed_all moment (item ∷ items) = ap (λ is. item ∷ is) (untimed_all moment items)
 
--- what the pieces complete are the items of all their octets
+-- the items that the pieces complete are those of all their octets
 pub stretches_whole : (limits : Limits) (state : Result FrameProgress FrameFaultKind) (visits : List PieceAt) → items_in (items_at_each limits state visits) ≡ (cut_onward limits state (octets_of_pieces visits)).0
 stretches_whole limits state [] = refl
 stretches_whole limits state (visit ∷ visits) =
@@ -87,7 +87,7 @@ stretches_whole limits state (visit ∷ visits) =
     ap (λ items. items ++ items_in (items_at_each limits cut.1 visits)) (untimed_all visit.piece.moment cut.0)
     ∙ ap (λ items. cut.0 ++ items) (stretches_whole limits cut.1 visits) ∙ sym (items_joined limits state visit.piece.octets (octets_of_pieces visits))
 
--- how all octets end where those of a last piece do
+-- all octets end as those of the last piece do
 pub state_to_end : (limits : Limits) (state between : Result FrameProgress FrameFaultKind) (node : NodeState) (visits : List PieceAt) (piece : Piece) → between ≡ (cut_onward limits state (octets_of_pieces visits)).1
     → (cut_onward limits state (octets_of_pieces (visits ++ visit_at node piece ∷ []))).1 ≡ (cut_onward limits between piece.octets).1
 state_to_end limits state between node visits piece e =

@@ -92,14 +92,14 @@ next_answers (t ∷ tags) (r ∷ replies) (suc i) tag reply h k e f =
     ap (λ (rest : List Answer). answers_of t r ++ rest) (next_answers tags replies i tag reply (omega (arith, h)) (omega (arith, k)) e f)
     ∙ sym (append_assoc (answers_of t r) (answers_by tags (take i replies)) (answers_of tag reply))
 
--- one reply more
+-- one further reply
 pub answers_next : (tags : List (List ℕ)) (replies : List Reply) (i : ℕ) (tag : List ℕ) (reply : Reply) → i < length tags → i < length replies → tag ≡ get_or tags i tag → reply ≡ get_or replies i reply
     → answers_by tags (take (i + 1) replies) ≡ answers_by tags (take i replies) ++ answers_of tag reply
 answers_next tags replies i tag reply h k e f =
     let one : i + 1 ≡ suc i = omega arith in
     ap (λ (n : ℕ). answers_by tags (take n replies)) one ∙ next_answers tags replies i tag reply h k e f
 
--- the first answers begin all
+-- the first answers are an initial part of all answers
 pub answers_first : (tags : List (List ℕ)) (replies : List Reply) (i : ℕ) → IsPrefixOf (answers_by tags (take i replies)) (answers_by tags replies)
 answers_first [] replies i = ([], refl)
 answers_first (t ∷ tags) [] zero = ([], refl)
@@ -109,13 +109,13 @@ answers_first (t ∷ tags) (r ∷ replies) (suc i) =
     let h = answers_first tags replies i in
     (h.0, ap (λ (rest : List Answer). answers_of t r ++ rest) h.1 ∙ sym (append_assoc (answers_of t r) (answers_by tags (take i replies)) h.0))
 
--- a beginning of the next answers, behind the first, begins all
+-- the first answers, and an initial part of the next ones, are an initial part of all answers
 pub front_next : (first next all front : List Answer) → IsPrefixOf (first ++ next) all → IsPrefixOf front next → IsPrefixOf (first ++ front) all
 front_next first next all front h f =
     (f.0 ++ h.0, h.1 ∙ ap (λ (x : List Answer). (first ++ x) ++ h.0) f.1 ∙ ap (λ (x : List Answer). x ++ h.0) (sym (append_assoc first front f.0)) ∙ append_assoc (first ++ front) f.0 h.0)
 
 module _ {S : Type 0} (steps : S → PortCall → Result Reply PortFault → S → Type 0) where
-  -- there are no more replies than commands
+  -- there are at most as many replies as commands
   pub carries_fit : (all : List Tagged) (replies : List Reply) (given : Result (Unit {0}) PortFault) (old new : S) → Carries steps old all replies given new → length replies ≤ length (tags_of all)
   carries_fit [] [] given old new c = omega arith
   carries_fit [] (reply ∷ replies) given old new c = absurd c
@@ -181,7 +181,7 @@ module _ {S : Type 0} (steps : S → PortCall → Result Reply PortFault → S �
   goes_all : (old : S) (idling : Option (List ℕ)) (items : List Item) (said : List ℕ) (new : S) (after : Option (List ℕ)) → Converses steps old idling items said new after → GoesFor steps old idling items said new
   goes_all old idling items said new after c = record { front = items; first = ([], sym (append-nil items)); goes = record { after = after; answered = c } }
 
-  -- memory was wanting for the last answers
+  -- memory ran out for the last answers
   unsaid : (items : List Item) (all : List Tagged) (replies : List Reply) (given : Result (Unit {0}) PortFault) (old new : S) (told : List Answer) → AreAsked items all → are_brief all ≡ true
       → Carries steps old all replies given new → IsPrefixOf told (answers_by (tags_of all) replies) → Unsaid steps old None items (texts told) new
   unsaid items all replies (Ok u) old new told a b c f =
@@ -208,7 +208,7 @@ module _ {S : Type 0} (steps : S → PortCall → Result Reply PortFault → S �
         ]
       ]
 
-  -- where none wait
+  -- no commands wait
   none_carried : (items : List Item) (all : List Tagged) (replies : List Reply) (old new : S) (idling : Option (List ℕ)) (u : Unit {0}) → items ≡ [] → AreAsked items all → Carries steps old all replies (Ok u) new
       → Converses steps old idling items (texts (answers_by (tags_of all) replies)) new idling
   none_carried [] [] [] old new idling u e a c = (refl, c, refl)
@@ -243,7 +243,7 @@ module _ {S : Type 0} (steps : S → PortCall → Result Reply PortFault → S �
     pub going_first : Going steps old idling [] [] old idling []
     going_first = record { front = []; back = []; items_are = refl; answered = (refl, refl, refl); waits = tt; brief = refl; awake = inl refl }
 
-    -- a brief command waits
+    -- a brief command joins those that wait
     pub going_waits : (items : List Item) (said : List ℕ) (new : S) (between : Option (List ℕ)) (waiting : List Tagged) (item : Item) (tagged : Tagged)
         → Going steps old idling items said new between waiting → IsRequest between item (requests.Command tagged) → is_brief tagged.command ≡ true
         → Going steps old idling (items ++ item ∷ []) said new between (waiting ++ tagged ∷ [])
@@ -259,7 +259,7 @@ module _ {S : Type 0} (steps : S → PortCall → Result Reply PortFault → S �
           awake = inr none;
         }
 
-    -- those that waited were given
+    -- the commands that waited were given to the port
     pub going_told : (items : List Item) (said : List ℕ) (new : S) (between : Option (List ℕ)) (waiting : List Tagged) (replies : List Reply) (u : Unit {0}) (next : S)
         → Going steps old idling items said new between waiting → Carries steps new waiting replies (Ok u) next
         → Converses steps old idling items (said ++ texts (answers_by (tags_of waiting) replies)) next between
@@ -282,11 +282,11 @@ module _ {S : Type 0} (steps : S → PortCall → Result Reply PortFault → S �
         ] in
         subst (λ (xs : List Item). Leaves steps old idling xs ended (said ++ texts told) next) (sym g.items_are) (leaves_behind steps old idling g.front g.back ended said new between (texts told) next g.answered now)
 
-    -- items behind those at which it ended don't matter
+    -- items after the one at which the conversation ended don't matter
     pub leaves_more : (items : List Item) (item : Item) (ended : Ended) (said : List ℕ) (new : S) → Leaves steps old idling items ended said new → Leaves steps old idling (items ++ item ∷ []) ended said new
     leaves_more items item ended said new h = leaves_first steps old idling items (items ++ item ∷ []) ended said new (item ∷ [], refl) h
 
-    -- memory was wanting before anything more was asked
+    -- memory ran out before the port was called
     pub going_unasked : (items : List Item) (said : List ℕ) (new : S) (between : Option (List ℕ)) (waiting : List Tagged) (item : Item)
         → Going steps old idling items said new between waiting → Leaves steps old idling (items ++ item ∷ []) NoMemory (said ++ []) new
     going_unasked items said new between waiting item g =

@@ -30,7 +30,7 @@ use Rattle.imap_connection.specs.declared.end_of_conversation.Ended.TheVariants.
 use Rattle.imap_connection.specs.declared.fault.PortFault.{PortFault}
 use Rattle.imap_connection.specs.declared.fault.PortFault.TheVariants as faults
 
--- ---- what was taken and is held back
+-- ---- text that was taken or is held back
 
 pub took-append : (a b c : Option (List ℕ)) (x y : List ℕ) → Took a x b → Took b y c → Took a (x ++ y) c
 took-append None b c x y h k = tt
@@ -55,7 +55,7 @@ said-append (Some old) l m held said mid more left h g =
       sym (append_assoc held said more) ∙ ap (λ t. t ++ more) h.2 ∙ append_assoc h.0 mid more ∙ ap (λ t. h.0 ++ t) g'.2 ∙ sym (append_assoc h.0 g'.0 left),
     )
 
--- the rest is lost behind a beginning
+-- the rest is lost after an initial part
 pub said_lost : (k l m : Option (List ℕ)) (held said mid more : List ℕ) → Said k held said l mid → TookSome false l (mid ++ more) m → TookSome false k (held ++ (said ++ more)) m
 said_lost None l m held said mid more h g = ([], held ++ (said ++ more), refl, tt)
 said_lost (Some old) l m held said mid more h g =
@@ -66,7 +66,7 @@ said_lost (Some old) l m held said mid more h g =
       t ∙ ap Some (append_assoc old h.0 g.0),
     )
 
--- nothing more was said, and some was taken
+-- no further text, and some was taken
 pub said_kept : (k l m : Option (List ℕ)) (held said mid left : List ℕ) → Said k held said l mid → Said l mid [] m left → Said k held said m left
 said_kept k l m held said mid left h g = subst (λ (t : List ℕ). Said k held t m left) (append-nil said) (said-append k l m held said mid [] left h g)
 
@@ -105,7 +105,7 @@ port_writes faults.NoRoom = refl
 port_writes faults.Torn = refl
 port_writes faults.PassedOver = refl
 
--- what was held back at first was said too
+-- the text that was held back at first is a part of the whole
 behind_held : (k l : Option (List ℕ)) (held said left : List ℕ) → Said k held said l left → Said k [] (held ++ said) l left
 behind_held None l held said left h = tt
 behind_held (Some old) l held said left h = h
@@ -115,7 +115,7 @@ said_behind ended k l held first said left e h =
     let P : List ℕ → Type 0 = λ t. IsSaid ended k [] (t ++ said) l left in
     subst P e (elim h [ inl f ↦ inl f | inr s ↦ inr (s.0, behind_held k l held said left s.1) ])
 
--- what was said until the end, and the BYE
+-- the text until the end, and the BYE
 pub all_written : (ended result : Ended) (k l m : Option (List ℕ)) (said left bye : List ℕ) → IsSaid ended k [] said l left
     → (failed_writes ended ≡ 0 → IsWritten ended (left ++ bye) result l m) → ((ended ≡ WriteFailed) → (result ≡ WriteFailed) × (m ≡ l))
     → IsWritten ended (said ++ bye) result k m
@@ -131,7 +131,7 @@ all_written ended result k l m said left bye h w f =
       ]
     ]
 
--- what was said before, and what was said until the end
+-- the text before, and the text until the end
 pub is_said : (ended : Ended) (k l m : Option (List ℕ)) (held said mid more left : List ℕ) → Said k held said l mid → IsSaid ended l mid more m left → IsSaid ended k held (said ++ more) m left
 is_said ended k l m held said mid more left h g =
     elim g [
@@ -246,7 +246,7 @@ module _ {S : Type 0} (steps : S → PortCall → Result Reply PortFault → S �
         said_is = b.said_is;
       }
 
-  -- items behind those at which it ended don't matter
+  -- items after the one at which the conversation ended don't matter
   pub leaves_first : (old : S) (idling : Option (List ℕ)) (items all : List Item) (ended : Ended) (said : List ℕ) (new : S) → IsPrefix items all → Leaves steps old idling items ended said new → Leaves steps old idling all ended said new
   leaves_first old idling items all ended said new f h =
       elim h [
@@ -263,7 +263,7 @@ module _ {S : Type 0} (steps : S → PortCall → Result Reply PortFault → S �
         ]
       ]
 
-  -- a write failed behind some of the items
+  -- a write failed after some of the items
   pub fails_at : (old : S) (idling : Option (List ℕ)) (items : List Item) (i : ℕ) (said : List ℕ) (new : S) (between : Option (List ℕ)) (waiting : List Tagged)
       → Going steps old idling (take i items) said new between waiting → Leaves steps old idling items WriteFailed said new
   fails_at old idling items i said new between waiting g =
@@ -296,7 +296,7 @@ module _ {S : Type 0} (steps : S → PortCall → Result Reply PortFault → S �
   goes_over : (old : S) (idling : Option (List ℕ)) (items : List Item) (cut : Cut) (said : List ℕ) (new : S) (after : Option (List ℕ)) → cut.0 ≡ items → Converses steps old idling items said new after → Goes steps old idling cut.0 said new
   goes_over old idling items cut said new after e c = record { after = after; answered = subst (λ (xs : List Item). Converses steps old idling xs said new after) (sym e) c }
 
-  -- all items of a piece were taken, and the framer has failed
+  -- all items of a piece were taken, and the framer failed
   cut_now : (why : FrameFaultKind) (old : S) (idling : Option (List ℕ)) (items : List Item) (state now : Result FrameProgress FrameFaultKind) (cut : Cut) (said : List ℕ) (new : S) (after : Option (List ℕ))
       → IsOk state → FaultsNow why items state now cut → Converses steps old idling items said new after → IsCut steps old idling cut why said new
   cut_now Memory old idling items state now cut said new after o f c = record { front = items; first = f.2; goes = record { after = after; answered = c } }
@@ -309,14 +309,14 @@ module _ {S : Type 0} (steps : S → PortCall → Result Reply PortFault → S �
       → IsOk state → FaultsNow why items state now cut → Converses steps old idling items said new after → Halts steps old idling cut (Framing why) said new
   halts_cut why old idling items state now cut said new after o f c = inl (why, refl, cut_now why old idling items state now cut said new after o f c)
 
-  -- it ended at an item of a piece whose octets can't be cut any further
+  -- the conversation ended at an item of a piece whose octets can't be cut any further
   pub halts_before : (why : FrameFaultKind) (old : S) (idling : Option (List ℕ)) (items : List Item) (state now : Result FrameProgress FrameFaultKind) (cut : Cut) (ended : Ended) (said : List ℕ) (new : S)
       → FaultsNow why items state now cut → Leaves steps old idling items ended said new → Halts steps old idling cut ended said new
   halts_before why old idling items state now cut ended said new f l = inr (leaves_first old idling items cut.0 ended said new (given_in_front why items state now cut f) l)
 
   -- ---- all that was read
 
-  -- What was read so far, and what came of it.
+  -- What was read so far, and the state of the conversation over it.
   pub record Underway (limits : Limits) (old : S) (left : Option (List ℕ)) (taken : Option (List ℕ)) (held : List ℕ) (new : S) (idling : Option (List ℕ)) (rest : Option (List ℕ)) (now : Option (List ℕ)) (text : List ℕ) (state : Result FrameProgress FrameFaultKind) : Type 0 where
     pub octets : List ℕ
     pub said : List ℕ
@@ -326,7 +326,7 @@ module _ {S : Type 0} (steps : S → PortCall → Result Reply PortFault → S �
     pub answered : Converses steps old None (cut_onward limits (Ok start) octets).0 said new idling
     pub said_is : Said taken held said now text
 
-  -- What the contract of the loop says of its end.
+  -- The contract of the loop when it ends.
   abbrev pub EndsSo : Limits → S → Option (List ℕ) → Option (List ℕ) → List ℕ → Ended → Bool → S → Option (List ℕ) → Option (List ℕ) → List ℕ → Type 0
   EndsSo limits old left taken held ended at_end new rest now text =
       (octets : List ℕ) × (said : List ℕ) × Gave left octets rest × Ends steps old (cut_onward limits (Ok start) octets) ended at_end said new × IsSaid ended taken held said now text
@@ -349,7 +349,7 @@ module _ {S : Type 0} (steps : S → PortCall → Result Reply PortFault → S �
           said_is = subst (λ (t : List ℕ). Said taken held t then none) (append-nil u.said) (said-append taken now then held u.said text [] none u.said_is s);
         }
 
-    -- octets more
+    -- further octets, and the conversation continues
     pub underway_on : (mid new : S) (idling after rest further now then : Option (List ℕ)) (text more_text piece said : List ℕ) (state next : Result FrameProgress FrameFaultKind)
         → Underway limits old left taken held mid idling rest now text state → Gave rest piece further
         → Converses steps mid idling (cut_onward limits state piece).0 said new after → Said now text said then more_text → (next ≡ (cut_onward limits state piece).1) × IsOk next
@@ -369,7 +369,7 @@ module _ {S : Type 0} (steps : S → PortCall → Result Reply PortFault → S �
           said_is = said-append taken now then held u.said text said more_text u.said_is s;
         }
 
-    -- octets at which it ended
+    -- further octets, and the conversation ends
     pub underway_ends : (mid new : S) (idling rest further now then : Option (List ℕ)) (text more_text piece said : List ℕ) (state : Result FrameProgress FrameFaultKind) (ended : Ended) (at_end : Bool)
         → Underway limits old left taken held mid idling rest now text state → Gave rest piece further
         → Halts steps mid idling (cut_onward limits state piece) ended said new → IsSaid ended now text said then more_text
@@ -415,7 +415,7 @@ module _ {S : Type 0} (steps : S → PortCall → Result Reply PortFault → S �
 -- ---- one request
 
 module _ {S : Type 0} (steps : S → PortCall → Result Reply PortFault → S → Type 0) (idling : Option (List ℕ)) (before after : List ℕ) where
-  -- an answer that is told at once
+  -- an item that is answered at once
   pub told_ok : {T E : Type 0} (r : Result T E) (p : S) (answer : Answer) → OnOk r (after ≡ before ++ texts (answer ∷ []))
       → OnOk r ((given : List Answer) × Handles steps p idling (Told answer) given p idling false × (after ≡ before ++ texts given))
   told_ok (Err e) p answer o = tt
@@ -431,13 +431,13 @@ module _ {S : Type 0} (steps : S → PortCall → Result Reply PortFault → S �
       → (given : List Answer) × Fails steps old idling request ended given new × (after ≡ before ++ texts given)
   refused old new request call fault ended c s e t = ([], inr (inr (inr (inr (call, fault, c, s, e, refl)))), t ∙ sym (append-nil before))
 
-  -- memory breaks the answers off
+  -- memory ran out during the answers
   pub broken : (old new : S) (request : Request) (all : List Answer) (behind : Option (List ℕ)) (out : Bool) → Handles steps old idling request all new behind out
       → ((front : List Answer) × (after ≡ before ++ texts front) × IsPrefixOf front all)
       → (given : List Answer) × Fails steps old idling request NoMemory given new × (after ≡ before ++ texts given)
   broken old new request all behind out h f = (f.0, inr (inr (inl (refl, (all, behind, out, h, f.2)))), f.1)
 
-  -- a line is refused for want of memory
+  -- a line is refused because memory ran out
   pub line_refused : (old new : S) (tag : List ℕ) (line : IdleLine) (reply : Reply) → steps old (asked.Line line) (Ok reply) new → is_without_memory reply ≡ true → after ≡ before
       → (given : List Answer) × Fails steps old idling (Line tag line) NoMemory given new × (after ≡ before ++ texts given)
   line_refused old new tag line reply s m t = ([], inr (inr (inr (inl (line, reply, refl, s, m, refl, refl)))), t ∙ sym (append-nil before))
@@ -458,7 +458,7 @@ module _ {S : Type 0} (steps : S → PortCall → Result Reply PortFault → S �
 -- ---- results
 
 module _ {S : Type 0} (steps : S → PortCall → Result Reply PortFault → S → Type 0) (old new : S) (idling : Option (List ℕ)) (k l : Option (List ℕ)) (held left : List ℕ) where
-  -- what is said of the items is said of what the octets give
+  -- from the items to the octets that give them
   pub halts_whole : {T : Type 0} (r : Result T Ended) (items slice : List Item) (cut : Cut) → cut.0 ≡ items → slice ≡ items
       → IfErr r (λ ended. (said : List ℕ) × Leaves steps old idling slice ended said new × IsSaid ended k held said l left)
       → IfErr r (λ ended. (said : List ℕ) × Halts steps old idling cut ended said new × IsSaid ended k held said l left)

@@ -21,11 +21,11 @@ id_of op = op.id
 abbrev clock_of : Op → List (ℕ × ℕ)
 clock_of op = op.clock
 
--- one replica's operations of a list
+-- one replica's operations in a list
 abbrev own_ops : ℕ → List Op → List Op
 own_ops replica ops = filter (λ (o : Op). o.id.replica == replica) ops
 
--- the operations of the clock's replicas, one replica's behind another's
+-- the operations of the clock's replicas, replica by replica
 abbrev listed_by : List Op → List (ℕ × ℕ) → List Op
 listed_by ops clock = flat_map (λ (e : ℕ × ℕ). own_ops e.0 ops) clock
 
@@ -100,7 +100,7 @@ listed_from ops low (e ∷ es) o a h =
       | inr t ↦ let behind : e.0 + 1 ≤ o.id.replica = listed_from ops (e.0 + 1) es o a.2 t in omega arith
     ]
 
--- of one replica's operations in a causal list the later has the greater number
+-- of one replica's operations in a causal list, the later one has the greater number
 later_is_greater : (earlier os : List Op) (o p : Op) → IsCausalAfter id_of clock_of earlier (o ∷ os) → HasOwnEntry o → HasOwnEntry p → IsIn p os → o.id.replica ≡ p.id.replica → o.id.number < p.id.number
 later_is_greater earlier os o p c own owned h same =
     elim (cases_lt o.id.number p.id.number) [
@@ -162,7 +162,8 @@ listed_whole ops clock causal sound is_clock counts = (
   ),
 )
 
--- what is written is a dump of the replica, where the operations and the entries that are shown are those applied and their clock's.
+-- the text written is a dump of the replica, if the operations and the entries are those applied
+-- and their clock's
 pub lists_applied : (replica : ℕ) (applied ops : List Op) (clock entries : List (ℕ × ℕ)) (text : List ℕ) → IsCausal id_of clock_of applied → AreSound IsSound applied → IsClock clock → IsClockOf id_of applied clock → ops ≡ applied → entries ≡ clock → text ≡ codes "dump " ++ decimal replica ++ 10 ∷ [] ++ flat_map (op_lines_by ops) entries ++ state_text applied ++ codes "end" ++ 10 ∷ [] → IsDump replica applied text
 lists_applied replica applied ops clock entries text causal sound is_clock counts same shown written =
     let listed = listed_whole applied clock causal sound is_clock counts in
@@ -174,7 +175,7 @@ lists_applied replica applied ops clock entries text causal sound is_clock count
       written ∙ ap (λ (ls : List ℕ). codes "dump " ++ decimal replica ++ 10 ∷ [] ++ ls ++ state_text applied ++ codes "end" ++ 10 ∷ []) lines,
     )
 
--- of two ids one at most is less than the other
+-- of two ids, at most one is less than the other
 less_both : (i j : OpId) → IsLess i j → IsLess j i → ⊥
 less_both i j h k =
     elim h [
@@ -182,7 +183,7 @@ less_both i j h k =
       | inr p ↦ let e = p.0 in let a = p.1 in elim k [ inl m ↦ omega arith | inr q ↦ let b = q.1 in omega arith ]
     ]
 
--- there is one ascending list of some elements
+-- equal elements have only one ascending list
 one_listing : (xs ys : List Op) → AreAscending id_of xs → AreAscending id_of ys → HaveSameElements xs ys → xs ≡ ys
 one_listing [] [] a b h = refl
 one_listing [] (y ∷ ys) a b h = absurd ((h y).1 (inl refl))

@@ -19,7 +19,7 @@ use Rattle.imap_connection.proofs.PlaceLemmas.{closed_stops}
 use Rattle.imap_connection.proofs.StreamLemmas.{converses_on, items_more, state_more, talks_on_joined, untimed_whole}
 use Rattle.imap_connection.proofs.TurnLemmas.{front_behind}
 
--- a conversation that goes on, and one that is broken off then
+-- a conversation that continues, and one that is broken off after it
 breaks_on : (why : TalkFaultKind) (old mid new : NodeState) (session : ℕ) (items more : List TimedItem) (turns rest : List Turn) → IsGoing mid session → Converses old session items turns mid → BreaksOff why mid session more rest new
     → BreaksOff why old session (items ++ more) (turns ++ rest) new
 breaks_on why old mid new session [] more turns rest going c d =
@@ -30,7 +30,7 @@ breaks_on why old mid new session (item ∷ items) more turns rest going c d =
       | inr out ↦ absurd (closed_stops c.1 session (subst (λ (n : NodeState). IsGoing n session) out.2 going))
     ]
 
--- where the session goes on, the framer has not failed
+-- if the session continues, the framer has not failed
 talks_on_well : (old new : NodeState) (session : ℕ) (limits : Limits) (state end : Result FrameProgress FrameFaultKind) (pieces : List Piece) (turns : List Turn) → TalksOn old session limits state pieces turns new end → IsOk state → IsOk end
 talks_on_well old new session limits state end [] turns t ok = subst (λ (s : Result FrameProgress FrameFaultKind). IsOk s) (sym t.2) ok
 talks_on_well old new session limits state end (piece ∷ pieces) turns t ok = talks_on_well t.1 new session limits t.2 end pieces t.5.0 t.5.2 (t.3.1 t.4).1
@@ -39,7 +39,7 @@ no_both : (state : Result FrameProgress FrameFaultKind) → IsOk state → IsErr
 no_both (Ok p) ok err = cc
 no_both (Err why) ok err = cc
 
--- a framer that failed before had failed before all pieces, and there was none
+-- a framer that had failed before the last piece had failed before all pieces, and there were none
 failed_at_first : (old mid new : NodeState) (session : ℕ) (limits : Limits) (state between : Result FrameProgress FrameFaultKind) (pieces : List Piece) (turns more : List Turn)
     → TalksOn old session limits state pieces turns mid between → IsErr between → more ≡ [] → new ≡ with_session_closed mid session
     → IsErr state × (turns ++ more ≡ []) × (new ≡ with_session_closed old session)
@@ -48,14 +48,14 @@ failed_at_first old mid new session limits state between [] turns more t err non
 failed_at_first old mid new session limits state between (piece ∷ pieces) turns more t err none out =
     absurd (no_both between (talks_on_well t.1 mid session limits t.2 between pieces t.5.0 t.5.2 (t.3.1 t.4).1) err)
 
--- How a conversation ends that is told by a BYE.
+-- A conversation's end that a BYE names.
 module _ (why : FrameFaultKind) (old : NodeState) (session : ℕ) (cut : TimedCut) (turns : List Turn) (new : NodeState) where
   abbrev pub EndsTold : Type 0
   EndsTold =
       (cut.1 ≡ Err why) × (mid : NodeState) × (before : List Turn) × Converses old session cut.0 before mid × IsGoing mid session
       × (turns ≡ before ++ bye_turns why) × (new ≡ with_session_closed mid session)
 
--- a fault that is told ends it so
+-- a fault that a BYE names ends the conversation
 told : (why : FrameFaultKind) (bye : Answer) (old : NodeState) (session : ℕ) (state : Result FrameProgress FrameFaultKind) (cut : TimedCut) (turns : List Turn) (new : NodeState)
     → bye_of why ≡ Some bye → EndsTalk (kinds.Framing why) old session state cut turns new → EndsTold why old session cut turns new
 told LineTooLong bye old session state cut turns new b e = e
@@ -64,7 +64,7 @@ told NulByte bye old session state cut turns new b e = e
 told NoMemory bye old session state cut turns new b e = let k : ◌≡◌ {A = Option Answer} None (Some bye) = b in cc
 told Failed bye old session state cut turns new b e = let k : ◌≡◌ {A = Option Answer} None (Some bye) = b in cc
 
--- the turns before the goodbye, with those of earlier pieces
+-- the turns before the BYE, with those of earlier pieces
 behind : (turns more before : List Turn) (why : FrameFaultKind) → more ≡ before ++ bye_turns why → turns ++ more ≡ (turns ++ before) ++ bye_turns why
 behind turns more before why e = ap (λ ts. turns ++ ts) e ∙ sym (append_assoc turns before (bye_turns why))
 
@@ -72,7 +72,7 @@ module _ (old mid new : NodeState) (session : ℕ) (limits : Limits) (state betw
   abbrev whole : TimedCut
   whole = cut_of limits state (pieces ++ piece ∷ [])
 
-  -- a fault that is told
+  -- a fault that a BYE names
   ends_told : (why : FrameFaultKind) → TalksOn old session limits state pieces turns mid between → EndsTold why mid session (cut_by limits between piece) more new → EndsTold why old session whole (turns ++ more) new
   ends_told why t e =
       let before = talks_on_joined old mid session limits state between pieces turns t in (
@@ -86,7 +86,7 @@ module _ (old mid new : NodeState) (session : ℕ) (limits : Limits) (state betw
         e.6,
       )
 
-  -- the items that begin the last piece's, behind those of the pieces before
+  -- an initial part of the last piece's items, after those of the pieces before
   cut_prefix : (items : List TimedItem) → between ≡ (cut_onward limits state (octets_in pieces)).1 → IsPrefixOf items (cut_by limits between piece).0 → IsPrefixOf (items_of limits state pieces ++ items) whole.0
   cut_prefix items e p =
       subst (λ (all : List TimedItem). IsPrefixOf (items_of limits state pieces ++ items) all) (sym (items_more limits piece state between pieces e)) (front_behind _ items _ p)
@@ -99,7 +99,7 @@ module _ (old mid new : NodeState) (session : ℕ) (limits : Limits) (state betw
       let before = talks_on_joined old mid session limits state between pieces turns t in
       (items_of limits state pieces ++ e.0, cut_prefix e.0 before.1 e.1, breaks_on why old mid new session (items_of limits state pieces) e.0 turns more going before.0 e.2)
 
-  -- how the last piece ends the talk, the whole does
+  -- the whole conversation ends as its last piece does
   pub ends_on : (why : TalkFaultKind) → TalksOn old session limits state pieces turns mid between → EndsTalk why mid session between (cut_by limits between piece) more new
       → EndsTalk why old session state (cut_of limits state (pieces ++ piece ∷ [])) (turns ++ more) new
   ends_on kinds.NoMemory t e = ends_broken kinds.NoMemory t e
@@ -118,7 +118,7 @@ module _ (old mid new : NodeState) (session : ℕ) (limits : Limits) (state betw
   ends_on (kinds.Framing LiteralTooLong) t e = ends_told LiteralTooLong t e
   ends_on (kinds.Framing NulByte) t e = ends_told NulByte t e
 
--- a fault that is told, with deliveries between the pieces
+-- a fault that a BYE names, with deliveries between the pieces
 pub ends_amid : (old mid new : NodeState) (session : ℕ) (limits : Limits) (state between : Result FrameProgress FrameFaultKind) (visits : List PieceAt) (piece : Piece) (turns more : List Turn) (why : FrameFaultKind) (bye : Answer)
     → bye_of why ≡ Some bye → TalksBetweenOthers old session limits state visits turns mid between → EndsTalk (kinds.Framing why) mid session between (cut_by limits between piece) more new
     → ((cut_onward limits state (octets_of_pieces (visits ++ visit_at mid piece ∷ []))).1 ≡ Err why)

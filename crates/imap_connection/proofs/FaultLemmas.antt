@@ -9,7 +9,7 @@ use Rattle.imap_connection.specs.FaultAnswers.{HasUnknownWord, IsFaultAnswer, Is
 use Rattle.imap_connection.specs.RequestSteps.{AnswersFault, reason_for}
 
 module _ (frame : List ℕ) (why : ParseFault) where
-  -- What the parser says of a frame that it refuses for this fault.
+  -- The parser's refusal of a frame, for this fault.
   pub record Refuses : Type 0 where
     pub only : (tagged : Tagged) → IsSpelled tagged frame → (◌≡◌ {A = Result Tagged ParseFault} (Err why) (Ok tagged)) ⊎ (◌≡◌ {A = Result Tagged ParseFault} (Err why) (Err faults.NoMemory))
     pub no_tag : (◌≡◌ {A = Result Tagged ParseFault} (Err why) (Err faults.NoTag)) ↔ (HasTag frame → ⊥)
@@ -28,7 +28,7 @@ reason_is frame faults.BadSyntax t r = (unspelled frame faults.BadSyntax r (λ e
 reason_is frame faults.NotInProfile t r = (unspelled frame faults.NotInProfile r (λ e. cc), known frame faults.NotInProfile r (λ e. cc))
 reason_is frame faults.NoMemory t r = known frame faults.NoMemory r (λ e. cc)
 
--- the answer by the tag is the answer to the frame
+-- the answer given by the tag is the answer to the frame
 pub answers_fault : (frame : List ℕ) (why : ParseFault) (answer : Answer) → Refuses frame why → AnswersFault why frame answer → IsFaultAnswer frame answer
 answers_fault frame why answer r a =
     elim a [
@@ -36,7 +36,7 @@ answers_fault frame why answer r a =
       | inr t ↦ inr (t.0, t.1, reason_for why, t.2, reason_is frame why (t.0, t.1, t.2) r, t.3)
     ]
 
--- the same, of the parser's result
+-- the answer to the frame, given the parser's result
 pub fault_of_result : (frame : List ℕ) (why : ParseFault) (answer : Answer) (result : Result Tagged ParseFault) → result ≡ Err why
     → ((tagged : Tagged) → IsSpelled tagged frame → (result ≡ Ok tagged) ⊎ (result ≡ Err faults.NoMemory))
     → ((result ≡ Err faults.NoTag) ↔ (HasTag frame → ⊥))

@@ -16,7 +16,7 @@ use Rattle.imap_connection.specs.Replies.{idling_at, tag_of_idling}
 use Rattle.imap_connection.specs.Streams.{SomeOtherSteps, OtherStep, OtherSteps, OtherSessionStep}
 use Rattle.imap_connection.specs.NodePorts.{IsHanded, LastIsHanded}
 
--- what another session is told leaves this one
+-- a reply to another session leaves this one as it was
 responds_keeps : (n other : ℕ) (old new : NodeState) (input : Input) (reply : Reply) → (other ≡ n → ⊥) → Responds old other input reply new → session_at new.sessions n ≡ session_at old.sessions n
 responds_keeps n other old new input (Done answers silent issued) d r =
     ap (λ places. session_at places n) r.2.becomes.sessions ∙ others_stay old.sessions other _ r.0 r.1 n (λ e. d (sym e))
@@ -44,7 +44,7 @@ times_keep : (n k : ℕ) (old new : NodeState) → OtherSteps n k old new → se
 times_keep n zero old new h = ap (λ (node : NodeState). session_at node.sessions n) h
 times_keep n (suc k) old new h = times_keep n k h.0 new h.2 ∙ move_keeps n old h.0 h.1
 
--- a session is what it was, whatever came beside it
+-- a session is as it was, whatever else came to the node
 pub meanwhile_keeps : (n : ℕ) (old new : NodeState) → SomeOtherSteps n old new → session_at new.sessions n ≡ session_at old.sessions n
 meanwhile_keeps n old new h = times_keep n h.0 old new h.1
 
@@ -61,17 +61,17 @@ idles_meanwhile n old new h = ap tag_of_idling (meanwhile_keeps n old new h)
 pub nothing_came : (n : ℕ) (node : NodeState) → SomeOtherSteps n node node
 nothing_came n node = (zero, refl)
 
--- one thing came
+-- one step of the others
 pub once : (n : ℕ) (old new : NodeState) → OtherStep n old new → SomeOtherSteps n old new
 once n old new h = (suc zero, (new, h, refl))
 
--- a session that logged out doesn't go on where it is closed
+-- a session that logged out is no longer open after its close
 pub closed_stops : (node : NodeState) (n : ℕ) → HasLoggedOut node n → IsGoing (with_session_closed node n) n → ⊥
 closed_stops node n out g =
     let e : ◌≡◌ {A = Option Session} None (Some g.0) = sym (session_put node.sessions n None out.0 out.1) ∙ g.1 in
     cc
 
--- an operation was handed on
+-- an operation was delivered
 pub handed : (old new : NodeState) (op : Op) (r : Result Delivered DeliverFault) → MatchResult r (λ d. Delivers old op d.arrival new) (λ e. IsRefusedAt old op e) → OnErr r (new ≡ old) → IsHanded old op new
 handed old new op (Ok d) m e = inl (d.arrival, m)
 handed old new op (Err why) m e = inr (why, m, e)
@@ -82,7 +82,7 @@ handed_beside n old new op h = elim h [
   | inr refused ↦ subst (λ (node : NodeState). SomeOtherSteps n old node) (sym refused.2) (nothing_came n old)
 ]
 
--- the last of those that are left was handed on; or there is none
+-- the last of those that are left was delivered; or there are none
 pub last_handed : (ops left : List Op) (popped : Option Op) (node mid : NodeState) (op : Op) → ops ≡ left ++ option_to_list popped → popped ≡ Some op → IsHanded node op mid
     → LastIsHanded ops node mid left
 last_handed ops left popped node mid op e s h = inr (op, subst (λ (o : Option Op). ops ≡ left ++ option_to_list o) s e, h)

@@ -32,7 +32,7 @@ use Rattle.imap_connection.specs.declared.fault.PortFault.TheVariants as faults
 use Rattle.imap_connection.proofs.MeanwhileLemmas.{closed_stops, going_meanwhile}
 use Rattle.imap_connection.proofs.NodeTalkLemmas.{Conversed, Taken, conversed, some_is, taken, turns_texts}
 
--- ---- which end it is
+-- ---- the kind of end
 
 abbrev IsOut : Ended → Type 0
 IsOut Logout = Unit {0}
@@ -58,7 +58,7 @@ no_fault_out faults.NoRoom o = o
 no_fault_out faults.Torn o = o
 no_fault_out faults.PassedOver o = o
 
--- ---- a conversation that ends behind all items
+-- ---- a conversation that ends after all items
 
 module _ {O : Type 0} (comes : O → ℕ → NodeState → ℕ → NodeState → O → Type 0) (old : NodeSession O) (cut : Cut) (said : List ℕ) (last : NodeSession O) where
   framed : (why : FrameFaultKind) → IsWhole (Framing why) → IsCut (NodeSteps comes) old None cut why said last → Goes (NodeSteps comes) old None cut.0 said last
@@ -68,7 +68,7 @@ module _ {O : Type 0} (comes : O → ℕ → NodeState → ℕ → NodeState →
   framed Memory w c = absurd w
   framed Failed w c = absurd w
 
-  -- at an item it ends for want of memory, at a fault of the port, or at a LOGOUT
+  -- at an item it ends because memory ran out, at a fault of the port, or at a LOGOUT
   breaks_whole : (ended : Ended) → IsWhole ended → ((ended ≡ Logout) → ⊥) → Breaks (NodeSteps comes) old None cut.0 ended said last → ⊥
   breaks_whole ended w on b = elim b.stops [
     | inl unasked ↦ not_so ended NoMemory (λ x. x) w unasked.0
@@ -127,7 +127,7 @@ module _ {O : Type 0} (comes : O → ℕ → NodeState → ℕ → NodeState →
 
 -- ---- the node's conversation
 
--- items that are dropped behind a LOGOUT
+-- items that are dropped after a LOGOUT
 abbrev dropped : NodeState → List Item → List ItemAt
 dropped node items = map (λ (item : Item). record { node = node; moment = 0; item = item }) items
 

@@ -55,7 +55,7 @@ turns_texts item given rest =
     flat_map-append text_of_turn (turns_of item given) rest
     ∙ ap (λ t. t ++ text_sent rest) (flat_map-append text_of_turn (turns_of_item item) (turns_of_answers given) ∙ ap (λ t. t ++ text_sent (turns_of_answers given)) (got_nothing item) ∙ sent_texts given)
 
--- ---- one session behind an input
+-- ---- one session after an input
 
 and_true : (b : Bool) → b && true ≡ b
 and_true true = refl
@@ -75,7 +75,7 @@ some_is {T} {a} e = ap (λ (o : Option T). or_else o) e
     or_else None = a
     or_else (Some x) = x
 
--- the state that a command leads to is that of a session that logged out, at a LOGOUT alone
+-- only a LOGOUT leads to the state of a session that has logged out
 module _ (node : NodeState) (ops : List Op) where
   stays_in : (state : State) (command : Command) → is_logout command ≡ false → state_after_command node.start ops state command ≡ LoggedOut → state ≡ LoggedOut
   stays_in state (commands.Login user password) l m = cc
@@ -108,7 +108,7 @@ left_on : (b : Bool) (state : State) → ((state ≡ LoggedOut) → ⊥) → con
 left_on true state on l = let k : ◌≡◌ {A = State} Authenticated LoggedOut = l in cc
 left_on false state on l = on l
 
--- a session that goes on
+-- a session that has not logged out
 on_at : (node : NodeState) (n : ℕ) (s : Session) → session_at node.sessions n ≡ Some s → IsGoing node n → (s.state ≡ LoggedOut) → ⊥
 on_at node n s at g out = g.2 (ap (λ (x : Session). x.state) (some_is (sym g.1 ∙ at)) ∙ out)
 
@@ -177,12 +177,12 @@ module _ (old new : NodeState) (n : ℕ) (line : IdleLine) where
 
 -- ---- one item
 
--- The session goes on behind it, or it has logged out.
+-- The session after it has not logged out, or has.
 abbrev pub GoesOn : {O : Type 0} → Bool → NodeSession O → ℕ → Option (List ℕ) → Type 0
 GoesOn {O} false port n after = IsOpenSession port n after
 GoesOn {O} true port n after = (port.session ≡ Some n) × HasLoggedOut port.node n
 
--- What came before an item, and what the node made of it at the moment at which it came.
+-- What came before an item, and what the node answered to it at the moment at which it came.
 pub record Taken {O : Type 0} (old new : NodeSession O) (n : ℕ) (item : Item) (given : List Answer) (after : Option (List ℕ)) (out : Bool) : Type 0 where
   pub mid : NodeState
   pub moment : ℕ
@@ -190,7 +190,7 @@ pub record Taken {O : Type 0} (old new : NodeSession O) (n : ℕ) (item : Item) 
   pub takes : conversations.TakesItemAt mid n (item_at moment item) given new.node
   pub goes : GoesOn out new n after
 
--- What came before an input of this session, and what the node responded to it.
+-- What came before an input of this session, and how the node responded to it.
 record Responded {O : Type 0} (old new : NodeSession O) (n : ℕ) (input : ℕ → Input) (reply : Reply) (idling : Option (List ℕ)) : Type 0 where
   mid : NodeState
   moment : ℕ
@@ -278,14 +278,14 @@ module _ {O : Type 0} (comes : O → ℕ → NodeState → ℕ → NodeState →
   taken_by old new n given after out idling st item (requests.Line own line) i h =
       line_taken old new n item given after out idling own line h.0 (responded comes old new n (λ moment. inputs.Line line) h.0 idling st h.1) i h.2 h.3 h.4 h.5
 
-  -- what the port makes of an item is what its node makes of it, behind what came before
+  -- the port takes an item as its node does, after what came before
   pub taken : (old new : NodeSession O) (n : ℕ) (given : List Answer) (after : Option (List ℕ)) (out : Bool) (idling : Option (List ℕ)) → IsOpenSession old n idling
       → (item : Item) → Takes (NodeSteps comes) old idling item given new after out → Taken old new n item given after out
   taken old new n given after out idling st item t = taken_by old new n given after out idling st item t.0 t.1 t.2
 
   -- ---- many items
 
-  -- Behind these items the session stands so; and a conversation from there on is one over all.
+  -- The session after these items; a conversation from there on continues to one over all items.
   pub record Conversed (old mid : NodeSession O) (n : ℕ) (items : List Item) (between : Option (List ℕ)) (said : List ℕ) : Type 0 where
     pub stands : IsOpenSession mid n between
     pub on : (tail : List ItemAt) (more : List Turn) (last : NodeState) → ConversesBetweenOthers mid.node n (items_at_each_one tail) more last

@@ -7,13 +7,13 @@ use Rattle.imap_node.specs.Sessions.{Places, session_at, with_session}
 
 -- ---- places
 
--- what is put in a place that is there stands in it
+-- a place that exists holds what is put in it
 put_there : (places : Places) (i : ℕ) (place : Option Session) (s : Session) → get_or places i None ≡ Some s → get_or (set places i place) i None ≡ place
 put_there [] i place s h = let e : ◌≡◌ {A = Option Session} None (Some s) = h in cc
 put_there (p ∷ places) zero place s h = refl
 put_there (p ∷ places) (suc i) place s h = put_there places i place s h
 
--- what stood in a place may be put there again
+-- putting back what a place holds changes nothing
 put_again : (places : Places) (i : ℕ) (s : Session) → get_or places i None ≡ Some s → set places i (Some s) ≡ places
 put_again [] i s h = refl
 put_again (p ∷ places) zero s h = ap (λ (q : Option Session). q ∷ places) (sym h)
@@ -25,7 +25,7 @@ put_twice [] i first second = refl
 put_twice (p ∷ places) zero first second = refl
 put_twice (p ∷ places) (suc i) first second = ap (λ (qs : Places). p ∷ qs) (put_twice places i first second)
 
--- the session with a number that is there
+-- the open session with a number
 there : (zeroed : Bool) (places : Places) (i : ℕ) (place : Option Session) (s : Session) → cond zeroed None (get_or places i None) ≡ Some s → cond zeroed None (get_or (set places i place) i None) ≡ place
 there true places i place s h = let e : ◌≡◌ {A = Option Session} None (Some s) = h in cc
 there false places i place s h = put_there places i place s h
@@ -46,7 +46,7 @@ vacated [] i = refl
 vacated (place ∷ places) zero = refl
 vacated (place ∷ places) (suc i) = vacated places i
 
--- ---- sessions that go on
+-- ---- sessions that have not logged out
 
 out_or_not : (state : State) → (state ≡ LoggedOut) ⊎ ((state ≡ LoggedOut) → ⊥)
 out_or_not (NotAuthenticated credentials) = inr (λ e. cc)
@@ -58,19 +58,19 @@ abbrev state_in : Option Session → State
 state_in None = LoggedOut
 state_in (Some s) = s.state
 
--- an open session goes on, or has logged out
+-- an open session has logged out or not
 pub open_going : (node : NodeState) (n : ℕ) (s : Session) → session_at node.sessions n ≡ Some s → IsGoing node n ⊎ HasLoggedOut node n
 open_going node n s h = elim (out_or_not s.state) [ inl out ↦ inr (s, h, out) | inr on ↦ inl (s, h, on) ]
 
--- a session that logged out doesn't go on
+-- a session that logged out doesn't continue
 pub out_stops : (node : NodeState) (n : ℕ) (s : Session) → session_at node.sessions n ≡ Some s → s.state ≡ LoggedOut → IsGoing node n → ⊥
 out_stops node n s h out g = g.2 (sym (ap state_in (sym h ∙ g.1)) ∙ out)
 
--- a session that isn't open doesn't go on
+-- a session that isn't open doesn't continue
 pub vacant_stops : (node : NodeState) (n : ℕ) → session_at node.sessions n ≡ None → IsGoing node n → ⊥
 vacant_stops node n h g = let e : ◌≡◌ {A = Option Session} None (Some g.0) = sym h ∙ g.1 in cc
 
--- a session goes on, or it doesn't
+-- a session continues, or it doesn't
 going_or_not : (node : NodeState) (n : ℕ) (place : Option Session) → session_at node.sessions n ≡ place → IsGoing node n ⊎ (IsGoing node n → ⊥)
 going_or_not node n None h = inr (vacant_stops node n h)
 going_or_not node n (Some s) h = elim (out_or_not s.state) [ inl out ↦ inr (out_stops node n s h out) | inr on ↦ inl (s, h, on) ]
@@ -78,7 +78,7 @@ going_or_not node n (Some s) h = elim (out_or_not s.state) [ inl out ↦ inr (ou
 pub goes_or_not : (node : NodeState) (n : ℕ) → IsGoing node n ⊎ (IsGoing node n → ⊥)
 goes_or_not node n = going_or_not node n (session_at node.sessions n) refl
 
--- a closed session doesn't go on
+-- a closed session doesn't continue
 pub closed_stops : (node : NodeState) (n : ℕ) → IsGoing (with_session_closed node n) n → ⊥
 closed_stops node n = vacant_stops (with_session_closed node n) n (either (eqb n 0) (vacated node.sessions (n - 1)))
   where

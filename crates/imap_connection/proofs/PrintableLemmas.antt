@@ -12,7 +12,7 @@ tag_is : (tag text : List ℕ) → run classes.Tag tag text → IsTag tag
 tag_is [] text h = absurd (h.0 refl)
 tag_is (octet ∷ octets) text h = subst (λ (b : Bool). (not b && list_all is_tag_octet (octet ∷ octets)) ≡ true) (sym (eqb-suc-zero (length octets))) h.1
 
--- the answer to a frame that spells none can be printed
+-- the answer to a frame that spells no command can be printed
 pub fault_printable : (frame : List ℕ) (answer : Answer) → IsFaultAnswer frame answer → IsPrintable answer
 fault_printable frame answer h =
     elim h [
@@ -20,7 +20,7 @@ fault_printable frame answer h =
       | inr t ↦ subst IsPrintable (sym t.5) (tag_is t.0 t.0 t.3.0)
     ]
 
--- and the answer to a front that is refused
+-- the answer to a command beginning that is refused can be printed
 pub literal_printable : (front : List ℕ) (answer : Answer) → IsLiteralAnswer front answer → IsPrintable answer
 literal_printable front answer h =
     elim h [

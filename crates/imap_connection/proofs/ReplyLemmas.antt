@@ -14,7 +14,7 @@ use Rattle.imap_node.specs.declared.reply.Reply.TheVariants.{Done, Refused}
 use Rattle.imap_connection.specs.Replies.{is_without_memory}
 use Rattle.imap_connection.proofs.PlaceLemmas.{open_going, session_again, session_put}
 
--- the session of an input is open behind it
+-- the session of an input is open after it
 pub session_behind : (old new : NodeState) (n : ℕ) (input : Input) (reply : Reply) (s : Session) → session_at old.sessions n ≡ Some s → Replies old n s input reply new
     → (after : Session) × (session_at new.sessions n ≡ Some after)
 session_behind old new n input (Done answers silent issued) s h r =
@@ -22,13 +22,13 @@ session_behind old new n input (Done answers silent issued) s h r =
 session_behind old new n input (Refused why closed) s h r =
     (_, ap (λ places. session_at places n) r.2.sessions ∙ session_put old.sessions n _ s h)
 
--- it goes on, or has logged out
+-- the session of an input has logged out after it, or not
 pub responds_open : (old new : NodeState) (n : ℕ) (input : Input) (reply : Reply) → Responds old n input reply new → IsGoing new n ⊎ HasLoggedOut new n
 responds_open old new n input reply r =
     let after = session_behind old new n input reply r.0 r.1 r.2 in
     open_going new n after.0 after.1
 
--- a node whose parts stay stays
+-- a node whose parts stay as they were
 same_node : (a b : NodeState) → a.start ≡ b.start → a.applied ≡ b.applied → a.held ≡ b.held → a.sessions ≡ b.sessions → a ≡ b
 same_node a b s p h q = λ t. record { start = s t; applied = p t; held = h t; sessions = q t }
 
@@ -58,7 +58,7 @@ without old new n line refusals.NotNow closed s m h r = absurd (false≢true m)
 without old new n line refusals.NoSuchMessage closed s m h r = absurd (false≢true m)
 without old new n line refusals.DoneExpected closed s m h r = absurd (false≢true m)
 
--- a line that is refused for want of memory changes nothing
+-- a line that is refused because memory ran out changes nothing
 pub line_refused : (old new : NodeState) (n : ℕ) (line : IdleLine) (reply : Reply) → Responds old n (Line line) reply new → is_without_memory reply ≡ true → new ≡ old
 line_refused old new n line (Done answers silent issued) r m = absurd (false≢true m)
 line_refused old new n line (Refused why closed) r m = without old new n line why closed r.0 m r.1 r.2

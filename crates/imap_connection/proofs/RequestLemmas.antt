@@ -19,7 +19,7 @@ use Rattle.imap_connection.specs.declared.turn.TalkFaultKind.TheVariants as kind
 use Rattle.imap_connection.specs.declared.turn.Turn.{Turn}
 use Rattle.imap_connection.proofs.TurnLemmas.{front_behind}
 
--- what is carried out of an item is what the node makes of it
+-- a request of an item that is carried out is what the node does with the item
 pub handled : (idling : Option (List ℕ)) (old new : NodeState) (session moment : ℕ) (item : Item) (request : Request) (given : List Answer)
     → IsRequest idling item request → Handles old session moment request given new → TakesItem idling old session moment item given new
 handled idling old new session moment Ready (Told answer) given i h = (h.0 ∙ ap (λ (a : Answer). a ∷ []) i, h.1)
@@ -64,7 +64,7 @@ module _ (session moment : ℕ) (item : Item) (before mid after : List Turn) (sh
   behind : (more : List Turn) → after ≡ mid ++ more → after ≡ before ++ (turns_of_item item ++ more)
   behind more e = e ∙ ap (λ turns. turns ++ more) shown ∙ append_assoc before (turns_of_item item) more
 
-  -- all answers behind what came
+  -- all answers after what the item shows
   pub item_answered : {T E : Type 0} (r : Result T E) → OnOk r ((given : List Answer) × Handles old session moment request given new × (after ≡ mid ++ turns_of_answers given))
       → OnOk r ((given : List Answer) × TakesItemAt old session (item_at moment item) given new × (after ≡ before ++ turns_of item given))
   item_answered (Err e) o = tt
@@ -73,7 +73,7 @@ module _ (session moment : ℕ) (item : Item) (before mid after : List Turn) (sh
   none_behind : (front : List Turn) → front ≡ [] → IsPrefixOf (turns_of_item item ++ front) (turns_of_item item)
   none_behind front e = ([], sym (append-nil (turns_of_item item ++ front) ∙ ap (λ f. turns_of_item item ++ f) e ∙ append-nil (turns_of_item item)))
 
-  -- where the answers break off
+  -- memory ran out during the answers
   pub item_broken : {T : Type 0} (r : Result T TalkFaultKind) → IfErr r (λ why. (front : List Turn) × (after ≡ mid ++ front) × Fails why old session moment request front new)
       → IfErr r (λ why. (more : List Turn) × (after ≡ before ++ more) × StopsAt why old session (item_at moment item) more new)
   item_broken (Ok x) o = tt
@@ -89,7 +89,7 @@ module _ (session moment : ℕ) (item : Item) (before mid after : List Turn) (sh
       (turns_of_item item ++ o.0, behind o.0 o.1, (of_line (idling_at old session) item request is o.2.0, ap (λ ts. turns_of_item item ++ ts) o.2.1, o.2.2))
   item_broken (Err (kinds.Framing why)) o = absurd o.2
 
--- where nothing came of an item but what shows it
+-- nothing but what shows the item
 module _ (session moment : ℕ) (item : Item) (before : List Turn) (node : NodeState) where
   pub item_unheard : (after : List Turn) → after ≡ before → (more : List Turn) × (after ≡ before ++ more) × StopsAt kinds.NoMemory node session (item_at moment item) more node
   item_unheard after e = ([], e ∙ sym (append-nil before), inl ((turns_of_item item, refl), refl))
@@ -97,7 +97,7 @@ module _ (session moment : ℕ) (item : Item) (before : List Turn) (node : NodeS
   pub item_shown : (after : List Turn) → after ≡ before ++ turns_of_item item → (more : List Turn) × (after ≡ before ++ more) × StopsAt kinds.NoMemory node session (item_at moment item) more node
   item_shown after e = (turns_of_item item, e, inl (([], sym (append-nil (turns_of_item item))), refl))
 
--- what the node made of an answer that is told at once
+-- an answer that is sent at once
 module _ (session moment : ℕ) (node : NodeState) (answer : Answer) (before after : List Turn) where
   pub told_sent : {T E : Type 0} (r : Result T E) → OnOk r (after ≡ before ++ turns_of_answers (answer ∷ []))
       → OnOk r ((given : List Answer) × Handles node session moment (Told answer) given node × (after ≡ before ++ turns_of_answers given))
@@ -110,7 +110,7 @@ module _ (session moment : ℕ) (node : NodeState) (answer : Answer) (before aft
   told_unsent (Err why) o =
       subst (λ (k : TalkFaultKind). (front : List Turn) × (after ≡ before ++ front) × Fails k node session moment (Told answer) front node) (sym o.0) ([], o.1 ∙ sym (append-nil before), inl (refl, refl))
 
--- a line comes at any moment
+-- a line does the same at any moment
 pub line_fails : {T : Type 0} (r : Result T TalkFaultKind) (old new : NodeState) (session moment : ℕ) (tag : List ℕ) (line : IdleLine) (before after : List Turn)
     → IfErr r (λ why. (front : List Turn) × (after ≡ before ++ front) × Fails why old session 0 (Line tag line) front new)
     → IfErr r (λ why. (front : List Turn) × (after ≡ before ++ front) × Fails why old session moment (Line tag line) front new)
@@ -119,7 +119,7 @@ line_fails (Err kinds.NoMemory) old new session moment tag line before after o =
 line_fails (Err kinds.LineRefused) old new session moment tag line before after o = o
 line_fails (Err (kinds.Framing why)) old new session moment tag line before after o = absurd o.2
 
--- a line that is refused for want of memory
+-- a line that is refused because memory ran out
 pub refused_fails : (kind : TalkFaultKind) (old new : NodeState) (session moment : ℕ) (tag : List ℕ) (line : IdleLine) (before after : List Turn) → EndsAtRefusedLine kind before after → new ≡ old
     → (front : List Turn) × (after ≡ before ++ front) × Fails kind old session moment (Line tag line) front new
 refused_fails kinds.LineRefused old new session moment tag line before after g e = (turns_of_answers (Bye reasons.NoMemory ∷ []), g, (tt, refl, e))

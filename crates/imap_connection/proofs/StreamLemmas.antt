@@ -12,7 +12,7 @@ use Rattle.imap_connection.specs.Talks.{Talks}
 use Rattle.imap_connection.specs.declared.turn.Turn.{Turn}
 use Rattle.imap_connection.proofs.PlaceLemmas.{closed_stops}
 
--- a conversation that goes on, and what comes then
+-- a conversation that continues, and the conversation after it
 pub converses_on : (old mid new : NodeState) (session : ℕ) (items more : List TimedItem) (turns rest : List Turn) → IsGoing mid session → Converses old session items turns mid → Converses mid session more rest new → Converses old session (items ++ more) (turns ++ rest) new
 converses_on old mid new session [] more turns rest going c d =
     subst (λ (ts : List Turn). Converses old session more (ts ++ rest) new) (sym c.0) (subst (λ (n : NodeState). Converses n session more rest new) c.1 d)
@@ -28,7 +28,7 @@ converses_on old mid new session (item ∷ items) more turns rest going c d = (
 
 -- ---- octets in pieces
 
--- the items of a piece and of what comes then are those of both
+-- the items of a piece and of the octets after it are those of both together
 pub items_joined : (limits : Limits) (state : Result FrameProgress FrameFaultKind) (xs ys : List ℕ) → (cut_onward limits state (xs ++ ys)).0 ≡ (cut_onward limits state xs).0 ++ (cut_onward limits (cut_onward limits state xs).1 ys).0
 items_joined limits state xs ys = ap (λ (c : Cut). c.0) (goes_on-append limits state xs ys)
 
@@ -48,13 +48,13 @@ untimed_whole limits state (piece ∷ pieces) =
     untimed_at piece.moment cut.0 (items_of limits cut.1 pieces) ∙ ap (λ items. cut.0 ++ items) (untimed_whole limits cut.1 pieces)
     ∙ sym (items_joined limits state piece.octets (octets_in pieces))
 
--- the octets of one piece more
+-- the octets with one further piece
 pub octets_more : (pieces : List Piece) (piece : Piece) → octets_in (pieces ++ piece ∷ []) ≡ octets_in pieces ++ piece.octets
 octets_more pieces piece =
     flat_map-append (λ (p : Piece). p.octets) pieces (piece ∷ []) ∙ ap (λ os. octets_in pieces ++ os) (append-nil piece.octets)
 
 module _ (limits : Limits) (piece : Piece) where
-  -- what one piece more gives, behind the items of the pieces before it
+  -- what one further piece gives, after the items of the pieces before it
   pub items_more : (state between : Result FrameProgress FrameFaultKind) (pieces : List Piece) → between ≡ (cut_onward limits state (octets_in pieces)).1
       → items_of limits state (pieces ++ piece ∷ []) ≡ items_of limits state pieces ++ (cut_by limits between piece).0
   items_more state between [] e = append-nil _ ∙ ap (λ s. (cut_by limits s piece).0) (sym e)
@@ -69,7 +69,7 @@ module _ (limits : Limits) (piece : Piece) where
       ap (λ os. (cut_onward limits state os).1) (octets_more pieces piece) ∙ state_joined limits state (octets_in pieces) piece.octets
       ∙ ap (λ s. (cut_onward limits s piece.octets).1) (sym e)
 
--- piece by piece it is the conversation over the items of the whole
+-- piece by piece, the turns are the conversation over the items of the whole
 pub talks_on_joined : (old new : NodeState) (session : ℕ) (limits : Limits) (state end : Result FrameProgress FrameFaultKind) (pieces : List Piece) (turns : List Turn) → TalksOn old session limits state pieces turns new end
     → Converses old session (items_of limits state pieces) turns new × (end ≡ (cut_onward limits state (octets_in pieces)).1)
 talks_on_joined old new session limits state end [] turns t = ((t.0, t.1), t.2)
@@ -89,7 +89,7 @@ talks_on_joined old new session limits state end (piece ∷ pieces) turns t =
       later.1 ∙ ap (λ s. (cut_onward limits s (octets_in pieces)).1) here ∙ sym (state_joined limits state piece.octets (octets_in pieces)),
     )
 
--- with a last piece behind, which may end the session
+-- with a last piece after them, which may end the session
 pub talks_to_end : (old mid new : NodeState) (session : ℕ) (limits : Limits) (state between end : Result FrameProgress FrameFaultKind) (pieces : List Piece) (piece : Piece) (turns more : List Turn)
     → IsGoing mid session → TalksOn old session limits state pieces turns mid between → Talks mid session (cut_by limits between piece) more new end
     → Converses old session (items_of limits state (pieces ++ piece ∷ [])) (turns ++ more) new

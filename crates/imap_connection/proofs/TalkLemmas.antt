@@ -12,11 +12,11 @@ use Rattle.imap_connection.specs.declared.turn.TalkFaultKind.TheVariants as kind
 use Rattle.imap_connection.specs.declared.turn.Turn.{Turn}
 use Rattle.imap_connection.proofs.PlaceLemmas.{closed_stops}
 
--- items that begin others do so at any moment
+-- an initial part of items is one at any moment
 pub timed_front : (moment : ℕ) (items all : List Item) → IsPrefix items all → IsPrefixOf (items_at moment items) (items_at moment all)
 timed_front moment items all p = (items_at moment p.0, ap (items_at moment) p.1 ∙ map-append (item_at moment) items p.0)
 
--- what the framer gave in front of a fault begins what the octets give
+-- the items that the framer gave before a fault are an initial part of those that the octets give
 pub given_in_front : (why : FrameFaultKind) (items : List Item) (old new : Result FrameProgress FrameFaultKind) (cut : Cut) → FaultsNow why items old new cut → IsPrefix items cut.0
 given_in_front LineTooLong items old new cut f = ([], ap (λ (c : Cut). c.0) f.2 ∙ sym (append-nil items))
 given_in_front LiteralTooLong items old new cut f = ([], ap (λ (c : Cut). c.0) f.2 ∙ sym (append-nil items))
@@ -24,7 +24,7 @@ given_in_front NulByte items old new cut f = ([], ap (λ (c : Cut). c.0) f.2 ∙
 given_in_front NoMemory items old new cut f = f.2
 given_in_front Failed items old new cut f = (cut.0, ap (λ front. front ++ cut.0) (sym f.1))
 
--- behind a LOGOUT no more items count
+-- items after a LOGOUT don't count
 pub stopped_early : (old : NodeState) (session : ℕ) (items more : List TimedItem) (turns : List Turn) (new : NodeState) → IsGoing old session → (IsGoing new session → ⊥) → Converses old session items turns new → Converses old session (items ++ more) turns new
 stopped_early old session [] more turns new going stopped c = absurd (stopped (subst (λ (n : NodeState). IsGoing n session) (sym c.1) going))
 stopped_early old session (item ∷ items) more turns new going stopped c = (
@@ -37,7 +37,7 @@ stopped_early old session (item ∷ items) more turns new going stopped c = (
   ],
 )
 
--- a conversation that went on up to here, broken off
+-- a conversation that continued up to here, broken off
 pub broken_at_end : (old : NodeState) (session : ℕ) (items : List TimedItem) (turns : List Turn) (mid : NodeState) → IsGoing mid session → Converses old session items turns mid → BreaksOff kinds.NoMemory old session items turns (with_session_closed mid session)
 broken_at_end old session [] turns mid going c = (refl, c.0, ap (λ n. with_session_closed n session) c.1)
 broken_at_end old session (item ∷ items) turns mid going c =

@@ -5,22 +5,22 @@ use Rattle.imap_connection.specs.Conversation.{BreaksOff, Converses, IsPrefixOf,
 use Rattle.imap_connection.specs.declared.turn.TalkFaultKind.{TalkFaultKind}
 use Rattle.imap_connection.specs.declared.turn.Turn.{Turn}
 
--- some answers and the others are all
+-- the first answers and the rest are all of them
 pub sent_parts : (i : ℕ) (given : List Answer) → turns_of_answers given ≡ turns_of_answers (take i given) ++ turns_of_answers (drop i given)
 sent_parts zero given = refl
 sent_parts (suc i) [] = refl
 sent_parts (suc i) (answer ∷ given) = ap (λ turns. turn_of_answer answer ∷ turns) (sent_parts i given)
 
--- some begin all of them behind what stands before both
+-- an initial part stays one if the same items are put before both
 pub front_behind : {T : Type 0} (before front all : List T) → IsPrefixOf front all → IsPrefixOf (before ++ front) (before ++ all)
 front_behind before front all f = (f.0, ap (λ xs. before ++ xs) f.1 ∙ sym (append_assoc before front f.0))
 
--- what holds anyhow holds at an error
+-- what is true in any case is true at an error
 pub at_error : {T E : Type 0} (r : Result T E) (P : Type 0) → P → OnErr r P
 at_error (Ok x) P p = tt
 at_error (Err e) P p = p
 
--- A conversation that is under way: what is still to be taken leads to what all items lead to.
+-- A conversation in progress: from here, the rest of the items leads to what all items lead to.
 pub record Underway (start : NodeState) (session : ℕ) (items : List TimedItem) (before : List Turn) (node : NodeState) (left : List TimedItem) (turns : List Turn) : Type 0 where
   pub going : IsGoing node session
   pub done : List Turn

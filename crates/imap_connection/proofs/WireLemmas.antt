@@ -6,7 +6,7 @@ use Rattle.imap_connection.specs.Devices.{Took, TookSome}
 pub slice-end : (xs : List ℕ) (s : ℕ) → take (length xs - s) (drop s xs) ≡ drop s xs
 slice-end xs s = let len = length-drop s xs in take_all (length xs - s) (drop s xs) (omega arith)
 
--- what a device of std holds, where that is known
+-- the octets of a device of std, if they are known
 took_appended : (old new : Option (List ℕ)) (octets : List ℕ) → Appends old new octets → Took old octets new
 took_appended None new octets a = tt
 took_appended (Some x) None octets a = absurd a

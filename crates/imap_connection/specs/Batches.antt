@@ -1,3 +1,6 @@
+-- Brief commands, which are given to a port in batches: the answers to them, and how a conversation
+-- ends at one of them.
+
 use Rattle.std.specs.Prelude.{◌≡◌, ◌⊎◌, ℕ, Bool, true, false, List, [], ◌∷◌, ◌++◌, map, None, Result, Ok, Err}
 use Rattle.std.specs.List.{list_all}
 use Rattle.imap_answers.specs.declared.answer.Answer.{Answer}
@@ -17,7 +20,7 @@ use Rattle.imap_connection.specs.declared.end_of_conversation.Ended.TheVariants.
 use Rattle.imap_connection.specs.declared.fault.PortFault.{PortFault}
 use Rattle.imap_connection.specs.declared.request.Request.TheVariants as requests
 
--- A command that issues nothing, and whose own answer looks at no mailbox.
+-- A command that issues nothing and answers without reading a mailbox.
 abbrev pub is_brief : Command → Bool
 is_brief commands.Noop = true
 is_brief commands.Capability = true
@@ -42,17 +45,19 @@ AreAsked [] [] = Unit {0}
 AreAsked (item ∷ items) (tagged ∷ all) = IsRequest None item (requests.Command tagged) × AreAsked items all
 AreAsked items all = ⊥
 
--- What a command or a line of IDLE makes of the port.
+-- `steps` is the port before and after a command or a line of IDLE.
 module _ {S : Type 0} (steps : S → PortCall → Result Reply PortFault → S → Type 0) where
-  -- The port was given these commands, one behind another, and replied so; a fault came of the first without a reply, and none behind it was given.
+  -- The port was given these commands, one after another, with these replies. A fault belongs to
+  -- the first command without a reply; no command after that one was given.
   abbrev pub Carries : S → List Tagged → List Reply → Result (Unit {0}) PortFault → S → Type 0
   Carries old [] [] (Ok all) new = new ≡ old
   Carries old (tagged ∷ rest) [] (Err fault) new = steps old (asked.Command tagged) (Err fault) new
   Carries old (tagged ∷ rest) (reply ∷ replies) given new = (mid : S) × steps old (asked.Command tagged) (Ok reply) mid × Carries mid rest replies given new
   Carries old all replies given new = ⊥
 
-  -- Commands that were given at once end the conversation so, behind these answers: memory was wanting before any was given; the port gave no reply to one of them; or
-  -- memory was wanting for an answer behind some of the first, and then all were given.
+  -- Commands that were given at once end the conversation, after these answers: memory ran out
+  -- before any was given; the port gave no reply to one of them; or memory ran out for one of the
+  -- answers after all were given.
   abbrev pub Falters : S → List Tagged → Ended → List Answer → S → Type 0
   Falters old all ended told new =
       ((ended ≡ NoMemory) × (told ≡ []) × (new ≡ old))

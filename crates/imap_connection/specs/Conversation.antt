@@ -1,3 +1,6 @@
+-- The conversation of a node with a session over items of the framer, as turns: the items that came
+-- and the answers to them (RFC 9051, section 2.2).
+
 use Rattle.std.specs.Prelude.{◌≡◌, ◌↔◌, ◌⊎◌, ℕ, false, Option, Some, None, List, [], ◌∷◌, ◌++◌, map}
 use Rattle.imap_syntax.specs.Commands.{EndsIdle, IsSpelled}
 use Rattle.imap_syntax.specs.declared.command.Tagged.{Tagged}
@@ -35,11 +38,11 @@ items_at moment items = map (item_at moment) items
 
 -- ---- turns
 
--- One answer that was sent.
+-- The turn of an answer.
 abbrev pub turn_of_answer : Answer → Turn
 turn_of_answer answer = Sent (text_of_answer answer)
 
--- Answers that were sent, in their order.
+-- The turns of answers, in their order.
 abbrev pub turns_of_answers : List Answer → List Turn
 turns_of_answers given = map turn_of_answer given
 
@@ -55,27 +58,28 @@ turns_of item given = turns_of_item item ++ turns_of_answers given
 
 -- ---- one item
 
--- The node takes a frame of a session that doesn't idle, and gives these answers: those to the command that the frame spells, or the
--- one to its fault.
+-- The node takes a frame of a session that doesn't idle, and gives these answers: those to the
+-- command that the frame spells, or the one to its fault.
 abbrev pub TakesFrame : NodeState → ℕ → ℕ → List ℕ → List Answer → NodeState → Type 0
 TakesFrame old session moment octets given new =
     ((tagged : Tagged) × (reply : Reply) × IsSpelled tagged octets × Responds old session (Command moment tagged) reply new × (given ≡ answers_of tagged.tag reply))
     ⊎ ((answer : Answer) × IsFaultAnswer octets answer × (given ≡ answer ∷ []) × (new ≡ old))
 
--- The line that an item is in IDLE (RFC 2177, section 3). A front that is refused for its literal is no DONE, and that a literal may come
--- is no line.
+-- The line that an item is in IDLE (RFC 2177, section 3). A command beginning that is refused for
+-- its literal counts as another line; the notice that a literal may come is no line.
 abbrev pub IsLine : Item → IdleLine → Type 0
 IsLine Ready line = ⊥
 IsLine (Frame octets) line = (line ≡ Done) ↔ EndsIdle octets
 IsLine (Refused octets) line = line ≡ Other
 
--- The node takes a line of a session that idles, and answers with the IDLE's tag. Where the line is refused for want of memory there is no
--- answer (see `StopsAt`).
+-- The node takes a line of a session that idles, and answers with the IDLE's tag. A line that is
+-- refused because memory ran out gets no answer (see `StopsAt`).
 abbrev pub TakesLine : NodeState → ℕ → List ℕ → Item → List Answer → NodeState → Type 0
 TakesLine old session tag item given new =
     (line : IdleLine) × (reply : Reply) × IsLine item line × Responds old session (Line line) reply new × (is_without_memory reply ≡ false) × (given ≡ answers_of tag reply)
 
--- The node takes an item of the framer and gives these answers, where the session idles with this tag, or doesn't.
+-- The node takes an item of the framer and gives these answers, if the session idles with this tag,
+-- or doesn't idle.
 abbrev pub TakesItem : Option (List ℕ) → NodeState → ℕ → ℕ → Item → List Answer → NodeState → Type 0
 TakesItem idling old session moment Ready given new = (given ≡ Continue continuations.Ready ∷ []) × (new ≡ old)
 TakesItem None old session moment (Frame octets) given new = TakesFrame old session moment octets given new
@@ -83,14 +87,14 @@ TakesItem None old session moment (Refused octets) given new = (answer : Answer)
 TakesItem (Some tag) old session moment (Frame octets) given new = TakesLine old session tag (Frame octets) given new
 TakesItem (Some tag) old session moment (Refused octets) given new = TakesLine old session tag (Refused octets) given new
 
--- The node takes an item that came at its moment, and gives these answers.
+-- The node takes an item at the moment at which it came, and gives these answers.
 abbrev pub TakesItemAt : NodeState → ℕ → TimedItem → List Answer → NodeState → Type 0
 TakesItemAt old session came given new = TakesItem (idling_at old session) old session came.moment came.item given new
 
 -- ---- many items
 
--- The turns of a conversation over these items: each is answered in its order, up to a LOGOUT answered OK, behind which
--- the session is closed and the rest is dropped.
+-- The turns of a conversation over these items: each is answered in its order, up to a LOGOUT
+-- answered OK, after which the session is closed and the rest is dropped.
 abbrev pub Converses : NodeState → ℕ → List TimedItem → List Turn → NodeState → Type 0
 Converses old session [] turns new = (turns ≡ []) × (new ≡ old)
 Converses old session (came ∷ items) turns new =
@@ -98,7 +102,7 @@ Converses old session (came ∷ items) turns new =
     × ((IsGoing mid session × ((rest : List Turn) × (turns ≡ turns_of came.item given ++ rest) × Converses mid session items rest new))
     ⊎ (HasLoggedOut mid session × (turns ≡ turns_of came.item given) × (new ≡ with_session_closed mid session)))
 
--- Some begin all of them.
+-- The first list is an initial part of the second.
 abbrev pub IsPrefixOf : {T : Type 0} → List T → List T → Type 0
 IsPrefixOf {T} front all = (back : List T) × (all ≡ front ++ back)
 
@@ -108,17 +112,19 @@ IsIdleLine node session item = (tag : List ℕ) × (line : IdleLine) × (idling_
 
 -- An item at which the conversation stops.
 abbrev pub StopsAt : TalkFaultKind → NodeState → ℕ → TimedItem → List Turn → NodeState → Type 0
--- Memory broke off its answers: it was not carried out, or it was, and some of its turns are there.
+-- Memory ran out during its answers: it was not carried out; or it was, and some of its turns were
+-- added.
 StopsAt kinds.NoMemory old session came turns new =
     (IsPrefixOf turns (turns_of_item came.item) × (new ≡ old))
     ⊎ ((given : List Answer) × TakesItemAt old session came given new × IsPrefixOf turns (turns_of came.item given))
--- A line of IDLE was refused for want of memory: nothing changed, and a BYE says so.
+-- A line of IDLE was refused because memory ran out: nothing changed, and a BYE says so.
 StopsAt kinds.LineRefused old session came turns new =
     IsIdleLine old session came.item × (turns ≡ turns_of came.item (Bye reasons.NoMemory ∷ [])) × (new ≡ old)
 StopsAt (kinds.Framing why) old session came turns new = ⊥
 
--- The turns of a conversation over these items that was broken off so: those of some items in full, then what the item at which it stops
--- shows; or, for want of memory, of all items in full. The session is closed; a command that was carried out stays so.
+-- The turns of a conversation over these items that was broken off: those of some items in full,
+-- then what the item at which it stops shows; or, if memory ran out, those of all items in full.
+-- The session is closed; a command that was carried out stays so.
 abbrev pub BreaksOff : TalkFaultKind → NodeState → ℕ → List TimedItem → List Turn → NodeState → Type 0
 BreaksOff why old session [] turns new = (why ≡ kinds.NoMemory) × (turns ≡ []) × (new ≡ with_session_closed old session)
 BreaksOff why old session (came ∷ items) turns new =

@@ -1,3 +1,6 @@
+-- The whole conversation of `converse` with a mail client: the calls of the port, the octets read,
+-- the text of the answers, and how it ends.
+
 use Rattle.std.specs.Prelude.{◌≡◌, ◌⊎◌, ℕ, Bool, true, false, Option, None, List, [], ◌∷◌, ◌++◌, Result, Ok, Err, IsOk}
 use Rattle.imap_answers.specs.Printed.{text_of_answer}
 use Rattle.imap_answers.specs.declared.answer.Answer.{Answer}
@@ -20,14 +23,15 @@ use Rattle.imap_connection.specs.declared.end_of_conversation.Ended.TheVariants.
 use Rattle.imap_connection.specs.declared.fault.PortFault.{PortFault}
 
 module _ {S : Type 0} (steps : S → PortCall → Result Reply PortFault → S → Type 0) where
-  -- Items are answered, one behind the other, and none ends the conversation; this is the text of the answers.
+  -- Items are answered, one after another, and none ends the conversation; `said` is the text of
+  -- the answers.
   abbrev pub Converses : S → Option (List ℕ) → List Item → List ℕ → S → Option (List ℕ) → Type 0
   Converses old idling [] said new after = (said ≡ []) × (new ≡ old) × (after ≡ idling)
   Converses old idling (item ∷ items) said new after =
       (given : List Answer) × (mid : S) × (between : Option (List ℕ)) × (rest : List ℕ)
       × Takes steps old idling item given mid between false × (said ≡ texts given ++ rest) × Converses mid between items rest new after
 
-  -- The conversation over these items ends so at one of them, behind those before it.
+  -- The conversation over these items ends at one of them, after those before it.
   pub record Breaks (old : S) (idling : Option (List ℕ)) (items : List Item) (ended : Ended) (said : List ℕ) (new : S) : Type 0 where
     pub front : List Item
     pub item : Item
@@ -41,18 +45,19 @@ module _ {S : Type 0} (steps : S → PortCall → Result Reply PortFault → S �
     pub stops : StopsAt steps mid between item ended given new
     pub said_is : said ≡ before ++ texts given
 
-  -- Items were answered, and the conversation went on.
+  -- Items were answered, and the conversation continued.
   pub record Goes (old : S) (idling : Option (List ℕ)) (items : List Item) (said : List ℕ) (new : S) : Type 0 where
     pub after : Option (List ℕ)
     pub answered : Converses old idling items said new after
 
-  -- The same of some of the first of these items.
+  -- Some of the first of these items were answered, and the conversation continued.
   pub record GoesFor (old : S) (idling : Option (List ℕ)) (items : List Item) (said : List ℕ) (new : S) : Type 0 where
     pub front : List Item
     pub first : IsPrefix front items
     pub goes : Goes old idling front said new
 
-  -- The octets can't be cut any further, and this is why: behind the items before the fault; where memory ran out, behind some of the first.
+  -- The octets can't be cut any further, and this is why: after the items before the fault; if
+  -- memory ran out, after some of the first.
   abbrev pub IsCut : S → Option (List ℕ) → Cut → FrameFaultKind → List ℕ → S → Type 0
   IsCut old idling cut NoRoomForItem said new = GoesFor old idling cut.0 said new
   IsCut old idling cut Failed said new = ⊥
@@ -60,7 +65,8 @@ module _ {S : Type 0} (steps : S → PortCall → Result Reply PortFault → S �
   IsCut old idling cut LiteralTooLong said new = (cut.1 ≡ Err LiteralTooLong) × Goes old idling cut.0 said new
   IsCut old idling cut NulByte said new = (cut.1 ≡ Err NulByte) × Goes old idling cut.0 said new
 
-  -- Items were taken: the first were answered, and those behind them are brief commands of a session that doesn't idle, which the port wasn't given yet.
+  -- Items were taken: the first were answered, and the rest are brief commands of a session that
+  -- doesn't idle, not given to the port yet.
   pub record Going (old : S) (idling : Option (List ℕ)) (items : List Item) (said : List ℕ) (new : S) (between : Option (List ℕ)) (waiting : List Tagged) : Type 0 where
     pub front : List Item
     pub back : List Item
@@ -70,45 +76,52 @@ module _ {S : Type 0} (steps : S → PortCall → Result Reply PortFault → S �
     pub brief : are_brief waiting ≡ true
     pub awake : (back ≡ []) ⊎ (between ≡ None)
 
-  -- Memory was wanting for the last of what was to be said: items were answered, to one that ends the conversation or not, and the port is as it is behind them; but the
-  -- texts of these last answers aren't said.
+  -- Memory ran out for the last answers: items were answered, up to one that ends the conversation
+  -- or not, and the port is as it is after them; but the texts of these last answers are missing.
   pub record Unsaid (old : S) (idling : Option (List ℕ)) (items : List Item) (said : List ℕ) (new : S) : Type 0 where
     pub lost : List Answer
     pub all : (GoesFor old idling items (said ++ texts lost) new) ⊎ ((ended : Ended) × Breaks old idling items ended (said ++ texts lost) new)
 
-  -- The conversation over these items ends so: a write failed behind some of them; it ends at one of them; or memory was wanting for the last answers.
+  -- The conversation over these items ends: a write failed after some of them; it ends at one of
+  -- them; or memory ran out for the last answers.
   abbrev pub Leaves : S → Option (List ℕ) → List Item → Ended → List ℕ → S → Type 0
   Leaves old idling items ended said new =
       ((ended ≡ WriteFailed) × GoesFor old idling items said new)
       ⊎ (Breaks old idling items ended said new
       ⊎ ((ended ≡ NoMemory) × Unsaid old idling items said new))
 
-  -- The conversation over what octets give ends so: they can't be cut any further; or it ends over the items.
+  -- The conversation over the items that octets give ends: the octets can't be cut any further; or
+  -- it ends over the items.
   abbrev pub Halts : S → Option (List ℕ) → Cut → Ended → List ℕ → S → Type 0
   Halts old idling cut ended said new =
       ((why : FrameFaultKind) × (ended ≡ Framing why) × IsCut old idling cut why said new) ⊎ Leaves old idling cut.0 ended said new
 
-  -- The conversation over what all octets give ends so: the source told its end, or a read failed, behind all items; or the octets end it.
+  -- The conversation over the items that all octets give ends: the source reported its end, or a
+  -- read failed, after all items; or the octets end it.
   abbrev pub Ends : S → Cut → Ended → Bool → List ℕ → S → Type 0
   Ends old cut ended at_end said new =
       ((ended ≡ PeerClosed) × (at_end ≡ true) × IsOk cut.1 × Goes old None cut.0 said new)
       ⊎ (((ended ≡ ReadFailed) × IsOk cut.1 × Goes old None cut.0 said new)
       ⊎ Halts old None cut ended said new)
 
-  -- A conversation behind a session that was opened: the greeting comes first; or memory was wanting for it, and nothing was read.
+  -- A conversation after its session was opened: the greeting comes first; or memory ran out for
+  -- it, and nothing was read.
   abbrev pub Holds : S → Login → Limits → List ℕ → Ended → Bool → List ℕ → S → Type 0
   Holds old login limits octets ended at_end said new =
       ((rest : List ℕ) × (said ≡ text_of_answer (Greeting login) ++ rest) × Ends old (cut_onward limits (Ok start) octets) ended at_end rest new)
       ⊎ ((ended ≡ NoMemory) × (octets ≡ []) × (said ≡ []) × (new ≡ old))
 
--- What was to be said was written, and the conversation ended so; or a write failed, and a beginning was written.
+-- All the text was written, and the conversation ended in `ended`; or a write failed, and an
+-- initial part was written.
 abbrev pub IsWritten : Ended → List ℕ → Ended → Option (List ℕ) → Option (List ℕ) → Type 0
 IsWritten ended said result old new = ((result ≡ ended) × Took old said new) ⊎ ((result ≡ WriteFailed) × TookSome false old said new)
 
--- What the beginning of a session makes of the port, what a command or a line of IDLE makes of it, and what the end makes of it.
+-- `opens`, `steps` and `closes` are the port before and after its session is opened, before and
+-- after a command or a line of IDLE, and before and after its session is closed.
 module _ {S : Type 0} (opens : S → Result Login PortFault → S → Type 0) (steps : S → PortCall → Result Reply PortFault → S → Type 0) (closes : S → S → Type 0) where
-  -- A whole conversation, from the opening of its session to its close: the calls of the port, what was read, what was written and how it ended. A
-  -- refused open is the only call, and nothing is read.
+  -- A whole conversation, from the opening of its session to its close: the calls of the port, what
+  -- was read, what was written and how it ended. If the session can't be opened, that is the only
+  -- call, and nothing is read.
   abbrev pub Talked : S → S → Limits → Option (List ℕ) → Option (List ℕ) → Bool → Option (List ℕ) → Option (List ℕ) → Ended → Type 0
   Talked old new limits left rest at_end taken written result =
       ((fault : PortFault) × opens old (Err fault) new × (rest ≡ left) × IsWritten (ended_by fault) (bye_text_of (ended_by fault)) result taken written)

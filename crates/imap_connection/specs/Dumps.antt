@@ -1,3 +1,5 @@
+-- The text of a replica's dump: its applied operations, and what they define as a set.
+
 use Rattle.std.specs.Prelude.{◌≡◌, ℕ, ◌==◌, List, [], ◌∷◌, ◌++◌, codes, if◌then◌else◌}
 use Rattle.std.specs.Fmt.{decimal}
 use Rattle.std.specs.List.{flat_map}
@@ -7,8 +9,8 @@ use Rattle.crdt_ops.specs.DumpLines.{op_line, state_text}
 use Rattle.merge_laws.specs.Orders.{HaveSameElements}
 use Rattle.crdt_ops.specs.Ops.{id_of}
 
--- A text is the dump of a replica that applied these operations: the operations, each once, ascending by replica and then by number,
--- and what the set of them defines.
+-- The text is the dump of a replica that applied these operations: the operations, each once,
+-- ascending by replica and then by number, and what they define as a set.
 abbrev pub IsDump : ℕ → List Op → List ℕ → Type 0
 IsDump replica applied text =
     (listed : List Op)
@@ -18,10 +20,10 @@ IsDump replica applied text =
 
 -- ---- what the code writes, part by part
 
--- The line of an operation, where it is this replica's.
+-- The line of an operation, if this replica issued it.
 abbrev pub own_line : ℕ → Op → List ℕ
 own_line replica op = if op.id.replica == replica then op_line op else []
 
--- The lines of one replica's operations of a list, in its order.
+-- The lines of one replica's operations in a list, in its order.
 abbrev pub op_lines_by : List Op → ℕ × ℕ → List ℕ
 op_lines_by ops entry = flat_map (own_line entry.0) ops

@@ -1,3 +1,5 @@
+-- How a conversation ends, and the BYE that names its end (RFC 9051, section 7.1.5).
+
 use Rattle.std.specs.Prelude.{◌≡◌, ◌⊎◌, ℕ, false, Option, Some, None, List, [], ◌++◌, Result, Ok, Err}
 use Rattle.imap_lex.specs.declared.fault.FrameFaultKind.TheVariants as lex
 use Rattle.imap_answers.specs.Printed.{text_of_answer}
@@ -18,7 +20,8 @@ ended_by faults.NoRoom = NoMemory
 ended_by faults.Torn = Torn
 ended_by faults.PassedOver = Torn
 
--- The reason that the BYE of an end names (RFC 9051, section 7.1.5). A LOGOUT has told its BYE; a client that is gone is told none.
+-- The reason that the BYE of an end names (RFC 9051, section 7.1.5). A LOGOUT has sent its BYE
+-- already; a client that is gone is sent none.
 abbrev pub reason_of : Ended → Option ByeReason
 reason_of Logout = None
 reason_of PeerClosed = None
@@ -33,12 +36,12 @@ reason_of WriteFailed = None
 reason_of NoMemory = Some reasons.NoMemory
 reason_of Torn = Some reasons.ReplicaChanged
 
--- The text of a BYE, or none.
+-- The text of a BYE, or of none.
 abbrev pub text_of_bye : Option ByeReason → List ℕ
 text_of_bye None = []
 text_of_bye (Some reason) = text_of_answer (Bye reason)
 
--- What is written last.
+-- The text that is written last.
 abbrev pub bye_text_of : Ended → List ℕ
 bye_text_of ended = text_of_bye (reason_of ended)
 
@@ -52,12 +55,13 @@ abbrev pub failed_writes : Ended → ℕ
 failed_writes WriteFailed = 1
 failed_writes _ = 0
 
--- The same, of what may go on.
+-- How many writes failed, in a conversation that may continue.
 abbrev pub failed : Result (Unit {0}) Ended → ℕ
 failed (Ok all) = 0
 failed (Err ended) = failed_writes ended
 
--- What was said in a conversation that ended so was taken or is held back; where a write failed, a beginning was taken.
+-- The text of a conversation that ended so was taken or is held back; if a write failed, an initial
+-- part was taken.
 abbrev pub IsSaid : Ended → Option (List ℕ) → List ℕ → List ℕ → Option (List ℕ) → List ℕ → Type 0
 IsSaid ended old held said new left =
     ((ended ≡ WriteFailed) × TookSome false old (held ++ said) new) ⊎ (((ended ≡ WriteFailed) → ⊥) × Said old held said new left)

@@ -1,3 +1,5 @@
+-- A node as a port: its session is opened, called and closed there, while others come to the node.
+
 use Rattle.std.specs.Prelude.{◌≡◌, ◌⊎◌, ℕ, List, [], ◌∷◌, ◌++◌, Option, Some, None, Result, Ok, Err}
 use Rattle.causal_inbox.specs.declared.delivery.Arrival.{Arrival}
 use Rattle.causal_inbox.specs.declared.delivery.DeliverFault.{DeliverFault}
@@ -20,8 +22,8 @@ use Rattle.imap_connection.specs.PortCalls as asked
 use Rattle.imap_connection.specs.declared.fault.PortFault.{PortFault}
 use Rattle.imap_connection.specs.declared.fault.PortFault.TheVariants.{NoMemory, PassedOver, TooManySessions}
 
--- A node, how the user of its session is to become known until it was asked to open it, the session that was opened there, and the others who come to the
--- node.
+-- A node, the way in which its session's user becomes known (`None` once the session was opened or
+-- couldn't be), the session, and the others who come to the node.
 pub record NodeSession (O : Type 0) : Type 0 where
   pub node : NodeState
   pub auth : Option Auth
@@ -37,29 +39,32 @@ abbrev pub login_by : Auth → Login
 login_by Preauth = Given
 login_by (Password credentials) = Wanted
 
--- Why no session was opened: all numbers are open; memory was wanting; or it was asked for before.
+-- Why no session was opened: all numbers are open; memory ran out; or it isn't the first attempt.
 abbrev pub IsUnopened : {O : Type 0} → NodeSession O → PortFault → Type 0
 IsUnopened {O} old TooManySessions = IsFull old.node
 IsUnopened {O} old NoMemory = Unit {0}
 IsUnopened {O} old PassedOver = old.auth ≡ None
 IsUnopened {O} old fault = ⊥
 
--- What a node makes of the beginning of a session: it is opened for a user who becomes known just so, or nothing changes at the node. It is asked for once.
+-- The node before and after its session is opened: the session is opened for a user who becomes
+-- known by `auth`, or nothing changes at the node. There is only one attempt.
 abbrev pub NodeOpens : {O : Type 0} → NodeSession O → Result Login PortFault → NodeSession O → Type 0
 NodeOpens {O} old (Err fault) new = (new.node ≡ old.node) × (new.session ≡ old.session) × (new.others ≡ old.others) × (new.auth ≡ None) × IsUnopened old fault
 NodeOpens {O} old (Ok login) new =
     (auth : Auth) × (n : ℕ) × (login ≡ login_by auth) × (new.session ≡ Some n) × Opens old.node.sessions auth n new.node.sessions
     × (new.node ≡ record old.node { sessions = new.node.sessions }) × (new.others ≡ old.others) × (old.auth ≡ Some auth) × (new.auth ≡ None)
 
--- What others do in a turn: they stand so before it, and come to a node beside the session with a number; the session's next command comes at a moment; the
--- node is so behind it, and they stand so.
+-- `comes` is a turn of the others: their state before it, the session's number, the node before it,
+-- the moment at which the session's next command comes, the node after it, and their state after
+-- it.
 module _ {O : Type 0} (comes : O → ℕ → NodeState → ℕ → NodeState → O → Type 0) where
-  -- Others took a turn at the node of a port, beside its session: what came to the node is just what they do, and it is deliveries and what other sessions do.
+  -- Others took a turn at the node of a port, during its session: what came to the node is exactly
+  -- what they do, and consists of deliveries and what other sessions do.
   pub record TakesTurn (old : NodeSession O) (n : ℕ) (moment : ℕ) (mid : NodeState) (others : O) : Type 0 where
     pub beside : SomeOtherSteps n old.node mid
     pub just : comes old.others n old.node moment mid others
 
-  -- Others took a turn, and then the node responded to what the port was asked, as defined.
+  -- Others took a turn, and then the node responded to the port's input as defined.
   pub record RespondsTo (old : NodeSession O) (input : ℕ → Input) (reply : Reply) (new : NodeSession O) : Type 0 where
     pub number : ℕ
     pub moment : ℕ
@@ -70,7 +75,7 @@ module _ {O : Type 0} (comes : O → ℕ → NodeState → ℕ → NodeState →
     pub session : new.session ≡ Some number
     pub auth : new.auth ≡ old.auth
 
-  -- What a node makes of a call, and what it replies. Nothing changes where no session is open.
+  -- The node before and after a call, and its reply. Nothing changes if no session is open.
   abbrev pub NodeSteps : NodeSession O → PortCall → Result Reply PortFault → NodeSession O → Type 0
   NodeSteps old call (Err fault) new = (fault ≡ PassedOver) × (new ≡ old) × IsAway old
   NodeSteps old (asked.Command tagged) (Ok reply) new = RespondsTo old (λ moment. inputs.Command moment tagged) reply new
@@ -88,7 +93,7 @@ module _ {O : Type 0} (comes : O → ℕ → NodeState → ℕ → NodeState →
     pub session : new.session ≡ None
     pub auth : new.auth ≡ old.auth
 
-  -- What a node makes of the end: the session is closed, if one is open.
+  -- The node before and after the close: the session is closed, if one is open.
   abbrev pub NodeCloses : NodeSession O → NodeSession O → Type 0
   NodeCloses old new = (IsAway old × (new ≡ old)) ⊎ Shuts old new
 
@@ -98,10 +103,11 @@ module _ {O : Type 0} (comes : O → ℕ → NodeState → ℕ → NodeState →
 abbrev pub NobodyComes : ℕ → ℕ → NodeState → ℕ → NodeState → ℕ → Type 0
 NobodyComes old n node moment mid new = (moment ≡ old) × (mid ≡ node) × (new ≡ old)
 
--- A node was handed an operation, which it took, or refused, and then it is as it was.
+-- An operation was delivered to a node, which received or refused it.
 abbrev pub IsHanded : NodeState → Op → NodeState → Type 0
 IsHanded node op mid = ((arrival : Arrival) × Delivers node op arrival mid) ⊎ ((why : DeliverFault) × IsRefusedAt node op why × (mid ≡ node))
 
--- Of these operations the last was handed to the node, and those before it are left; or there are none.
+-- The last of these operations was delivered to the node, and those before it are left; or there
+-- are none.
 abbrev pub LastIsHanded : List Op → NodeState → NodeState → List Op → Type 0
 LastIsHanded ops node mid left = ((ops ≡ []) × (left ≡ []) × (mid ≡ node)) ⊎ ((op : Op) × (ops ≡ left ++ op ∷ []) × IsHanded node op mid)

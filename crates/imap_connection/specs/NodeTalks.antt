@@ -1,3 +1,5 @@
+-- A conversation over a node's port, and the node's own conversation over the same items.
+
 use Rattle.std.specs.Prelude.{◌≡◌, ℕ, Option, Some, List, [], ◌∷◌, ◌++◌, map, Ok}
 use Rattle.std.specs.List.{flat_map}
 use Rattle.imap_answers.specs.Printed.{text_of_answer}
@@ -19,7 +21,7 @@ use Rattle.imap_connection.specs.NodePorts.{NodeSession, login_by}
 use Rattle.imap_connection.specs.declared.end_of_conversation.Ended.{Ended}
 use Rattle.imap_connection.specs.declared.end_of_conversation.Ended.TheVariants.{Logout, PeerClosed, Framing, ReadFailed}
 
--- What a conversation's turns send, one behind the other.
+-- The octets that a conversation's turns send, one after another.
 abbrev pub text_of_turn : Turn → List ℕ
 text_of_turn (Got octets) = []
 text_of_turn (Sent octets) = octets
@@ -27,13 +29,15 @@ text_of_turn (Sent octets) = octets
 abbrev pub text_sent : List Turn → List ℕ
 text_sent turns = flat_map text_of_turn turns
 
--- The session with this number was opened, goes on, and idles with this tag or doesn't.
+-- The session with this number is open, has not logged out, and idles with this tag or doesn't
+-- idle.
 pub record IsOpenSession {O : Type 0} (port : NodeSession O) (n : ℕ) (idling : Option (List ℕ)) : Type 0 where
   pub session : port.session ≡ Some n
   pub going : IsGoing port.node n
   pub idles : idling_at port.node n ≡ idling
 
--- An end behind all that the client sent, or behind a LOGOUT: memory was not wanting, nor did a write fail.
+-- An end after all that the client sent, or after a LOGOUT: memory didn't run out, and no write
+-- failed.
 abbrev pub IsWhole : Ended → Type 0
 IsWhole Logout = Unit {0}
 IsWhole PeerClosed = Unit {0}
@@ -49,7 +53,7 @@ pub record ItemAt : Type 0 where
   pub moment : ℕ
   pub item : Item
 
--- A stretch of its own for each item: others may come to the node between any two.
+-- Each item on its own: others may come to the node between any two.
 abbrev pub items_at_one : ItemAt → ItemsAt
 items_at_one came = record { node = came.node; items = item_at came.moment came.item ∷ [] }
 
@@ -60,15 +64,18 @@ items_at_each_one all = map items_at_one all
 abbrev pub items_of : List ItemAt → List Item
 items_of all = map (λ (came : ItemAt). came.item) all
 
--- The node has had the conversation over these items, with these turns, while others came between any two, and closed the session, before which others may have
--- come too: behind a LOGOUT, or at the end of the items.
+-- The node has had the conversation over these items, with these turns, while others came between
+-- any two, and closed the session, before which others may have come too: after a LOGOUT, or at the
+-- end of the items.
 abbrev pub Closes : Ended → NodeState → ℕ → List ItemsAt → List Turn → NodeState → Type 0
 Closes Logout first n given turns new =
     (out : NodeState) × (last : NodeState) × HasLoggedOut out n × ConversesBetweenOthers first n given turns (with_session_closed out n) × SomeOtherSteps n out last × (new ≡ with_session_closed last n)
 Closes ended first n given turns new = (last : NodeState) × ConversesBetweenOthers first n given turns last × IsGoing last n × (new ≡ with_session_closed last n)
 
--- A session is opened at a node for a user who becomes known so, and has the node's conversation over the items that these octets give, each at the moment and at
--- the node to which it came; it is closed; and what is said is the greeting, what the turns send, and the BYE of the end.
+-- A session is opened at a node for a user who becomes known by `auth`, and has the node's
+-- conversation over the items that these octets give, each at the moment and at the node to which
+-- it came; it is closed; and the text written is the greeting, what the turns send, and the BYE of
+-- the end.
 pub record TalksAtNode (old : NodeState) (auth : Auth) (limits : Limits) (octets : List ℕ) (ended : Ended) (said : List ℕ) (new : NodeState) : Type 0 where
   pub session : ℕ
   pub first : NodeState

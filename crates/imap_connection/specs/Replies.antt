@@ -1,3 +1,5 @@
+-- The answers that a reply sends (RFC 9051, section 7).
+
 use Rattle.std.specs.Prelude.{ℕ, Bool, true, false, List, [], ◌∷◌, Option, Some, None, if◌then◌else◌}
 use Rattle.imap_answers.specs.declared.answer.Answer.{Answer}
 use Rattle.imap_answers.specs.declared.answer.Answer.TheVariants as answers
@@ -10,21 +12,23 @@ use Rattle.imap_node.specs.Sessions.{session_at}
 use Rattle.imap_node.specs.declared.reply.Reply.{Reply}
 use Rattle.imap_node.specs.declared.reply.Reply.TheVariants.{Done, Refused}
 
--- The answers to a refused input: CLOSED in front where a mailbox was left (RFC 9051, section 7.1), and the tagged line.
+-- The answers to a refused input: CLOSED first if a mailbox was left (RFC 9051, section 7.1), and
+-- the tagged line.
 abbrev pub refused_answers : List ℕ → Refusal → Bool → List Answer
 refused_answers tag why closed = if closed then answers.Tell Closed ∷ answers.Refused tag why ∷ [] else answers.Refused tag why ∷ []
 
--- The answers of a reply to the command or the IDLE with this tag, in the order in which they are sent.
+-- The answers of a reply to the command or the IDLE with this tag, in the order in which they are
+-- sent.
 abbrev pub answers_of : List ℕ → Reply → List Answer
 answers_of tag (Done given silent issued) = given
 answers_of tag (Refused why closed) = refused_answers tag why closed
 
--- The answers of a reply to a poll; where it is refused there is none.
+-- The answers of a reply to a poll; none if it is refused.
 abbrev pub polled_answers : Reply → List Answer
 polled_answers (Done given silent issued) = given
 polled_answers (Refused why closed) = []
 
--- The input was refused for want of memory.
+-- The input was refused because memory ran out.
 abbrev pub is_without_memory : Reply → Bool
 is_without_memory (Done given silent issued) = false
 is_without_memory (Refused NoMemory closed) = true

@@ -1,3 +1,5 @@
+-- The steps in which the code takes an item. `Conversation` says what the node answers to one.
+
 use Rattle.std.specs.Prelude.{◌≡◌, ◌⊎◌, ℕ, false, Option, Some, None, List, [], ◌∷◌}
 use Rattle.imap_syntax.specs.Commands.{IsSpelled}
 use Rattle.imap_syntax.specs.Faults.{HasTag, IsTagged}
@@ -24,10 +26,9 @@ use Rattle.imap_connection.specs.declared.turn.TalkFaultKind.{TalkFaultKind}
 use Rattle.imap_connection.specs.declared.turn.TalkFaultKind.TheVariants as kinds
 use Rattle.imap_connection.specs.declared.turn.Turn.{Turn}
 
--- The steps in which the code takes an item. `Conversation` says what the node makes of one.
-
--- What an item is to a session that idles with this tag, or doesn't: the leave to go on with a literal, the answer to a fault, or
--- to a front that is refused for its literal; the command that it spells; or a line (RFC 2177, section 3).
+-- What an item is to a session that idles with this tag, or doesn't idle: the leave to continue
+-- with a literal, the answer to a fault or to a command beginning that is refused for its literal;
+-- the command that it spells; or a line (RFC 2177, section 3).
 abbrev pub IsRequest : Option (List ℕ) → Item → Request → Type 0
 IsRequest idling Ready (Told answer) = answer ≡ answers.Continue continuations.Ready
 IsRequest None (Frame octets) (Told answer) = IsFaultAnswer octets answer
@@ -37,7 +38,7 @@ IsRequest (Some tag) (Frame octets) (Line own line) = (own ≡ tag) × IsLine (F
 IsRequest (Some tag) (Refused octets) (Line own line) = (own ≡ tag) × IsLine (Refused octets) line
 IsRequest idling item request = ⊥
 
--- The node carries out what it is asked, and gives these answers.
+-- The node carries out a request, and gives these answers.
 abbrev pub Handles : NodeState → ℕ → ℕ → Request → List Answer → NodeState → Type 0
 Handles old session moment (Told answer) given new = (given ≡ answer ∷ []) × (new ≡ old)
 Handles old session moment (Command tagged) given new =
@@ -45,13 +46,13 @@ Handles old session moment (Command tagged) given new =
 Handles old session moment (Line tag line) given new =
     (reply : Reply) × Responds old session (inputs.Line line) reply new × (is_without_memory reply ≡ false) × (given ≡ answers_of tag reply)
 
--- Whether a request is a line of IDLE.
+-- The request is a line of IDLE.
 abbrev pub IsOfLine : Request → Type 0
 IsOfLine (Line tag line) = Unit {0}
 IsOfLine _ = ⊥
 
--- Memory breaks the answers off: the request was not carried out, or it was, and some of its turns are there; or it is a line that was
--- refused.
+-- Memory ran out during the answers: the request was not carried out; or it was, and some of its
+-- turns were added; or it is a line that was refused.
 abbrev pub Fails : TalkFaultKind → NodeState → ℕ → ℕ → Request → List Turn → NodeState → Type 0
 Fails kinds.NoMemory old session moment request front new =
     ((front ≡ []) × (new ≡ old)) ⊎ ((given : List Answer) × Handles old session moment request given new × IsPrefixOf front (turns_of_answers given))
@@ -66,7 +67,7 @@ reason_for faults.BadSyntax = refusals.BadSyntax
 reason_for faults.NotInProfile = refusals.NotInProfile
 reason_for faults.NoMemory = refusals.NoMemory
 
--- The answer to a frame with this fault, by whether the frame has a tag.
+-- The answer to a frame with this fault, with or without a tag.
 abbrev pub AnswersFault : ParseFault → List ℕ → Answer → Type 0
 AnswersFault why frame answer =
     ((HasTag frame → ⊥) × (answer ≡ answers.NoTag))

@@ -1,3 +1,6 @@
+-- How a conversation takes one item: the request that it is, the call of the port, the answers, and
+-- how it ends the conversation.
+
 use Rattle.std.specs.Prelude.{◌≡◌, ◌⊎◌, ℕ, Bool, true, false, ◌&&◌, Option, Some, None, List, [], ◌∷◌, Result, Ok, Err, if◌then◌else◌}
 use Rattle.std.specs.List.{flat_map}
 use Rattle.imap_answers.specs.Printed.{text_of_answer}
@@ -25,7 +28,7 @@ use Rattle.imap_connection.specs.declared.end_of_conversation.Ended.{Ended}
 use Rattle.imap_connection.specs.declared.end_of_conversation.Ended.TheVariants.{Logout, NoMemory}
 use Rattle.imap_connection.specs.declared.fault.PortFault.{PortFault}
 
--- The text of answers, one behind the other.
+-- The text of answers, one after another; and whether a command is LOGOUT.
 abbrev pub texts : List Answer → List ℕ
 texts answers = flat_map text_of_answer answers
 
@@ -47,19 +50,20 @@ call_of (requests.Told answer) = None
 call_of (requests.Command tagged) = Some (asked.Command tagged)
 call_of (requests.Line tag line) = Some (asked.Line line)
 
--- A brief command waits for others behind it, and all else is asked at once.
+-- A brief command waits for its batch, and every other request is given to the port at once.
 abbrev pub IsAskingOf : Request → Asking → Type 0
 IsAskingOf request (Later tagged) = (request ≡ requests.Command tagged) × (is_brief tagged.command ≡ true)
 IsAskingOf request (Now asked) = asked ≡ request
 
--- Memory was wanting before anything was asked or answered.
+-- Memory ran out before the port was called or anything was answered.
 abbrev pub IsUnasked : {S : Type 0} → S → Ended → List Answer → S → Type 0
 IsUnasked {S} old ended given new = (ended ≡ NoMemory) × (given ≡ []) × (new ≡ old)
 
--- What a command or a line of IDLE makes of the port.
+-- `steps` is the port before and after a command or a line of IDLE.
 module _ {S : Type 0} (steps : S → PortCall → Result Reply PortFault → S → Type 0) where
-  -- A session, which idles with this tag or doesn't, makes a request of the port; these are the answers, it idles so behind them, and it has
-  -- logged out or not.
+  -- A session, which idles with this tag or doesn't idle, makes a request of the port; `given` are
+  -- the answers, `after` is the tag of its IDLE afterwards, and `out` says whether it has logged
+  -- out.
   abbrev pub Handles : S → Option (List ℕ) → Request → List Answer → S → Option (List ℕ) → Bool → Type 0
   Handles old idling (requests.Told answer) given new after out = (given ≡ answer ∷ []) × (new ≡ old) × (after ≡ idling) × (out ≡ false)
   Handles old idling (requests.Command tagged) given new after out =
@@ -67,19 +71,20 @@ module _ {S : Type 0} (steps : S → PortCall → Result Reply PortFault → S �
   Handles old idling (requests.Line tag line) given new after out =
       (reply : Reply) × steps old (asked.Line line) (Ok reply) new × (is_without_memory reply ≡ false) × (given ≡ answers_of tag reply) × (after ≡ None) × (out ≡ false)
 
-  -- The port refuses the call, and nothing is answered.
+  -- The port gives no reply, and nothing is answered.
   abbrev pub IsRefused : S → Request → Ended → List Answer → S → Type 0
   IsRefused old request ended given new =
       (call : PortCall) × (fault : PortFault) × (call_of request ≡ Some call) × steps old call (Err fault) new × (ended ≡ ended_by fault) × (given ≡ [])
 
-  -- A line of IDLE is refused for want of memory, and nothing is answered.
+  -- A line of IDLE is refused because memory ran out, and nothing is answered.
   abbrev pub IsLineRefused : S → Request → Ended → List Answer → S → Type 0
   IsLineRefused old request ended given new =
       (line : IdleLine) × (reply : Reply) × (call_of request ≡ Some (asked.Line line)) × steps old (asked.Line line) (Ok reply) new × (is_without_memory reply ≡ true)
       × (ended ≡ NoMemory) × (given ≡ [])
 
-  -- A request ends the conversation so, behind these answers: a LOGOUT was answered OK; memory was wanting for an answer behind some of the
-  -- first; a line of IDLE was refused for want of memory; or the port gave no reply.
+  -- A request ends the conversation, after these answers: a LOGOUT was answered OK; memory ran out
+  -- for one of the answers; a line of IDLE was refused because memory ran out; or the port gave no
+  -- reply.
   abbrev pub Stops : S → Option (List ℕ) → Request → Ended → List Answer → S → Type 0
   Stops old idling request ended given new =
       ((ended ≡ Logout) × ((after : Option (List ℕ)) × Handles old idling request given new after true))
@@ -87,7 +92,8 @@ module _ {S : Type 0} (steps : S → PortCall → Result Reply PortFault → S �
       ⊎ (IsLineRefused old request ended given new
       ⊎ IsRefused old request ended given new))
 
-  -- Memory was wanting before anything was asked or answered, or a request ends the conversation.
+  -- Memory ran out before the port was called or anything was answered, or a request ends the
+  -- conversation.
   abbrev pub Fails : S → Option (List ℕ) → Request → Ended → List Answer → S → Type 0
   Fails old idling request ended given new = IsUnasked old ended given new ⊎ Stops old idling request ended given new
 
@@ -95,7 +101,8 @@ module _ {S : Type 0} (steps : S → PortCall → Result Reply PortFault → S �
   abbrev pub Takes : S → Option (List ℕ) → Item → List Answer → S → Option (List ℕ) → Bool → Type 0
   Takes old idling item given new after out = (request : Request) × IsRequest idling item request × Handles old idling request given new after out
 
-  -- The conversation ends at an item: for want of memory before anything was asked; or as its request ends it.
+  -- The conversation ends at an item: memory ran out before the port was called; or its request
+  -- ends it.
   abbrev pub StopsAt : S → Option (List ℕ) → Item → Ended → List Answer → S → Type 0
   StopsAt old idling item ended given new =
       IsUnasked old ended given new ⊎ ((request : Request) × IsRequest idling item request × Stops old idling request ended given new)

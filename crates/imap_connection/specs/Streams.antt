@@ -1,3 +1,6 @@
+-- A connection's octets, piece by piece, and the calls of `talk` on them, with or without others
+-- coming to the node between the pieces.
+
 use Rattle.std.specs.Prelude.{◌≡◌, ◌≢◌, ◌⊎◌, ℕ, zero, suc, List, [], ◌∷◌, ◌++◌, map, Result}
 use Rattle.std.specs.List.{flat_map}
 use Rattle.causal_inbox.specs.declared.delivery.Arrival.{Arrival}
@@ -46,9 +49,10 @@ cut_of limits state pieces = (items_of limits state pieces, (cut_onward limits s
 abbrev pub items_without_moments : List TimedItem → List Item
 items_without_moments items = map (λ (came : TimedItem). came.item) items
 
--- ---- one session alone
+-- ---- only one session
 
--- What calls of talk made of a session, one for each of these pieces of input, where the session went on behind each.
+-- The calls of `talk` for a session, one for each of these pieces of input; the session continued
+-- after each.
 abbrev pub TalksOn : NodeState → ℕ → Limits → Result FrameProgress FrameFaultKind → List Piece → List Turn → NodeState → Result FrameProgress FrameFaultKind → Type 0
 TalksOn old session limits state [] turns new end = (turns ≡ []) × (new ≡ old) × (end ≡ state)
 TalksOn old session limits state (piece ∷ pieces) turns new end =
@@ -56,8 +60,8 @@ TalksOn old session limits state (piece ∷ pieces) turns new end =
     × Talks old session (cut_by limits state piece) first mid between × IsGoing mid session
     × ((rest : List Turn) × (turns ≡ first ++ rest) × TalksOn mid session limits between pieces rest new end)
 
--- Calls of `talk` over a session, one for each of these pieces of input: the node and the framer before the first, the turns that
--- they gave together, and the node and the framer behind the last.
+-- The calls of `talk` for a session, one for each of these pieces of input: the node and the framer
+-- before the first, all their turns together, and the node and the framer after the last.
 pub record Run (P : Type 0) : Type 0 where
   pub session : ℕ
   pub limits : Limits
@@ -68,33 +72,33 @@ pub record Run (P : Type 0) : Type 0 where
   pub new : NodeState
   pub after : Result FrameProgress FrameFaultKind
 
--- The session went on behind each of the calls.
+-- The session continued after each of the calls.
 abbrev pub IsRun : Run Piece → Type 0
 IsRun run = TalksOn run.old run.session run.limits run.before run.pieces run.turns run.new run.after
 
--- One more call of `talk`: its piece of input, its turns, and the node and the framer afterwards.
+-- A further call of `talk`: its piece of input, its turns, and the node and the framer afterwards.
 pub record Call : Type 0 where
   pub piece : Piece
   pub turns : List Turn
   pub new : NodeState
   pub after : Result FrameProgress FrameFaultKind
 
--- The call behind a run, which may end the session by a LOGOUT.
+-- The call after a run, which may end the session by a LOGOUT.
 abbrev pub IsCallAfter : {P : Type 0} → Run P → Call → Type 0
 IsCallAfter run call = IsGoing run.new run.session × Talks run.new run.session (cut_by run.limits run.after call.piece) call.turns call.new call.after
 
--- The call behind a run, which ends the connection so.
+-- The call after a run, which ends the connection for this reason.
 abbrev pub EndsAfter : {P : Type 0} → TalkFaultKind → Run P → Call → Type 0
 EndsAfter why run call = IsGoing run.new run.session × EndsTalk why run.new run.session run.after (cut_by run.limits run.after call.piece) call.turns call.new
 
--- What all pieces of a run give, and those with the piece of a call behind it.
+-- What all pieces of a run give, and what they give with the piece of a further call.
 abbrev pub cut_in : Run Piece → TimedCut
 cut_in run = cut_of run.limits run.before run.pieces
 
 abbrev pub cut_with : Run Piece → Call → TimedCut
 cut_with run call = cut_of run.limits run.before (run.pieces ++ call.piece ∷ [])
 
--- The octets of all pieces of a run, and those with the piece of a call behind it.
+-- The octets of all pieces of a run, and with the piece of a further call.
 abbrev pub octets_with : Run Piece → Call → List ℕ
 octets_with run call = octets_in (run.pieces ++ call.piece ∷ [])
 
@@ -109,17 +113,17 @@ OtherSessionStep session old new =
     × (((input : Input) × (reply : Reply) × Responds old other input reply new)
     ⊎ (new ≡ with_session_closed old other))))
 
--- What comes to a node beside this session: it is handed an operation of another replica, or goes on with those that it
--- holds, or another session moves.
+-- What comes to a node besides the calls of this session: an operation of another replica is
+-- delivered, held operations are released, or another session takes a step.
 abbrev pub OtherStep : ℕ → NodeState → NodeState → Type 0
 OtherStep session old new = ((op : Op) × (arrival : Arrival) × Delivers old op arrival new) ⊎ (((count : ℕ) × Drains old count new) ⊎ OtherSessionStep session old new)
 
--- So many times, one after another.
+-- A number of such steps, one after another.
 abbrev pub OtherSteps : ℕ → ℕ → NodeState → NodeState → Type 0
 OtherSteps session zero old new = new ≡ old
 OtherSteps session (suc n) old new = (mid : NodeState) × OtherStep session old mid × OtherSteps session n mid new
 
--- Operations of other replicas and other sessions came meanwhile, if any did.
+-- Any number of such steps, even none.
 abbrev pub SomeOtherSteps : ℕ → NodeState → NodeState → Type 0
 SomeOtherSteps session old new = (n : ℕ) × OtherSteps session n old new
 
@@ -132,8 +136,8 @@ pub record PieceAt : Type 0 where
 abbrev pub octets_of_pieces : List PieceAt → List ℕ
 octets_of_pieces visits = flat_map (λ (visit : PieceAt). visit.piece.octets) visits
 
--- What calls of `talk` made of a session, one for each of these pieces of input, where operations of other replicas and other
--- sessions came to the node before each, and the session went on behind each.
+-- The calls of `talk` for a session, one for each of these pieces of input; operations of other
+-- replicas and other sessions came to the node before each, and the session continued after each.
 abbrev pub TalksBetweenOthers : NodeState → ℕ → Limits → Result FrameProgress FrameFaultKind → List PieceAt → List Turn → NodeState → Result FrameProgress FrameFaultKind → Type 0
 TalksBetweenOthers old session limits state [] turns new end = (turns ≡ []) × SomeOtherSteps session old new × (end ≡ state)
 TalksBetweenOthers old session limits state (visit ∷ visits) turns new end =
@@ -141,15 +145,15 @@ TalksBetweenOthers old session limits state (visit ∷ visits) turns new end =
     × SomeOtherSteps session old visit.node × Talks visit.node session (cut_by limits state visit.piece) first mid between × IsGoing mid session
     × ((rest : List Turn) × (turns ≡ first ++ rest) × TalksBetweenOthers mid session limits between visits rest new end)
 
--- The same, of a run.
+-- A run of such calls.
 abbrev pub IsRunBetweenOthers : Run PieceAt → Type 0
 IsRunBetweenOthers run = TalksBetweenOthers run.old run.session run.limits run.before run.pieces run.turns run.new run.after
 
--- The pieces of a run and of a call behind it.
+-- The pieces of a run and of a further call.
 abbrev pub pieces_with : Run PieceAt → Call → List PieceAt
 pieces_with run call = run.pieces ++ record { node = run.new; piece = call.piece } ∷ []
 
--- Items, and the node to which the piece came that completes them.
+-- Items, and the node to which the piece that completes them came.
 pub record ItemsAt : Type 0 where
   pub node : NodeState
   pub items : List TimedItem
@@ -164,9 +168,10 @@ items_at_each limits state (visit ∷ visits) =
 abbrev pub items_in : List ItemsAt → List Item
 items_in given = flat_map (λ (stretch : ItemsAt). items_without_moments stretch.items) given
 
--- The turns of a conversation over these items, where operations of other replicas and other sessions came to the node between
--- the pieces that complete them, and nothing within a piece: the items of a piece are answered from the node to which it came, one
--- after another, up to a LOGOUT answered OK, behind which the rest is dropped.
+-- The turns of a conversation over these items, if operations of other replicas and other sessions
+-- came to the node between the pieces that complete them, and nothing came within a piece: the
+-- items of a piece are answered from the node to which it came, one after another, up to a LOGOUT
+-- answered OK, after which the rest is dropped.
 abbrev pub ConversesBetweenOthers : NodeState → ℕ → List ItemsAt → List Turn → NodeState → Type 0
 ConversesBetweenOthers old session [] turns new = (turns ≡ []) × SomeOtherSteps session old new
 ConversesBetweenOthers old session (stretch ∷ given) turns new =

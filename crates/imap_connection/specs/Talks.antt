@@ -1,3 +1,6 @@
+-- The contract of `talk` and of polls: the turns of one piece of input, and how it ends the
+-- conversation.
+
 use Rattle.std.specs.Prelude.{◌≡◌, ℕ, List, [], ◌∷◌, ◌++◌, Option, Some, None, Result, Err, IsOk, IsErr, option_to_list}
 use Rattle.imap_lex.specs.Framing.{Cut, FrameProgress}
 use Rattle.imap_lex.specs.declared.fault.FrameFaultKind.{FrameFaultKind}
@@ -15,7 +18,8 @@ use Rattle.imap_connection.specs.declared.turn.TalkFaultKind.{TalkFaultKind}
 use Rattle.imap_connection.specs.declared.turn.TalkFaultKind.TheVariants as kinds
 use Rattle.imap_connection.specs.declared.turn.Turn.{Turn}
 
--- The items that octets complete, each with the moment at which it came, and what is left of the octets.
+-- The items that octets complete, each with the moment at which it came, and the state of the
+-- framer after them.
 abbrev pub TimedCut : Type 0
 TimedCut = List TimedItem × Result FrameProgress FrameFaultKind
 
@@ -35,32 +39,34 @@ bye_of Failed = None
 abbrev pub bye_turns : FrameFaultKind → List Turn
 bye_turns why = turns_of_answers (option_to_list (bye_of why))
 
--- How a conversation ends at a fault of the framer: with its BYE, or where that finds no memory, for want of memory.
+-- How a conversation ends at a fault of the framer: with its BYE, or with `NoMemory` if memory runs
+-- out for that.
 abbrev pub EndsWithBye : FrameFaultKind → TalkFaultKind → List Turn → List Turn → Type 0
 EndsWithBye why (kinds.Framing fault) old new = (fault ≡ why) × (new ≡ old ++ bye_turns why)
 EndsWithBye why kinds.NoMemory old new = new ≡ old
 EndsWithBye why kinds.LineRefused old new = ⊥
 
--- How a conversation ends at a line of IDLE that was refused for want of memory: with a BYE, or where that finds no memory, without.
+-- How a conversation ends at a line of IDLE that was refused because memory ran out: with a BYE, or
+-- without one if memory runs out for that too.
 abbrev pub EndsAtRefusedLine : TalkFaultKind → List Turn → List Turn → Type 0
 EndsAtRefusedLine kinds.LineRefused old new = new ≡ old ++ turns_of_answers (Bye reasons.NoMemory ∷ [])
 EndsAtRefusedLine kinds.NoMemory old new = new ≡ old
 EndsAtRefusedLine (kinds.Framing why) old new = ⊥
 
--- What a piece of input makes of a session: the turns of the conversation over the items that the piece completes. Where
--- the session goes on, the framer has what is left of the piece.
+-- The turns of a piece of input: those of the conversation over the items that the piece completes.
+-- If the session continues, the framer has what is left of the piece.
 abbrev pub Talks : NodeState → ℕ → TimedCut → List Turn → NodeState → Result FrameProgress FrameFaultKind → Type 0
 Talks old session cut turns new state = Converses old session cut.0 turns new × (IsGoing new session → (state ≡ cut.1) × IsOk state)
 
--- How a conversation ends that a piece of input ends.
+-- How a piece of input ends a conversation.
 abbrev pub EndsTalk : TalkFaultKind → NodeState → ℕ → Result FrameProgress FrameFaultKind → TimedCut → List Turn → NodeState → Type 0
--- for want of memory, behind some of the items
+-- memory ran out, after some of the items
 EndsTalk kinds.NoMemory old session state cut turns new =
     (items : List TimedItem) × IsPrefixOf items cut.0 × BreaksOff kinds.NoMemory old session items turns new
--- for want of memory at a line of IDLE, behind the items before it
+-- memory ran out at a line of IDLE, after the items before it
 EndsTalk kinds.LineRefused old session state cut turns new =
     (items : List TimedItem) × IsPrefixOf items cut.0 × BreaksOff kinds.LineRefused old session items turns new
--- for a fault of the framer, behind the items before it
+-- a fault of the framer, after the items before it
 EndsTalk (kinds.Framing NoMemory) old session state cut turns new =
     (items : List TimedItem) × (mid : NodeState) × IsPrefixOf items cut.0 × Converses old session items turns mid × IsGoing mid session × (new ≡ with_session_closed mid session)
 EndsTalk (kinds.Framing Failed) old session state cut turns new = IsErr state × (turns ≡ []) × (new ≡ with_session_closed old session)
@@ -70,11 +76,12 @@ EndsTalk (kinds.Framing why) old session state cut turns new =
 
 -- ---- polls
 
--- A session is polled: the turns are the answers that it is sent, and none where the poll is refused.
+-- A session is polled: the turns are the answers that it is sent; none if the poll is refused.
 abbrev pub Polls : NodeState → ℕ → List Turn → NodeState → Type 0
 Polls old session turns new = (reply : Reply) × Responds old session Poll reply new × (turns ≡ turns_of_answers (polled_answers reply))
 
--- Memory breaks off the answers to a poll, which was carried out: some of them are sent, and the session is closed.
+-- Memory ran out during the answers to a poll, which was carried out: some of them are sent, and
+-- the session is closed.
 abbrev pub BreaksPoll : NodeState → ℕ → List Turn → NodeState → Type 0
 BreaksPoll old session turns new =
     (reply : Reply) × (mid : NodeState) × Responds old session Poll reply mid × IsPrefixOf turns (turns_of_answers (polled_answers reply)) × (new ≡ with_session_closed mid session)

@@ -1,4 +1,4 @@
-//! What is said to a client, and held back until it is written.
+//! Answers to a mail client as text, held back until it is written.
 
 ghost use Rattle.std.specs.Prelude.{◌≡◌, ◌++◌, ◌<◌, ◌+◌, [], false, List, OnOk, OnErr, MatchBool};
 ghost use Rattle.imap_answers.specs.declared.answer.Answer.{Answer};
@@ -14,10 +14,10 @@ use imap_print::print;
 use imap_types::Octets;
 use std::alloc::{AllocError, Global};
 
-/// How many octets are held back at most behind a whole answer to an item, before they are written.
+/// The most octets that are held back after all answers to an item, before they are written.
 const MUCH: usize = 65_536;
 
-/// Adds answers; `Err` behind some of the first, where there is no memory for the next.
+/// Adds answers to the text. `Err` if memory runs out; then some of the first answers were added.
 pub fn tell_all(text: &mut Vec<u8>, answers: &[Answer]) -> Result<(), AllocError>
     ensures ok { OnOk result (text.new.items ≡ text.old.items ++ texts answers.now) }
     ensures err { OnErr result ((front : List Answer) × (text.new.items ≡ text.old.items ++ texts front) × IsPrefixOf front answers.now) }
@@ -28,7 +28,8 @@ pub fn tell_all(text: &mut Vec<u8>, answers: &[Answer]) -> Result<(), AllocError
     Ok(())
 }
 
-/// Adds the answers of a reply to the command or the IDLE with this tag; `Err` behind some of the first, where there is no memory for the next.
+/// Adds the answers of a reply to the command or the IDLE with this tag. `Err` if memory runs out;
+/// then some of the first answers were added.
 pub fn tell_reply(
     alloc: Global,
     text: &mut Vec<u8>,
@@ -44,7 +45,8 @@ pub fn tell_reply(
     }
 }
 
-/// Adds the answers to a refused input; `Err` behind some of the first, where there is no memory for the next.
+/// Adds the answers to a refused input. `Err` if memory runs out; then some of the first answers
+/// were added.
 fn tell_refusal(
     alloc: Global,
     text: &mut Vec<u8>,
@@ -73,7 +75,7 @@ fn tell_refusal(
     )
 }
 
-/// Writes what is held back; false where the device failed.
+/// Writes the text that is held back; `false` if the device failed.
 pub fn write_held<K: Sink>(sink: &mut K, text: &mut Vec<u8>) -> bool
     requires { K.failures sink.old < 18446744073709551615 }
     ensures said { MatchBool result (Said (K.taken sink.old) text.old.items [] (K.taken sink.new) text.new.items) (TookSome false (K.taken sink.old) text.old.items (K.taken sink.new)) }
@@ -90,7 +92,7 @@ pub fn write_held<K: Sink>(sink: &mut K, text: &mut Vec<u8>) -> bool
     true
 }
 
-/// Writes what is held back where it is much; false where the device failed.
+/// Writes the text that is held back if there is much of it; `false` if the device failed.
 pub fn write_much<K: Sink>(sink: &mut K, text: &mut Vec<u8>) -> bool
     requires { K.failures sink.old < 18446744073709551615 }
     ensures said { MatchBool result (Said (K.taken sink.old) text.old.items [] (K.taken sink.new) text.new.items) (TookSome false (K.taken sink.old) text.old.items (K.taken sink.new)) }

@@ -1,4 +1,5 @@
-//! Brief commands that came one behind another, which are given to the port at once, so that a replica is asked for all of them in one turn.
+//! Batches of brief commands that came one after another. They are given to the port at once, so
+//! that a replica is asked for all of them in one turn.
 
 ghost use Rattle.std.specs.Prelude.{◌≡◌, ◌≤◌, ◌++◌, ◌∷◌, [], true, length, List, Ok, OnOk, OnErr, IfErr};
 ghost use Rattle.imap_answers.specs.declared.answer.Answer.{Answer};
@@ -18,7 +19,7 @@ use std::alloc::{AllocError, Global};
 use std::marker::Model;
 use std::mem;
 
-/// Brief commands of a session that doesn't idle, which it wasn't given yet, with their tags.
+/// Brief commands of a session that doesn't idle, with their tags, not given to the port yet.
 #[derive(Drop)]
 pub struct Batch {
     tags: Vec<Octets>,
@@ -48,7 +49,7 @@ impl Batch {
         }
     }
 
-    /// Puts a brief command behind the others. `Err`, and no change, where there is no memory for it.
+    /// Appends a brief command. `Err`, and no change, if memory runs out.
     pub fn push(&mut self, alloc: Global, tagged: Tagged) -> Result<(), AllocError>
         requires { is_brief tagged.command ≡ true }
         ensures ok { OnOk result (self.new ≡ self.old ++ tagged ∷ []) }
@@ -62,7 +63,8 @@ impl Batch {
         Ok(())
     }
 
-    /// Gives the commands to the port, and adds the answers. `Err` where the conversation ends at one of them.
+    /// Gives the commands to the port, and adds the answers. `Err` if the conversation ends at one
+    /// of them.
     pub fn tell<P: Port>(
         &mut self,
         alloc: Global,
@@ -91,7 +93,8 @@ impl Batch {
     }
 }
 
-/// Adds the answers of replies to commands with these tags; `Err` behind some of the first, where there is no memory for the next.
+/// Adds the answers of replies to the commands with these tags. `Err` if memory runs out; then some
+/// of the first answers were added.
 fn tell_replies(
     alloc: Global,
     tags: &[Octets],
@@ -111,7 +114,7 @@ fn tell_replies(
     Ok(())
 }
 
-/// Whether a command issues nothing, and looks at no mailbox for its own answer.
+/// Whether a command issues nothing, and answers without reading a mailbox.
 pub fn is_brief(command: &Command) -> bool
     ensures { result ≡ is_brief command.now }
 {

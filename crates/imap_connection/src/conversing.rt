@@ -1,4 +1,4 @@
-//! A conversation.
+//! The conversation with a mail client, from greeting to end.
 
 ghost use Rattle.std.specs.Prelude.{◌≡◌, ◌<◌, ◌+◌, ◌++◌, ◌⊎◌, ℕ, [], List, Ok, None, OnOk, IfErr, IsOk, MatchBool};
 ghost use Rattle.imap_answers.specs.Printed.{text_of_answer};
@@ -20,26 +20,28 @@ use imap_types::Octets;
 use std::alloc::Global;
 use std::sync::Wait;
 
-/// How many octets are read at once.
+/// The most octets that are read at once.
 const PIECE: usize = 65_536;
 
-/// What a conversation keeps from one piece of what is read to the next.
+/// The state of a conversation between reads.
 #[derive(Drop)]
 struct Talk {
-    /// Cuts what is read into items.
+    /// Cuts the octets that were read into items.
     framer: Framer,
     /// The tag of the session's IDLE, while it idles.
     idling: Option<Octets>,
-    /// What is said, and held back until it is written.
+    /// Answers that are held back until they are written.
     text: Vec<u8>,
 }
 
-/// Holds a conversation with a mail client: opens a session, greets, answers what the client sends, in order, until the conversation
-/// ends, and closes the session. The answers to one piece of what was read are written together, behind the last of them.
+/// Holds a conversation with a mail client: opens a session, greets, answers what the client sends,
+/// in order, until the conversation ends, and closes the session. The answers to one piece of what
+/// was read are written together, after the last of them.
 ///
-/// `ReadFailed` and `WriteFailed` only where the device failed in this call, `PeerClosed` only where the source told its end,
-/// `Logout` only behind a LOGOUT that was answered OK, `Framing`, `TooManySessions` and `Torn` only where the framer or the port said so. An
-/// answer for which there is no memory ends the conversation behind the whole answers before it.
+/// It ends in `ReadFailed` or `WriteFailed` only if the device failed in this call, in `PeerClosed`
+/// only if the source reported its end, in `Logout` only after a LOGOUT that was answered OK, and
+/// in `Framing`, `TooManySessions` or `Torn` only if the framer or the port said so. If memory runs
+/// out for an answer, the conversation ends after the whole answers before it.
 pub fn converse<R: Wait, S: Source, K: Sink, P: Port>(
     rt: &R,
     alloc: Global,
@@ -62,7 +64,8 @@ pub fn converse<R: Wait, S: Source, K: Sink, P: Port>(
     write_last(sink, &mut text, ended)
 }
 
-/// Writes what is held back and the BYE that names the end, and tells how the conversation ended: `WriteFailed` where the device failed.
+/// Writes what is held back and the BYE that names the end. Returns how the conversation ended:
+/// `WriteFailed` if the device failed.
 fn write_last<K: Sink>(sink: &mut K, text: &mut Vec<u8>, ended: Ended) -> Ended
     requires { failed_writes ended ≡ 0 → K.failures sink.old < 18446744073709551615 }
     ensures written { failed_writes ended ≡ 0 → IsWritten ended (text.old.items ++ bye_text_of ended) result (K.taken sink.old) (K.taken sink.new) }
@@ -92,7 +95,8 @@ fn write_bye<K: Sink>(sink: &mut K, bye: &[u8]) -> bool
     sink.write(bye)
 }
 
-/// Greets, and answers what the client sends, until the conversation ends; tells how it ended, and what is held back then.
+/// Greets, and answers what the client sends, until the conversation ends. Returns how it ended,
+/// and the answers still held back.
 fn hold_conversation<R: Wait, S: Source, K: Sink, P: Port>(
     rt: &R,
     alloc: Global,
@@ -170,7 +174,7 @@ fn answer_all<R: Wait, S: Source, K: Sink, P: Port>(
     unreachable!()
 }
 
-/// Answers what a piece of what was read completes.
+/// Answers the items that a piece of what was read completes.
 fn answer_piece<K: Sink, P: Port>(
     alloc: Global,
     talk: &mut Talk,

@@ -1,4 +1,4 @@
-//! The dump of a node: its operations, and what the set of them means.
+//! The dump of a node: its operations, and what they define as a set.
 
 ghost use Rattle.std.specs.Prelude.{◌≡◌, ◌++◌, ◌∷◌, [], ℕ, List, OnOk, OnErr, IfOk, codes};
 ghost use Rattle.std.specs.Fmt.{decimal};
@@ -15,11 +15,11 @@ use merge_laws::Caused;
 use std::alloc::{AllocError, Global};
 use tags_clocks::ReplicaId;
 
-/// Puts the dump of the node behind what is there: its operations, ascending by replica and number; its folders with the
-/// ids of their present folder tags and their messages; and the names that are subscribed to. `Err` where there is no memory
-/// for it, and then nothing is changed.
+/// Appends the dump of the node to `out`: its operations, ascending by replica and number; its
+/// folders with the ids of their present folder tags and their messages; and the names that are
+/// subscribed to. `Err` if memory runs out, and then `out` is as it was.
 ///
-/// It looks through all operations once for each replica that issued some of them.
+/// Cost: it looks through all operations once for each replica that issued some of them.
 pub fn write_dump(alloc: Global, node: &Node, out: &mut Vec<u8>) -> Result<(), AllocError>
     ensures ok { OnOk result ((text : List ℕ) × IsDump node.now.state.start.replica node.now.state.applied text × (out.new.items ≡ out.old.items ++ text)) }
     ensures err { OnErr result (out.new.items ≡ out.old.items) }
@@ -58,7 +58,7 @@ fn push_head(replica: ReplicaId, text: &mut Vec<u8>) -> Result<(), AllocError>
     Ok(())
 }
 
-/// The lines of the operations: each replica's, by ascending replicas.
+/// The lines of the operations, replica by replica, ascending.
 fn push_ops(
     alloc: Global,
     ops: &[SoundOp],
@@ -88,7 +88,7 @@ fn push_ops_by(
     Ok(())
 }
 
-/// The line of an operation, where it is this replica's.
+/// The line of an operation, if this replica issued it.
 fn push_own(
     alloc: Global,
     op: &SoundOp,
@@ -112,7 +112,7 @@ fn push_op(alloc: Global, op: &SoundOp, text: &mut Vec<u8>) -> Result<(), AllocE
     Ok(())
 }
 
-/// What the set of the operations defines.
+/// The lines of what the operations define as a set.
 fn push_state(alloc: Global, replica: &ReplicaState, text: &mut Vec<u8>) -> Result<(), AllocError>
     ensures { OnOk result (text.new.items ≡ text.old.items ++ state_text replica.now.applied) }
 {

@@ -15,7 +15,7 @@ pub enum Ended {
     Logout,
     /// The client sends no more.
     PeerClosed,
-    /// No session was to be had.
+    /// All sessions of the replica are in use.
     TooManySessions,
     /// The octets can't be cut any further.
     Framing(FrameFaultKind),
@@ -23,7 +23,7 @@ pub enum Ended {
     ReadFailed,
     /// A write failed.
     WriteFailed,
-    /// Memory was wanting.
+    /// Memory ran out.
     NoMemory,
     /// The replica's journal was cut, or the replica doesn't know the session.
     Torn,
@@ -40,7 +40,7 @@ pub fn ended_by(fault: PortFault) -> Ended
     }
 }
 
-/// The BYE that names the end, with its line end; nothing where there is none to tell.
+/// The BYE that names the end, with its line end; empty if the end has none.
 #[tactic(auto, unfolding(imap_answers::specs::Printed::line_of_answer))]
 pub fn bye_text(ended: Ended) -> &'static [u8]
     ensures { result.now ≡ bye_text_of ended }

@@ -1,16 +1,16 @@
-//! Why a replica gives no reply.
+//! Why a port gives no reply.
 
 /// Why a port gives no reply. The connection ends.
 #[derive(Clone, Copy, Debug, PartialEq, Eq)]
 pub enum PortFault {
-    /// As many sessions are open as may be.
+    /// As many sessions are open as are allowed.
     TooManySessions,
-    /// There was no memory for the session.
+    /// Memory ran out for the session.
     NoMemory,
-    /// There was no room in the replica's journal.
+    /// The replica's journal has no room.
     NoRoom,
     /// The replica's journal was cut.
     Torn,
-    /// The replica doesn't know the session, or it is in another state.
+    /// The replica doesn't know the session, or the session is in another state.
     PassedOver,
 }

@@ -1,4 +1,4 @@
-//! What comes to a node beside one of its sessions.
+//! What comes to a node besides the calls of one of its sessions.
 
 ghost use Rattle.std.specs.Prelude.{◌≡◌, ℕ};
 ghost use Rattle.imap_node.specs.Sessions.{IsOpen};
@@ -11,22 +11,25 @@ use imap_types::Moment;
 use std::alloc::Global;
 use std::marker::Model;
 
-/// What comes to a node beside one of its sessions: operations of other replicas, and what other sessions do.
+/// What comes to a node besides the calls of one of its sessions: operations of other replicas, and
+/// what other sessions do.
 pub trait Others {
     ghost use Rattle.imap_node.specs.Nodes.{NodeState};
 
-    /// What they do in a turn: who they are before it, the session's number, the node before it, the moment at which the session's next command
-    /// comes, the node behind it, and who they are then.
+    /// What happens in a turn of the others: their state before it, the session's number, the node
+    /// before it, the moment at which the session's next command comes, the node after it, and
+    /// their state after it.
     ghost comes: { Self → ℕ → NodeState → ℕ → NodeState → Self → Type 0 };
 
-    /// Has them take a turn at the node, beside a session that is open, and tells the moment at which the session's next command comes.
+    /// Gives the others a turn at the node, during a session that is open. Returns the moment at
+    /// which the session's next command comes.
     fn come(&mut self, alloc: Global, session: SessionNo, node: &mut Node) -> Moment
         requires { IsOpen node.old.state.sessions session }
         ensures beside { SomeOtherSteps session node.old.state node.new.state }
         ensures just { comes self.old session node.old.state result node.new.state self.new };
 }
 
-/// Nobody else, where all commands come at one moment.
+/// No others; all commands come at one moment.
 #[derive(Drop)]
 pub struct NoOthers {
     moment: Moment,
@@ -41,7 +44,7 @@ impl Model for NoOthers {
 }
 
 impl NoOthers {
-    /// Nobody else, where all commands come at this moment.
+    /// No others; all commands come at this moment.
     pub fn new(moment: Moment) -> NoOthers
         ensures { result ≡ moment }
     {
@@ -59,8 +62,8 @@ impl Others for NoOthers {
     }
 }
 
-/// Operations of other replicas, one of which is delivered in each turn, the last first, as long as there are some. All commands come at one
-/// moment.
+/// Operations of other replicas. Each turn delivers the last of those left. All commands come at
+/// one moment.
 #[derive(Drop)]
 pub struct Deliveries {
     moment: Moment,
@@ -68,7 +71,7 @@ pub struct Deliveries {
 }
 
 impl Deliveries {
-    /// These operations, where all commands come at this moment.
+    /// These operations; all commands come at this moment.
     pub fn new(moment: Moment, ops: Vec<SoundOp>) -> Deliveries
         ensures moment { result.moment ≡ moment }
         ensures ops { result.ops.items ≡ ops.items }
@@ -91,7 +94,7 @@ impl Others for Deliveries {
     }
 }
 
-/// Hands an operation to a node, which takes it, or refuses it and stays as it was.
+/// Delivers an operation to a node. If the node refuses it, it stays as it was.
 fn hand(alloc: Global, node: &mut Node, op: SoundOp)
     ensures { IsHanded node.old.state op node.new.state }
 {

@@ -1,4 +1,4 @@
-//! What a conversation stands between.
+//! The three sides of a conversation: the source and the sink of octets, and the session's port.
 
 ghost use Rattle.std.specs.Prelude.{◌≡◌, ◌≤◌, ◌<◌, ◌+◌, ℕ, List, length, take, vec_capacity, [], Bool, true, IfSome, IfNone, MatchBool, MatchOption, Option, Result};
 ghost use Rattle.imap_connection.specs.Devices.{Gave, TookSome};
@@ -9,18 +9,19 @@ use imap_node::Reply;
 use imap_syntax::{IdleLine, Tagged};
 use std::alloc::Global;
 
-/// What octets come from.
+/// A source of octets.
 pub trait Source {
-    /// The octets that are left, where they are known.
+    /// The octets that are left, if they are known.
     ghost left: { Self → Option (List ℕ) };
 
     /// How many reads failed.
     ghost failures: { Self → ℕ };
 
-    /// It told its end.
+    /// Whether it reported its end.
     ghost is_ended: { Self → Bool };
 
-    /// Puts some octets at the beginning of the piece and tells how many: none at the end. `None` where the device failed.
+    /// Puts some octets at the start of `piece` and returns how many: 0 at the end. `None` if the
+    /// device failed.
     fn read(&mut self, piece: &mut [u8]) -> Option<usize>
         requires room { 0 < length piece.old }
         requires count { failures self.old < 18446744073709551615 }
@@ -31,15 +32,15 @@ pub trait Source {
         ensures failed { MatchOption result (failures self.new ≡ failures self.old + 1) (λ n. failures self.new ≡ failures self.old) };
 }
 
-/// What octets go to.
+/// A sink of octets.
 pub trait Sink {
-    /// The octets that it took, where they are known.
+    /// The octets that it took, if they are known.
     ghost taken: { Self → Option (List ℕ) };
 
     /// How many writes failed.
     ghost failures: { Self → ℕ };
 
-    /// Writes all octets; false where the device failed behind some of them.
+    /// Writes all octets; `false` if the device failed after some of them.
     fn write(&mut self, octets: &[u8]) -> bool
         requires { failures self.old < 18446744073709551615 }
         ensures octets { TookSome result (taken self.old) octets.now (taken self.new) }
@@ -54,16 +55,16 @@ pub trait Port {
     ghost use Rattle.imap_connection.specs.Batches.{Carries, are_brief};
     ghost use Rattle.imap_connection.specs.declared.fault.PortFault.{PortFault};
 
-    /// What the beginning of a session makes of the port.
+    /// The port before and after its session is opened.
     ghost opens: { Self → Result Login PortFault → Self → Type 0 };
 
-    /// What a command or a line of IDLE makes of it.
+    /// The port before and after a command or a line of IDLE.
     ghost steps: { Self → PortCall → Result Reply PortFault → Self → Type 0 };
 
-    /// What the end makes of it.
+    /// The port before and after its session is closed.
     ghost closes: { Self → Self → Type 0 };
 
-    /// Begins the session, and tells whether the user is known.
+    /// Opens the session, and says whether the user is known.
     fn open(&mut self, alloc: Global) -> Result<Login, PortFault>
         ensures { opens self.old result self.new };
 
@@ -71,8 +72,9 @@ pub trait Port {
     fn command(&mut self, alloc: Global, tagged: Tagged) -> Result<Reply, PortFault>
         ensures { steps self.old (Command tagged) result self.new };
 
-    /// Gives the session brief commands, one behind another, and notes what it replies to each, for which there is room. A fault is that of the first without a reply, and
-    /// none behind it is given.
+    /// Gives the session brief commands, one after another, and appends its reply to each to
+    /// `replies`, which has room for them. A fault belongs to the first command without a reply; no
+    /// command after that one is given.
     fn commands(
         &mut self,
         alloc: Global,
@@ -98,7 +100,7 @@ pub trait Port {
     fn done(&mut self, alloc: Global, line: IdleLine) -> Result<Reply, PortFault>
         ensures { steps self.old (Line line) result self.new };
 
-    /// Ends the session.
+    /// Closes the session.
     fn close(&mut self, alloc: Global)
         ensures { closes self.old self.new };
 }

@@ -1,5 +1,6 @@
-//! What a conversation is, whatever the pieces in which its octets come: laws over `specs/Streams.antt`, each the contract of a
-//! function that does nothing; and that a replica has one dump (`specs/Dumps.antt`).
+//! Laws of conversations, whatever the pieces in which their octets come (`specs/Streams.antt`),
+//! and that a replica has one dump (`specs/Dumps.antt`). Each is the contract of a function that
+//! does nothing.
 
 ghost use Rattle.std.specs.Prelude.{◌≡◌, ℕ, List, ◌++◌, ◌∷◌, [], Some, Result, Ok, Err};
 ghost use Rattle.crdt_ops.specs.declared.op.Op.{Op};
@@ -20,9 +21,10 @@ ghost use Rattle.imap_connection.specs.declared.turn.TalkFaultKind.TheVariants.{
 ghost use Rattle.imap_connection.specs.declared.turn.TalkFaultKind.{TalkFaultKind};
 ghost use Rattle.imap_connection.specs.declared.turn.Turn.{Turn};
 
-/// It doesn't matter how the octets of a connection were cut into pieces: what calls of `talk` make of them, the last of which
-/// may have ended the session by a LOGOUT, is the conversation over the items of all these octets. Each item comes at the moment of the
-/// piece that completes it.
+/// It doesn't matter how the octets of a connection were cut into pieces: the turns of the calls of
+/// `talk` on them, the last of which may have ended the session by a LOGOUT, are the conversation
+/// over the items of all these octets. Each item comes at the moment of the piece that completes
+/// it.
 pub fn pieces_are_one_stream()
     ensures going { (run : Run Piece) → IsRun run → Converses run.old run.session (cut_in run).0 run.turns run.new × (run.after ≡ (cut_in run).1) }
     ensures last { (run : Run Piece) (call : Call) → IsRun run → IsCallAfter run call → Converses run.old run.session (cut_with run call).0 (run.turns ++ call.turns) call.new }
@@ -30,9 +32,10 @@ pub fn pieces_are_one_stream()
         → items_without_moments (items_of limits state pieces) ≡ (cut_onward limits state (octets_in pieces)).0 }
 {}
 
-/// A connection whose octets are these commands, lines, refused fronts and this rest, in whatever pieces they came, has the
-/// conversation over just these, each at the moment of the piece that completes it: each is answered in its order, and nothing else is.
-/// The last piece may have ended the session by a LOGOUT.
+/// A connection whose octets are these commands, lines, refused command beginnings and this rest,
+/// in whatever pieces they came, has the conversation over exactly these, each at the moment of the
+/// piece that completes it: each is answered in its order, and nothing else is. The last piece may
+/// have ended the session by a LOGOUT.
 pub fn commands_are_answered()
     ensures going { (run : Run Piece) (items : List Item) (rest : List ℕ) → run.before ≡ Ok start → IsRun run
         → AreFrames run.limits (octets_in run.pieces) items rest
@@ -42,10 +45,11 @@ pub fn commands_are_answered()
         → Converses run.old run.session (cut_with run call).0 (run.turns ++ call.turns) call.new × (items_without_moments (cut_with run call).0 ≡ items) }
 {}
 
-/// It doesn't matter in which pieces the octets came of a connection that a fault of the framer or want of memory ends: the
-/// whole ends as its last piece does, for the same reason and with the same node, behind the turns of the pieces before it.
-/// And where the octets from the first on fail at an octet for a reason that a BYE tells, the turns are the conversation over
-/// just the items before that octet, and that BYE as the last; the session, which was going on until then, is closed.
+/// If a fault of the framer, or memory running out, ends a connection, it doesn't matter in which
+/// pieces the octets came: the whole ends as its last piece does, for the same reason and with the
+/// same node, after the turns of the pieces before it. If the octets from the first on fail at an
+/// octet for a reason that a BYE names, the turns are the conversation over exactly the items
+/// before that octet, and that BYE as the last; the session, which was open until then, is closed.
 pub fn faults_end_the_stream()
     ensures ends { (run : Run Piece) (call : Call) (why : TalkFaultKind) → IsRun run → EndsAfter why run call
         → EndsTalk why run.old run.session run.before (cut_with run call) (run.turns ++ call.turns) call.new }
@@ -56,12 +60,14 @@ pub fn faults_end_the_stream()
         × IsGoing last run.session × (run.turns ++ call.turns ≡ before ++ turns_of_answers (bye ∷ [])) × (call.new ≡ with_session_closed last run.session) }
 {}
 
-/// Operations of other replicas may come to the node between the pieces of a session's input, and other sessions be opened, send
-/// commands and lines, be polled and be closed: what calls of `talk` make of the pieces is the conversation over the items that each piece
-/// completes, answered from the node to which the piece came. All these items are those of all octets: where the octets are these
-/// commands, lines, refused fronts and this rest, they are just these. Where a fault of the framer that is told by a BYE ends the
-/// connection, the octets do end in that fault, and the turns are that conversation over the items before it, and the BYE as the
-/// last; the session, which was going on until then, is closed.
+/// Operations of other replicas may come to the node between the pieces of a session's input, and
+/// other sessions may be opened, send commands and lines, be polled and be closed: the turns of the
+/// calls of `talk` on the pieces are the conversation over the items that each piece completes,
+/// answered from the node to which the piece came. All these items are those of all octets: if the
+/// octets are these commands, lines, refused command beginnings and this rest, they are exactly
+/// these. If a fault of the framer that a BYE names ends the connection, the octets do end in that
+/// fault, and the turns are that conversation over the items before it, and the BYE as the last;
+/// the session, which was open until then, is closed.
 pub fn others_come_between()
     ensures going { (run : Run PieceAt) → IsRunBetweenOthers run
         → ConversesBetweenOthers run.old run.session (items_at_each run.limits run.before run.pieces) run.turns run.new
@@ -84,8 +90,8 @@ pub fn one_dump()
     ensures { (replica : ℕ) (applied : List Op) (text other : List ℕ) → IsDump replica applied text → IsDump replica applied other → text ≡ other }
 {}
 
-/// A frame that spells no command, and a front that is refused for its literal, are answered by an answer that can be printed, so that the
-/// reader of answers finds it again.
+/// A frame that spells no command, and a command beginning that is refused for its literal, get an
+/// answer that can be printed, so that the reader of answers reads it back.
 pub fn faults_can_be_printed()
     ensures faults { (frame : List ℕ) (answer : Answer) → IsFaultAnswer frame answer → IsPrintable answer }
     ensures literals { (front : List ℕ) (answer : Answer) → IsLiteralAnswer front answer → IsPrintable answer }

@@ -1,11 +1,12 @@
-//! Sources and sinks in memory, which fail where they are told to.
+//! Sources and sinks in memory that fail at a given point, for tests.
 
 ghost use Rattle.std.specs.Prelude.{◌≡◌, ℕ, List, Some, Bool};
 ghost use Rattle.imap_connection.specs.Devices.{Puts};
 
 use crate::io_traits::{Sink, Source};
 
-/// Octets in memory, given in pieces of at most so many; a read by its number fails, and those behind it.
+/// Octets in memory, read in pieces of limited length. After a given number of reads, all further
+/// reads fail.
 #[derive(Drop)]
 pub struct MemorySource<'a> {
     rest: &'a [u8],
@@ -16,7 +17,8 @@ pub struct MemorySource<'a> {
 }
 
 impl<'a> MemorySource<'a> {
-    /// These octets, in pieces of at most `most`, and of one octet at least. So many reads are answered, and those behind them fail.
+    /// The octets `rest`, in pieces of at most `most` octets, and of one at least. The first
+    /// `reads` reads succeed, the rest fail.
     pub fn new(rest: &'a [u8], most: usize, reads: u64) -> MemorySource<'a>
         ensures rest { result.rest.now ≡ rest.now }
         ensures failed { result.failed ≡ 0 }
@@ -64,7 +66,8 @@ impl<'a> Source for MemorySource<'a> {
     }
 }
 
-/// What was written, in memory, up to so many octets: the write that passes them fails, and those behind it. Each write goes octet by octet.
+/// What was written, in memory, up to a limit: a write that would pass it fails, and so do all
+/// after it. Each write goes octet by octet.
 #[derive(Drop)]
 pub struct MemorySink {
     octets: Vec<u8>,
@@ -73,7 +76,7 @@ pub struct MemorySink {
 }
 
 impl MemorySink {
-    /// Nothing so far, with room for so many octets.
+    /// A sink that appends to `octets`, with room for `room` further octets.
     pub fn new(octets: Vec<u8>, room: u64) -> MemorySink
         ensures octets { result.octets.items ≡ octets.items }
         ensures failed { result.failed ≡ 0 }
@@ -85,14 +88,14 @@ impl MemorySink {
         }
     }
 
-    /// All of it.
+    /// All octets, including those that it began with.
     pub fn octets(&self) -> &[u8]
         ensures { result.now ≡ self.now.octets.items }
     {
         &self.octets
     }
 
-    /// All of it, with its memory.
+    /// All octets, with their memory.
     pub fn into_octets(self) -> Vec<u8>
         ensures { result.items ≡ self.octets.items }
     {
@@ -111,7 +114,7 @@ impl MemorySink {
         self.failed
     }
 
-    /// Takes one octet; false where there is no room or no memory for it.
+    /// Takes one octet; `false` if it has no room, or memory runs out.
     fn put(&mut self, octet: u8) -> bool
         ensures taken { Puts result self.old.octets.items octet self.new.octets.items }
         ensures failed { self.new.failed ≡ self.old.failed }

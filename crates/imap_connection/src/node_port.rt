@@ -14,7 +14,7 @@ use imap_syntax::{IdleLine, Tagged};
 use std::alloc::Global;
 use std::marker::Model;
 
-/// One session of a node, to which others come before each of the session's calls.
+/// One session of a node; others come to the node before each of the session's calls.
 #[derive(Drop)]
 pub struct NodePort<O: Others> {
     node: Node,
@@ -32,7 +32,8 @@ impl<O: Others> Model for NodePort<O> {
 }
 
 impl<O: Others> NodePort<O> {
-    /// A session that is to be opened at this node, once, for a user who becomes known so, and the others who come to the node.
+    /// A session that can be opened at this node once, for a user who becomes known by `auth`, and
+    /// the others who come to the node.
     pub fn new(node: Node, auth: Auth, others: O) -> NodePort<O>
         ensures { result ≡ record { node = node.state; auth = Some auth; session = None; others = others } }
     {
@@ -51,7 +52,7 @@ impl<O: Others> NodePort<O> {
         &self.node
     }
 
-    /// The session, where it is open.
+    /// The session, if it is open.
     fn open_session(&self) -> Option<SessionNo>
         ensures some { IfSome result (λ n. (self.now.session ≡ Some n) × IsOpen self.now.node.sessions n) }
         ensures none { IfNone result (IsAway self.now) }
@@ -63,7 +64,7 @@ impl<O: Others> NodePort<O> {
         Some(session)
     }
 
-    /// Gives the session, where it is open, a command behind what others do at the node.
+    /// Gives the session, if it is open, a command after what others do at the node.
     fn give_command(&mut self, alloc: Global, tagged: Tagged) -> Result<Reply, PortFault>
         ensures { NodeSteps O.comes self.old (Command tagged) result self.new }
     {

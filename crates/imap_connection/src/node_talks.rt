@@ -1,4 +1,5 @@
-//! What a conversation over a node's port is: a law over `specs/NodeTalks.antt`, the contract of a function that does nothing.
+//! The law of a conversation over a node's port (`specs/NodeTalks.antt`): the contract of a
+//! function that does nothing.
 
 ghost use Rattle.std.specs.Prelude.{◌≡◌, ◌++◌, ℕ, List, Bool, Some};
 ghost use Rattle.imap_lex.specs.declared.limits.Limits.{Limits};
@@ -10,10 +11,13 @@ ghost use Rattle.imap_connection.specs.declared.end_of_conversation.Ended.{Ended
 
 use crate::interleaving::Others;
 
-/// What `converse` promises over the port of a node to which others come between its calls, where the conversation ends behind all that the client sent, or
-/// behind a LOGOUT, and the source and the sink tell their octets: the octets read are answered by the node's own conversation (`talk`) over the items
-/// that they give, each from the node and at the moment to which it came, whatever operations of other replicas and other sessions came between; and what was
-/// written is the greeting, what the turns of that conversation send, and the BYE of the end. The session is closed then.
+/// What `converse` promises over the port of a node to which others come between its calls, if the
+/// conversation ends after all that the client sent, or after a LOGOUT, and the octets of the
+/// source and the sink are known. The octets read are answered by the node's own conversation
+/// (`talk`) over the items that they give, each from the node and at the moment to which it came,
+/// whatever operations of other replicas and other sessions came between. What was written is the
+/// greeting, what the turns of that conversation send, and the BYE of the end. The session is
+/// closed then.
 pub fn nodes_converse<O: Others>()
     ensures { (old new : NodeSession O) (limits : Limits) (left rest before after : List ℕ) (at_end : Bool) (ended : Ended) → IsWhole ended
         → Talked NodeOpens (NodeSteps O.comes) (NodeCloses O.comes) old new limits (Some left) (Some rest) at_end (Some before) (Some after) ended

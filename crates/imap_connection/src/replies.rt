@@ -1,4 +1,4 @@
-//! What a node's reply says.
+//! What a node's reply says of its input.
 
 ghost use Rattle.std.specs.Prelude.{◌≡◌};
 ghost use Rattle.imap_connection.specs.Replies.{is_without_memory};
@@ -6,7 +6,7 @@ ghost use Rattle.imap_connection.specs.Replies.{is_without_memory};
 use imap_answers::Refusal;
 use imap_node::Reply;
 
-/// Whether the input was refused for want of memory.
+/// Whether the input was refused because memory ran out.
 pub fn is_without_memory(reply: &Reply) -> bool
     ensures { result ≡ is_without_memory reply.now }
 {

@@ -1,4 +1,5 @@
-//! What an item of the framer is to a session: a command, a line of IDLE, or what is told at once.
+//! What an item of the framer is to a session: a command, a line of IDLE, or an item that is
+//! answered at once.
 
 ghost use Rattle.std.specs.Prelude.{◌≡◌, IfOk, None};
 ghost use Rattle.std.specs.Option.{option_copied};
@@ -15,7 +16,8 @@ use std::alloc::{AllocError, Global};
 /// What an item of the framer is to a session.
 #[derive(Drop)]
 pub enum Request {
-    /// Told at once: the leave to go on with a literal, or the answer to a fault.
+    /// An item that is answered at once: by the leave to continue with a literal, or by the answer
+    /// to a fault.
     Told(Answer),
     /// A command of a session that doesn't idle.
     Command(Tagged),
@@ -23,12 +25,13 @@ pub enum Request {
     Line {
         /// The tag of the IDLE.
         tag: Octets,
-        /// What the line is.
+        /// The line.
         line: IdleLine,
     },
 }
 
-/// What an item is to a session that idles with this tag, or doesn't; `Err` where there is no memory for it.
+/// What an item is to a session that idles with this tag, or doesn't idle; `Err` if memory runs
+/// out.
 pub fn request_of(
     alloc: Global,
     idling: Option<&Octets>,
@@ -77,7 +80,7 @@ fn refused_request(
     }
 }
 
-/// What a frame of a session that doesn't idle is to it.
+/// What a frame is to a session that doesn't idle; `Err` if memory runs out.
 fn parsed_request(alloc: Global, octets: &[u8]) -> Result<Request, AllocError>
     ensures { IfOk result (IsRequest None (FrameItem octets.now)) }
 {
@@ -87,7 +90,7 @@ fn parsed_request(alloc: Global, octets: &[u8]) -> Result<Request, AllocError>
     }
 }
 
-/// The answer to a frame with this fault.
+/// The answer to a frame with this fault; `Err` if memory runs out.
 fn fault_answer(alloc: Global, octets: &[u8], why: ParseFault) -> Result<Answer, AllocError>
     ensures { IfOk result (AnswersFault why octets.now) }
 {
@@ -111,7 +114,8 @@ fn refusal_of_fault(why: ParseFault) -> Refusal
     }
 }
 
-/// The answer to the front of a command that is refused for its literal.
+/// The answer to the beginning of a command that is refused for its literal; `Err` if memory runs
+/// out.
 fn literal_answer(alloc: Global, front: &[u8]) -> Result<Answer, AllocError>
     ensures { IfOk result (IsLiteralAnswer front.now) }
 {

@@ -1,4 +1,4 @@
-//! One item of the framer: what the port is asked, and what is answered.
+//! What `converse` does with one item of the framer: the calls of the port, and the answers.
 
 ghost use Rattle.std.specs.Prelude.{◌≡◌, ◌++◌, ◌∷◌, [], true, false, Some, None, List, ℕ, Option, OnOk, IfErr, if◌then◌else◌};
 ghost use Rattle.imap_answers.specs.declared.answer.Answer.{Answer};
@@ -24,8 +24,9 @@ use imap_syntax::{Command, IdleLine, Tagged};
 use imap_types::Octets;
 use std::alloc::Global;
 
-/// Takes an item of a session that idles with this tag, or doesn't: a brief command waits behind those in front of it; anything else is asked of the port behind these, and
-/// their answers are added. `Err` where the conversation ends.
+/// Takes an item of a session that idles with this tag, or doesn't idle. A brief command joins the
+/// batch. For anything else the batch is given to the port first, then the request, and the answers
+/// are added. `Err` if the conversation ends.
 pub fn take_item<P: Port>(
     alloc: Global,
     port: &mut P,
@@ -61,9 +62,9 @@ pub fn take_item<P: Port>(
     }
 }
 
-/// When a request is asked of the port.
+/// When a request is given to the port.
 enum Asking {
-    /// With others behind it: a brief command.
+    /// With the batch: a brief command.
     Later(Tagged),
     /// At once.
     Now(Request),
@@ -102,7 +103,7 @@ fn take_request<P: Port>(
     }
 }
 
-/// Adds an answer; `NoMemory`, and no change, where there is no memory for it.
+/// Adds an answer; `NoMemory`, and no change, if memory runs out.
 fn tell_answer(answer: Answer, text: &mut Vec<u8>) -> Result<(), Ended>
     ensures ok { OnOk result (text.new.items ≡ text.old.items ++ texts (answer ∷ [])) }
     ensures err { IfErr result (λ ended. (ended ≡ NoMemory) × (text.new.items ≡ text.old.items)) }
@@ -127,7 +128,7 @@ fn take_command<P: Port>(
     ensures err { IfErr result (λ ended. (given : List Answer) × Fails P.steps port.old idling.old (requests.Command tagged) ended given port.new × (text.new.items ≡ text.old.items ++ texts given)) }
     ensures devices { IfErr result (λ ended. (failed_reads ended ≡ 0) × (failed_writes ended ≡ 0)) }
 {
-    // The command is given away, and its tag is wanted behind it.
+    // The command moves into the call, and its tag is needed after it.
     let Ok(tag) = tagged.tag.copy(alloc) else {
         drop(tagged);
         return Err(Ended::NoMemory);
@@ -169,7 +170,8 @@ fn is_done(reply: &Reply) -> bool
     matches!(reply, Reply::Done { .. })
 }
 
-/// How a conversation goes on behind a command that was answered: in an IDLE with this tag, to its end, or neither.
+/// What follows a command that was answered: the IDLE with this tag, the end of the conversation,
+/// or neither.
 fn go_on(idles: bool, leaves: bool, tag: Octets, idling: &mut Option<Octets>) -> Result<(), Ended>
     ensures idling { idling.new ≡ (if idles then Some tag else None) }
     ensures ok { OnOk result (leaves ≡ false) }

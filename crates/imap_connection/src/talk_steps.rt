@@ -1,4 +1,4 @@
-//! A connection's input, piece by piece, and the turns that it makes.
+//! A connection's input, piece by piece, and its turns.
 
 ghost use Rattle.std.specs.Prelude.{◌≡◌, ◌++◌, ◌⊎◌, ◌∷◌, [], ◌↔◌, List, Ok, Err, IsErr, IfOk, IfErr, OnOk, IsTrue};
 ghost use Rattle.std.specs.Option.{option_copied};
@@ -26,13 +26,16 @@ use imap_node::{Node, Reply, SessionNo, State};
 use imap_types::{Moment, Octets};
 use std::alloc::Global;
 
-/// Takes the next octets of a connection, which came at this moment, and gives the turns that they make: the commands and lines that
-/// came, each in front of the answers to it. What stands behind a LOGOUT that was answered OK is dropped, and the session is closed.
+/// Takes the next octets of a connection, which came at this moment, and returns their turns: the
+/// commands and lines that came, each before the answers to it. Input after a LOGOUT that was
+/// answered OK is dropped, and the session is closed.
 ///
-/// An error closes the session too, and the node is that after the whole commands so far. `Framing` says which fault of the
-/// framer ends the conversation; the turns before it are given, with the BYE behind `LineTooLong`, `LiteralTooLong` and
-/// `NulByte`. Behind `Framing` the framer has failed for good: each later `feed` of it fails. `LineRefused` says that a line of IDLE was
-/// refused for want of memory; the turns before it are given, with it and a BYE. `NoMemory` says that a turn found no memory.
+/// An error closes the session too, and leaves the node as it is after the whole commands so far.
+/// `Framing` says which fault of the framer ends the conversation; the turns before it are
+/// returned, with the BYE after `LineTooLong`, `LiteralTooLong` and `NulByte`. After `Framing` the
+/// framer has failed for good: each later `feed` of it fails. `LineRefused` says that a line of
+/// IDLE was refused because memory ran out; the turns before it are returned, with the line and a
+/// BYE. `NoMemory` says that memory ran out for a turn.
 pub fn talk(
     alloc: Global,
     node: &mut Node,
@@ -68,8 +71,9 @@ pub fn talk(
     }
 }
 
-/// Polls a session, which idles: gives the answers that tell it what changed (RFC 2177, section 3), as turns; none where the node refuses
-/// the poll. An error, which is `NoMemory`, closes the session: an answer found no memory; the turns before it are given.
+/// Polls a session that idles. Returns the answers that send it what has changed (RFC 2177, section
+/// 3), as turns; none if the node refuses the poll. The only error, `NoMemory`, says that memory
+/// ran out for an answer; it closes the session and returns the turns before that answer.
 pub fn poll_turns(
     alloc: Global,
     node: &mut Node,
@@ -93,8 +97,8 @@ pub fn poll_turns(
     }
 }
 
-/// Takes items in their order, up to a LOGOUT answered OK, behind which the session is closed. It is closed too where
-/// the turns break off.
+/// Takes items in their order, up to a LOGOUT answered OK, after which the session is closed. An
+/// error closes it too.
 fn take_all(
     alloc: Global,
     node: &mut Node,
@@ -120,7 +124,7 @@ fn take_all(
     Ok(())
 }
 
-/// Takes one item: shows what came of the client, and adds the answers.
+/// Takes one item: shows what the client sent, and adds the answers.
 fn take_item(
     alloc: Global,
     node: &mut Node,
@@ -153,7 +157,7 @@ fn tag_of_idling(node: &Node, session: SessionNo) -> Option<&Octets>
     }
 }
 
-/// Adds one answer; `NoMemory`, and no change, where there is no memory for it.
+/// Adds one answer; `NoMemory`, and no change, if memory runs out.
 fn send_one(alloc: Global, turns: &mut Vec<Turn>, answer: Answer) -> Result<(), TalkFaultKind>
     ensures ok { OnOk result (turns.new.items ≡ turns.old.items ++ turns_of_answers (answer ∷ [])) }
     ensures err { IfErr result (λ why. (why ≡ kinds.NoMemory) × (turns.new.items ≡ turns.old.items)) }
@@ -166,7 +170,7 @@ fn send_one(alloc: Global, turns: &mut Vec<Turn>, answer: Answer) -> Result<(), 
     }
 }
 
-/// Carries out what the node is asked, and adds the answers.
+/// Carries out a request, and adds the answers.
 fn take_request(
     alloc: Global,
     node: &mut Node,
@@ -201,7 +205,7 @@ fn take_command(
     ensures err { IfErr result (λ why. (front : List Turn) × (turns.new.items ≡ turns.old.items ++ front) × Fails why node.old.state session moment (CommandRequest tagged) front node.new.state) }
     ensures open { IsGoing node.new.state session ⊎ HasLoggedOut node.new.state session }
 {
-    // The command is given away, and the answer to a refused one bears its tag.
+    // The command moves into the call, and the answer to a refused one bears its tag.
     let Ok(tag) = tagged.tag.copy(alloc) else {
         return Err(TalkFaultKind::NoMemory);
     };
@@ -212,7 +216,8 @@ fn take_command(
     }
 }
 
-/// Takes a line of a session that idles, whose IDLE has this tag, and adds the answers; a BYE where it is refused for want of memory.
+/// Takes a line of a session that idles, whose IDLE has this tag, and adds the answers; a BYE if it
+/// is refused because memory ran out.
 fn take_line(
     alloc: Global,
     node: &mut Node,
@@ -237,7 +242,7 @@ fn take_line(
     }
 }
 
-/// Adds the BYE for a line of IDLE that was refused, and says how the conversation ends.
+/// Adds the BYE for a line of IDLE that was refused. Returns how the conversation ends.
 fn refuse_line(alloc: Global, turns: &mut Vec<Turn>) -> TalkFaultKind
     ensures { EndsAtRefusedLine result turns.old.items turns.new.items }
 {
@@ -250,7 +255,7 @@ fn refuse_line(alloc: Global, turns: &mut Vec<Turn>) -> TalkFaultKind
     }
 }
 
-/// Adds the BYE that a fault of the framer asks for, and says how the conversation ends.
+/// Adds the BYE that a fault of the framer calls for, if any. Returns how the conversation ends.
 fn say_goodbye(alloc: Global, why: FrameFaultKind, turns: &mut Vec<Turn>) -> TalkFaultKind
     ensures { EndsWithBye why result turns.old.items turns.new.items }
 {
@@ -265,8 +270,8 @@ fn say_goodbye(alloc: Global, why: FrameFaultKind, turns: &mut Vec<Turn>) -> Tal
     }
 }
 
-/// The BYE that ends a connection for this fault of the framer; none where memory ran out, and where the framer had failed
-/// before.
+/// The BYE that ends a connection for this fault of the framer; `None` if memory ran out or the
+/// framer had failed before.
 fn goodbye(why: FrameFaultKind) -> Option<Answer>
     ensures { result ≡ bye_of why }
 {

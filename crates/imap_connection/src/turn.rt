@@ -1,4 +1,4 @@
-//! What a conversation shows, and how it ends.
+//! The turns of a conversation, and the faults that end it.
 
 ghost use Rattle.std.specs.Prelude.{◌≡◌};
 
@@ -9,9 +9,10 @@ use std::alloc::AllocError;
 /// One turn of a conversation.
 #[derive(Drop)]
 pub enum Turn {
-    /// A whole command or line that came, or the front of one that was refused for its literal.
+    /// A whole command or line that came, or the beginning of a command that was refused for its
+    /// literal.
     Got(Octets),
-    /// One answer that goes out, with its CRLF.
+    /// One answer that is sent, with its CRLF.
     Sent(Octets),
 }
 
@@ -20,9 +21,9 @@ pub enum Turn {
 pub enum TalkFaultKind {
     /// The octets can't be cut any further.
     Framing(FrameFaultKind),
-    /// There was no memory for a turn.
+    /// Memory ran out for a turn.
     NoMemory,
-    /// A line of IDLE was refused for want of memory.
+    /// A line of IDLE was refused because memory ran out.
     LineRefused,
 }
 
@@ -39,7 +40,8 @@ impl From<AllocError> for TalkFaultKind {
 /// The end of a conversation, with the turns before it.
 #[derive(Drop)]
 pub struct TalkFault {
-    /// The turns before the fault; behind `LineTooLong`, `LiteralTooLong`, `NulByte` and `LineRefused` the BYE too.
+    /// The turns before the fault, with the BYE after `LineTooLong`, `LiteralTooLong`, `NulByte`
+    /// and `LineRefused`.
     pub turns: Vec<Turn>,
     /// Which fault.
     pub why: TalkFaultKind,

@@ -1,4 +1,4 @@
-//! Turns: what came of a client, and the answers to it, as octets.
+//! What a client sent, and the answers to it, as turns.
 
 ghost use Rattle.std.specs.Prelude.{◌≡◌, ◌++◌, ◌∷◌, [], List, OnOk, OnErr};
 ghost use Rattle.imap_connection.specs.Conversation.{IsPrefixOf, turns_of_item, turns_of_answers, turn_of_answer};
@@ -14,7 +14,7 @@ use imap_print::print;
 use imap_types::Octets;
 use std::alloc::{AllocError, Global};
 
-/// Adds what an item shows of the client; `Err`, and no change, where there is no memory for it.
+/// Adds what an item shows of the client; `Err`, and no change, if memory runs out.
 pub fn show(alloc: Global, turns: &mut Vec<Turn>, item: &Item) -> Result<(), AllocError>
     ensures ok { OnOk result (turns.new.items ≡ turns.old.items ++ turns_of_item item.now) }
     ensures err { OnErr result (turns.new.items ≡ turns.old.items) }
@@ -35,7 +35,7 @@ fn show_octets(alloc: Global, turns: &mut Vec<Turn>, octets: &[u8]) -> Result<()
     Ok(())
 }
 
-/// Adds one answer to the turns; `Err`, and no change, where there is no memory for it.
+/// Adds one answer to the turns; `Err`, and no change, if memory runs out.
 pub fn send(alloc: Global, turns: &mut Vec<Turn>, answer: &Answer) -> Result<(), AllocError>
     ensures ok { OnOk result (turns.new.items ≡ turns.old.items ++ turn_of_answer answer.now ∷ []) }
     ensures err { OnErr result (turns.new.items ≡ turns.old.items) }
@@ -46,7 +46,7 @@ pub fn send(alloc: Global, turns: &mut Vec<Turn>, answer: &Answer) -> Result<(),
     Ok(())
 }
 
-/// Adds answers to the turns; `Err` behind some of them, where there is no memory for the next.
+/// Adds answers to the turns. `Err` if memory runs out; then some of the first answers were added.
 pub fn send_all(alloc: Global, turns: &mut Vec<Turn>, answers: &[Answer]) -> Result<(), AllocError>
     ensures ok { OnOk result (turns.new.items ≡ turns.old.items ++ turns_of_answers answers.now) }
     ensures err { OnErr result ((front : List Turn) × (turns.new.items ≡ turns.old.items ++ front) × IsPrefixOf front (turns_of_answers answers.now)) }
@@ -57,7 +57,8 @@ pub fn send_all(alloc: Global, turns: &mut Vec<Turn>, answers: &[Answer]) -> Res
     Ok(())
 }
 
-/// Adds the answers of a reply to the command or the IDLE with this tag; `Err` behind some of them, where there is no memory for the next.
+/// Adds the answers of a reply to the command or the IDLE with this tag. `Err` if memory runs out;
+/// then some of the first answers were added.
 pub fn send_reply(
     alloc: Global,
     turns: &mut Vec<Turn>,
@@ -73,7 +74,8 @@ pub fn send_reply(
     }
 }
 
-/// Adds the answers to a refused input; `Err` behind some of them, where there is no memory for the next.
+/// Adds the answers to a refused input. `Err` if memory runs out; then some of the first answers
+/// were added.
 fn send_refusal(
     alloc: Global,
     turns: &mut Vec<Turn>,
@@ -100,7 +102,8 @@ fn send_refusal(
     )
 }
 
-/// Adds the answers of a reply to a poll, none where it was refused; `Err` behind some of them, where there is no memory for the next.
+/// Adds the answers of a reply to a poll; none if it was refused. `Err` if memory runs out; then
+/// some of the first answers were added.
 pub fn send_polled(alloc: Global, turns: &mut Vec<Turn>, reply: Reply) -> Result<(), AllocError>
     ensures ok { OnOk result (turns.new.items ≡ turns.old.items ++ turns_of_answers (polled_answers reply)) }
     ensures err { OnErr result ((front : List Turn) × (turns.new.items ≡ turns.old.items ++ front) × IsPrefixOf front (turns_of_answers (polled_answers reply))) }

@@ -1,4 +1,4 @@
-//! A reader or a writer of std as a source or a sink.
+//! Readers and writers of std as sources and sinks.
 
 ghost use Rattle.std.specs.Prelude.{◌≡◌, ◌≤◌, ℕ, None, Bool, length, take};
 ghost use Rattle.std.specs.Io.KnownBytes.{Appends};
@@ -6,11 +6,12 @@ ghost use Rattle.std.specs.Io.KnownBytes.{Appends};
 use crate::io_traits::{Sink, Source};
 use std::io::{ErrorKind, Read, Write};
 
-/// So often a read is tried, where the device says each time that it was interrupted.
+/// The most times that a read is tried while the device says that it was interrupted.
 const MAX_READS: u32 = 1_000_000;
 
-/// A device with the count of its failures. A read or write that was interrupted is tried again, and is no failure. Nothing is known of the octets that are read; those
-/// written are what the device took, where its octets are known.
+/// A device with the count of its failures. A read or write that was interrupted is tried again,
+/// and counts as no failure. The octets read are unknown; those written are what the device took,
+/// if its octets are known.
 #[derive(Drop)]
 pub struct Wire<T> {
     device: T,
@@ -81,7 +82,7 @@ impl<T: Write> Sink for Wire<T> {
     }
 }
 
-/// Writes the octets, and tells how many the device took: all, or those before it failed.
+/// Writes the octets. Returns how many the device took: all, or those before it failed.
 fn send<T: Write>(device: &mut T, octets: &[u8]) -> usize
     ensures bound { result ≤ length octets.now }
     ensures taken { Appends (T.contents device.old) (T.contents device.new) (take result octets.now) }

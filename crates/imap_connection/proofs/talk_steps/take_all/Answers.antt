@@ -5,7 +5,7 @@ use Rattle.imap_connection.specs.Conversation.{BreaksOff, Converses, items_at}
 use Rattle.imap_connection.proofs.TurnLemmas.{Underway, underway_on, underway_done, underway_out, underway_broken}
 use Rattle.imap_connection.proofs.talk_steps.take_all.Goals as goal
 
--- what is left begins with the item at hand
+-- the rest of the items begins with the current one
 next_item : (items : List Item) (i : ℕ) (item : Item) → i < length items → item ≡ get_or items i item → drop i items ≡ item ∷ drop (i + 1) items
 next_item items i item h e = rw add-one (drop-cons items i item h ∙ ap (λ x. x ∷ drop (suc i) items) (sym e))
 
