@@ -1,3 +1,5 @@
+-- What sessions see at each replica, and how their answers, replayed, give it.
+
 use Rattle.std.specs.Prelude.{◌≡◌, ℕ, true, List, [], ◌∷◌, Option, Some, None}
 use Rattle.imap_node.specs.GoingBack.{tells_all}
 use Rattle.imap_node.specs.Mailboxes.{rows_for}
@@ -15,23 +17,24 @@ use Rattle.world_core.specs.declared.event.Outcome.{Outcome}
 use Rattle.world_core.specs.declared.event.Outcome.TheVariants.{Replied}
 use Rattle.world_core.specs.Replicas.{IsAt, Replicas}
 
--- ---- what sessions see
+-- ---- views of sessions
 
 abbrev pub view_at_node : Option NodeState → ℕ → Option ViewState
 view_at_node None n = None
 view_at_node (Some node) n = view_at node.sessions n
 
--- What the session with this number sees at this replica; nothing where it isn't open, or has no mailbox selected.
+-- The view of the session with this number at this replica; `None` if it isn't open, or has no
+-- mailbox selected.
 abbrev pub session_view_at : Replicas → ℕ → ℕ → Option ViewState
 session_view_at replicas name n = view_at_node (replicas name) n
 
--- The UIDs of what each session sees ascend strictly.
+-- The UIDs in each session's view ascend strictly.
 abbrev pub SessionViewsAscend : Replicas → Type 0
 SessionViewsAscend replicas = (name n : ℕ) (seen : ViewState) → session_view_at replicas name n ≡ Some seen → AreRising 1 seen.entries
 
--- ---- what events make of it
+-- ---- what events do to views
 
--- A session's answers, replayed, give what it sees.
+-- A session's answers, replayed, give its view.
 abbrev pub AnswersReplayTo : Replicas → ℕ → ℕ → Input → Outcome → Replicas → Type 0
 AnswersReplayTo old name n input (Replied reply) new =
     (node : NodeState) → IsAt new name node → session_view_at new name n ≡ view_after_input node.start node.applied (session_view_at old name n) input reply
@@ -43,7 +46,8 @@ AnswersReplay old (events.IdleLine at session line) outcome new = AnswersReplayT
 AnswersReplay old (events.Poll at session) outcome new = AnswersReplayTo old at session inputs.Poll outcome new
 AnswersReplay old _ outcome new = Unit {0}
 
--- Behind a full sync, and behind a SELECT or an EXAMINE, a session sees what its mailbox lists, flags included.
+-- After a full sync, and after a SELECT or an EXAMINE, a session's view is its mailbox's listing,
+-- flags included.
 abbrev pub FullSyncShowsListingBy : ℕ → ℕ → Input → Reply → Replicas → Type 0
 FullSyncShowsListingBy name n input (Done answers silent issued) new =
     tells_all input ≡ true → (node : NodeState) (view : ViewState) → IsAt new name node → view_at node.sessions n ≡ Some view → view.entries ≡ entries_of (rows_for node.start node.applied view)
@@ -59,7 +63,7 @@ FullSyncShowsListing (events.IdleLine at session line) outcome new = FullSyncSho
 FullSyncShowsListing (events.Poll at session) outcome new = FullSyncShowsListingTo at session inputs.Poll outcome new
 FullSyncShowsListing _ outcome new = Unit {0}
 
--- The event comes from this session, or closes it.
+-- The event is this session's, or closes it.
 abbrev pub IsOfSession : Event → ℕ → ℕ → Type 0
 IsOfSession (events.Command at session moment tagged) name n = (name ≡ at) × (n ≡ session)
 IsOfSession (events.IdleLine at session line) name n = (name ≡ at) × (n ≡ session)
@@ -67,14 +71,14 @@ IsOfSession (events.Poll at session) name n = (name ≡ at) × (n ≡ session)
 IsOfSession (events.Close at session) name n = (name ≡ at) × (n ≡ session)
 IsOfSession _ name n = ⊥
 
--- What the event's session sees is what its answers give, replayed over what it saw, and its mailbox's listing after a full sync; and no
--- other session sees anything change.
+-- The view of the event's session is its view before with the answers replayed, and its mailbox's
+-- listing after a full sync; the view of every other session stays as it was.
 pub record Replays (old : Replicas) (event : Event) (outcome : Outcome) (new : Replicas) : Type 0 where
   pub told : AnswersReplay old event outcome new
   pub shown : FullSyncShowsListing event outcome new
   pub others : (name n : ℕ) → ¬ IsOfSession event name n → session_view_at new name n ≡ session_view_at old name n
 
--- So it is with each event of a run.
+-- `Replays` holds of each event of a run.
 abbrev pub AllReplay : Replicas → List Event → List Outcome → List Replicas → Type 0
 AllReplay old [] [] [] = Unit {0}
 AllReplay old (event ∷ events) (outcome ∷ outcomes) (next ∷ moments) = Replays old event outcome next × AllReplay next events outcomes moments

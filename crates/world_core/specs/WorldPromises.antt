@@ -1,3 +1,5 @@
+-- What holds of every world: its invariant, and the promises that follow from it.
+
 use Rattle.std.specs.Prelude.{◌≡◌, ℕ, ◌≤◌}
 use Rattle.merge_laws.specs.Orders.{HaveSameElements}
 use Rattle.causal_inbox.specs.ReceivedSets.{HasGrown, IsConsistent}
@@ -13,7 +15,7 @@ use Rattle.world_core.specs.SessionViews.{SessionViewsAscend}
 
 -- What holds of a world in which each operation was issued by one of its replicas.
 pub record IsIssuedWorld (replicas : Replicas) : Type 0 where
-  -- each node bears the name at which it stands
+  -- each node bears the name under which it is listed
   pub named : (name : ℕ) (node : NodeState) → IsAt replicas name node → node.start.replica ≡ name
   pub from_one : (name : ℕ) (node : NodeState) → IsAt replicas name node → 1 ≤ node.start.uid
   -- what it applied is a causal list, and ids determine what it received
@@ -21,26 +23,26 @@ pub record IsIssuedWorld (replicas : Replicas) : Type 0 where
   -- what it received is sound, and some replica issued it
   pub sound : (name : ℕ) (node : NodeState) → IsAt replicas name node → (op : Op) → IsReceived (received_ops node) op → IsSound op
   pub issued : (name : ℕ) (node : NodeState) → IsAt replicas name node → (op : Op) → IsReceived (received_ops node) op → IsIssuedIn replicas op
-  -- the UIDs that a session sees ascend, and what it lacks came after what it has
+  -- the UIDs in a session's view ascend, and what the view lacks is later than what it has
   pub ascending : SessionViewsAscend replicas
   pub back : (name : ℕ) (node : NodeState) → IsAt replicas name node → AreOlderViews node.start node.applied node.sessions
 
--- Over everything that was issued an id determines the operation.
+-- Over everything that was issued, an id determines the operation.
 abbrev pub IssuedAreDetermined : Replicas → Type 0
 IssuedAreDetermined replicas = (a b : Op) → IsIssuedIn replicas a → IsIssuedIn replicas b → a.id ≡ b.id → a ≡ b
 
--- And each is sound.
+-- Everything that was issued is sound.
 abbrev pub IssuedAreSound : Replicas → Type 0
 IssuedAreSound replicas = (op : Op) → IsIssuedIn replicas op → IsSound op
 
--- Two replicas that applied the same operations hold the same folders, messages and subscriptions: those that the set of operations
--- defines.
+-- Two replicas that applied the same operations hold the same folders, messages and subscriptions:
+-- those that the set of operations defines.
 abbrev pub Converges : Replicas → Type 0
 Converges replicas =
     (name other : ℕ) (one two : NodeState) → IsAt replicas name one → IsAt replicas other two
     → HaveSameElements one.applied two.applied → MeansTheSame one.applied two.applied
 
--- Each node stays, its list grows at its end alone, and its counters began with the same numbers.
+-- Each node stays, its list grows only at its end, and the first numbers of its counters stay.
 abbrev pub AllNodesGrow : Replicas → Replicas → Type 0
 AllNodesGrow old new =
     (name : ℕ) (before : NodeState) → IsAt old name before

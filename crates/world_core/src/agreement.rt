@@ -10,17 +10,17 @@ use crdt_ops::SoundOp;
 use imap_node::Node;
 use merge_laws::Caused;
 
-/// How two replicas stand to one another.
+/// How the operations that two replicas applied compare.
 #[derive(Clone, Copy, Debug, PartialEq, Eq)]
 pub enum Agreement {
     /// They applied the same operations.
     Same,
-    /// They did not.
+    /// They applied different operations.
     Different,
 }
 
-/// Whether two replicas applied the same operations, forged ones too; `Same` exactly where they did, and then they hold the same folders, messages, flags and
-/// subscriptions. Takes no memory.
+/// Whether two replicas applied the same operations, forged ones included. `Same` exactly if they
+/// did; they then hold the same folders, messages, flags and subscriptions. Takes no memory.
 pub fn agree(one: &Node, other: &Node) -> Agreement
     ensures exact { (result ≡ AreSame) ↔ HaveSameElements one.now.state.applied other.now.state.applied }
     ensures means { result ≡ AreSame → MeansTheSame one.now.state.applied other.now.state.applied }
@@ -32,7 +32,7 @@ pub fn agree(one: &Node, other: &Node) -> Agreement
     }
 }
 
-/// Whether both are one set.
+/// Whether both lists have the same elements.
 fn are_same(ops: &[SoundOp], others: &[SoundOp]) -> bool
     ensures yes { IsTrue result → HaveSameElements ops.now others.now }
     ensures no { result ≡ false → ¬ HaveSameElements ops.now others.now }
@@ -43,7 +43,7 @@ fn are_same(ops: &[SoundOp], others: &[SoundOp]) -> bool
     has_all(ops, others)
 }
 
-/// Whether all the operations are among the others.
+/// Whether all of `ops` are among `others`.
 fn has_all(others: &[SoundOp], ops: &[SoundOp]) -> bool
     ensures yes { IsTrue result → (op : Op) → IsIn op ops.now → IsIn op others.now }
     ensures no { result ≡ false → ¬ ((op : Op) → IsIn op ops.now → IsIn op others.now) }
@@ -56,7 +56,7 @@ fn has_all(others: &[SoundOp], ops: &[SoundOp]) -> bool
     true
 }
 
-/// Whether the operation is among these.
+/// Whether `op` is among `ops`.
 fn has(ops: &[SoundOp], op: &SoundOp) -> bool
     ensures yes { IsTrue result → IsIn op.now ops.now }
     ensures no { result ≡ false → ¬ IsIn op.now ops.now }

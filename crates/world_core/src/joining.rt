@@ -24,18 +24,21 @@ use tags_clocks::ReplicaId;
 use thiserror::Error;
 use uid_projection::Counters;
 
-/// Why a replica with another one's operations is not made.
+/// Why a replica with another one's operations can't be made.
 #[derive(Clone, Copy, Debug, PartialEq, Eq, Error)]
 pub enum JoinRefusal {
-    /// A counter of its own has no number left for one of them.
+    /// One of its counters has no number left for one of the operations.
     #[error("number used up")]
     Exhausted,
-    /// There was no memory for it.
+    /// Memory ran out.
     #[error("no memory")]
     NoMemory,
 }
 
-/// Puts a new replica behind the others, with the operations that one of them applied, in that one's order. An error leaves the nodes as they were.
+/// Adds a new replica at the end of the list, with the operations that the replica `from` applied,
+/// in that order. `TwoAlike` if its name is used, `NoPeer` if there is no replica `from`,
+/// `Exhausted` if one of the new replica's counters has no number left for one of the operations,
+/// and `NoMemory`. An error leaves the nodes as they were.
 pub fn join(
     alloc: Global,
     nodes: &mut Vec<Node>,
@@ -77,7 +80,7 @@ fn is_taken(nodes: &[Node], name: ReplicaId) -> bool
     }
 }
 
-/// Takes the event that a replica joins.
+/// Performs the event `Join`.
 pub fn join_step(alloc: Global, nodes: &mut Vec<Node>, name: ReplicaId, peer: ReplicaId) -> Outcome
     ensures { Steps (nodes_by_name (all_without_room nodes.old.items)) (events.Join name peer) result (nodes_by_name (all_without_room nodes.new.items)) }
 {
@@ -85,7 +88,7 @@ pub fn join_step(alloc: Global, nodes: &mut Vec<Node>, name: ReplicaId, peer: Re
     outcome_of_join(&answer)
 }
 
-/// What the event comes to, by what its call answered.
+/// The outcome of the event, from the result of `join`.
 fn outcome_of_join(answer: &Result<(), WorldFault>) -> Outcome
     ensures { result ≡ outcome_of answer.now }
 {
@@ -102,10 +105,11 @@ fn outcome_of_join(answer: &Result<(), WorldFault>) -> Outcome
     }
 }
 
-/// A replica of this name that applied what another one did, in its order, and has received nothing else: its UIDs and its incarnations count from 1. `Exhausted`
-/// where one of its counters has no number left for one of the operations; `NoMemory`.
+/// A replica of this name that applied the operations of `from`, in that order, and has received
+/// nothing else. Its UIDs and its incarnations count from 1. `Exhausted` if one of its counters has
+/// no number left for one of the operations; `NoMemory` if memory runs out.
 ///
-/// It costs what the deliveries of these operations do.
+/// It costs as much as delivering these operations.
 pub fn with_operations_of(alloc: Global, name: ReplicaId, from: &Node) -> Result<Node, JoinRefusal>
     ensures { MatchResult result (λ node. (node.state ≡ joined_node name from.now.state.applied) × (¬ LacksNumbers name from.now.state.applied)) (λ why. why ≡ UsedUp → LacksNumbers name from.now.state.applied) }
 {
@@ -124,7 +128,7 @@ pub fn with_operations_of(alloc: Global, name: ReplicaId, from: &Node) -> Result
     Ok(node)
 }
 
-/// Has a node that has received nothing apply copies of these operations, in their order.
+/// Applies copies of these operations, in their order, at a node that has received nothing.
 fn take_all(alloc: Global, node: &mut Node, ops: &[SoundOp]) -> Result<(), JoinRefusal>
     requires causal { IsCausal id_of clock_of ops.now }
     requires fresh { node.old.state ≡ unused_node node.old.state.start }
@@ -138,7 +142,7 @@ fn take_all(alloc: Global, node: &mut Node, ops: &[SoundOp]) -> Result<(), JoinR
     Ok(())
 }
 
-/// Has a node that holds nothing apply a copy of an operation all of whose causes it applied.
+/// Applies a copy of the operation at a node that holds nothing and has applied all of its causes.
 fn take(alloc: Global, node: &mut Node, op: &SoundOp) -> Result<(), JoinRefusal>
     requires ripe { IsRipe id_of clock_of node.old.state.applied op.now }
     requires nothing { node.old.state.held ≡ [] }

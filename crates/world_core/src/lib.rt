@@ -1,8 +1,36 @@
-//! Worlds of replicas: events at any of them, one after another, and what holds whatever comes.
+//! Worlds of replicas: events at any of them, one after another, and what holds after any events.
 //!
-//! A world is nodes of different names. Sessions open and close, send commands, lines and polls, and any operation that some replica issued
-//! is delivered at any node, at any time after, any number of times. A replica of a new name may join at any time, with what another one applied. `run` takes a list of such events, and its contract is the promise
-//! for which the project exists.
+//! A world is a list of nodes with distinct names. Sessions open and close, send commands, lines
+//! and polls, and any operation that some replica issued may be delivered at any node, at any later
+//! time, any number of times. A replica with a new name may join at any time, with the operations
+//! that another one applied.
+//!
+//! [`run`] takes a list of such events, and its contract is the promise for which the project
+//! exists: whatever the events are, replicas that applied the same operations hold the same
+//! folders, messages, flags and subscriptions, each session's untagged answers, replayed, give its
+//! view, and no UID or mod-sequence is ever reused. [`settle`] has nodes exchange what they
+//! received until all applied one set of operations, [`agree`] tests whether two did, and
+//! [`conflict`] finds the least id that two operations share.
+//!
+//! # Decided
+//!
+//! - `run` takes its events by value, since a node consumes a command.
+//! - The list of outcomes is allocated before the first event. If memory runs out for it, no event
+//!   is taken.
+//! - A delivery copies the operation from the list of the replica that issued it. If memory runs
+//!   out for the copy, the outcome is `NotTaken` with `NoMemory`, even if the node had received the
+//!   operation before.
+//! - If two replicas bear one name, the fault has a name that occurs twice. If there are several
+//!   such names, the contract doesn't say which.
+//! - `settle` sends all nodes what the first one applied, and the first one what the others
+//!   applied, until that adds nothing. A held operation is never sent: the causes of whatever is
+//!   delivered have been applied, so that no further operation is held and the limit of held
+//!   operations is never met. It ends, since the first node's list grows in each round but the
+//!   last.
+//! - `settle` stops at the first operation that a counter refuses, although others could still be
+//!   exchanged. What was delivered stays.
+//! - A conflict is looked for between nodes. No single node can have one, since it refuses a
+//!   different operation with an id that it received.
 #![tactic(auto)]
 
 mod agreement;

@@ -1,4 +1,4 @@
-//! Where the nodes of a world stand.
+//! The places of nodes in a world.
 
 ghost use Rattle.std.specs.Prelude.{◌≡◌, ◌≢◌, IsTrue, MatchOption, None, false};
 ghost use Rattle.crdt_ops.specs.declared.op.Op.{Op};
@@ -10,7 +10,7 @@ use crdt_ops::SoundOp;
 use imap_node::Node;
 use tags_clocks::{OpId, ReplicaId};
 
-/// The place of the node with this name.
+/// The place of the node with this name, if any.
 pub fn place_of(nodes: &[Node], name: ReplicaId) -> Option<usize>
     ensures { MatchOption result (nodes_by_name (all_without_room nodes.now) name ≡ None) (λ place. IsPlace nodes.now name place) }
 {
@@ -30,7 +30,7 @@ fn is_named(node: &Node, name: ReplicaId) -> bool
     node.replica().id() == name
 }
 
-/// The operation with this id, where the replica that the id names issued it.
+/// The operation with this id, if the replica that the id names issued it.
 pub fn find_issued(nodes: &[Node], id: OpId) -> Option<&SoundOp>
     ensures { MatchOption result ((op : Op) → IsIssuedIn (nodes_by_name (all_without_room nodes.now)) op → op.id ≢ id)
         (λ op. IsIssuedIn (nodes_by_name (all_without_room nodes.now)) op.now × (op.now.id ≡ id)) }

@@ -13,19 +13,20 @@ use crate::world::World;
 use imap_node::Node;
 use std::alloc::Global;
 
-/// What came of events.
+/// The outcomes of events, and the world after them.
 #[derive(Drop)]
 pub struct Outcomes {
-    /// The world behind the events that have an outcome in the list.
+    /// The world after the events that have an outcome in the list.
     pub world: World,
     /// The outcome of each event, in their order.
     pub list: Vec<Outcome>,
-    /// Whether every event has one. Only where there was no memory for the list it hasn't, and then none has.
+    /// Whether every event has an outcome. If memory runs out for the list, this is false and no
+    /// event was taken; otherwise it is true.
     pub whole: bool,
 }
 
-/// Takes the events one after another, and tells what came of each. Whatever they are, the world keeps its promise: the headline says it, of
-/// all events that have an outcome.
+/// Takes the events one after another, and returns the outcome of each. Whatever they are, the
+/// world keeps its promise: the clause `headline` says so of all events that have an outcome.
 pub fn run(alloc: Global, world: World, events: Vec<Event>) -> Outcomes
     ensures steps { Runs (nodes_by_name world) (take (length result.list.items) events.items) result.list.items (nodes_by_name result.world) }
     ensures whole { IsTrue result.whole → length result.list.items ≡ length events.items }
@@ -51,7 +52,7 @@ pub fn run(alloc: Global, world: World, events: Vec<Event>) -> Outcomes
     }
 }
 
-/// Takes all events, where the list has room for their outcomes.
+/// Takes all events; the list has room for their outcomes.
 fn run_whole(alloc: Global, world: World, events: Vec<Event>, list: Vec<Outcome>) -> Outcomes
     requires empty { list.items ≡ [] }
     requires room { vec_len list + length events.items ≤ vec_capacity list }
@@ -70,7 +71,7 @@ fn run_whole(alloc: Global, world: World, events: Vec<Event>, list: Vec<Outcome>
     }
 }
 
-/// The nodes behind all events.
+/// Takes all events, and returns the nodes after them.
 fn run_nodes(
     alloc: Global,
     nodes: Vec<Node>,

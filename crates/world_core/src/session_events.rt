@@ -1,4 +1,4 @@
-//! An event at the node at which it happens.
+//! Events at the node that they name.
 
 ghost use Rattle.std.specs.Prelude.{◌≡◌, ◌↔◌, IsTrue, false, true};
 ghost use Rattle.imap_node.specs.declared.input.Input.TheVariants as inputs;
@@ -11,7 +11,7 @@ use imap_syntax::{IdleLine, Tagged};
 use imap_types::Moment;
 use std::alloc::Global;
 
-/// A session begins.
+/// Opens a session.
 pub fn open(node: &mut Node, auth: Auth) -> Outcome
     ensures { OpensBy node.old.state auth result node.new.state }
 {
@@ -26,7 +26,7 @@ pub fn open(node: &mut Node, auth: Auth) -> Outcome
     }
 }
 
-/// Whether the session is open, and idles or doesn't, as is asked.
+/// Whether the session is open, and idles exactly if `idles`.
 fn awaits(node: &Node, session: SessionNo, idles: bool) -> bool
     ensures { IsTrue result ↔ AwaitsInput node.now.state session idles }
 {
@@ -36,7 +36,7 @@ fn awaits(node: &Node, session: SessionNo, idles: bool) -> bool
     }
 }
 
-/// A session sends a command.
+/// Gives a command to a session that doesn't idle.
 pub fn command(
     alloc: Global,
     node: &mut Node,
@@ -56,7 +56,7 @@ pub fn command(
     }
 }
 
-/// A session sends a line while it idles.
+/// Gives a line to a session that idles.
 pub fn idle_line(alloc: Global, node: &mut Node, session: SessionNo, line: IdleLine) -> Outcome
     ensures { AnswersBy node.old.state session true (inputs.Line line) result node.new.state }
 {
@@ -69,7 +69,7 @@ pub fn idle_line(alloc: Global, node: &mut Node, session: SessionNo, line: IdleL
     }
 }
 
-/// A session that idles is told what changed.
+/// Sends a session that idles what changed.
 pub fn poll(alloc: Global, node: &mut Node, session: SessionNo) -> Outcome
     ensures { AnswersBy node.old.state session true inputs.Poll result node.new.state }
 {
@@ -82,7 +82,7 @@ pub fn poll(alloc: Global, node: &mut Node, session: SessionNo) -> Outcome
     }
 }
 
-/// An operation comes.
+/// Delivers an operation.
 pub fn deliver(alloc: Global, node: &mut Node, op: SoundOp) -> Outcome
     ensures { DeliversOne node.old.state op result node.new.state }
 {
@@ -92,7 +92,7 @@ pub fn deliver(alloc: Global, node: &mut Node, op: SoundOp) -> Outcome
     }
 }
 
-/// The node goes on with what it holds.
+/// Applies the held operations that can be applied.
 pub fn drain(alloc: Global, node: &mut Node) -> Outcome
     ensures { DrainsBy node.old.state result node.new.state }
 {
@@ -101,7 +101,7 @@ pub fn drain(alloc: Global, node: &mut Node) -> Outcome
     }
 }
 
-/// A session ends.
+/// Closes a session.
 pub fn close(node: &mut Node, session: SessionNo) -> Outcome
     ensures { ClosesBy node.old.state session result node.new.state }
 {
