@@ -44,7 +44,7 @@ not_true : (b : Bool) → ¬ IsTrue b → b ≡ false
 not_true true h = absurd (h refl)
 not_true false h = refl
 
--- The replica took the operation: what the journal keeps of it, and what it is now.
+-- The replica took the operation: its journal entry, and the replica then.
 abbrev pub Took : NodeState → Op → Outcome → NodeState → Type 0
 Took old op outcome new =
     (outcome ≡ Delivered (Ok (record { arrival = Applied 1; stalled = false })))
@@ -76,7 +76,7 @@ module _ (old : NodeState) (op : Op) (nothing : old.held ≡ []) where
   ok_by Held stalled new h s r e = subst (λ (x : Result (Unit {0}) JoinFault). OnOk x (Took old op (Delivered (Ok (record { arrival = Held; stalled = stalled }))) new)) (sym e) tt
   ok_by Repeat stalled new h s r e = subst (λ (x : Result (Unit {0}) JoinFault). OnOk x (Took old op (Delivered (Ok (record { arrival = Repeat; stalled = stalled }))) new)) (sym e) tt
 
-  -- where the operation was applied
+  -- if the operation was applied
   pub take_ok : (outcome : Outcome) (new : NodeState) → IsStep old (Deliver op) outcome new → (r : Result (Unit {0}) JoinFault) → r ≡ join_fault_of op.id outcome → OnOk r (Took old op outcome new)
   take_ok (Delivered (Ok receipt)) new h r e = ok_by receipt.arrival receipt.stalled new h.0 h.1 r e
   take_ok (Delivered (Err (delivering.Conflict other))) new h r e = subst (λ (x : Result (Unit {0}) JoinFault). OnOk x (Took old op (Delivered (Err (delivering.Conflict other))) new)) (sym e) tt
@@ -97,7 +97,7 @@ module _ (old : NodeState) (op : Op) (nothing : old.held ≡ []) where
   err_by Held new h r e = untaken (NotCausal op.id) r e (refl, h.arrives.1.0)
   err_by Repeat new h r e = untaken (NotCausal op.id) r e (refl, received_not_ripe h.arrives.0)
 
-  -- where it was not
+  -- if it wasn't
   pub take_err : (outcome : Outcome) (new : NodeState) → IsStep old (Deliver op) outcome new → (r : Result (Unit {0}) JoinFault) → r ≡ join_fault_of op.id outcome → IfErr r (IsApplyFault old op)
   take_err (Delivered (Ok receipt)) new h r e = err_by receipt.arrival new h.0 r e
   take_err (Delivered (Err (delivering.Conflict other))) new h r e = untaken (NotCausal op.id) r e (refl, conflict_not_ripe h.0.1)
@@ -110,7 +110,7 @@ module _ (old : NodeState) (op : Op) (nothing : old.held ≡ []) where
   take_err Closed new h r e = absurd h
   take_err PassedOver new h r e = absurd h
 
--- the book behind a delivery, by its one entry more
+-- the book after a delivery, which has one further entry
 pub take_written : (old new : BookState) (op given : Op) (outcome : Outcome) (r : Result (Unit {0}) JoinFault) → given ≡ op → new.journal ≡ old.journal ++ record { event = Deliver given; outcome = outcome } ∷ []
     → OnOk r (Took old.node op outcome new.node)
     → OnOk r ((new ≡ record { node = record old.node { applied = old.node.applied ++ op ∷ [] }; journal = old.journal ++ applied_entry op ∷ [] }) × IsRipe id_of clock_of old.node.applied op × (¬ Exhausts old.node.start old.node.applied (op ∷ [])))
@@ -124,7 +124,7 @@ take_written old new op given outcome (Err why) e j h = tt
 pub take_next : {X : Type 0} (xs : List X) (i : ℕ) (x : X) → i < length xs → x ≡ get_or xs i x → take (i + 1) xs ≡ take i xs ++ x ∷ []
 take_next xs i x l is = take_more xs i x l ∙ ap (λ y. take i xs ++ y ∷ []) (sym is)
 
--- the one at a place, between those in front of it and the others
+-- the one at a place, between those before it and those after it
 cut_at : (ops : List Op) (i : ℕ) (op : Op) → i < length ops → op ≡ get_or ops i op → (back : List Op) × (ops ≡ take i ops ++ op ∷ back)
 cut_at [] i op l is = absurd (omega (arith, l))
 cut_at (x ∷ ops) zero op l is = (ops, ap (λ (y : Op). y ∷ ops) (sym is))
@@ -134,7 +134,7 @@ taken_more : (ops : List Op) (op : Op) → map applied_entry (ops ++ op ∷ []) 
 taken_more [] op = refl
 taken_more (x ∷ ops) op = ap (λ (es : List JournalEntry). applied_entry x ∷ es) (taken_more ops op)
 
--- How a book stands behind the first operations of a list.
+-- The book after the first operations of a list.
 pub record StandsAt (name : ℕ) (front : List Op) (book : BookState) : Type 0 where
   pub is : book ≡ joined_book name front
   pub causal : IsCausal id_of clock_of front
@@ -164,7 +164,7 @@ module _ (name : ℕ) (ops : List Op) (i : ℕ) (op : Op) (l : i < length ops) (
   stops : (Why : List Op → Op → Type 0) → Why (take i ops) op → Stops name ops Why
   stops Why h = let c = cut_at ops i op l at in record { front = take i ops; op = op; back = c.0; cut = c.1; causal = s.causal; lasts = s.lasts; why = h }
 
-  -- where it stops
+  -- if it stops
   pub stops_here : (why : JoinFault) → IsApplyFault book.node op why → IsLeastOwn id_of name ops None → IsJoinFault name ops why
   stops_here (Own id) h none = absurd h
   stops_here (NotCausal id) h none = (
@@ -191,7 +191,7 @@ stands_first name book e = record {
     no_cut [] o back h = absurd cc
     no_cut (x ∷ front) o back h = absurd cc
 
--- a clock that was copied is that of a list that was applied
+-- a copied clock is that of a list that was applied
 pub clock_had : {E : Type 0} (applied : List Op) (r : Result (List (ℕ × ℕ)) E) → IsCausal id_of clock_of applied → IfOk r (λ clock. IsClockOf id_of applied clock)
     → IfOk r (λ clock. (had : List Op) × IsCausal id_of clock_of had × IsClockOf id_of had clock)
 clock_had applied (Ok clock) causal is = (applied, causal, is)

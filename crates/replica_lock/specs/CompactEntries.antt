@@ -1,3 +1,5 @@
+-- The journal entries that compact forms represent.
+
 use Rattle.std.specs.Prelude.{ℕ, List, [], ◌∷◌, None}
 use Rattle.imap_answers.specs.declared.answer.Answer.TheVariants.{Completed}
 use Rattle.imap_answers.specs.declared.fixed_words.CompletedWord.TheVariants as words
@@ -13,11 +15,12 @@ use Rattle.replica_lock.specs.declared.compact_entry.EntryRef.{EntryRef}
 use Rattle.replica_lock.specs.declared.compact_entry.EntryRef.TheVariants as lent
 use Rattle.replica_lock.specs.declared.outcome.Outcome.TheVariants.{Closed, Replied}
 
--- The reply to a NOOP with this tag that is told its end alone: nothing that changed (RFC 9051, section 6.1.2).
+-- The reply to a NOOP with this tag that is only its tagged OK: nothing changed (RFC 9051, section
+-- 6.1.2).
 abbrev pub noop_done : List ℕ → Reply
 noop_done tag = Done (Completed tag None words.Noop ∷ []) [] []
 
--- Its entry.
+-- The entry of a NOOP with that reply.
 abbrev pub noop_entry : ℕ → ℕ → List ℕ → JournalEntry
 noop_entry session moment tag = record { event = Command session moment (record { tag = tag; command = commands.Noop }); outcome = Replied (noop_done tag) }
 
@@ -25,7 +28,7 @@ noop_entry session moment tag = record { event = Command session moment (record 
 abbrev pub closed_entry : ℕ → JournalEntry
 closed_entry session = record { event = Close session; outcome = Closed }
 
--- The entry that is kept so, and that is read so.
+-- The entry that a compact form represents.
 abbrev pub entry_of : CompactForm → JournalEntry
 entry_of (forms.Noop session moment tag) = noop_entry session moment tag
 entry_of (forms.Closed session) = closed_entry session

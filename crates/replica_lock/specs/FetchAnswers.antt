@@ -1,3 +1,5 @@
+-- The FETCH answers that compact forms represent (RFC 9051, section 7.5.2; RFC 7162, section 3.1).
+
 use Rattle.std.specs.Prelude.{ℕ, ◌==◌, Option, None, Some, List, [], ◌∷◌, ◌++◌, map, if◌then◌else◌}
 use Rattle.std.specs.Option.{option_map}
 use Rattle.imap_answers.specs.declared.answer.Answer.{Answer}
@@ -17,35 +19,37 @@ use Rattle.replica_lock.specs.declared.fetch_answers.FetchAnswers.{FetchAnswers}
 use Rattle.replica_lock.specs.declared.fetch_answers.FetchAnswers.TheVariants.{Lines, Parts}
 use Rattle.replica_lock.specs.declared.fetch_exchange.FetchExchange.{FetchExchange}
 
--- These flags, and no keywords (RFC 9051, section 2.3.2).
+-- The flags without keywords (RFC 9051, section 2.3.2).
 abbrev pub flags_of : SystemFlags → Flags
 flags_of flags = record { answered = flags.answered; flagged = flags.flagged; deleted = flags.deleted; seen = flags.seen; draft = flags.draft; keywords = [] }
 
--- A number that is told; 0 stands for none.
+-- The number, or none for 0.
 abbrev pub told_if_nonzero : ℕ → Option ℕ
 told_if_nonzero number = if number == 0 then None else Some number
 
--- What a line tells, with these parts of the message's text, and the FETCH answer that it stands for then (RFC 9051, section 7.5.2).
+-- The items of a line, with these parts of the message's text, and the FETCH answer that has them
+-- (RFC 9051, section 7.5.2).
 abbrev pub items_of : FetchLine → List SectionData → FetchItems
 items_of line sections = record { uid = told_if_nonzero line.uid; flags = option_map flags_of line.flags; date = None; size = None; modseq = told_if_nonzero line.modseq; sections = sections }
 
 abbrev pub answer_with : List SectionData → FetchLine → Answer
 answer_with sections line = Fetch line.number (items_of line sections)
 
--- The answer that it stands for by itself.
+-- The FETCH answer of a line, without parts of a text.
 abbrev pub answer_of : FetchLine → Answer
 answer_of line = answer_with [] line
 
--- The answers that are kept so.
+-- The answers that a compact form represents.
 abbrev pub answers_of : FetchAnswers → List Answer
 answers_of (Lines lines) = map answer_of lines.items
 answers_of (Parts line sections) = answer_with sections line ∷ []
 
--- The answers to a command with this tag that is told no more than them, and its end (RFC 9051, section 7.1.1).
+-- The answers to a command with this tag: these FETCH answers, and its tagged OK (RFC 9051, section
+-- 7.1.1).
 abbrev pub fetch_exchange_answers : List ℕ → CompletedWord → FetchAnswers → List Answer
 fetch_exchange_answers tag word shown = answers_of shown ++ Completed tag None word ∷ []
 
--- The reply that has no more than them.
+-- The reply that has only these answers.
 abbrev pub fetch_exchange_reply : List ℕ → CompletedWord → FetchAnswers → Reply
 fetch_exchange_reply tag word shown = Done (fetch_exchange_answers tag word shown) [] []
 

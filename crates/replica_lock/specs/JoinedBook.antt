@@ -1,3 +1,5 @@
+-- The book of a replica that joins with another one's operations, and why it can't.
+
 use Rattle.std.specs.Prelude.{◌≡◌, ℕ, List, [], ◌∷◌, ◌++◌, None, Some, Result, Ok, Err, false, map}
 use Rattle.tags_clocks.specs.declared.id.OpId.{OpId}
 use Rattle.causal_inbox.specs.declared.delivery.Arrival.{Arrival}
@@ -17,16 +19,17 @@ use Rattle.replica_lock.specs.declared.outcome.Outcome.{Outcome}
 use Rattle.replica_lock.specs.declared.outcome.Outcome.TheVariants.{Delivered}
 use Rattle.uid_projection.specs.Exhaustion.{Exhausts}
 
--- The entry of an operation that was delivered and applied, and that no held one waited for.
+-- The entry of an operation that was delivered and applied, and for which no held one waited.
 abbrev pub applied_entry : Op → JournalEntry
 applied_entry op = record { event = Deliver op; outcome = Delivered (Ok (record { arrival = Applied 1; stalled = false })) }
 
--- The book of a replica of this name to which these operations were delivered, one after another, and nothing else happened.
+-- The book of a replica of this name to which these operations were delivered, one after another,
+-- and at which nothing else happened.
 abbrev pub joined_book : ℕ → List Op → BookState
 joined_book name ops = record { node = joined_node name ops; journal = map applied_entry ops }
 
--- The first of the operations that can't be applied behind those in front of it, and why: it isn't ripe for them, or a counter of the new replica
--- lacks a number for it.
+-- The first of the operations that can't be applied after those before it, and why: it isn't ripe
+-- after them, or a counter of the new replica lacks a number for it.
 pub record Stops (name : ℕ) (ops : List Op) (Why : List Op → Op → Type 0) : Type 0 where
   pub front : List Op
   pub op : Op
@@ -36,7 +39,8 @@ pub record Stops (name : ℕ) (ops : List Op) (Why : List Op → Op → Type 0) 
   pub lasts : ¬ Exhausts (first_numbers name) [] front
   pub why : Why front op
 
--- Why no replica of this name joins with these operations. That one of them is its own is found before anything else.
+-- Why no replica of this name joins with these operations. An operation that bears its name is
+-- looked for first.
 abbrev pub IsJoinFault : ℕ → List Op → JoinFault → Type 0
 IsJoinFault name ops (Own id) = IsLeastOwn id_of name ops (Some id)
 IsJoinFault name ops (NotCausal id) = IsLeastOwn id_of name ops None × Stops name ops (λ front op. (op.id ≡ id) × ¬ IsRipe id_of clock_of front op)
@@ -52,7 +56,7 @@ IsApplyFault node op (NotCausal id) = (op.id ≡ id) × ¬ IsRipe id_of clock_of
 IsApplyFault node op Exhausted = IsRipe id_of clock_of node.applied op × Exhausts node.start node.applied (op ∷ [])
 IsApplyFault node op NoMemory = Unit {0}
 
--- What its delivery says of it: whether it was applied at once.
+-- The fault, if any, shown by a delivery: none if the operation was applied at once.
 abbrev pub join_fault_of_arrival : OpId → Arrival → Result (Unit {0}) JoinFault
 join_fault_of_arrival id (Applied count) = Ok tt
 join_fault_of_arrival id Held = Err (NotCausal id)

@@ -1,3 +1,5 @@
+-- The events of a replica and their outcomes, as a relation between the node before and after.
+
 use Rattle.std.specs.Prelude.{◌≡◌, ℕ, Bool, false, is_some}
 use Rattle.imap_node.specs.Nodes.{Idles, NodeState}
 use Rattle.imap_node.specs.Replies.{is_done}
@@ -11,30 +13,33 @@ use Rattle.replica_lock.specs.declared.event.BookEvent.TheVariants.{Close, Comma
 use Rattle.replica_lock.specs.declared.outcome.Outcome.{Outcome}
 use Rattle.replica_lock.specs.declared.outcome.Outcome.TheVariants.{Closed, Delivered, Drained, Opened, PassedOver, Replied}
 
--- Whether a copy of an outcome takes memory: only that of a reply that was carried out does.
+-- Whether a copy of an outcome takes memory: only that of the reply to an input that was carried
+-- out does.
 abbrev pub takes_memory : Outcome → Bool
 takes_memory (Replied reply) = is_done reply
 takes_memory _ = false
 
--- A session takes this input: a command where it is open and doesn't idle, a line or a poll where it idles (RFC 2177, section 3).
+-- A session takes this input: a command if it is open and doesn't idle, a line or a poll if it
+-- idles (RFC 2177, section 3).
 abbrev pub Awaits : NodeState → ℕ → Input → Type 0
 Awaits node n (inputs.Command moment tagged) = IsOpen node.sessions n × (Idles node n → ⊥)
 Awaits node n (inputs.Line line) = Idles node n
 Awaits node n inputs.Poll = Idles node n
 
--- The event that an input of a session is.
+-- The event by which a session gets this input.
 abbrev pub event_of : ℕ → Input → BookEvent
 event_of n (inputs.Command moment tagged) = Command n moment tagged
 event_of n (inputs.Line line) = Line n line
 event_of n inputs.Poll = Poll n
 
--- An input of a session is replied to, or passed over where the session doesn't take it: then nothing changes.
+-- An input of a session is answered, or passed over if the session doesn't take it; then nothing
+-- changes.
 abbrev pub TakesInput : NodeState → ℕ → Input → Outcome → NodeState → Type 0
 TakesInput old n input (Replied reply) new = Awaits old n input × Responds old n input reply new
 TakesInput old n input PassedOver new = (Awaits old n input → ⊥) × (new ≡ old)
 TakesInput old n input _ new = ⊥
 
--- One event at a node: with this outcome it leads from the one state to the other.
+-- One event at a node: with this outcome it leads from one state to the other.
 abbrev pub IsStep : NodeState → BookEvent → Outcome → NodeState → Type 0
 IsStep old (Open auth) (Opened answer) new = OpensAt old auth answer new
 IsStep old (Command n moment tagged) outcome new = TakesInput old n (inputs.Command moment tagged) outcome new
@@ -46,7 +51,7 @@ IsStep old (Close n) Closed new = ClosesAt old n new
 IsStep old (Close n) PassedOver new = IsAwayAt old n new
 IsStep old _ _ new = ⊥
 
--- The event closes a session that is open.
+-- The event closes an open session.
 abbrev pub ends_session : NodeState → BookEvent → Bool
 ends_session node (Close n) = is_some (session_at node.sessions n)
 ends_session node _ = false

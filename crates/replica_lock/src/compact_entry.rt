@@ -1,4 +1,4 @@
-//! What a journal keeps of its entries.
+//! The compact form in which a journal stores its entries.
 
 ghost use Rattle.std.specs.Prelude.{◌≡◌, ◌↔◌, ◌∷◌, [], None, IfOk, IsTrue};
 ghost use Rattle.imap_answers.specs.declared.answer.Answer.TheVariants.{Completed};
@@ -17,8 +17,9 @@ use imap_types::{Moment, Octets};
 use std::alloc::{AllocError, Global};
 use std::marker::Model;
 
-/// An entry as a journal keeps it. A NOOP that was told its end alone takes no more than its tag, a command that was told FETCH answers alone a few words for
-/// each, and the end of a session no memory beside its place, so that it can't lack any.
+/// A journal entry in compact form. A NOOP whose reply is only its tagged OK takes no memory but
+/// its tag, a command whose reply is only FETCH answers and its tagged OK takes a few words for
+/// each, and the close of a session takes no memory beside its place, so that it can't run out.
 pub struct CompactEntry {
     form: CompactForm,
 }
@@ -40,7 +41,7 @@ enum CompactForm {
     },
 }
 
-// By hand, so that what holds it lets it go as a whole.
+// By hand, so that its owner drops it whole.
 impl Drop for CompactForm {
     fn drop(self) {
         match self {
@@ -56,7 +57,7 @@ impl Drop for CompactForm {
     }
 }
 
-// By hand, so that crates above let it go as a whole.
+// By hand, so that crates above drop it whole.
 impl Drop for CompactEntry {
     fn drop(self) {
         let Self { form: _ } = self;
@@ -72,14 +73,14 @@ impl Model for CompactEntry {
     ghost view = { λ k. entry_of k.form };
 }
 
-/// An entry as it is read in a journal.
+/// A reference to a journal entry.
 #[derive(Clone, Copy)]
 pub enum EntryRef<'a> {
-    /// A NOOP that was told its end alone.
+    /// A NOOP whose reply is only its tagged OK.
     Noop {
         /// The session.
         session: SessionNo,
-        /// When the command came.
+        /// The time of its arrival.
         moment: Moment,
         /// Its tag.
         tag: &'a Octets,
@@ -89,20 +90,20 @@ pub enum EntryRef<'a> {
         /// The session.
         session: SessionNo,
     },
-    /// A command that was told FETCH answers alone, each in few words, and its end.
+    /// A command whose reply is only FETCH answers, each in compact form, and its tagged OK.
     Told {
-        /// It.
+        /// The command and its reply.
         told: &'a FetchExchange,
     },
     /// Any entry.
     Whole {
-        /// It.
+        /// The entry.
         entry: &'a JournalEntry,
     },
 }
 
 impl CompactEntry {
-    /// A NOOP with this tag that was told its end alone.
+    /// The entry of a NOOP with this tag whose reply is only its tagged OK.
     pub(crate) fn of_noop(session: SessionNo, moment: Moment, tag: Octets) -> CompactEntry
         ensures { result ≡ noop_entry session moment tag }
     {
@@ -115,7 +116,7 @@ impl CompactEntry {
         }
     }
 
-    /// A session that was closed.
+    /// The entry of a session that was closed.
     pub(crate) fn of_close(session: SessionNo) -> CompactEntry
         ensures { result ≡ closed_entry session }
     {
@@ -124,7 +125,7 @@ impl CompactEntry {
         }
     }
 
-    /// A command that was told FETCH answers alone.
+    /// The entry of a command whose reply is only FETCH answers and its tagged OK.
     pub(crate) fn of_exchange(told: Box<FetchExchange>) -> CompactEntry
         ensures { result ≡ fetch_exchange_entry told.value }
     {
@@ -133,7 +134,7 @@ impl CompactEntry {
         }
     }
 
-    /// The entry.
+    /// A reference to the entry.
     pub fn as_entry(&self) -> EntryRef<'_>
         ensures { entry_of_ref result ≡ self.now }
     {
@@ -153,7 +154,7 @@ impl CompactEntry {
         }
     }
 
-    /// Whether this came of its event.
+    /// Whether this is the outcome of its event.
     pub fn has_outcome(&self, outcome: &Outcome) -> bool
         ensures { IsTrue result ↔ (self.now.outcome ≡ outcome.now) }
     {
@@ -166,7 +167,7 @@ impl CompactEntry {
     }
 }
 
-/// Whether a NOOP with this tag was told its end alone.
+/// Whether this is the outcome of a NOOP with this tag whose reply is only its tagged OK.
 fn is_replied_done(outcome: &Outcome, tag: &Octets) -> bool
     ensures { IsTrue result ↔ (outcomes.Replied (noop_done tag.now) ≡ outcome.now) }
 {
@@ -176,7 +177,7 @@ fn is_replied_done(outcome: &Outcome, tag: &Octets) -> bool
     }
 }
 
-/// Whether a reply is the end of a NOOP with this tag, and nothing else.
+/// Whether a reply is only the tagged OK of a NOOP with this tag.
 pub fn is_done(reply: &Reply, tag: &Octets) -> bool
     ensures { IsTrue result ↔ (noop_done tag.now ≡ reply.now) }
 {
@@ -194,19 +195,19 @@ pub fn is_done(reply: &Reply, tag: &Octets) -> bool
     }
 }
 
-/// Whether answers are the end of a NOOP with this tag, and nothing else.
+/// Whether these answers are only the tagged OK of a NOOP with this tag.
 fn is_end(answers: &[Answer], tag: &Octets) -> bool
     ensures { IsTrue result ↔ (Completed tag.now None words.Noop ∷ [] ≡ answers.now) }
 {
     answers.len() == 1 && completes(&answers[0], tag, CompletedWord::Noop)
 }
 
-/// An event whose outcome is still to come, with all memory that its entry takes.
+/// An event whose outcome isn't known yet, with all memory that its entry takes.
 pub struct PendingEntry {
     entry: Box<JournalEntry>,
 }
 
-// By hand, so that functions with several exits let it go as a whole.
+// By hand, so that functions with several exits drop it whole.
 impl Drop for PendingEntry {
     fn drop(self) {
         let Self { entry: _ } = self;
@@ -222,7 +223,7 @@ impl Model for PendingEntry {
 }
 
 impl PendingEntry {
-    /// The event; `Err` where there is no memory for its entry.
+    /// An entry for this event; `Err` if memory runs out.
     pub fn new(alloc: Global, event: BookEvent) -> Result<PendingEntry, AllocError>
         ensures { IfOk result (λ begun. begun ≡ event) }
     {
@@ -231,7 +232,7 @@ impl PendingEntry {
         Ok(PendingEntry { entry })
     }
 
-    /// The entry, with what came of the event. It takes no memory.
+    /// The entry, with the event's outcome. Takes no memory.
     pub fn finish(self, outcome: Outcome) -> CompactEntry
         ensures { result ≡ record { event = self; outcome = outcome } }
     {

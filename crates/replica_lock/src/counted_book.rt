@@ -1,4 +1,4 @@
-//! What a replica's lock keeps.
+//! What a replica's lock guards: the book, and the count of all calls.
 
 ghost use Rattle.std.specs.Prelude.{◌≡◌, ◌⊎◌, ◌↔◌, ℕ, ◌<◌, ◌≤◌, ◌^◌, length, IsTrue, IsOk, slice_get, OnOk, OnErr, IfOk, IfErr, IfSome, IfNone, Some, false, true};
 ghost use Rattle.imap_node.specs.SessionFeeds.{IsCurrent};
@@ -22,11 +22,12 @@ use std::sync::ledger::{Book as Calls, Ledger};
 pub struct CountedBook<L: Ledger> {
     book: Book,
     calls: Calls<L>,
-    /// How many entries there are up to the last one of which another session may have to be told.
+    /// The place of the last entry after which another session may have to be sent something, or a
+    /// later place.
     last_visible: u64,
 }
 
-// By hand, so that crates above let it go as a whole.
+// By hand, so that crates above drop it whole.
 impl<L: Ledger> Drop for CountedBook<L> {
     fn drop(self) {
         let Self {
@@ -52,7 +53,7 @@ impl<L: Ledger> CountedBook<L> {
     ghost use Rattle.replica_lock.specs.Histories.{AreQuietAfter};
     ghost use Rattle.replica_lock.specs.Passes.{IsFinishFault, PassesFit, IsCall, IsCallFault, is_missing};
 
-    /// The book, of whose entries each is counted.
+    /// A book, each of whose entries is counted in `calls`.
     pub fn new(book: Book, calls: Calls<L>) -> CountedBook<L>
         requires { length book.journal ≡ calls.total }
         ensures { result ≡ book }
@@ -65,14 +66,15 @@ impl<L: Ledger> CountedBook<L> {
         }
     }
 
-    /// How many entries the journal has.
+    /// The number of entries in the journal.
     pub fn len(&self) -> u64
         ensures { result ≡ length self.now.journal }
     {
         self.book.len()
     }
 
-    /// How many entries there are up to the last one of which another session may have to be told. None behind these is such a one.
+    /// The place of the last entry after which another session may have to be sent something, or a
+    /// later place. No entry after it is such a one.
     pub fn last_visible(&self) -> u64
         ensures within { result ≤ length self.now.journal }
         ensures quiet { AreQuietAfter self.now.journal result }
@@ -80,8 +82,9 @@ impl<L: Ledger> CountedBook<L> {
         self.last_visible
     }
 
-    /// Whether an entry behind the first `seen` may have to be told to this session: `false` only where none of them is news to other sessions than its own,
-    /// or where what the session sees is its mailbox.
+    /// Whether this session may have to be sent something for an entry after the first `seen`.
+    /// `false` only if no such entry concerns sessions other than its own, or if the session's view
+    /// is current.
     pub fn has_session_change(&self, session: SessionNo, seen: u64) -> bool
         ensures some { result ≡ true → seen < length self.now.journal }
         ensures none { result ≡ false → AreQuietAfter self.now.journal seen ⊎ ((view : ViewState) → view_at self.now.node.sessions session ≡ Some view → IsCurrent self.now.node.start self.now.node.applied view) }
@@ -89,15 +92,16 @@ impl<L: Ledger> CountedBook<L> {
         self.last_visible > seen && self.book.node().may_be_behind(session)
     }
 
-    /// The book.
+    /// A reference to the book.
     pub fn book(&self) -> &Book
         ensures { result.now ≡ self.now }
     {
         &self.book
     }
 
-    /// Lets an event happen for a caller, and gives what came of the caller's call before, to be let go where the lock isn't held. Where it is refused, nothing
-    /// changes. An open session can always be closed, where the journal wasn't cut.
+    /// Takes an event for a caller, and returns the outcome of the caller's call before, which may
+    /// be dropped once the lock is released. An error changes nothing. An open session can always
+    /// be closed, unless the journal was cut.
     pub fn call(
         &mut self,
         alloc: Global,
@@ -126,7 +130,8 @@ impl<L: Ledger> CountedBook<L> {
         Ok(pass.note(&mut self.calls, outcome, place))
     }
 
-    /// Takes all passes back, and hands the book out.
+    /// Takes all passes back, and returns the book. `Missing` if the passes don't count all calls;
+    /// `Strange` if a pass has another outcome than the journal at its place.
     pub fn settle(self, passes: Vec<Pass<L>>) -> Result<Book, FinishFault>
         requires { L.parts ≡ 4294967295 }
         ensures same { IfOk result (λ book. book ≡ self) }
@@ -159,7 +164,7 @@ impl<L: Ledger> CountedBook<L> {
     }
 }
 
-/// Whether another session may have to be told something behind an event with this outcome.
+/// Whether another session may have to be sent something after an event with this outcome.
 fn may_affect_sessions(outcome: &Outcome) -> bool
     ensures { result ≡ may_affect_sessions outcome.now }
 {
@@ -172,7 +177,7 @@ fn may_affect_sessions(outcome: &Outcome) -> bool
     }
 }
 
-/// The calls that the passes count, which are all where no part is lacking.
+/// The number of calls that the passes count, which is that of all calls if no part is missing.
 fn gather<L: Ledger>(calls: &mut Calls<L>, mut passes: Vec<Pass<L>>) -> u64
     requires parts { L.parts ≡ 4294967295 }
     requires fits { calls.old.total < 2 ^ 64 }
@@ -188,7 +193,7 @@ fn gather<L: Ledger>(calls: &mut Calls<L>, mut passes: Vec<Pass<L>>) -> u64
     all.total(calls)
 }
 
-/// Whether the outcome that the pass keeps stands at the place that it saw.
+/// Whether the journal has the pass's last outcome at the place that the pass saw.
 fn stands<L: Ledger>(book: &Book, pass: &Pass<L>) -> bool
     ensures { IsTrue result ↔ OutcomeStands book.now.journal pass.now.last pass.now.seen }
 {
@@ -201,7 +206,7 @@ fn stands<L: Ledger>(book: &Book, pass: &Pass<L>) -> bool
     }
 }
 
-/// The place that the first pass saw whose outcome doesn't stand there.
+/// The place seen by the first pass whose last outcome isn't the journal's at that place, if any.
 fn first_mismatch<L: Ledger>(book: &Book, passes: &[Pass<L>]) -> Option<u64>
     ensures all { IfNone result (OutcomesStand book.now.journal passes.now) }
     ensures one { IfSome result (λ place. (k : ℕ) × (p : PassState) × (slice_get passes.now k ≡ Some p) × (p.seen ≡ place) × (OutcomeStands book.now.journal p.last p.seen → ⊥)) }

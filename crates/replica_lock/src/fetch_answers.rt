@@ -1,4 +1,4 @@
-//! What a command is told before its end, in few words.
+//! FETCH answers in compact form.
 
 ghost use Rattle.std.specs.Prelude.{◌≡◌, ◌↔◌, IfSome, IsTrue, map};
 ghost use Rattle.replica_lock.specs.FetchAnswers.{answer_of, answers_of};
@@ -9,21 +9,21 @@ use std::alloc::Global;
 
 /// FETCH answers, in order.
 pub enum FetchAnswers {
-    /// Each is told by a line alone.
+    /// Answers without parts of a text.
     Lines {
         /// The lines.
         lines: Vec<FetchLine>,
     },
-    /// One alone, with parts of the message's text.
+    /// One answer, with parts of the message's text.
     Parts {
-        /// What it tells beside them.
+        /// The answer's other items.
         line: FetchLine,
-        /// The parts; what they have of the text is shared with the message, where it is all of it.
+        /// The parts. A part that is the whole text shares the message's memory.
         sections: Sections,
     },
 }
 
-// By hand, so that what holds it lets it go as a whole.
+// By hand, so that its owner drops it whole.
 impl Drop for FetchAnswers {
     fn drop(self) {
         match self {
@@ -37,7 +37,7 @@ impl Drop for FetchAnswers {
 }
 
 impl FetchAnswers {
-    /// These answers; `None` where they can't be kept so, or there is no memory for it.
+    /// These answers in compact form; `None` if they have none, or if memory runs out.
     pub(crate) fn from_answers(alloc: Global, answers: &[Answer]) -> Option<FetchAnswers>
         ensures { IfSome result (λ shown. answers_of shown ≡ answers.now) }
     {
@@ -47,7 +47,7 @@ impl FetchAnswers {
         }
     }
 
-    /// Whether it is these answers.
+    /// Whether these are the answers stored here.
     pub(crate) fn are_answers(&self, answers: &[Answer]) -> bool
         ensures { IsTrue result ↔ (answers_of self.now ≡ answers.now) }
     {
@@ -60,7 +60,8 @@ impl FetchAnswers {
     }
 }
 
-/// Whether a line stands for the first of these answers. Most answers without lines are known by it, before memory is asked for.
+/// Whether the first of these answers has a line. Most lists that have no lines are recognised by
+/// it, before any memory is taken.
 fn begin_with_line(answers: &[Answer]) -> bool {
     match answers.first() {
         Some(answer) => FetchLine::of(answer).is_some(),
@@ -68,7 +69,7 @@ fn begin_with_line(answers: &[Answer]) -> bool {
     }
 }
 
-/// The lines that stand for answers; `None` where one has none, or there is no memory for them.
+/// The lines of these answers; `None` if one has no line, or if memory runs out.
 fn lines_of(alloc: Global, answers: &[Answer]) -> Option<Vec<FetchLine>>
     ensures { IfSome result (λ lines. map answer_of lines.items ≡ answers.now) }
 {
@@ -82,7 +83,7 @@ fn lines_of(alloc: Global, answers: &[Answer]) -> Option<Vec<FetchLine>>
     Some(lines)
 }
 
-/// Whether lines stand for these answers.
+/// Whether the lines are those of these answers, one for each.
 fn stand_for(lines: &[FetchLine], answers: &[Answer]) -> bool
     ensures { IsTrue result ↔ (map answer_of lines.now ≡ answers.now) }
 {
@@ -97,7 +98,8 @@ fn stand_for(lines: &[FetchLine], answers: &[Answer]) -> bool
     true
 }
 
-/// An answer that tells of one message, with parts of its text; `None` where there are more or fewer, it tells anything else, or there is no memory for it.
+/// The compact form of one FETCH answer with parts of a text; `None` if there are no or several
+/// answers, if the answer has other items, or if memory runs out.
 fn parts_of(alloc: Global, answers: &[Answer]) -> Option<FetchAnswers>
     ensures { IfSome result (λ shown. answers_of shown ≡ answers.now) }
 {

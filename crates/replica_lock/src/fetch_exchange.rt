@@ -1,4 +1,4 @@
-//! Commands that are told no more than FETCH answers that can be kept in few words.
+//! Commands whose reply is only FETCH answers in compact form.
 
 ghost use Rattle.std.specs.Prelude.{◌≡◌, ◌↔◌, [], None, IfErr, IfOk, IfSome, IsTrue};
 ghost use Rattle.imap_answers.specs.declared.answer.Answer.TheVariants.{Completed};
@@ -14,21 +14,22 @@ use imap_syntax::Tagged;
 use imap_types::{Moment, Octets};
 use std::alloc::{AllocFailed, Global};
 
-/// A command that was told such answers alone, and its end; it set no flags in silence, and issued nothing.
+/// A command whose reply is only FETCH answers in compact form and its tagged OK. It set no flags
+/// silently, and issued nothing.
 pub struct FetchExchange {
     /// The session.
     pub session: SessionNo,
-    /// When the command came.
+    /// The time of its arrival.
     pub moment: Moment,
-    /// It, with its tag.
+    /// The command, with its tag.
     pub tagged: Tagged,
-    /// The word with which its end was told.
+    /// The word that its tagged OK names.
     pub word: CompletedWord,
-    /// What was told before it.
+    /// The FETCH answers before it.
     pub shown: FetchAnswers,
 }
 
-// By hand, so that what holds it lets it go as a whole.
+// By hand, so that its owner drops it whole.
 impl Drop for FetchExchange {
     fn drop(self) {
         let Self {
@@ -42,7 +43,8 @@ impl Drop for FetchExchange {
 }
 
 impl FetchExchange {
-    /// A command that is replied to so. `Err`, with the command, where it is told anything else, or there is no memory to keep it so.
+    /// A command with this reply. `Err`, with the command, if the reply has anything else, or if
+    /// memory runs out.
     pub(crate) fn from_reply(
         alloc: Global,
         session: SessionNo,
@@ -70,7 +72,7 @@ impl FetchExchange {
         }
     }
 
-    /// The command.
+    /// The command, by value.
     fn into_tagged(self) -> Tagged
         ensures { result ≡ self.tagged }
     {
@@ -84,7 +86,7 @@ impl FetchExchange {
         tagged
     }
 
-    /// Whether this came of it.
+    /// Whether this is the outcome of the command.
     pub(crate) fn has_outcome(&self, outcome: &Outcome) -> bool
         ensures { IsTrue result ↔ (Replied (fetch_exchange_reply self.now.tagged.tag self.now.word self.now.shown) ≡ outcome.now) }
     {
@@ -94,7 +96,7 @@ impl FetchExchange {
         }
     }
 
-    /// Whether it was replied to so.
+    /// Whether this is the reply to the command.
     fn has_reply(&self, reply: &Reply) -> bool
         ensures { IsTrue result ↔ (fetch_exchange_reply self.now.tagged.tag self.now.word self.now.shown ≡ reply.now) }
     {
@@ -112,7 +114,7 @@ impl FetchExchange {
         }
     }
 
-    /// Whether it was told this.
+    /// Whether these are the answers to the command.
     fn has_answers(&self, answers: &[Answer]) -> bool
         ensures { IsTrue result ↔ (fetch_exchange_answers self.now.tagged.tag self.now.word self.now.shown ≡ answers.now) }
     {
@@ -125,7 +127,7 @@ impl FetchExchange {
     }
 }
 
-/// The command of a box for which there was no memory.
+/// Takes the command back from a box for which memory ran out.
 fn unbox_command(failed: AllocFailed<FetchExchange>) -> Tagged
     ensures { result ≡ failed.value.tagged }
 {
@@ -133,13 +135,14 @@ fn unbox_command(failed: AllocFailed<FetchExchange>) -> Tagged
     value.into_tagged()
 }
 
-/// What a command is told.
+/// The compact form of a command's reply.
 struct FetchReply {
     word: CompletedWord,
     shown: FetchAnswers,
 }
 
-/// What a reply tells the command with this tag; `None` where it tells anything else, or there is no memory for it.
+/// The compact form of a reply to the command with this tag; `None` if it has none, or if memory
+/// runs out.
 fn fetch_reply_of(alloc: Global, tag: &Octets, reply: &Reply) -> Option<FetchReply>
     ensures { IfSome result (λ telling. fetch_exchange_reply tag.now telling.word telling.shown ≡ reply.now) }
 {
@@ -158,7 +161,8 @@ fn fetch_reply_of(alloc: Global, tag: &Octets, reply: &Reply) -> Option<FetchRep
     }
 }
 
-/// The same of answers.
+/// The compact form of these answers to the command with this tag; `None` if they have none, or if
+/// memory runs out.
 fn told_by(alloc: Global, tag: &Octets, answers: &[Answer]) -> Option<FetchReply>
     ensures { IfSome result (λ telling. fetch_exchange_answers tag.now telling.word telling.shown ≡ answers.now) }
 {
@@ -168,7 +172,8 @@ fn told_by(alloc: Global, tag: &Octets, answers: &[Answer]) -> Option<FetchReply
     Some(FetchReply { word, shown })
 }
 
-/// The word of the command with this tag, where an answer is its end and tells nothing else.
+/// The word that an answer names if it is the tagged OK, without a code, of the command with this
+/// tag.
 fn word_of(answer: &Answer, tag: &Octets) -> Option<CompletedWord>
     ensures { IfSome result (λ word. Completed tag.now None word ≡ answer.now) }
 {
@@ -182,7 +187,7 @@ fn word_of(answer: &Answer, tag: &Octets) -> Option<CompletedWord>
     }
 }
 
-/// Whether an answer is the end of a command with this tag and word, and tells nothing else.
+/// Whether an answer is the tagged OK, without a code, of the command with this tag and word.
 pub fn completes(answer: &Answer, tag: &Octets, word: CompletedWord) -> bool
     ensures { IsTrue result ↔ (Completed tag.now None word ≡ answer.now) }
 {

@@ -1,4 +1,4 @@
-//! FETCH answers in few words.
+//! One FETCH answer in compact form.
 
 ghost use Rattle.std.specs.Prelude.{◌≡◌, ◌↔◌, IfSome, IsTrue};
 ghost use Rattle.std.specs.Option.{option_map};
@@ -22,21 +22,22 @@ pub struct SystemFlags {
     pub draft: bool,
 }
 
-/// What a FETCH answer tells of a message beside its text, where that is no more than its UID, its flags, of which none is a keyword, and its mod-sequence.
+/// The items of a FETCH answer but for parts of the text, if they are only UID, flags without
+/// keywords, and mod-sequence.
 #[derive(Clone, Copy)]
 pub struct FetchLine {
     /// The message's number, from 1 on.
     pub number: u32,
-    /// Its UID; 0 where none is told.
+    /// Its UID; 0 if the answer has none.
     pub uid: u32,
-    /// Its mod-sequence; 0 where none is told.
+    /// Its mod-sequence; 0 if the answer has none.
     pub modseq: u64,
-    /// Its flags, where they are told.
+    /// Its flags, if the answer has them.
     pub flags: Option<SystemFlags>,
 }
 
 impl SystemFlags {
-    /// These; `None` where there are keywords among them.
+    /// These flags; `None` if there are keywords among them.
     fn of(flags: &Flags) -> Option<SystemFlags>
         ensures { IfSome result (λ system. flags_of system ≡ flags.now) }
     {
@@ -52,7 +53,7 @@ impl SystemFlags {
         })
     }
 
-    /// Whether these are all flags.
+    /// Whether the flags are exactly these.
     fn are(&self, flags: &Flags) -> bool
         ensures { IsTrue result ↔ (flags_of self.now ≡ flags.now) }
     {
@@ -66,7 +67,7 @@ impl SystemFlags {
 }
 
 impl FetchLine {
-    /// The line that stands for an answer; `None` where none does.
+    /// The line of an answer; `None` if it has none.
     pub(crate) fn of(answer: &Answer) -> Option<FetchLine>
         ensures { IfSome result (λ line. answer_of line ≡ answer.now) }
     {
@@ -79,7 +80,7 @@ impl FetchLine {
         FetchLine::without_parts(*number, items)
     }
 
-    /// The line that tells all of these items but the parts of the text; `None` where none does.
+    /// The line of these items but for the parts of the text; `None` if they have none.
     pub(crate) fn without_parts(number: u32, items: &FetchItems) -> Option<FetchLine>
         ensures { IfSome result (λ line. (line.number ≡ number) × (items_of line items.now.sections ≡ items.now)) }
     {
@@ -94,7 +95,7 @@ impl FetchLine {
         })
     }
 
-    /// Whether it stands for this answer by itself.
+    /// Whether this is the line of the answer, which has no parts of a text.
     pub(crate) fn stands_for(&self, answer: &Answer) -> bool
         ensures { IsTrue result ↔ (answer_of self.now ≡ answer.now) }
     {
@@ -106,7 +107,7 @@ impl FetchLine {
         }
     }
 
-    /// Whether it stands for this answer with these parts of the message's text.
+    /// Whether this is the line of the answer, which has these parts of the message's text.
     pub(crate) fn stands_with(&self, sections: &Sections, answer: &Answer) -> bool
         ensures { IsTrue result ↔ (answer_with sections.now self.now ≡ answer.now) }
     {
@@ -118,7 +119,7 @@ impl FetchLine {
         }
     }
 
-    /// Whether it tells all of these items but the parts of the text.
+    /// Whether this is the line of these items but for the parts of the text.
     pub(crate) fn agrees(&self, items: &FetchItems) -> bool
         ensures { IsTrue result ↔ (items_of self.now items.now.sections ≡ items.now) }
     {
@@ -142,7 +143,7 @@ fn modseq_if_told(modseq: u64) -> Option<u64>
     if modseq == 0 { None } else { Some(modseq) }
 }
 
-/// What is kept of a UID; `None` where it is 0, which none is.
+/// The stored form of a UID: 0 for none. `None` if it is 0, which no UID is.
 fn kept_uid(uid: Option<u32>) -> Option<u32>
     ensures { IfSome result (λ kept. told_if_nonzero kept ≡ uid) }
 {
@@ -153,7 +154,7 @@ fn kept_uid(uid: Option<u32>) -> Option<u32>
     }
 }
 
-/// What is kept of a mod-sequence; `None` where it is 0, which none is.
+/// The stored form of a mod-sequence: 0 for none. `None` if it is 0, which no mod-sequence is.
 fn kept_modseq(modseq: Option<u64>) -> Option<u64>
     ensures { IfSome result (λ kept. told_if_nonzero kept ≡ modseq) }
 {
@@ -164,7 +165,7 @@ fn kept_modseq(modseq: Option<u64>) -> Option<u64>
     }
 }
 
-/// What is kept of flags; `None` where there are keywords among them.
+/// The stored form of flags; `None` if there are keywords among them.
 fn kept_flags(flags: &Option<Flags>) -> Option<Option<SystemFlags>>
     ensures { IfSome result (λ kept. option_map flags_of kept ≡ flags.now) }
 {
@@ -174,7 +175,7 @@ fn kept_flags(flags: &Option<Flags>) -> Option<Option<SystemFlags>>
     }
 }
 
-/// Whether these flags are told, all of them.
+/// Whether the stored flags are these flags.
 fn are_flags_told(told: &Option<SystemFlags>, flags: &Option<Flags>) -> bool
     ensures { IsTrue result ↔ (option_map flags_of told.now ≡ flags.now) }
 {

@@ -1,4 +1,4 @@
-//! The book of a replica that joins, with another one's operations.
+//! The book of a replica that joins with another one's operations.
 
 ghost use Rattle.std.specs.Prelude.{◌≡◌, ◌∷◌, ◌++◌, [], IfErr, MatchResult, None, OnOk};
 ghost use Rattle.merge_laws.specs.Orders.{IsCausal, IsRipe};
@@ -21,12 +21,15 @@ use tags_clocks::{OpId, ReplicaId};
 use uid_projection::Counters;
 
 impl Book {
-    /// The book of a new replica of this name to which these operations were delivered, in their order: an entry each. None of them bears its name, and its
-    /// UIDs count from 1. There is no book where one does, or where it can't apply them all: `Own` where one bears its name, the least such id, which is tested
-    /// first and takes no memory; `NotCausal` at the first that isn't ripe behind those in front of it; `Exhausted` where one of its counters has no number left
-    /// for one; `NoMemory`.
+    /// The book of a new replica of this name to which these operations were delivered, in their
+    /// order, with an entry for each. None of them bears its name, and its UIDs count from 1.
     ///
-    /// It costs what the deliveries do, and keeps two copies of each operation: the replica's and the journal's.
+    /// `Own` if one bears its name, with the least such id; this is tested first and takes no
+    /// memory. `NotCausal` at the first that isn't ripe after those before it. `Exhausted` if one
+    /// of its counters has no number left for one. `NoMemory` if memory runs out.
+    ///
+    /// It costs as much as the deliveries, and makes two copies of each operation: the replica's
+    /// and the journal's.
     pub fn join(alloc: Global, id: ReplicaId, ops: &[SoundOp]) -> Result<Book, JoinFault>
         ensures { MatchResult result
             (λ book. (book ≡ joined_book id ops.now) × IsLeastOwn id_of id ops.now None × IsCausal id_of clock_of ops.now × (¬ Exhausts (first_numbers id) [] ops.now))
@@ -52,7 +55,8 @@ impl Book {
     }
 }
 
-/// Delivers the operations, one after another, to a replica that has received nothing. It ends with the first that isn't applied.
+/// Delivers the operations, one after another, to a replica that has received nothing. Stops at the
+/// first that isn't applied.
 fn take_all(alloc: Global, book: &mut Book, ops: &[SoundOp]) -> Result<(), JoinFault>
     requires { book.old ≡ joined_book book.old.node.start.replica [] }
     ensures ok { OnOk result ((book.new ≡ joined_book book.old.node.start.replica ops.now) × IsCausal id_of clock_of ops.now × (¬ Exhausts book.old.node.start [] ops.now)) }
@@ -83,7 +87,7 @@ fn take(alloc: Global, book: &mut Book, op: &SoundOp) -> Result<(), JoinFault>
     told
 }
 
-/// What the outcome of a delivery says of the operation with this id.
+/// The fault, if any, shown by the outcome of delivering the operation with this id.
 fn join_fault_of(id: OpId, outcome: &Outcome) -> Result<(), JoinFault>
     ensures { result ≡ join_fault_of id outcome.now }
 {
@@ -104,7 +108,7 @@ fn join_fault_of(id: OpId, outcome: &Outcome) -> Result<(), JoinFault>
     }
 }
 
-/// What its arrival says.
+/// The fault, if any, shown by the arrival of the operation with this id.
 fn join_fault_of_arrival(id: OpId, arrival: &Arrival) -> Result<(), JoinFault>
     ensures { result ≡ join_fault_of_arrival id arrival.now }
 {

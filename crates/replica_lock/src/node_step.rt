@@ -1,4 +1,4 @@
-//! One event at a node, with what the journal keeps of it.
+//! One event at a node, and the journal entry that stores it.
 
 ghost use Rattle.std.specs.Prelude.{◌≡◌, ◌↔◌, true, IfOk, IsOk, IsTrue, OnErr};
 ghost use Rattle.imap_node.specs.Sessions.{IsOpen};
@@ -20,17 +20,17 @@ use imap_types::Moment;
 use merge_laws::Caused;
 use std::alloc::{AllocError, Global};
 
-/// An event that happened.
+/// The result of a step.
 #[derive(Drop)]
 pub struct StepResult {
-    /// What the journal keeps of it.
+    /// The journal entry of the event.
     pub kept: CompactEntry,
-    /// What came of it.
+    /// The event's outcome.
     pub outcome: Outcome,
 }
 
-/// Lets an event happen at a node. `Err` where there is no memory for what the journal keeps of it: the node is as it was then.
-/// The end of a session takes no memory.
+/// Takes an event at a node. `Err` if memory runs out for the journal entry; the node is then as it
+/// was. The close of a session takes no memory.
 pub fn step_node(alloc: Global, node: &mut Node, event: BookEvent) -> Result<StepResult, NoRoom>
     ensures kept { IfOk result (λ stepped. stepped.kept ≡ record { event = event; outcome = stepped.outcome }) }
     ensures step { IfOk result (λ stepped. IsStep node.old.state event stepped.outcome node.new.state) }
@@ -79,7 +79,7 @@ fn outcome_of_open(answer: &Result<SessionNo, OpenFault>) -> Outcome
     Outcome::Opened { answer: *answer }
 }
 
-/// Equal; `Err` where there is no memory for it.
+/// A copy; `Err` if memory runs out.
 fn copy_auth(alloc: Global, auth: &Auth) -> Result<Auth, AllocError>
     ensures { IfOk result (λ copied. copied ≡ auth.now) }
 {
@@ -91,7 +91,8 @@ fn copy_auth(alloc: Global, auth: &Auth) -> Result<Auth, AllocError>
     })
 }
 
-/// Whether the session takes this input now.
+/// Whether the session takes this input now: it is open, and idles exactly if the input is a line
+/// or a poll.
 fn awaits(node: &Node, session: SessionNo, input: &Input) -> bool
     ensures taken { IsTrue result ↔ Awaits node.now.state session input.now }
     ensures there { IsTrue result → IsOpen node.now.state.sessions session }
@@ -105,7 +106,7 @@ fn awaits(node: &Node, session: SessionNo, input: &Input) -> bool
     }
 }
 
-/// Gives a session an input, where it takes it.
+/// Gives a session an input, or passes it over if the session doesn't take it.
 fn input_step(
     alloc: Global,
     node: &mut Node,
@@ -131,7 +132,7 @@ fn input_step(
     })
 }
 
-/// What the journal keeps of an input of a session that is replied to so; `Err` where there is no memory for it.
+/// The journal entry of an input of a session with this reply; `Err` if memory runs out.
 fn kept_of(
     alloc: Global,
     session: SessionNo,
@@ -149,7 +150,7 @@ fn kept_of(
     }
 }
 
-/// The same of a command.
+/// The journal entry of a command of a session with this reply; `Err` if memory runs out.
 fn kept_of_command(
     alloc: Global,
     session: SessionNo,
@@ -176,7 +177,7 @@ fn kept_of_command(
     whole_entry(alloc, event, reply)
 }
 
-/// Whether it is NOOP.
+/// Whether the command is NOOP.
 fn is_noop(command: &Command) -> bool
     ensures { IsTrue result ↔ (command.now ≡ commands.Noop) }
 {
@@ -186,7 +187,7 @@ fn is_noop(command: &Command) -> bool
     }
 }
 
-/// The same of any event.
+/// The journal entry of any event with this reply, not in compact form; `Err` if memory runs out.
 fn whole_entry(alloc: Global, event: BookEvent, reply: &Reply) -> Result<CompactEntry, AllocError>
     ensures { IfOk result (λ kept. kept ≡ record { event = event; outcome = outcomes.Replied reply.now }) }
 {
@@ -195,7 +196,7 @@ fn whole_entry(alloc: Global, event: BookEvent, reply: &Reply) -> Result<Compact
     Ok(begun.finish(Outcome::Replied { reply }))
 }
 
-/// An event that can't be. `Err` where there is no memory for what the journal keeps of it.
+/// Passes over an event that isn't possible. `Err` if memory runs out for its journal entry.
 fn pass_over(alloc: Global, event: BookEvent) -> Result<StepResult, NoRoom>
     ensures kept { IfOk result (λ stepped. stepped.kept ≡ record { event = event; outcome = stepped.outcome }) }
     ensures outcome { IfOk result (λ stepped. stepped.outcome ≡ outcomes.PassedOver) }
@@ -236,7 +237,7 @@ fn outcome_of_delivery(answer: &Result<Delivered, DeliverFault>) -> Outcome
     Outcome::Delivered { answer: *answer }
 }
 
-/// Goes on with held operations.
+/// Applies held operations whose causes were applied.
 fn drain_step(alloc: Global, node: &mut Node) -> Result<StepResult, NoRoom>
     ensures kept { IfOk result (λ stepped. stepped.kept ≡ record { event = events.Drain; outcome = stepped.outcome }) }
     ensures step { IfOk result (λ stepped. IsStep node.old.state events.Drain stepped.outcome node.new.state) }

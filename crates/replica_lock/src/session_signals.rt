@@ -1,16 +1,17 @@
-//! What wakes those that wait for news of a session.
+//! Condition variables for threads that wait for changes to a session.
 
 use imap_node::{MAX_SESSIONS, Node, SessionNo};
 use std::alloc::Global;
 use std::sync::Condvar;
 
-/// A bell for each session, as far as there was memory for them, and one for all others.
+/// A condition variable for each session, as far as there was memory, and one for all other
+/// sessions.
 pub struct SessionSignals {
     own: Vec<Condvar>,
     common: Condvar,
 }
 
-// By hand, so that crates above let it go as a whole.
+// By hand, so that crates above drop it whole.
 impl Drop for SessionSignals {
     fn drop(self) {
         let Self { own: _, common: _ } = self;
@@ -18,7 +19,7 @@ impl Drop for SessionSignals {
 }
 
 impl SessionSignals {
-    /// Bells for all sessions that a replica can have, as far as there is memory.
+    /// Condition variables for all sessions that a replica can have, as far as there is memory.
     pub fn new(alloc: Global) -> SessionSignals {
         let mut own = Vec::new(alloc);
         for _ in 0..MAX_SESSIONS {
@@ -32,7 +33,7 @@ impl SessionSignals {
         }
     }
 
-    /// The session's bell.
+    /// The session's condition variable.
     pub fn signal_of(&self, session: SessionNo) -> &Condvar {
         match self.own.get(session.get() - 1) {
             Some(bell) => bell,
@@ -40,7 +41,8 @@ impl SessionSignals {
         }
     }
 
-    /// Rings for each session that idles and may have something to be told, and for no other. It looks at each session's feed.
+    /// Signals each session that idles and may have something to be sent, and no other. It looks at
+    /// each session's feed.
     pub fn notify(&self, node: &Node) {
         for number in 1..node.last_session() + 1 {
             if let Some(session) = SessionNo::new(number) {

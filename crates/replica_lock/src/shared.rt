@@ -23,25 +23,27 @@ use std::sync::ledger::{Blank, Ledger};
 use std::sync::{Condvar, Mutex, MutexGuard, Wait};
 use tags_clocks::Clock;
 
-/// What is passed on the way, so that a test can say in which order threads go on.
+/// A gate that a thread passes at given points, by which a test sets the order of threads.
 pub trait Gate {
-    /// Passes for the n-th time.
+    /// Passes for the n-th time, from 1 on.
     fn pass(&mut self, n: u64);
 }
 
-/// A replica under a lock. Each call takes the lock for one step of the replica, notes it in the caller's pass, and may wait for the lock.
+/// A replica under a lock. Each call takes the lock, for which it may wait, for one step of the
+/// replica, and notes it in the caller's pass.
 #[derive(Drop)]
 pub struct Shared<L: Ledger> {
     locked: Mutex<CountedBook<L>>,
     changed: Condvar,
-    /// Signals, of each session, that it idles and may have something to be told, that it begins to idle, or that it was closed.
+    /// Signals of each session that it idles and may have something to be sent, that it begins to
+    /// idle, or that it was closed.
     bells: SessionSignals,
 }
 
-/// A replica whose lock one caller has. Nobody is woken before `Shared::end` gives it back.
+/// A replica whose lock one caller has. No thread is woken before `Shared::end` releases it.
 pub struct LockTurn<'a, L: Ledger> {
     locked: MutexGuard<'a, CountedBook<L>>,
-    /// How many entries there were up to the last one of which another session may have to be told.
+    /// The value of `last_visible` when the turn began.
     before: u64,
 }
 
@@ -62,7 +64,8 @@ impl<'a, L: Ledger> LockTurn<'a, L> {
         self.locked.call(alloc, pass, event)
     }
 
-    /// Gives the pass's session a command, which came at this moment, and which doesn't begin IDLE: whoever waits for a session to idle isn't woken by a turn.
+    /// Gives the pass's session a command, which came at this moment and doesn't begin IDLE: a turn
+    /// doesn't wake the threads that wait for a session to idle.
     pub fn command(
         &mut self,
         alloc: Global,
@@ -98,7 +101,8 @@ impl<L: Ledger> Shared<L> {
     ghost use Rattle.replica_lock.specs.declared.book.JournalEntry.{JournalEntry};
     ghost use Rattle.replica_lock.specs.declared.event.BookEvent.TheVariants as events;
 
-    /// Puts a replica under a lock. The pass counts the entries that are there, and all others are cut from it.
+    /// Puts a replica under a lock. The pass counts the entries in the book's journal, and all
+    /// other passes are cut from it.
     pub fn new(blank: Blank, book: Book) -> (Shared<L>, Pass<L>)
         requires name { blank.name ≡ L.name }
         requires parts { (blank.parts ≡ L.parts) × (L.parts ≡ 4294967295) }
@@ -135,7 +139,8 @@ impl<L: Ledger> Shared<L> {
         if let Some(session) = roused {
             self.bells.signal_of(session).notify_all();
         }
-        // What came of the call before is let go no sooner than here, where the lock is given back: it may be long.
+        // The outcome of the call before is dropped only here, after the lock was released: it may
+        // be long.
         match result {
             Ok(last) => {
                 pass.keep(last);
@@ -145,14 +150,15 @@ impl<L: Ledger> Shared<L> {
         }
     }
 
-    /// Takes the lock, for which it may wait, for calls of one caller that come one behind another. All others wait until `end` gives it back.
+    /// Takes the lock, for which it may wait, for several calls of one caller. All others wait
+    /// until `end` releases it.
     pub fn turn<R: Wait>(&self, rt: &R) -> LockTurn<'_, L> {
         let locked = self.locked.lock(rt);
         let before = locked.last_visible();
         LockTurn { locked, before }
     }
 
-    /// Gives the lock back, and wakes whoever waits for what these calls changed.
+    /// Releases the lock, and wakes the threads that wait for what these calls changed.
     pub fn end(&self, turn: LockTurn<'_, L>) {
         let LockTurn { locked, before } = turn;
         if locked.last_visible() != before {
@@ -222,7 +228,7 @@ impl<L: Ledger> Shared<L> {
         self.call(rt, alloc, pass, BookEvent::Line { session, line })
     }
 
-    /// Tells the pass's session, in IDLE, what changed.
+    /// Sends the pass's session, in IDLE, what changed.
     pub fn poll<R: Wait>(&self, rt: &R, alloc: Global, pass: &mut Pass<L>) -> Result<(), CallFault>
         requires { IsSome pass.old.session }
         ensures called { OnOk result (IsCalledIn pass.old (λ n. events.Poll n) pass.new) }
@@ -250,7 +256,7 @@ impl<L: Ledger> Shared<L> {
         self.call(rt, alloc, pass, BookEvent::Deliver { op })
     }
 
-    /// Goes on with held operations whose causes were applied.
+    /// Applies held operations whose causes were applied.
     pub fn drain<R: Wait>(&self, rt: &R, alloc: Global, pass: &mut Pass<L>) -> Result<(), CallFault>
         ensures called { OnOk result (IsCalled pass.old events.Drain pass.new) }
         ensures unchanged { OnErr result (pass.new ≡ pass.old) }
@@ -272,7 +278,7 @@ impl<L: Ledger> Shared<L> {
         self.call(rt, alloc, pass, BookEvent::Close { session })
     }
 
-    /// Waits until the journal's length isn't `seen`, and tells it.
+    /// Waits until the journal's length isn't `seen`, and returns it.
     pub fn wait_change<R: Wait>(&self, rt: &R, seen: u64) -> u64
         ensures { result ≢ seen }
     {
@@ -282,8 +288,10 @@ impl<L: Ledger> Shared<L> {
         locked.len()
     }
 
-    /// Waits until an entry behind the first `seen` may have to be told to this session, and tells the journal's length then; `None` where the session is closed.
-    /// It looks again where the session begins to idle; while it idles, it is woken where its own feed has notes, or missed some, and at its close, by no other entry.
+    /// Waits until this session may have to be sent something for an entry after the first `seen`,
+    /// and returns the journal's length then; `None` if the session is closed. It looks again when
+    /// the session begins to idle. While the session idles, the wait is woken when its own feed has
+    /// notes, or missed some, and at its close, by no other entry.
     pub fn wait_session_change<R: Wait>(&self, rt: &R, session: SessionNo, seen: u64) -> Option<u64>
         ensures { IfSome result (λ length. seen < length) }
     {
@@ -299,10 +307,12 @@ impl<L: Ledger> Shared<L> {
         Some(locked.len())
     }
 
-    /// Copies of the operations that the replica applied, in their order; `Err` where there is no memory for them. It makes no entry, and leaves the pass as it is.
+    /// Copies of the operations that the replica applied, in their order; `Err` if memory runs out.
+    /// It makes no entry, and leaves the pass as it is.
     ///
-    /// It holds the lock for one pass over the list, which copies each operation with its texts, so that other calls wait as long as that takes. The copies take as
-    /// much memory as the list does, all at once, beside the replica's and the journal's own.
+    /// It holds the lock for one pass over the list, and copies each operation; a text's memory is
+    /// shared. Other calls wait for as long as that takes. The copies take as much memory as the
+    /// list does, at once, beside the replica's and the journal's own.
     pub fn ops_copy<R: Wait>(
         &self,
         rt: &R,
@@ -314,15 +324,16 @@ impl<L: Ledger> Shared<L> {
         copies_of_ops(alloc, self.locked.lock(rt).book())
     }
 
-    /// A copy of the clock that counts the operations that the replica applied; `Err` where there is no memory for it. It takes the lock, and makes no entry.
+    /// A copy of the clock that counts the operations that the replica applied; `Err` if memory
+    /// runs out. It takes the lock, and makes no entry.
     pub fn clock<R: Wait>(&self, rt: &R, alloc: Global) -> Result<Clock, AllocError>
         ensures { IfOk result (λ clock. (applied : List Op) × IsCausal id_of clock_of applied × IsClockOf id_of applied clock) }
     {
         clock_in(alloc, self.locked.lock(rt).book())
     }
 
-    /// Copies of the operations applied that the clock doesn't cover, in their order; `Err` where there is no memory for them. It takes the lock, and makes no
-    /// entry.
+    /// Copies of the operations applied that the clock doesn't cover, in their order; `Err` if
+    /// memory runs out. It takes the lock, and makes no entry.
     pub fn ops_since<R: Wait>(
         &self,
         rt: &R,
@@ -334,8 +345,8 @@ impl<L: Ledger> Shared<L> {
         ops_in(alloc, self.locked.lock(rt).book(), clock)
     }
 
-    /// Takes the lock away and hands the book out, where the passes are all there. `Missing` where one is lacking, `Strange` where a pass
-    /// keeps another outcome than its call's.
+    /// Removes the lock and returns the book, if no pass is missing. `Missing` if one is, `Strange`
+    /// if a pass has another outcome than the journal at its place.
     pub fn finish(self, passes: Vec<Pass<L>>) -> Result<Book, FinishFault>
         requires { L.parts ≡ 4294967295 }
         ensures fits { IfOk result (λ book. PassesFit book.journal passes.items) }
@@ -350,7 +361,7 @@ impl<L: Ledger> Shared<L> {
         locked.into_inner().settle(passes)
     }
 
-    /// Passes a gate while the lock is held.
+    /// Passes a gate while it holds the lock.
     pub fn hold<R: Wait, G: Gate>(&self, rt: &R, gate: &mut G, n: u64) {
         let locked = self.locked.lock(rt);
         gate.pass(n);
@@ -358,7 +369,8 @@ impl<L: Ledger> Shared<L> {
     }
 }
 
-/// The session that an event closes, or lets idle: whoever waits for its news looks again, since what came while it didn't idle rang no bell.
+/// The session that an event closes, or lets idle. Threads that wait for its changes look again,
+/// since nothing that came while it didn't idle signalled them.
 fn session_roused_by(event: &BookEvent) -> Option<SessionNo> {
     match event {
         BookEvent::Close { session } => Some(*session),
