@@ -12,7 +12,7 @@ use Rattle.clap.specs.declared.parser.matches.MatchedArg.{MatchedArg}
 use Rattle.clap.specs.Simple.{App, HasMatchesOf, is_simple, matches_of}
 use Rattle.clap.specs.declared.parser.matches.ArgMatches.{ArgMatches}
 
--- ---- what is found, as rows
+-- ---- matches, as rows
 
 first_text : (values : List (Bor (List ℕ))) → option_map (λ s. s.now) (slice_get values 0) ≡ slice_get (map (λ s. s.now) values) 0
 first_text [] = refl
@@ -57,7 +57,7 @@ first_found found id = first_among id found.entries.items
 pub one_found : (found : Found) (id : List ℕ) → one_text found id ≡ one_of id (rows_of found)
 one_found found id = one_among id found.entries.items
 
--- ---- what is found in words, where the known ones are such that clap's matches are known
+-- ---- matches of words, if the known words are such that clap's matches are known
 
 pub found_in : {E : Type 0} (r : Result ArgMatches E) (app known : App) (words : List (List ℕ)) → is_simple known ≡ true → app ≡ known → IfOk r (HasMatchesOf app words)
     → IfOk r (λ m. rows_of (found_of m) ≡ matches_of known words)

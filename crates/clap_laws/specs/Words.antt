@@ -1,3 +1,5 @@
+-- The words that arguments add to those that a program knows, in the terms of `clap`.
+
 use Rattle.std.specs.Prelude.{◌≡◌, false, List}
 use Rattle.clap.specs.Words.{AddsArg, AddsInTurn, App, Rule, app_of, rule_of}
 use Rattle.clap.specs.declared.builder.arg.Arg.{Arg}
@@ -8,6 +10,6 @@ pub record IsWord (argument : Arg) (word : Rule) : Type 0 where
   pub rule : rule_of argument ≡ word
   pub own : argument.global ≡ false
 
--- Whoever adds these arguments in turn adds the words that this function does.
+-- Adding these arguments one after another adds the words that the function does.
 abbrev pub Add : List Arg → (App → App) → Type 0
 Add arguments more = (old new : Command) → AddsInTurn AddsArg old arguments new → app_of new ≡ more (app_of old)

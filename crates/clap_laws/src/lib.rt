@@ -1,3 +1,9 @@
-//! What clap finds in the words of a command line, as rows, and what a word adds to those that a program knows. Laws without code, for the proofs of programs that
-//! take a command line.
+//! What clap finds in the words of a command line, stated as rows of its table, and what an
+//! argument adds to the words that a program knows.
+//!
+//! The crate has no code, only definitions and lemmas, for the proofs of programs that read a
+//! command line with `clap`. `specs/Words` says which word an argument adds (`IsWord`), and what a
+//! list of arguments adds together (`Add`). The lemmas follow these through `Command::arg` and
+//! `Command::args`, and turn clap's own definition of its matches into the presence and the values
+//! of each word, if the known words are such that clap's matches are known.
 #![tactic(auto)]

@@ -4,7 +4,7 @@ use Rattle.std.proofs.lemmas.List.{take_more}
 use Rattle.replica_links.specs.Links.{AreAsked, MayAsk}
 
 module _ {S P : Type 0} (lacks : S → Type 0) (has : S → List (ℕ × ℕ) → Type 0) (asks : P → ℕ → List (ℕ × ℕ) → P → Type 0) (s : S) where
-  -- one more is asked
+  -- one further replica is asked
   asked_behind : (p : P) (front : List ℕ) (to : ℕ) (q r : P) → AreAsked lacks has asks s p front q → MayAsk lacks has asks s q to r → AreAsked lacks has asks s p (front ++ to ∷ []) r
   asked_behind p [] to q r h step = (r, subst (λ (x : P). MayAsk lacks has asks s x to r) (sym h) step, refl)
   asked_behind p (f ∷ front) to q r h step = (h.0, h.1, asked_behind h.0 front to q r h.2 step)

@@ -1,3 +1,6 @@
+-- What a replica does with the messages of others, and what the worker of a link does: definitions
+-- over any taker and any way to the other replicas.
+
 use Rattle.std.specs.Prelude.{◌≡◌, ◌⊎◌, ◌||◌, ℕ, Bool, true, false, List, [], ◌∷◌, map, Option, None, Some, Ok, Err}
 use Rattle.causal_inbox.specs.declared.delivery.Arrival.{Arrival}
 use Rattle.causal_inbox.specs.declared.delivery.Arrival.TheVariants.{Applied, Held, Repeat}
@@ -15,7 +18,8 @@ use Rattle.replica_lock.specs.declared.event.BookEvent.TheVariants.{Deliver, Dra
 use Rattle.replica_lock.specs.declared.outcome.Outcome.{Outcome}
 use Rattle.replica_lock.specs.declared.outcome.Outcome.TheVariants.{Delivered}
 
--- Nothing lacks and nothing stalled; one is lacking; what became of two deliveries together.
+-- Nothing is lacking and nothing stalled; one operation is lacking; the result of two deliveries
+-- together.
 abbrev pub took_nothing : Took
 took_nothing = record { lacking = false; stalled = false }
 
@@ -25,29 +29,31 @@ took_lacking = record { lacking = true; stalled = false }
 abbrev pub took_both : Took → Took → Took
 took_both one other = record { lacking = one.lacking || other.lacking; stalled = one.stalled || other.stalled }
 
--- A delivery that was given, with its answer.
+-- A delivery, with its result.
 pub record Delivery : Type 0 where
   pub op : Op
   pub took : Took
 
--- What became of several deliveries: each field is true where one answer's is.
+-- The result of several deliveries: each field is true if it is true of one of them.
 abbrev pub took_all : List Delivery → Took
 took_all [] = took_nothing
 took_all (g ∷ given) = took_both g.took (took_all given)
 
--- The taker's steps for these deliveries and answers lead from the one state to the other.
+-- The taker's steps for these deliveries and results lead from one state to the other.
 abbrev pub Steps : {S : Type 0} → (S → Op → Took → S → Type 0) → S → List Delivery → S → Type 0
 Steps takes s [] t = s ≡ t
 Steps {S} takes s (g ∷ given) t = (next : S) × takes s g.op g.took next × Steps takes next given t
 
--- The taker was given just these operations, each once and in this order, and this tells of all answers.
+-- Exactly these operations were delivered to the taker, each once and in this order, and the result
+-- is that of all deliveries.
 pub record Takes {S : Type 0} (takes : S → Op → Took → S → Type 0) (s : S) (ops : List Op) (result : Took) (t : S) : Type 0 where
   pub given : List Delivery
   pub steps : Steps takes s given t
   pub those : map (λ (g : Delivery). g.op) given ≡ ops
   pub told : result ≡ took_all given
 
--- What became of a delivery, by the outcome of its call: a conflict will never be taken, so that nothing lacks.
+-- The result of a delivery, by the outcome of its call. An operation that conflicts will never be
+-- applied, so that it doesn't lack.
 abbrev pub is_held : Arrival → Bool
 is_held (Applied count) = false
 is_held Held = true
@@ -58,42 +64,46 @@ took_of (Delivered (Ok receipt)) = record { lacking = is_held receipt.arrival; s
 took_of (Delivered (Err (Conflict id))) = took_nothing
 took_of _ = took_lacking
 
--- A replica behind its lock took an operation by one call that delivers just it, which its pass noted; or there was no call, and the operation is lacking.
+-- A replica under its lock took an operation by one call, noted in its pass, that delivers only
+-- this operation; or there was no call, and the operation is lacking.
 abbrev pub IsTakenBy : PassState → Op → Took → PassState → Type 0
 IsTakenBy p op took q =
     (IsCalled p (Deliver op) q × ((outcome : Outcome) × (q.last ≡ Some outcome) × (took ≡ took_of outcome)))
     ⊎ ((q ≡ p) × (took ≡ took_lacking))
 
--- Behind a delivery that stalled one call goes on with what is held.
+-- After a delivery that stalled, one call applies held operations.
 abbrev pub IsDrained : {S : Type 0} → (S → S → Type 0) → S → Bool → S → Type 0
 IsDrained drains s true t = drains s t
 IsDrained drains s false t = s ≡ t
 
--- What asking stands on: a replica lacks memory for its clock; it has this clock; another is asked for all that a clock doesn't cover.
+-- Requests, over three relations: memory may run out for the replica's clock; it has this clock;
+-- another replica is asked for all that a clock doesn't cover.
 module _ {S P : Type 0} (lacks : S → Type 0) (has : S → List (ℕ × ℕ) → Type 0) (asks : P → ℕ → List (ℕ × ℕ) → P → Type 0) where
-  -- The sender is asked, once, for all that the replica's clock doesn't cover; not at all where there is no memory for the clock.
+  -- The replica is asked, once, for all that this one's clock doesn't cover; not at all if memory
+  -- runs out for the clock.
   abbrev pub MayAsk : S → P → ℕ → P → Type 0
   MayAsk s p from q = ((clock : List (ℕ × ℕ)) × has s clock × asks p from clock q) ⊎ (lacks s × (p ≡ q))
 
-  -- Each of these replicas is asked so, one behind the other.
+  -- Each of these replicas is asked so, one after another.
   abbrev pub AreAsked : S → P → List ℕ → P → Type 0
   AreAsked s p [] q = p ≡ q
   AreAsked s p (to ∷ rest) q = (next : P) × MayAsk s p to next × AreAsked s next rest q
 
-  -- It is asked where something is lacking, and only there.
+  -- The sender is asked exactly if an operation is lacking.
   abbrev pub IsAsked : S → P → ℕ → Bool → P → Type 0
   IsAsked s p from true q = MayAsk s p from q
   IsAsked s p from false q = p ≡ q
 
-  -- Where a replica asks first, each of these others is asked.
+  -- If a replica asks first, each of these others is asked.
   abbrev pub IsBegun : List ℕ → Bool → S → P → P → Type 0
   IsBegun peers true s p q = AreAsked s p peers q
   IsBegun peers false s p q = p ≡ q
 
--- Beside that: a replica takes an operation; it goes on with what it holds.
+-- Messages of operations, over two further relations: a replica takes an operation; it applies held
+-- ones.
 module _ {S P : Type 0} (takes : S → Op → Took → S → Type 0) (drains : S → S → Type 0) (lacks : S → Type 0) (has : S → List (ℕ × ℕ) → Type 0) (asks : P → ℕ → List (ℕ × ℕ) → P → Type 0) where
-  -- What becomes of a message of operations: they are handed on, each once and in their order; where one stalled, held ones are gone on with; and where one is
-  -- lacking the sender is asked for it.
+  -- The result of a message of operations: they are delivered, each once and in their order; if one
+  -- stalled, held ones are applied; and if one is lacking, the sender is asked for it.
   pub record IsTaken (s : S) (p : P) (from : ℕ) (ops : List Op) (t : S) (q : P) : Type 0 where
     pub took : Took
     pub between : S
@@ -101,18 +111,21 @@ module _ {S P : Type 0} (takes : S → Op → Took → S → Type 0) (drains : S
     pub drained : IsDrained drains between took.stalled t
     pub asked : IsAsked lacks has asks t p from took.lacking q
 
--- Operations are handed to a replica, if there are any.
+-- Operations are sent to a replica, if there are any.
 abbrev pub MaySendOps : {P : Type 0} → (P → ℕ → List Op → P → Type 0) → P → ℕ → List Op → P → Type 0
 MaySendOps hands p to [] q = p ≡ q
 MaySendOps hands p to (op ∷ ops) q = hands p to (op ∷ ops) q
 
--- What giving stands on: a replica lacks memory for the operations; it gives these for a clock; another is handed operations.
+-- Answers to requests, over three relations: memory may run out for the operations; the replica
+-- gives these for a clock; another replica is sent operations.
 module _ {S P : Type 0} (lacks : S → Type 0) (gives : S → List (ℕ × ℕ) → List Op → Type 0) (hands : P → ℕ → List Op → P → Type 0) where
-  -- What becomes of a message that asks: the sender is handed what the replica gives for its clock, and nothing where there is no memory for it.
+  -- The result of a request: the sender is sent what the replica gives for its clock, and nothing
+  -- if memory runs out for that.
   abbrev pub IsAnswered : S → P → ℕ → List (ℕ × ℕ) → P → Type 0
   IsAnswered s p from clock q = ((ops : List Op) × gives s clock ops × MaySendOps hands p from ops q) ⊎ (lacks s × (p ≡ q))
 
--- A replica behind its lock went on with what it holds by one call, which its pass noted; or there was no call.
+-- A replica under its lock applied held operations by one call, noted in its pass; or there was no
+-- call.
 abbrev pub IsDrainedBy : PassState → PassState → Type 0
 IsDrainedBy p q = IsCalled p Drain q ⊎ (q ≡ p)
 
@@ -120,36 +133,40 @@ IsDrainedBy p q = IsCalled p Drain q ⊎ (q ≡ p)
 abbrev pub IsClockOfList : List (ℕ × ℕ) → Type 0
 IsClockOfList clock = (applied : List Op) × IsCausal id_of clock_of applied × IsClockOf id_of applied clock
 
--- Those of the operations that a replica had applied when it was asked which the clock doesn't cover, in their order.
+-- The operations that a replica had applied when it was asked and that the clock doesn't cover, in
+-- their order.
 abbrev pub AreUncoveredOps : List (ℕ × ℕ) → List Op → Type 0
 AreUncoveredOps clock ops = (applied : List Op) × IsCausal id_of clock_of applied × (ops ≡ uncovered_ops id_of clock applied)
 
--- Want of memory is nothing that a caller of a replica behind its lock could know.
+-- A caller of a replica under its lock can't know when memory runs out.
 abbrev pub MayLack : PassState → Type 0
 MayLack p = Unit {0}
 
--- All of these together.
+-- Turns of a link, over all of these relations.
 module _ {S P : Type 0} (takes : S → Op → Took → S → Type 0) (drains : S → S → Type 0) (lacks : S → Type 0) (has : S → List (ℕ × ℕ) → Type 0) (gives : S → List (ℕ × ℕ) → List Op → Type 0) (asks : P → ℕ → List (ℕ × ℕ) → P → Type 0) (hands : P → ℕ → List Op → P → Type 0) where
-  -- What becomes of a letter: its operations are taken; who asks by it is answered; and behind the one that says so no more is taken.
+  -- The result of a message: its operations are taken; a request is answered; and after `Stop` no
+  -- message is taken.
   abbrev pub IsLetterAnswered : ℕ → LinkMsg → Bool → S → P → S → P → Type 0
   IsLetterAnswered from (Ops ops) more s p t q = (more ≡ true) × IsTaken takes drains lacks has asks s p from ops.items t q
   IsLetterAnswered from (Have clock) more s p t q = (more ≡ true) × (s ≡ t) × IsAnswered lacks gives hands s p from clock q
   IsLetterAnswered from Stop more s p t q = (more ≡ false) × (s ≡ t) × (p ≡ q)
 
-  -- A turn of a link's worker: a letter is taken and answered, or these others are asked for what the replica lacks.
+  -- A turn of a link's worker: a message is taken and answered, or these others are asked for what
+  -- the replica lacks.
   abbrev pub IsTurn : List ℕ → Option PeerMsg → S → P → S → P → Type 0
   IsTurn peers (Some letter) s p t q = (more : Bool) × IsLetterAnswered letter.from letter.message more s p t q
   IsTurn peers None s p t q = (s ≡ t) × AreAsked lacks has asks s p peers q
 
-  -- These turns, one behind the other.
+  -- These turns, one after another.
   abbrev pub Turns : List ℕ → List (Option PeerMsg) → S → P → S → P → Type 0
   Turns peers [] s p t q = (s ≡ t) × (p ≡ q)
   Turns peers (turn ∷ turns) s p t q = (next : S) × (sent : P) × IsTurn peers turn s p next sent × Turns peers turns next sent t q
 
-  -- Nothing is made of a replica and of its way to the others but by such turns.
+  -- Only such turns change a replica and its way to the others.
   abbrev pub TakesTurns : List ℕ → S → P → S → P → Type 0
   TakesTurns peers s p t q = (turns : List (Option PeerMsg)) × Turns peers turns s p t q
 
-  -- What a link's worker does: it asks the others first, where it is to; and behind that there are turns and nothing else.
+  -- What a link's worker does: it asks the others first, if it is to, and then takes turns and does
+  -- nothing else.
   abbrev pub IsWorked : List ℕ → Bool → S → P → S → P → Type 0
   IsWorked peers asks_first s p t q = (begun : P) × IsBegun lacks has asks peers asks_first s p begun × TakesTurns peers s begun t q

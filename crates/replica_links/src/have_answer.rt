@@ -1,4 +1,4 @@
-//! What a replica does with one message of another.
+//! What a replica does with a message of another replica.
 
 ghost use Rattle.std.specs.Prelude.{◌≡◌, ℕ, List};
 ghost use Rattle.crdt_ops.specs.declared.op.Op.{Op};
@@ -8,25 +8,27 @@ use crate::op_taker::{Taker, hand_on};
 use crdt_ops::SoundOp;
 use tags_clocks::Clock;
 
-/// The way to the other replicas.
+/// The way to the other replicas, by their places.
 pub trait PeerLinks {
-    /// What asking the replica at a place for all that a clock doesn't cover makes of it.
+    /// The state after the replica at a place was asked for all operations that a clock doesn't
+    /// cover.
     ghost asks: { Self → ℕ → List (ℕ × ℕ) → Self → Type 0 };
 
-    /// What handing operations to the replica at a place makes of it.
+    /// The state after operations were sent to the replica at a place.
     ghost hands: { Self → ℕ → List Op → Self → Type 0 };
 
-    /// Asks the replica at this place for all that the clock doesn't cover.
+    /// Asks the replica at place `to` for all operations that the clock doesn't cover.
     fn ask(&mut self, to: usize, clock: Clock)
         ensures { asks self.old to clock self.new };
 
-    /// Hands operations to the replica at this place.
+    /// Sends operations to the replica at place `to`.
     fn send_ops(&mut self, to: usize, ops: Vec<SoundOp>)
         ensures { hands self.old to ops.items self.new };
 }
 
-/// Takes the operations of a message. Where one stalled, it goes on with what is held; where one is lacking, it asks the sender, once, for all that its clock doesn't
-/// cover then. Where there is no memory for the clock it asks for nothing.
+/// Delivers the operations of a message. If a delivery stalled, held operations are applied; if an
+/// operation is lacking, the sender is asked, once, for all that this replica's clock doesn't cover
+/// then. If memory runs out for the clock, nothing is asked for.
 pub fn take_ops<T: Taker, P: PeerLinks>(taker: &mut T, post: &mut P, from: usize, ops: Vec<SoundOp>)
     ensures { IsTaken T.takes T.drains T.lacks T.has P.asks taker.old post.old from ops.items taker.new post.new }
 {
@@ -35,7 +37,7 @@ pub fn take_ops<T: Taker, P: PeerLinks>(taker: &mut T, post: &mut P, from: usize
     ask_after(taker, post, from, took.lacking);
 }
 
-/// Goes on with what is held, where a delivery stalled.
+/// Applies held operations if a delivery stalled.
 fn drain_after<T: Taker>(taker: &mut T, stalled: bool)
     ensures { IsDrained T.drains taker.old stalled taker.new }
 {
@@ -44,7 +46,7 @@ fn drain_after<T: Taker>(taker: &mut T, stalled: bool)
     }
 }
 
-/// Asks for what is lacking.
+/// Asks for what this replica hasn't applied if an operation is lacking.
 fn ask_after<T: Taker, P: PeerLinks>(taker: &T, post: &mut P, from: usize, lacking: bool)
     ensures { IsAsked T.lacks T.has P.asks taker.now post.old from lacking post.new }
 {
@@ -53,7 +55,7 @@ fn ask_after<T: Taker, P: PeerLinks>(taker: &T, post: &mut P, from: usize, lacki
     }
 }
 
-/// Asks for what the replica hasn't applied.
+/// Asks the replica at place `from` for what this one hasn't applied.
 fn ask<T: Taker, P: PeerLinks>(taker: &T, post: &mut P, from: usize)
     ensures { MayAsk T.lacks T.has P.asks taker.now post.old from post.new }
 {
@@ -63,8 +65,9 @@ fn ask<T: Taker, P: PeerLinks>(taker: &T, post: &mut P, from: usize)
     }
 }
 
-/// Asks these replicas, one behind the other, for all that this one hasn't applied: what was lost on the way, with nothing behind it that would lack it, comes so too.
-/// Where there is no memory for the clock it asks for nothing.
+/// Asks these replicas, one after another, for all that this one hasn't applied. So an operation
+/// that was lost on the way arrives even if no later one waits for it. If memory runs out for the
+/// clock, nothing is asked for.
 pub fn ask_all<T: Taker, P: PeerLinks>(taker: &T, post: &mut P, peers: &[usize])
     ensures { AreAsked T.lacks T.has P.asks taker.now post.old peers.now post.new }
 {
@@ -73,7 +76,8 @@ pub fn ask_all<T: Taker, P: PeerLinks>(taker: &T, post: &mut P, peers: &[usize])
     }
 }
 
-/// Answers the one who asks with the operations applied that its clock doesn't cover, and with nothing where there are none, or no memory for them.
+/// Answers a request: sends the operations applied that its clock doesn't cover. Nothing is sent if
+/// there are none, or if memory runs out for them.
 pub fn give_ops<T: Taker, P: PeerLinks>(taker: &T, post: &mut P, from: usize, clock: Clock)
     ensures { IsAnswered T.lacks T.gives P.hands taker.now post.old from clock post.new }
 {
@@ -85,7 +89,7 @@ pub fn give_ops<T: Taker, P: PeerLinks>(taker: &T, post: &mut P, from: usize, cl
     }
 }
 
-/// Hands operations on, if there are any.
+/// Sends operations, if there are any.
 fn send_if_any<P: PeerLinks>(post: &mut P, to: usize, ops: Vec<SoundOp>)
     ensures { MaySendOps P.hands post.old to ops.items post.new }
 {

@@ -12,34 +12,36 @@ use std::sync::Wait;
 use std::thread;
 use std::time::{Duration, Instant};
 
-/// How long a worker rests behind a letter where no other lies there, in microseconds. Whoever sends meanwhile needn't wake it, which takes longer than to send.
+/// How long a worker rests after a message if no other is waiting, in microseconds. Who sends
+/// meanwhile needn't wake it; waking takes longer than sending.
 const PAUSE: u64 = 250;
 
-/// Where a replica's letters come, and whom it asks of its own accord for what it lacks.
+/// A replica's incoming messages, and the replicas that it asks unprompted for what it lacks.
 #[derive(Drop)]
 pub struct LinkInput<'a> {
-    /// What comes from the other replicas.
+    /// Messages from the other replicas.
     pub letters: &'a Receiver<PeerMsg>,
     /// The places of the other replicas.
     pub peers: &'a [usize],
-    /// Whether they are asked before the first letter is taken, as a replica that has joined does.
+    /// Whether they are asked before the first message is taken, as by a replica that has joined.
     pub asks_first: bool,
-    /// They are asked each time that so long has passed, whatever came meanwhile.
+    /// The time between two requests to them, whatever arrives meanwhile.
     pub rest: Duration,
 }
 
-/// What comes next.
+/// The next event at a link.
 enum NextEvent {
-    /// A letter.
+    /// A message arrived.
     Letter(PeerMsg),
-    /// The time at which the others are asked.
+    /// It is time to ask the others.
     Due,
-    /// Nothing any more, since no letter and no sender is left.
+    /// No message and no sender is left.
     Over,
 }
 
 impl LinkInput<'_> {
-    /// The next letter, or the time, whichever comes first: the time, where it has come already; a letter, where there is no time.
+    /// The next message or the time to ask, whichever comes first. If that time has passed already,
+    /// `Due`; if there is no such time, a message.
     fn next<R: Wait + Clock>(&self, rt: &R, due: Option<Instant>) -> NextEvent {
         let Some(due) = due else {
             return match self.letters.recv(rt) {
@@ -57,35 +59,37 @@ impl LinkInput<'_> {
         }
     }
 
-    /// Rests where it goes on and no letter lies there, so that letters that come close together wake the worker once.
+    /// Rests if the link continues and no message is waiting, so that messages that arrive close
+    /// together wake the worker once.
     fn rest_if_idle<R: Clock>(&self, rt: &R, goes_on: bool) {
         if goes_on && self.letters.is_empty() {
             thread::sleep(rt, Duration::from_micros(PAUSE));
         }
     }
 
-    /// When the others are asked next; `None` where the clock can't be read.
+    /// When the others are asked next; `None` if the clock can't be read.
     fn due<R: Clock>(&self, rt: &R) -> Option<Instant> {
         Instant::now(rt).ok()?.checked_add(self.rest)
     }
 }
 
-/// Whether a time has come; false where the clock can't be read.
+/// Whether a time has passed; false if the clock can't be read.
 fn has_come<R: Clock>(rt: &R, due: Instant) -> bool {
     Instant::now(rt).is_ok_and(|now| now >= due)
 }
 
-/// How far a link's worker is.
+/// The state of a link's worker.
 #[derive(Drop)]
 struct WorkerState {
-    /// How many letters came.
+    /// The number of messages that arrived.
     letters: u64,
-    /// When the others are asked next; `None` where the clock can't be read.
+    /// When the others are asked next; `None` if the clock can't be read.
     due: Option<Instant>,
 }
 
-/// Asks the other replicas for what this one lacks, where the inbox says so; then takes and answers each letter, and passes the gate before each: the first time with
-/// 1. Now and then it asks the others again. It ends at `Stop`, or once no letter and no sender is left.
+/// Asks the other replicas for what this one lacks, if `asks_first`. Then takes and answers each
+/// message, and passes the gate before each, the first time with 1. Asks the others again each time
+/// that `rest` has passed. Ends at `Stop`, or once no message and no sender is left.
 pub fn link_worker<R: Wait + Clock, T: Taker, G: Gate, P: PeerLinks>(
     rt: &R,
     gate: &mut G,
@@ -107,7 +111,7 @@ pub fn link_worker<R: Wait + Clock, T: Taker, G: Gate, P: PeerLinks>(
     }
 }
 
-/// Asks these replicas for all that this one lacks, where it is to ask first.
+/// Asks these replicas for all that this one lacks, if `asks`.
 fn begin<T: Taker, P: PeerLinks>(taker: &T, post: &mut P, peers: &[usize], asks: bool)
     ensures { IsBegun T.lacks T.has P.asks peers.now asks taker.now post.old post.new }
 {
@@ -116,7 +120,7 @@ fn begin<T: Taker, P: PeerLinks>(taker: &T, post: &mut P, peers: &[usize], asks:
     }
 }
 
-/// Takes and answers the next letter, or asks the others where it is time; false where no more is to be taken.
+/// Takes and answers the next message, or asks the others if it is time. False if the link ends.
 fn turn<R: Wait + Clock, T: Taker, G: Gate, P: PeerLinks>(
     rt: &R,
     gate: &mut G,
@@ -144,7 +148,7 @@ fn turn<R: Wait + Clock, T: Taker, G: Gate, P: PeerLinks>(
     }
 }
 
-/// Takes and answers a letter; false where no more is to be taken.
+/// Takes and answers a message. False if the link ends.
 fn answer<T: Taker, P: PeerLinks>(taker: &mut T, post: &mut P, letter: PeerMsg) -> bool
     ensures { IsLetterAnswered T.takes T.drains T.lacks T.has T.gives P.asks P.hands letter.from letter.message result taker.old post.old taker.new post.new }
 {

@@ -1,4 +1,4 @@
-//! A replica behind its lock that takes operations.
+//! A replica under its lock that takes operations.
 
 ghost use Rattle.std.specs.Prelude.{◌≡◌, None, Some};
 ghost use Rattle.std.specs.Option.{option_map};
@@ -16,7 +16,7 @@ use std::sync::Wait;
 use std::sync::ledger::Ledger;
 use tags_clocks::Clock;
 
-/// Delivers operations to a replica behind its lock, each by one call that its pass notes.
+/// Delivers operations to a replica under its lock, each by one call that its pass notes.
 #[derive(Drop)]
 pub struct ReplicaTaker<'a, L: Ledger, R: Wait> {
     rt: &'a R,
@@ -34,7 +34,7 @@ impl<'a, L: Ledger, R: Wait> Model for ReplicaTaker<'a, L, R> {
 }
 
 impl<'a, L: Ledger, R: Wait> ReplicaTaker<'a, L, R> {
-    /// Deliveries to this replica, noted in this pass, which is no session's.
+    /// A taker for this replica, whose calls this pass notes. The pass has no session.
     pub fn new(
         rt: &'a R,
         alloc: Global,
@@ -94,7 +94,7 @@ impl<'a, L: Ledger, R: Wait> Taker for ReplicaTaker<'a, L, R> {
     }
 }
 
-/// Delivers an operation by one call that this pass notes.
+/// Delivers an operation by one call that the pass notes.
 fn deliver_in<L: Ledger, R: Wait>(
     rt: &R,
     alloc: Global,
@@ -110,7 +110,7 @@ fn deliver_in<L: Ledger, R: Wait>(
     }
 }
 
-/// What became of a delivery with the outcome that a pass keeps; lacking where it keeps none.
+/// The result of a delivery, from a pass's last outcome; lacking if it has none.
 fn took_of_last(last: Option<&Outcome>) -> Took
     ensures { (outcome : Outcome) → option_map (λ o. o.now) last.entry ≡ Some outcome → result ≡ took_of outcome }
 {
@@ -120,7 +120,7 @@ fn took_of_last(last: Option<&Outcome>) -> Took
     }
 }
 
-/// What became of a delivery with this outcome.
+/// The result of a delivery with this outcome.
 fn took_of(outcome: &Outcome) -> Took
     ensures { result ≡ took_of outcome.now }
 {

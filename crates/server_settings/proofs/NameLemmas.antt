@@ -7,11 +7,11 @@ new_more before [] name a p b n = (p, b, subst (λ (xs : List ℕ). is_named nam
 new_more before (first ∷ names) name a p b n =
     (a.0, a.1, a.2, new_more (before ++ first ∷ []) names name a.3 p b (subst (λ (xs : List ℕ). is_named name xs ≡ false) (sym (append_assoc before (first ∷ []) names)) n))
 
--- one more name
+-- one further name
 pub names_more : (names : List ℕ) (name : ℕ) → AreNames names → 0 < name → name < 65536 → is_named name names ≡ false → AreNames (names ++ name ∷ [])
 names_more names name a p b n = new_more [] names name a p b n
 
--- one more that joins
+-- one further replica that joins
 pub peers_more : (names : List ℕ) (joins : List Join) (join : Join) → HavePeers names joins → is_named join.peer (names ++ newcomers_of joins) ≡ true → HavePeers names (joins ++ join ∷ [])
 peers_more names [] join h n = (subst (λ (xs : List ℕ). is_named join.peer xs ≡ true) (append-nil names) n, tt)
 peers_more names (first ∷ joins) join h n =

@@ -16,7 +16,7 @@ newcomer_there [] i d l = absurd (omega arith)
 newcomer_there (join ∷ joins) zero d l = refl
 newcomer_there (join ∷ joins) (suc i) d l = newcomer_there joins i d (omega arith)
 
--- a name that isn't there
+-- a name that the list doesn't have
 unnamed_suc : (name : ℕ) (places : List Place) (i : ℕ) (d : Place) → i < length places → is_named name (names_of (take i places)) ≡ false → (get_or places i d).replica ≢ name
     → is_named name (names_of (take (suc i) places)) ≡ false
 unnamed_suc name [] i d l none n = absurd (omega arith)
@@ -45,7 +45,7 @@ unjoined_more name joins i d l none n =
     let k : suc i ≡ i + 1 = omega arith in
     subst (λ (m : ℕ). is_named name (newcomers_of (take m joins)) ≡ false) k (unjoined_suc name joins i d l none n)
 
--- two lists of names, one behind the other
+-- two lists of names, one after another
 pub name_front : (names more : List ℕ) (i name : ℕ) → slice_get names i ≡ Some name → slice_get (names ++ more) i ≡ Some name
 name_front [] more i name h = cc
 name_front (n ∷ names) more zero name h = h

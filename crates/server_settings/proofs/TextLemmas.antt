@@ -23,7 +23,7 @@ digits_model : IsNumeralModel (λ ds. list_all is_ascii_digit ds ≡ true) (digi
 digits_model = numerals_by_value (λ ds. list_all is_ascii_digit ds ≡ true) (search rules)
 
 module _ (text : List ℕ) where
-  -- what is read from digits of which the first is no zero
+  -- the number that digits spell if the first is no zero
   pub name_read : {E : Type 0} (r : Result ℕ E) (n : ℕ) → ParsesUnsigned 16 10 text r → list_all is_ascii_digit text ≡ true → get_or text 0 0 ≢ 48 → r ≡ Ok n → n ≢ 0 → IsNameText text n
   name_read (Err e) n h d s is z = absurd cc
   name_read {E} (Ok m) n h d s is z =
@@ -35,7 +35,7 @@ module _ (text : List ℕ) where
       (omega arith, omega arith, sym whole ∙ ap decimal (value ∙ same))
 
   module _ (name : ℕ) (is : IsNameText text name) where
-    -- what a name's text is read as
+    -- the number that a name's text spells
     pub name_again : {E : Type 0} (r : Result ℕ E) → ParsesUnsigned 16 10 text r → r ≡ Ok name
     name_again r h = parse-decimal 16 name text r (omega (arith, is.1)) (omega (arith, is.1)) is.2 h
 
@@ -48,7 +48,7 @@ module _ (text : List ℕ) where
         let g : get_or (decimal name) 0 0 ≡ 48 = ap (λ (ds : List ℕ). get_or ds 0 0) (sym is.2) ∙ e in
         omega arith
 
--- digits lack what is none
+-- digits don't have what is no digit
 pub digits_lack : (c : ℕ) → is_ascii_digit c ≡ false → (ds : List ℕ) → list_all is_ascii_digit ds ≡ true → (i : ℕ) → i < length ds → get_or ds i 0 ≢ c
 digits_lack c n [] h i l e = omega arith
 digits_lack c n (d ∷ ds) h zero l e =
@@ -89,7 +89,7 @@ rsplit_after c bs xs ys (Some x) h low e free =
     let past : length xs + 1 ≡ j = omega arith in
     (h.3 ∙ ap (take i) e ∙ take_at xs (c ∷ ys) i here, h.4 ∙ ap (λ (k : ℕ). drop k bs) (sym past) ∙ ap (drop (length xs + 1)) e ∙ drop-append-add xs (c ∷ ys) 1)
 
--- where the text of a place is split, and that of a replica that joins
+-- how the text of a replica is split, and that of a replica that joins
 pub place_split : (text : List ℕ) (r : Option (Bor (List ℕ) × Bor (List ℕ))) (place : Place) → IsSplitOnceResult 61 text r → (is : IsPlaceText text place) → MatchOption r ⊥ (λ x. (x.0.now ≡ is.0) × (x.1.now ≡ place.address.now))
 place_split text r place h is = split_after 61 text is.0 place.address.now r h (omega arith) is.3 (digits_lack 61 refl is.0 (name_digits is.0 place.replica is.1))
 

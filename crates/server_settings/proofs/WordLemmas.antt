@@ -44,7 +44,7 @@ access_found found is_preauth user pass (Some access) e none on off u p =
     let one = one_found found (codes "preauth") in
     named (rows_of found) is_preauth user pass access (sym e) (λ h. none (one ∙ h)) (λ h. on (one ∙ h)) (λ h. off (one ∙ h)) (u ∙ first_found found (codes "user")) (p ∙ first_found found (codes "pass"))
 
--- the words that the program knows are ones of which clap's matches are known
+-- clap's matches of the words that the program knows
 pub server_is_simple : is_simple server_words ≡ true
 unfolding clap_on_literals
 server_is_simple = refl

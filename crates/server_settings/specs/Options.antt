@@ -1,3 +1,5 @@
+-- The words of the server's command line, in the terms of `clap`, and the access that they name.
+
 use Rattle.std.specs.Prelude.{◌≡◌, ℕ, true, List, None, Some, codes}
 use Rattle.clap.specs.Lexer.{usize_max}
 use Rattle.clap.specs.Words.{App, Row, Rule, first_of, new_app, new_rule, one_of, with_rule}
@@ -25,25 +27,26 @@ abbrev pub replica_word : Rule
 replica_word =
     record (new_rule (codes "REPLICA")) { required = true; action = Some Append; range = Some (record { start_inclusive = 1; end_inclusive = usize_max }) }
 
--- Those that say which users are known.
+-- The words for users.
 abbrev pub with_access_words : App → App
 with_access_words app = with_rule (with_rule (with_rule app preauth_word) (named_word (codes "user"))) (named_word (codes "pass"))
 
--- Those that say which replicas there are, which join, and when the server ends.
+-- The words for replicas, for replicas that join, and for the end of the server.
 abbrev pub with_replica_words : App → App
 with_replica_words app = with_rule (with_rule (with_rule app stop_word) join_word) replica_word
 
--- All.
+-- All words that the program knows.
 abbrev pub server_words : App
 server_words = with_replica_words (with_access_words (new_app (codes "imap_server")))
 
 -- ---- who may use the server
 
--- `--preauth` was found: its value is there, and isn't the one that it has where it isn't given.
+-- `--preauth` was given: its value is present, and isn't the default.
 abbrev pub IsPreauth : List Row → Type 0
 IsPreauth rows = ((one_of (codes "preauth") rows ≡ None) → ⊥) × ((one_of (codes "preauth") rows ≡ Some (codes "false")) → ⊥)
 
--- The access that was found: `--preauth`, and neither `--user` nor `--pass`; or both of these, and not `--preauth`.
+-- The access that was named: `--preauth`, and neither `--user` nor `--pass`; or both of these, and
+-- not `--preauth`.
 abbrev pub NamesAccess : List Row → Access → Type 0
 NamesAccess rows Preauth = IsPreauth rows × (first_of (codes "user") rows ≡ None) × (first_of (codes "pass") rows ≡ None)
 NamesAccess rows (Password user pass) =

@@ -1,3 +1,5 @@
+-- The replicas that a command line names, and the form of the words that name them.
+
 use Rattle.std.specs.Prelude.{◌≡◌, ◌≢◌, ◌<◌, ◌==◌, ℕ, Bool, false, true, List, [], ◌∷◌, ◌++◌, Option, None, Some, map}
 use Rattle.std.specs.Borrow.{Bor}
 use Rattle.std.specs.Fmt.{decimal}
@@ -7,24 +9,24 @@ use Rattle.server_settings.specs.declared.settings.Access.TheVariants.{Password,
 use Rattle.server_settings.specs.declared.settings.Join.{Join}
 use Rattle.server_settings.specs.declared.settings.Place.{Place}
 
--- The names of replicas.
+-- The names of the replicas.
 abbrev pub names_of : List Place → List ℕ
 names_of places = map (λ (place : Place). place.replica) places
 
--- Whether one of them is this name.
+-- Whether the list has this name.
 abbrev pub is_named : ℕ → List ℕ → Bool
 is_named name names = list_any (λ other. other == name) names
 
--- Behind these names, each is from 1 to 65,535, and none stands before it.
+-- Each name is from 1 to 65,535, and differs from the given ones and from all before it.
 abbrev pub AreNew : List ℕ → List ℕ → Type 0
 AreNew before [] = Unit {0}
 AreNew before (name ∷ names) = (0 < name) × (name < 65536) × (is_named name before ≡ false) × AreNew (before ++ name ∷ []) names
 
--- Each is from 1 to 65,535, and none stands twice.
+-- Each name is from 1 to 65,535, and the names are distinct.
 abbrev pub AreNames : List ℕ → Type 0
 AreNames names = AreNew [] names
 
--- The names of replicas that are to join.
+-- The names of the replicas that are to join.
 abbrev pub newcomers_of : List Join → List ℕ
 newcomers_of joins = map (λ (join : Join). join.place.replica) joins
 
@@ -37,15 +39,18 @@ HavePeers names (join ∷ joins) = (is_named join.peer names ≡ true) × HavePe
 abbrev pub IsNameText : List ℕ → ℕ → Type 0
 IsNameText text name = (0 < name) × (name < 65536) × (text ≡ decimal name)
 
--- The text is a replica and its address: its name, `=` (61), which no name has, so that it is the text's first, and an address of one octet at least.
+-- The text is a replica with its address: its name, `=` (61), which no name has, so that it is the
+-- text's first, and an address of at least one octet.
 abbrev pub IsPlaceText : List ℕ → Place → Type 0
 IsPlaceText text place = (name : List ℕ) × IsNameText name place.replica × (place.address.now ≢ []) × (text ≡ name ++ 61 ∷ place.address.now)
 
--- The text is a replica that joins: it and its address, `/` (47), which no name has, so that it is the text's last, and the name of its peer.
+-- The text is a replica that joins: the replica with its address, `/` (47), which no name has, so
+-- that it is the text's last, and the name of its peer.
 abbrev pub IsJoinText : List ℕ → Join → Type 0
 IsJoinText text join = (place peer : List ℕ) × IsPlaceText place join.place × IsNameText peer join.peer × (text ≡ place ++ 47 ∷ peer)
 
--- Who may use the server: whoever comes, or who gives this user and this password; nothing else is asked for.
+-- Who may use the server: every client, or one that gives this user and this password. There is no
+-- access for any other combination.
 abbrev pub access_of : Bool → Option (Bor (List ℕ)) → Option (Bor (List ℕ)) → Option Access
 access_of true None None = Some Preauth
 access_of false (Some user) (Some pass) = Some (Password user pass)

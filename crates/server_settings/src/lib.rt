@@ -1,4 +1,20 @@
-//! The command line of the mail server: its words, who may use the server, its replicas and those that are to join, and the addresses at which they listen.
+//! The command line of the mail server: who may use the server, its replicas, those that are to
+//! join, and the addresses at which they listen.
+//!
+//! [`read_settings`] reads the words. Its contract says that the access is the one that clap's
+//! matches name, that the names of the replicas are distinct numbers from 1 to 65,535, and that
+//! each replica that joins takes the operations of one that exists before it. [`place_of`] and
+//! [`join_of`] read a replica's word, and return a value exactly if the text has the documented
+//! form. [`settings_or_status`] also prints what is wrong or the help, and returns the program's
+//! status; [`listen_at`] listens at a replica's address.
+//!
+//! # Decided
+//!
+//! - The reader of the command line is `read_settings`, since a function can't bear the name of its
+//!   module.
+//! - The access of a command line is stated over clap's own definition of its matches
+//!   (`matches_of`), with the program's words as data (`server_words`). `--preauth` counts as given
+//!   if its value is present and isn't the default `false`.
 #![tactic(auto)]
 
 mod listener;

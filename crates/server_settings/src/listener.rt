@@ -1,11 +1,13 @@
-//! The addresses that a command line names.
+//! Listening at the addresses that a command line names.
 
 use crate::settings::Place;
 use log::{Log, error};
 use std::io;
 use std::net::{Net, SocketAddr, TcpListener, TcpStream};
 
-/// Listens at a replica's address, and tells so: the listener, and where it listens. `None` where it can't be listened at, which is told too, and why by the log.
+/// Listens at a replica's address and prints that it does. Returns the listener and the address at
+/// which it listens. `None` if it can't listen there; this is printed, and the log has the reason.
+/// `Err` if printing fails, or if the listener doesn't know its address.
 pub fn listen_at<R: Print + Log + Net<Listener = TcpListener, Stream = TcpStream>>(
     rt: &R,
     place: &Place<'_>,

@@ -17,9 +17,9 @@ use std::convert::AsStr;
 /// Who may use the server.
 #[derive(Clone, Copy, Debug, PartialEq, Eq)]
 pub enum Access<'a> {
-    /// Every user is known beforehand.
+    /// Every client; its user is known beforehand.
     Preauth,
-    /// Whoever gives this user and this password.
+    /// A client that gives this user and this password.
     Password {
         /// The user.
         user: &'a str,
@@ -28,7 +28,7 @@ pub enum Access<'a> {
     },
 }
 
-/// A replica, and where it listens.
+/// A replica, and the address at which it listens.
 #[derive(Clone, Copy, Debug, PartialEq, Eq)]
 pub struct Place<'a> {
     /// The replica's name, from 1 on.
@@ -37,30 +37,31 @@ pub struct Place<'a> {
     pub address: &'a str,
 }
 
-/// A replica that joins the others when the first connection has ended.
+/// A replica that joins the others once the first connection has ended.
 #[derive(Clone, Copy, Debug, PartialEq, Eq)]
 pub struct Join<'a> {
-    /// Its name, and where it is to listen.
+    /// Its name, and the address at which it is to listen.
     pub place: Place<'a>,
     /// The name of the replica whose operations it takes.
     pub peer: u16,
 }
 
-/// What the command line asks for.
+/// The settings of the server, from the command line.
 #[derive(Drop)]
 pub struct CommandLine<'a> {
     /// Who may use the server.
     pub access: Access<'a>,
-    /// Behind how many connections the server stops, if it does.
+    /// The number of connections after whose end the server stops, if it does.
     pub stop_after: Option<u32>,
-    /// The replicas in the order in which they were given, no two with one name.
+    /// The replicas in the order in which they were given; their names are distinct.
     pub places: Vec<Place<'a>>,
-    /// Those that are to join, in their order, whose names are new.
+    /// The replicas that are to join, in their order; their names are new.
     pub joins: Vec<Join<'a>>,
 }
 
 impl CommandLine<'_> {
-    /// The place of the replica with this name among all, those that are to join behind the others.
+    /// The place, from 0 on, of the replica with this name; those that are to join come after the
+    /// others. `None` if no replica has the name.
     pub fn place_of_name(&self, name: u16) -> Option<usize>
         ensures some { IfSome result (λ place. slice_get (names_of self.now.places.items ++ newcomers_of self.now.joins.items) place ≡ Some name) }
         ensures none { IfNone result (is_named name (names_of self.now.places.items ++ newcomers_of self.now.joins.items) ≡ false) }
@@ -73,7 +74,7 @@ impl CommandLine<'_> {
     }
 }
 
-/// The place of the replica with this name among these.
+/// The place of the replica with this name, if any.
 #[tactic(auto, using(crate::proofs::PlaceLemmas::name_there, crate::proofs::PlaceLemmas::unnamed_more))]
 fn place_among(places: &[Place<'_>], name: u16) -> Option<usize>
     ensures some { IfSome result (λ place. slice_get (names_of places.now) place ≡ Some name) }
@@ -87,7 +88,7 @@ fn place_among(places: &[Place<'_>], name: u16) -> Option<usize>
     None
 }
 
-/// The place of the one with this name among those that are to join.
+/// The place of the replica with this name among those that are to join, if any.
 #[tactic(auto, using(crate::proofs::PlaceLemmas::newcomer_there, crate::proofs::PlaceLemmas::unjoined_more))]
 fn joining_among(joins: &[Join<'_>], name: u16) -> Option<usize>
     ensures some { IfSome result (λ place. slice_get (newcomers_of joins.now) place ≡ Some name) }
@@ -101,38 +102,40 @@ fn joining_among(joins: &[Join<'_>], name: u16) -> Option<usize>
     None
 }
 
-/// Why the command line asks for nothing.
+/// Why the command line gives no settings.
 #[derive(Drop)]
 pub enum SettingsFault<'a> {
-    /// Its words are wrong, or ask for help, or there was no memory for them.
+    /// Its words are wrong, or ask for help, or memory ran out for them.
     Words(Error),
-    /// What is given for one of them can't be used.
+    /// The value of a word can't be used.
     Usage(UsageFault<'a>),
 }
 
-/// What can't be used of what the words give; as a text, what the program prints of it.
+/// Which value of a word can't be used. As a text, what the program prints of it.
 #[derive(Clone, Copy, Debug, PartialEq, Eq, thiserror::Error)]
 pub enum UsageFault<'a> {
-    /// It names no access, or two.
+    /// The words name no access, or two.
     #[error("usage: give --preauth, or --user and --pass")]
     Access,
     /// This word names no replica.
     #[error("usage: bad replica {0}")]
     BadReplica(&'a str),
-    /// This word names no replica that is to join, or no peer that is there by then.
+    /// This word names no replica that is to join, or no peer that exists before it.
     #[error("usage: bad join {0}")]
     BadJoin(&'a str),
     /// Two replicas have this name.
     #[error("usage: replica {0} twice")]
     Twice(u16),
-    /// There was no memory for it.
+    /// Memory ran out.
     #[error("run fault")]
     NoMemory,
 }
 
-/// Reads the words of a command line, the program's name first. Its words are judged first, then the access, then the replicas in their order, then those that are
-/// to join in theirs. The access is what clap finds in the words: `--preauth` alone, or `--user` and `--pass` without it. The replicas' names are from 1 to 65,535, and no
-/// two are the same; each that joins takes the operations of one that is there before it.
+/// Reads the words of a command line, of which the first is the program's name. Errors are found in
+/// this order: in the words, in the access, in the replicas in their order, and in those that are
+/// to join in theirs. The access is the one that clap finds in the words: only `--preauth`, or
+/// `--user` and `--pass` without it. The replicas' names are distinct, from 1 to 65,535; each that
+/// joins takes the operations of one that exists before it.
 pub fn read_settings<'a>(
     alloc: Global,
     words: &'a [String],
@@ -170,7 +173,7 @@ pub fn read_settings<'a>(
     })
 }
 
-/// The access that was found; `None` where none was, or two.
+/// The access that the words name; `None` if they name none, or two.
 fn access_in<'a>(matches: &ArgMatches<'a>) -> Option<Access<'a>>
     ensures { IfSome result (λ access. NamesAccess (rows_of (found_of matches.now)) access) }
 {
@@ -198,7 +201,8 @@ fn command_words<'a>(alloc: Global) -> Result<Command<'a>, AllocError>
 const ABOUT: &str =
     "Serves the mail of one user over IMAP, at several replicas that take changes from each other. Mail lives as long as the program runs.";
 
-/// The words that say which users are known; then those that say which replicas there are, which join, and when the server ends.
+/// The arguments for users, followed by those for replicas, for replicas that join, and for the end
+/// of the server.
 fn known_words<'a>(alloc: Global) -> Result<Vec<Arg<'a>>, AllocError>
     ensures { IfOk result (λ words. Add words.items (λ app. with_replica_words (with_access_words app))) }
 {
@@ -226,7 +230,7 @@ fn preauth<'a>(alloc: Global) -> Arg<'a>
         .help("Everybody is let in without a password. Give this, or --user and --pass.")
 }
 
-/// A word with a value.
+/// An argument with a value.
 fn word_with_value<'a>(alloc: Global, name: &'a str, help: &'a str) -> Arg<'a>
     ensures { IsWord result (named_word name.entry.now) }
 {
@@ -270,7 +274,8 @@ fn replica<'a>(alloc: Global) -> Arg<'a>
         )
 }
 
-/// The access that these options name: `--preauth` alone, or `--user` and `--pass` without it.
+/// The access that these options name: only `--preauth`, or `--user` and `--pass` without it.
+/// `None` if they name none, or two.
 pub fn access_of<'a>(
     preauth: bool,
     user: Option<&'a str>,
@@ -305,7 +310,8 @@ fn places_of<'a>(
     Ok(places)
 }
 
-/// The replicas that are to join by these words, in their order; their names come behind those that are there.
+/// The replicas that are to join by these words, in their order. Their names are added after the
+/// others.
 fn joins_of<'a>(
     alloc: Global,
     names: &mut Vec<u16>,
@@ -379,7 +385,7 @@ fn add_place<'a>(
     }
 }
 
-/// Adds a name, unless it is there; false where it is.
+/// Adds a name unless the list has it; false if it does.
 fn add_name(names: &mut Vec<u16>, name: u16) -> Result<bool, AllocError>
     requires positive { 0 < name }
     requires names { AreNames names.old.items }
@@ -395,7 +401,8 @@ fn add_name(names: &mut Vec<u16>, name: u16) -> Result<bool, AllocError>
     }
 }
 
-/// The replica that a word names: a number from 1 to 65,535 without leading zeros, `=`, and an address of one octet at least.
+/// The replica that a word names: a number from 1 to 65,535 without leading zeros, `=`, and an
+/// address of at least one octet. `None` for any other text.
 pub fn place_of(text: &str) -> Option<Place<'_>>
     ensures positive { IfSome result (λ place. 0 < place.replica) }
     ensures some { IfSome result (λ place. IsPlaceText text.now place) }
@@ -409,7 +416,8 @@ pub fn place_of(text: &str) -> Option<Place<'_>>
     Some(Place { replica, address })
 }
 
-/// The replica that is to join by a word: one with its address, and behind the last `/` the name of its peer.
+/// The replica that is to join by a word: a replica with its address, and after the last `/` the
+/// name of its peer. `None` for any other text.
 pub fn join_of(text: &str) -> Option<Join<'_>>
     ensures positive { IfSome result (λ join. 0 < join.place.replica) }
     ensures some { IfSome result (λ join. IsJoinText text.now join) }
@@ -421,7 +429,8 @@ pub fn join_of(text: &str) -> Option<Join<'_>>
     Some(Join { place, peer })
 }
 
-/// The name that these digits spell.
+/// The name that these digits spell: a number from 1 to 65,535 without leading zeros. `None` for
+/// any other text.
 fn name_of(digits: &str) -> Option<u16>
     ensures positive { IfSome result (λ name. 0 < name) }
     ensures some { IfSome result (λ name. IsNameText digits.now name) }
@@ -437,7 +446,7 @@ fn name_of(digits: &str) -> Option<u16>
     }
 }
 
-/// Whether the words ran out of memory.
+/// Whether the words were refused since memory ran out.
 pub fn is_without_memory(error: &Error) -> bool {
     error.kind() == ErrorKind::OutOfMemory
 }

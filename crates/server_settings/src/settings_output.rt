@@ -1,4 +1,4 @@
-//! What the program says where its command line asks for nothing.
+//! What the program prints if its command line gives no settings.
 
 ghost use Rattle.std.specs.Prelude.{◌++◌, IfOk, map};
 ghost use Rattle.clap.specs.Words.{matches_of};
@@ -9,8 +9,9 @@ use crate::settings::{CommandLine, SettingsFault, UsageFault, is_without_memory,
 use clap::Error;
 use std::convert::AsStr;
 
-/// Reads the words of a command line as `read_settings` does. Where they ask for nothing, it says why, or prints the help that they ask for, and gives the program's
-/// status: 0 behind help, 2 where the words are wrong, 1 where there was no memory or nothing could be printed.
+/// Reads the words of a command line as `read_settings` does. If they give no settings, prints the
+/// reason, or the help that they ask for, and returns the program's status: 0 after help, 2 if the
+/// words are wrong, 1 if memory ran out or nothing could be printed.
 pub fn settings_or_status<'a, R: Print + AllocGlobal>(
     rt: &R,
     words: &'a [String],
@@ -25,7 +26,8 @@ pub fn settings_or_status<'a, R: Print + AllocGlobal>(
     }
 }
 
-/// Prints what is wrong with the command line, or the help that it asked for.
+/// Prints what is wrong with the command line, or the help that it asks for, and returns the
+/// status.
 fn explain<R: Print>(rt: &R, why: SettingsFault<'_>) -> u8 {
     match why {
         SettingsFault::Words(error) => explain_words(rt, error),
@@ -34,7 +36,7 @@ fn explain<R: Print>(rt: &R, why: SettingsFault<'_>) -> u8 {
     }
 }
 
-/// Says that the program can't run, and gives its status.
+/// Prints that the program can't run, and returns its status, 1.
 pub fn tell_fault<R: Print>(rt: &R) -> u8 {
     let _ = println!(rt; "run fault");
     1
