@@ -26,7 +26,7 @@ use Rattle.replica_lock.specs.declared.outcome.Outcome.TheVariants.{Opened, Repl
 nothing_less : 0 < 0 → ⊥
 nothing_less h = omega (arith, h)
 
--- what a call that opens a session tells
+-- the result of a call that opens a session
 pub opens_by : (access : Access) (login : Login) (auth : Auth) (r : Result Login PortFault) (p q : PassState) (last : Option Outcome) → login ≡ login_of access → auth ≡ auth_of access
     → IsCalled p (events.Open auth) q → last ≡ q.last
     → IfOk r (λ (told : Login). (told ≡ login) × ((n : ℕ) × (last ≡ Some (Opened (Ok n)))))
@@ -44,7 +44,7 @@ pub opens_by_none : (access : Access) (p q : PassState) (fault : PortFault) → 
 opens_by_none access p q fault (inl h) = subst (λ (x : PortFault). OpensIn access p (Err x) q) (sym h) tt
 opens_by_none access p q fault (inr h) = subst (λ (x : PortFault). OpensIn access p (Err x) q) (sym h) tt
 
--- what a call with a command tells, and one with a line
+-- the result of a call with a command, and of one with a line
 pub command_by : (tagged : Tagged) (moment : ℕ) (r : Result Reply PortFault) (p q : PassState) (last : Option Outcome)
     → IsCalledIn p (λ n. events.Command n moment tagged) q → last ≡ q.last → IfOk r (λ (reply : Reply). last ≡ Some (Replied reply)) → StepsIn p (asked.Command tagged) r q
 command_by tagged moment (Ok reply) p q last c e h = (moment, c, sym e ∙ h)
@@ -55,7 +55,7 @@ pub line_by : (line : IdleLine) (r : Result Reply PortFault) (p q : PassState) (
 line_by line (Ok reply) p q last c e h = (c, sym e ∙ h)
 line_by line (Err fault) p q last c e h = tt
 
--- what is told of the pass is told between the places that it saw
+-- a result by passes is one between the positions that they saw
 pub opened_between : (access : Access) (from to : SessionPosition) (r : Result Login PortFault) (p q : PassState) → BeginsFrom from p q to → OpensIn access p r q → OpensByCall access from r to
 opened_between access from to (Ok login) p q g h = (p, q, g, h)
 opened_between access from to (Err TooManySessions) p q g h = (p, q, g, h)
@@ -68,7 +68,7 @@ pub stepped_between : (call : PortCall) (from to : SessionPosition) (r : Result 
 stepped_between call from to (Ok reply) p q g l h = (p, q, g, h)
 stepped_between call from to (Err fault) p q g l h = (g.2, subst (λ (n : ℕ). from.seen ≤ n) (sym g.3) (omega (arith, g.1, l)))
 
--- one call at most never takes back what was seen
+-- at most one call never shortens what was seen
 called_on : (p q : PassState) (event : BookEvent) → IsCalled p event q → p.seen ≤ q.seen
 called_on p q event c = omega (arith, c.5, ap (λ (held : PassState). held.seen) c.6)
 
@@ -82,7 +82,7 @@ lined_on p q line (inr c) = called_on p q (events.Line c.0 line) c.2
 
 -- ---- commands of one turn
 
--- the session stays behind a reply
+-- the pass has its session after a reply
 session_stays : (p q : PassState) (event : BookEvent) (reply : Reply) → IsCalled p event q → q.last ≡ Some (Replied reply) → q.session ≡ p.session
 session_stays p q event reply c told =
     let outcome : c.2 ≡ Replied reply = some_is (sym (ap (λ (held : PassState). held.last) c.6) ∙ told) in
@@ -95,7 +95,7 @@ pub stays_open : (r : Result Reply PortFault) (p q : PassState) (tagged : Tagged
 stays_open (Ok reply) p q tagged s h o = subst (λ (x : Option ℕ). IsSome x) (sym (command_stays p q tagged reply h)) s
 stays_open (Err fault) p q tagged s h o = absurd (false≢true o)
 
--- none was given
+-- no command was given
 pub none_given : (all : List Tagged) (replies : List Reply) (fault : PortFault) (p : PassState) → 0 < length all → replies ≡ [] → Carries StepsOnce p all replies (Err fault) p
 none_given [] replies fault p some none = absurd (nothing_less some)
 none_given (tagged ∷ all) [] fault p some none = (tt, inl refl)
@@ -109,7 +109,7 @@ once_refused : (from : SessionPosition) (p q : PassState) (tagged : Tagged) (fau
     → StepsByCall from (asked.Command tagged) (Err fault) (record { session = from.session; seen = q.seen })
 once_refused from p q tagged fault low h = let on = commanded_on p q tagged h.1 in (refl, omega (arith, low, on))
 
--- a connection that stands where its pass does
+-- a connection at its pass's position
 carried_on : (all : List Tagged) (replies : List Reply) (given : Result (Unit {0}) PortFault) (p q : PassState) (session : Option ℕ) → session ≡ p.session → Carries StepsOnce p all replies given q
     → Carries StepsByCall (record { session = session; seen = p.seen }) all replies given (record { session = session; seen = q.seen })
 carried_on [] [] (Ok u) p q session own c = ap (λ (held : PassState). record { session = session; seen = held.seen }) c
@@ -123,7 +123,7 @@ carried_on (tagged ∷ all) (reply ∷ replies) given p q session own c = (
   carried_on all replies given c.0 q session (own ∙ sym (command_stays p c.0 tagged reply c.1.0)) c.2,
 )
 
--- one that had seen no more
+-- a connection that had seen no further
 pub carried_from : (all : List Tagged) (replies : List Reply) (given : Result (Unit {0}) PortFault) (from : SessionPosition) (p q : PassState) → 0 < length all → from.session ≡ p.session → from.seen ≤ p.seen
     → Carries StepsOnce p all replies given q → Carries StepsByCall from all replies given (record { session = from.session; seen = q.seen })
 carried_from [] replies given from p q some own low c = absurd (nothing_less some)
@@ -135,7 +135,7 @@ carried_from (tagged ∷ all) (reply ∷ replies) given from p q some own low c 
   carried_on all replies given c.0 q from.session (own ∙ sym (command_stays p c.0 tagged reply c.1.0)) c.2,
 )
 
--- what stands somewhere goes with where it stands
+-- what holds at a position holds at an equal one
 module _ {S : Type 0} (at : S → SessionPosition) (put : S → SessionPosition → S) (stands : (s : S) (x : SessionPosition) → at (put s x) ≡ x) (same : (s : S) → put s (at s) ≡ s) where
   abbrev steps_at : S → PortCall → Result Reply PortFault → S → Type 0
   steps_at s call told t = StepsByCall (at s) call told (at t)

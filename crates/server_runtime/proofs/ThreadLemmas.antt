@@ -1,4 +1,4 @@
--- What a connection's threads and those of a replica have in common may be shared among them.
+-- What the threads of a connection and those of a replica share may be shared among threads.
 use denote.Param.Send.{IsSend, IsSync, sendable, recorded_sync, struct_sync}
 use denote.RattleType.{RattleType}
 use denote.Ref.{NamedLft}

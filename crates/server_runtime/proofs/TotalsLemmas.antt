@@ -5,7 +5,7 @@ use Rattle.std.proofs.lemmas.Bool.{cases_Bool}
 use Rattle.replica_lock.specs.Histories.{entry_at}
 use Rattle.replica_lock.specs.declared.book.JournalEntry.{JournalEntry}
 
--- one more where it is so
+-- one more if the test holds
 abbrev pub one_where : Bool → ℕ → ℕ
 one_where is_so n = if is_so then n + 1 else n
 
@@ -15,7 +15,7 @@ turned true false n = refl
 turned false b n = refl
 
 module _ {A : Type 0} (test : A → Bool) where
-  -- how many of the first so many pass
+  -- the number of entries, of the first `n`, that pass
   abbrev pub tally : List A → ℕ → ℕ
   tally items n = length (filter test (take n items))
 
@@ -43,7 +43,7 @@ module _ {A : Type 0} (test : A → Bool) where
       ∙ turned (test x) (test item) (tally items n)
       ∙ ap (one_where (test item)) (sym (counted x (take n items)))
 
--- the entry at the next place counts, where it passes
+-- the entry at the next place counts if it passes
 pub next_tally : (test : JournalEntry → Bool) (journal : List JournalEntry) (place n : ℕ) (entry : JournalEntry) → Some entry ≡ entry_at journal (place + 1) → n ≡ tally test journal place → one_where (test entry) n ≡ tally test journal (place + 1)
 next_tally test journal place n entry h e =
     let k : place + 1 ≡ suc place = omega arith in

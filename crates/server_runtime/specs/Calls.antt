@@ -1,3 +1,6 @@
+-- What a connection's calls do at its replica, by the passes and by the positions before and after
+-- them.
+
 use Rattle.std.specs.Prelude.{◌≡◌, ◌⊎◌, ◌≤◌, ℕ, List, [], Option, None, Some, Result, Ok, Err}
 use Rattle.std.specs.List.{flat_map}
 use Rattle.imap_answers.specs.Printed.{text_of_answer}
@@ -23,7 +26,7 @@ use Rattle.replica_lock.specs.declared.outcome.Outcome.TheVariants.{Opened, Repl
 abbrev pub CallsOnce : PassState → BookEvent → PassState → Type 0
 CallsOnce p event q = (q ≡ p) ⊎ IsCalled p event q
 
--- The same, of an event of its own session.
+-- A pass made one call with this event of its own session, or none.
 abbrev pub CallsOnceIn : PassState → (ℕ → BookEvent) → PassState → Type 0
 CallsOnceIn p event q = (q ≡ p) ⊎ IsCalledIn p event q
 
@@ -35,46 +38,53 @@ CommandsOnce p tagged q = (q ≡ p) ⊎ ((moment : ℕ) × IsCalledIn p (λ n. e
 abbrev pub IsClosedIn : PassState → PassState → Type 0
 IsClosedIn p q = ((p.session ≡ None) × (q ≡ p)) ⊎ IsCalledIn p (λ n. events.Close n) q
 
--- The text of the answers to the poll with this outcome, one behind the other; none where it was refused.
+-- The text of the answers to the poll with this outcome, one after another; empty if the poll was
+-- refused.
 abbrev pub text_of_poll : Option Outcome → List ℕ
 text_of_poll (Some (Replied reply)) = flat_map text_of_answer (polled_answers reply)
 text_of_poll _ = []
 
--- What is told of the beginning of a session, by the pass before it and behind it: it was opened by one such call, and the greeting says how its user becomes known; or the call found
--- too many sessions; or there was no session for another reason.
+-- The result of opening a session, by the pass before and after: it was opened by one such call,
+-- and the greeting has the login; or the call found too many sessions; or no session was opened for
+-- another reason.
 abbrev pub OpensIn : Access → PassState → Result Login PortFault → PassState → Type 0
 OpensIn access p (Ok login) q = (login ≡ login_of access) × IsCalled p (events.Open (auth_of access)) q × ((n : ℕ) × (q.last ≡ Some (Opened (Ok n))))
 OpensIn access p (Err TooManySessions) q = IsCalled p (events.Open (auth_of access)) q × (q.last ≡ Some (Opened (Err refusals.TooManySessions)))
 OpensIn access p (Err fault) q = Unit {0}
 
--- What is told of a command, or of a line of IDLE, by the pass before it and behind it: the outcome of one call with just this command, at some moment, or with just this line, in the
--- session of the pass.
+-- The result of a command, or of a line of IDLE, by the pass before and after: the outcome of one
+-- call with exactly this command, at some moment, or with exactly this line, in the session of the
+-- pass.
 abbrev pub StepsIn : PassState → PortCall → Result Reply PortFault → PassState → Type 0
 StepsIn p (asked.Command tagged) (Ok reply) q = (moment : ℕ) × IsCalledIn p (λ n. events.Command n moment tagged) q × (q.last ≡ Some (Replied reply))
 StepsIn p (asked.Line line) (Ok reply) q = IsCalledIn p (λ n. events.Line n line) q × (q.last ≡ Some (Replied reply))
 StepsIn p call (Err fault) q = Unit {0}
 
--- The same of one call at most.
+-- The result of a command or line, by at most one call.
 abbrev pub StepsOnce : PassState → PortCall → Result Reply PortFault → PassState → Type 0
 StepsOnce p (asked.Command tagged) told q = StepsIn p (asked.Command tagged) told q × CommandsOnce p tagged q
 StepsOnce p (asked.Line line) told q = StepsIn p (asked.Line line) told q × CallsOnceIn p (λ n. events.Line n line) q
 
--- A pass that had seen the journal at least as far as a connection opened a session for it, and the connection stands where the pass does since.
+-- A pass that had seen at least as much of the journal as a connection opened a session for it, and
+-- the connection's new position is the pass's.
 abbrev pub BeginsFrom : SessionPosition → PassState → PassState → SessionPosition → Type 0
 BeginsFrom from p q to = (from.seen ≤ p.seen) × (to.session ≡ q.session) × (to.seen ≡ q.seen)
 
--- A pass in the session of a connection, which had seen the journal at least as far, has seen it up to where the connection stands since, in the same session.
+-- A pass in the session of a connection, which had seen at least as much of the journal, has now
+-- seen it up to the connection's new position, in the same session.
 abbrev pub GoesFrom : SessionPosition → PassState → PassState → SessionPosition → Type 0
 GoesFrom from p q to = (from.session ≡ p.session) × (from.seen ≤ p.seen) × (to.session ≡ from.session) × (to.seen ≡ q.seen)
 
--- What a connection is told of the beginning of its session comes of a call of some pass, between these places of the journal.
+-- The result of opening a connection's session is that of a call of some pass, between these
+-- positions in the journal.
 abbrev pub OpensByCall : Access → SessionPosition → Result Login PortFault → SessionPosition → Type 0
 OpensByCall access from (Ok login) to = (p : PassState) × (q : PassState) × BeginsFrom from p q to × OpensIn access p (Ok login) q
 OpensByCall access from (Err TooManySessions) to = (p : PassState) × (q : PassState) × BeginsFrom from p q to × OpensIn access p (Err TooManySessions) q
 OpensByCall access from (Err fault) to = Unit {0}
 
--- What it is told of a command, or of a line of IDLE, comes of a call of some pass in its own session, between these places of the journal: the call's entry stands at the second one, above the
--- first. Behind a fault it is in the same session, and no less far.
+-- The result of a command, or of a line of IDLE, is that of a call of some pass in the connection's
+-- session, between these positions in the journal: the call's entry is at the second, after the
+-- first. After a fault the session is the same, and the position isn't before the first.
 abbrev pub StepsByCall : SessionPosition → PortCall → Result Reply PortFault → SessionPosition → Type 0
 StepsByCall from call (Ok reply) to = (p : PassState) × (q : PassState) × GoesFrom from p q to × StepsIn p call (Ok reply) q
 StepsByCall from call (Err fault) to = (to.session ≡ from.session) × (from.seen ≤ to.seen)

@@ -1,3 +1,5 @@
+-- What a replica served, as counts over its journal.
+
 use Rattle.std.specs.Prelude.{Bool, true, false, List, length, Ok}
 use Rattle.std.specs.List.{filter}
 use Rattle.replica_lock.specs.Histories.{BookState}
@@ -8,7 +10,7 @@ use Rattle.replica_lock.specs.declared.outcome.Outcome.{Outcome}
 use Rattle.replica_lock.specs.declared.outcome.Outcome.TheVariants.{Opened}
 use Rattle.server_runtime.specs.declared.totals.Totals.{Totals}
 
--- A session was opened.
+-- Whether a session was opened.
 abbrev pub opened_sessions : Outcome → Bool
 opened_sessions (Opened (Ok n)) = true
 opened_sessions _ = false
@@ -16,7 +18,7 @@ opened_sessions _ = false
 abbrev pub has_opened : JournalEntry → Bool
 has_opened entry = opened_sessions entry.outcome
 
--- A command came.
+-- Whether the event is a command.
 abbrev pub commands : BookEvent → Bool
 commands (Command n moment tagged) = true
 commands _ = false
@@ -24,7 +26,8 @@ commands _ = false
 abbrev pub is_command : JournalEntry → Bool
 is_command entry = commands entry.event
 
--- What a replica served: how many sessions were opened, how many commands came, and how many operations and entries it has.
+-- What a replica served: the numbers of sessions opened, of commands, of operations applied and of
+-- journal entries.
 abbrev pub totals_of : BookState → Totals
 totals_of book = record {
   sessions = length (filter has_opened book.journal);

@@ -1,4 +1,4 @@
-//! One connection.
+//! The threads of one connection.
 
 ghost use Rattle.std.specs.Prelude.{◌≡◌, ◌<◌};
 ghost use Rattle.imap_connection.specs.Conversing.{Talked};
@@ -25,32 +25,32 @@ use std::thread;
 use std::thread::Threads;
 use std::time::Duration;
 
-/// What all connections of a replica have in common.
+/// What all connections of a replica share.
 #[derive(Drop)]
 pub struct ReplicaContext<'a, L: Ledger> {
-    /// What the threads of the server share.
+    /// The state that all threads of the server share.
     pub server: &'a ServerState<'a>,
-    /// The place of the replica's own link among all.
+    /// The replica's own place among all.
     pub own: usize,
     /// The replica.
     pub shared: &'a Shared<L>,
 }
 
-/// A connection as its two threads see it.
+/// What the two threads of a connection share.
 #[derive(Drop)]
 pub struct ConnectionContext<'a, L: Ledger> {
-    /// What all connections of the replica have in common.
+    /// What all connections of the replica share.
     pub context: &'a ReplicaContext<'a, L>,
     /// The connection.
     pub stream: &'a TcpStream,
     /// The pass of its session.
     pub pass: &'a Mutex<Pass<L>>,
-    /// What it is about.
+    /// The phase of the connection.
     pub shared_phase: &'a SharedPhase,
 }
 
-/// Holds the conversation with the client of a connection, takes leave of it, and gives its pass back. The gate is passed before each command, the
-/// first time with 1.
+/// Holds the conversation with the client of a connection, closes the connection in an orderly way,
+/// and returns its pass. The gate is passed before each command, the first time with 1.
 pub fn connection_worker<
     L: Ledger + Send + Sync,
     R: Threads + Wait + Clock + Log + Sync,
@@ -84,7 +84,8 @@ pub fn connection_worker<
     pass.into_inner()
 }
 
-/// Holds the conversation, and in a second thread tells the session while it idles, until both have ended.
+/// Holds the conversation, while a second thread sends the session what changed when it idles;
+/// returns once both have ended.
 fn talk_and_feed<L: Ledger + Send + Sync, R: Threads + Wait + Clock + Log + Sync, G: Gate + Send>(
     rt: &R,
     alloc: Global,
@@ -124,9 +125,12 @@ fn talk<L: Ledger, R: Wait + Clock, G: Gate>(
     ended
 }
 
-/// Holds a conversation as a session of a replica behind its lock, over any source of octets and any sink for them. The session is opened by one call of the replica for
-/// whom the server lets in; each command and each line of IDLE that the octets read spell is one call in the session that was opened, in their order, and so do their entries stand in the journal; and what is written is
-/// the greeting, the printed outcomes of these calls in that order, and the BYE that the end names, or, where a write failed, a beginning of it.
+/// Holds a conversation as a session of a replica under its lock, over any source of octets and any
+/// sink for them. One call of the replica opens the session, for the users that the server admits.
+/// Each command and each line of IDLE that the octets read spell is one call in that session, in
+/// their order, which is also the order of their entries in the journal. What is written is the
+/// greeting, the printed outcomes of these calls in that order, and the BYE that the end names; or,
+/// if a write failed, a beginning of that.
 pub fn talk_over<L: Ledger, R: Wait + Clock, G: Gate, S: Source, K: Sink>(
     rt: &R,
     alloc: Global,
@@ -145,7 +149,7 @@ fn tell_end<R: Log>(rt: &R, ended: Ended) {
     info!(rt; "connection ended: {}", name_of(ended));
 }
 
-/// The name of an end, for the log.
+/// The text for an end in the log.
 fn name_of(ended: Ended) -> &'static str {
     match ended {
         Ended::Logout => "logout",
@@ -159,7 +163,7 @@ fn name_of(ended: Ended) -> &'static str {
     }
 }
 
-/// Whether the client is gone, so that it can't be told any more.
+/// Whether the client is gone, so that nothing can be sent to it any more.
 fn is_gone(ended: Ended) -> bool {
     matches!(
         ended,
@@ -167,8 +171,9 @@ fn is_gone(ended: Ended) -> bool {
     )
 }
 
-/// Tells the client that no more comes, and drops what it still sends, up to 16 MiB and until it pauses for a second: a connection that is closed
-/// while something is unread is reset, which may take the last answers from the client (RFC 9293, section 3.6.1).
+/// Shuts down the server's side of the connection, and drops what the client still sends, up to 16
+/// MiB and until it pauses for a second. A connection that is closed while octets are unread is
+/// reset, which may take the last answers from the client (RFC 9293, section 3.6.1).
 fn drain_and_close(stream: &TcpStream) {
     let _ = stream.set_nonblocking(false);
     let _ = stream.shutdown(Shutdown::Write);
@@ -183,7 +188,7 @@ fn drain_and_close(stream: &TcpStream) {
     }
 }
 
-/// Turns a client away for whom no pass is to be had.
+/// Turns away a client for which no pass is left.
 pub fn refuse_connection(stream: &TcpStream) {
     let mut writer = stream;
     let _ = writer.write_all(b"* BYE too many sessions\r\n");

@@ -1,4 +1,4 @@
-//! The thread that tells an idling session what changed (RFC 2177, section 3).
+//! The thread that sends an idling session what changed (RFC 2177, section 3).
 
 ghost use Rattle.std.specs.Prelude.{◌≡◌, IfOk};
 ghost use Rattle.std.specs.List.{flat_map};
@@ -18,8 +18,10 @@ use std::net::{Shutdown, TcpStream};
 use std::sync::ledger::Ledger;
 use std::sync::{Mutex, Wait};
 
-/// Tells the session of a connection, while it idles, what others did, until the connection ends. It wakes where the session's own feed has something to tell,
-/// and at the end of its connection, and else costs nobody anything. Each poll is written whole; where that fails, the connection is shut down.
+/// Sends the session of a connection, while it idles, what other sessions and replicas changed,
+/// until the connection ends. The thread wakes when the session's own feed has something to send,
+/// and at the end of the connection; otherwise it sleeps. The answers of a poll are written whole;
+/// if that fails, the connection is shut down.
 pub fn feed<L: Ledger, R: Wait>(
     rt: &R,
     alloc: Global,
@@ -53,18 +55,19 @@ pub fn feed<L: Ledger, R: Wait>(
     }
 }
 
-/// What became of telling an idling session what changed.
+/// The result of sending an idling session what changed.
 #[derive(Clone, Copy, Debug, PartialEq, Eq)]
 enum PollOutcome {
-    /// It was told, or there was nothing to tell.
+    /// The answers were written, or there were none.
     Done,
-    /// The connection's thread was at work, and nothing was told.
+    /// The connection's thread was at work, and nothing was sent.
     Busy,
-    /// It can't be told.
+    /// The answers can't be written.
     Failed,
 }
 
-/// Polls the session, if it still idles and its connection's thread still waits for the client, and writes the answers.
+/// Polls the session, if it still idles and its connection's thread still waits for the client, and
+/// writes the answers.
 fn poll_and_write<L: Ledger, R: Wait>(
     rt: &R,
     alloc: Global,
@@ -93,7 +96,8 @@ fn write_all(stream: &TcpStream, text: &[u8]) -> bool {
     text.is_empty() || SocketWriter::new(stream).write_all(text).is_ok()
 }
 
-/// The text of a poll's answers, none where it is refused; `None` where the answers can't be told.
+/// The text of a poll's answers, empty if the poll is refused. `None` if memory runs out or the
+/// journal was cut.
 fn poll_text<L: Ledger, R: Wait>(
     rt: &R,
     alloc: Global,
@@ -125,7 +129,7 @@ fn text_of_outcome(alloc: Global, last: Option<&Outcome>) -> Result<Vec<u8>, All
     }
 }
 
-/// The text of answers, one behind the other.
+/// The text of the answers, one after another.
 fn text_of_answers(alloc: Global, answers: &[Answer]) -> Result<Vec<u8>, AllocError>
     ensures { IfOk result (λ text. text.items ≡ flat_map printed_answer answers.now) }
 {

@@ -18,33 +18,33 @@ use tags_clocks::ReplicaId;
 /// A replica that is to join.
 #[derive(Drop)]
 pub struct JoiningReplica<'a> {
-    /// Its name, where it is to listen, and whose operations it takes.
+    /// Its name and address, and the name of the replica whose operations it takes.
     pub join: Join<'a>,
     /// The place of that replica among all.
     pub peer: usize,
-    /// Comes when it is to join.
+    /// Receives the signal to join.
     pub begin: Receiver<()>,
-    /// Takes word that it joined, or couldn't.
+    /// Sends the signal that it has joined, or couldn't.
     pub done: Sender<()>,
 }
 
-/// A replica that is there: its book, where it listens, and the places of the others.
+/// A replica that runs: its book, its listener, and the places of the others.
 #[derive(Drop)]
 pub struct JoinedReplica {
     /// Its book.
     pub book: Book,
-    /// Where it listens.
+    /// Its listener.
     pub listener: TcpListener,
     /// The places of the others.
     pub peers: Vec<usize>,
 }
 
-/// What became of a replica that was to join; as a text, what the program prints of it.
+/// Whether a replica joined. As a text, what the program prints of it.
 #[derive(Clone, Copy, Debug, PartialEq, Eq)]
 pub enum JoinEnd<'a> {
     /// It joined, and listens.
     Joined(Join<'a>),
-    /// It couldn't.
+    /// It couldn't join.
     Failed(Join<'a>),
 }
 
@@ -64,8 +64,9 @@ impl fmt::Display for JoinEnd<'_> {
 }
 
 impl JoiningReplica<'_> {
-    /// Waits until it is told to join, and does: it listens, takes what its peer applied, and is there for the others from then on. It tells that it did, or that it
-    /// couldn't; `None` then.
+    /// Waits for the signal to join, and joins: it listens, takes the operations that its peer
+    /// applied, and is open for the others from then on. Prints whether it joined, and signals that
+    /// it is done. `None` if it couldn't join.
     pub fn join<R: Print + Wait + Clock + Net<Listener = TcpListener, Stream = TcpStream>>(
         &self,
         rt: &R,
@@ -118,7 +119,8 @@ impl JoiningReplica<'_> {
     }
 }
 
-/// The book of a replica that joins with what the one at a place applied; `None` where it gets no copies, or they don't let it join.
+/// The book of a replica that joins with the operations that the one at place `peer` applied.
+/// `None` if it gets no copies of them, or can't join with these.
 fn book_with<R: Wait + Clock>(
     rt: &R,
     alloc: Global,
@@ -132,7 +134,8 @@ fn book_with<R: Wait + Clock>(
     book.ok()
 }
 
-/// Copies of what the replica at a place applied; `None` where it isn't there, has no memory for them, or doesn't answer for a minute.
+/// Copies of the operations that the replica at a place applied. `None` if it hasn't joined, if
+/// memory runs out for the copies, or if it doesn't answer within a minute.
 fn copies_at<R: Wait + Clock>(
     rt: &R,
     alloc: Global,
@@ -148,7 +151,8 @@ fn copies_at<R: Wait + Clock>(
     copies.recv_timeout(rt, Duration::from_secs(60)).ok()?
 }
 
-/// Lends copies of what a replica applied to whoever orders them, until it is told to end, and gives the pass back.
+/// Answers requests for copies of a replica's operations until one says `Stop`, and returns the
+/// pass.
 pub fn lend_copies<L: Ledger, R: Wait>(
     rt: &R,
     alloc: Global,

@@ -1,4 +1,89 @@
-//! A mail server of linked replicas: its way from a command line on, the connections that it serves, the links of its replicas, and how replicas join it.
+//! A mail server of linked replicas: the path from a command line to a running server, the
+//! connections that it serves, the links of its replicas, and how replicas join it.
+//!
+//! [`run`] reads the command line and serves; [`serve`] runs all replicas, each in a thread of its
+//! own. A replica's threads share its [`ReplicaContext`], and others reach it by its
+//! [`ReplicaHandle`].
+//!
+//! Contracts speak of one connection at a time. That of [`talk_over`] says: one call of the replica
+//! opens the session, each command and each line of IDLE that the octets read spell is one call in
+//! that session, with entries in the journal in the same order, and what is written is the
+//! greeting, the printed outcomes of these calls, and a BYE. That of [`totals_of`] says that the
+//! totals in the log are counts over the journal. What passes between threads is tested and not
+//! proved.
+//!
+//! # Decided
+//!
+//! - `serve` takes the allocator, the server's state (who may log in, when to stop) and one setup
+//!   for each replica, with its listener: a thread of a replica needs all three, and one list keeps
+//!   them together. The thread of a connection is no public call; `talk_over` is, so that tests can
+//!   give it other devices.
+//! - The server raises the C library's thresholds at its start, by a block of 33 MB that it takes
+//!   and gives back (`raise_memory_thresholds`): the program can't call `mallopt`, and a variable
+//!   of the environment would be forgotten. The library then takes blocks of up to that size from
+//!   memory that it holds, and gives memory back to the system only if it holds 64 MiB that nobody
+//!   uses. So a server may hold that much more than it needs.
+//! - Each replica's ledger is named in a call of its own, by `Brand`: a function can't call itself
+//!   with another ledger, so a program with a list of replicas starts a thread for each, and that
+//!   thread's function names the ledger.
+//! - A replica that hasn't joined yet is sent nothing. It asks for what is issued while it joins,
+//!   since its first messages ask all others: those operations are in its peers' lists by then.
+//! - A peer makes copies of its operations in a thread of its own, since each replica's ledger has
+//!   a name that only its own threads know. A replica that gets no copies within a minute can't
+//!   join.
+//! - The thread whose connection ended first starts the joins, and waits for each; a connection
+//!   that ends meanwhile waits too. So `--stop-after` is checked after all joins.
+//! - A replica whose list of others can't be made since memory runs out can't join, like one that
+//!   can't listen: the program prints `cannot join`, and the run continues.
+//! - The port's clauses name no pass and no node before and after a call (`OpensByCall`,
+//!   `StepsByCall`): the pass is under a lock, which no contract sees through, so they say that a
+//!   call was made, with its event, its outcome and its place, and not which pass made it. The port
+//!   stores its session and the place of its last call, and checks, under the lock, that the pass
+//!   has that session and hasn't gone back before that place, which is always so. Hence its
+//!   commands are given in one session, the places of its calls rise, and the order of commands is
+//!   the order of their entries. Under the lock, clauses are about the pass itself (`OpensIn`,
+//!   `StepsIn`, `IsClosedIn`).
+//! - No clause of the port says what `close` leaves: the pass before and after it could be any two,
+//!   and each pass without a session meets `IsClosedIn` with itself. `close_in` has that clause,
+//!   about its own pass, and `server_tests::a_connection_waits_for_another` fails if a close does
+//!   nothing.
+//! - If the journal has no room, the connection ends as if memory had run out. A call that is
+//!   passed over ends it as a cut journal does.
+//! - If a command was carried out, but memory runs out for copying its reply out of the lock, the
+//!   connection ends with `* BYE no memory`, and the command gets no answer.
+//! - The feeder writes only while its connection's thread waits for the client (`SharedPhase`): all
+//!   earlier answers are written by then, and come before its own. It waits while the session
+//!   doesn't idle, and polls only after an entry that concerns its own session. If its answers
+//!   can't be written or printed, it shuts the connection down.
+//! - If the connection's thread is at work when the feeder would poll, the feeder waits and looks
+//!   at the same entries again: a client may have sent only the beginning of a line, after which
+//!   the session still idles.
+//! - The feeder waits for changes only while its pass has a session: the close is then still to
+//!   come, and ends the wait. Otherwise a connection that ended just before would wait for another
+//!   client's command.
+//! - A command that may issue operations holds its replica's lock `ReplicaHandle::order` until they
+//!   are sent, so that those of several connections don't overtake each other on the way. If they
+//!   did, the receiving replica would hold them and ask for what it lacks, and the sender would
+//!   search all operations that it applied, under the lock.
+//! - A read of a connection polls for octets for 50 microseconds before it sleeps, if those before
+//!   came within that time (`SocketReader`), and lets other threads run between two polls: waking a
+//!   thread takes longer than answering most commands. So a client that sends one command after
+//!   another is answered sooner, for a processor that would idle; one that takes its time costs at
+//!   most one such poll after each time that it was quick, and a session that idles none. Meanwhile
+//!   the socket doesn't block, for writes either, so a writer that would have to wait lets it block
+//!   again (`SocketWriter`). Reads of that connection then sleep at once: a client that is sent
+//!   more than a socket holds seldom waits for each command, and reads that used the clock to find
+//!   out whether they slept made STOREs slower (20,669 and 23,655 a second by turns, seven rounds).
+//!   The reason isn't known; perhaps a poll that lets others run sometimes takes long too.
+//! - Passes of connections that ended are used again, so that a server that runs for long doesn't
+//!   run out of them.
+//! - After the end of a conversation the server shuts down its side of the connection and drops
+//!   what the client still sends, up to 16 MiB and until it pauses for a second. Closing a
+//!   connection while octets are unread resets it, which may take the BYE from the client (RFC
+//!   9293, section 3.6.1).
+//! - `serve_over` takes connections and gates as two lists, and cuts the passes itself: a
+//!   connection for which there is none is turned away. Connections are `TcpStream`s, since two
+//!   threads share one and either may shut it down.
 #![tactic(auto)]
 
 mod connection_threads;

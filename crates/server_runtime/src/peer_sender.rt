@@ -8,7 +8,8 @@ use std::alloc::{AllocError, Global};
 use std::sync::Wait;
 use tags_clocks::Clock;
 
-/// Sends letters to other replicas of a house. A letter to one that isn't there is dropped: one that joins asks for what it lacks.
+/// Sends messages to the other replicas of a server. A message to one that hasn't joined is
+/// dropped: when it joins, it asks for what it lacks.
 #[derive(Drop)]
 pub struct PeerSender<'a, R: Wait> {
     rt: &'a R,
@@ -17,7 +18,7 @@ pub struct PeerSender<'a, R: Wait> {
 }
 
 impl<'a, R: Wait> PeerSender<'a, R> {
-    /// Letters of the replica at this place.
+    /// The way from the replica at place `own`.
     pub fn new(rt: &'a R, server: &'a ServerState<'a>, own: usize) -> PeerSender<'a, R> {
         PeerSender {
             rt,
@@ -36,7 +37,8 @@ impl<'a, R: Wait> PeerSender<'a, R> {
         }
     }
 
-    /// Sends these operations to all other replicas that are there. One for which there is no memory is left out, and asks for what it lacks.
+    /// Sends these operations to all other replicas that run. A replica for which memory runs out
+    /// is left out, and asks for what it lacks.
     pub fn send_to_all(&self, alloc: Global, ops: &[SoundOp]) {
         if ops.is_empty() {
             return;

@@ -1,4 +1,4 @@
-//! The program's way from its command line to its status.
+//! The program: from its command line to its status.
 
 use crate::joining_replica::JoiningReplica;
 use crate::replica_handle::{CopyRequest, JoinSignal, JoiningReplicas, ReplicaHandle};
@@ -16,25 +16,26 @@ use std::thread::Threads;
 use std::{env, io};
 use tags_clocks::ReplicaId;
 
-/// How many octets there are in the block by which the C library's thresholds are raised: a little less than 32 MiB.
+/// The size, in octets, of the block that raises the C library's thresholds: a little less than 32
+/// MiB.
 const LARGEST_BLOCK: usize = 33_000_000;
 
-/// Why the server doesn't run; as a text, what the log says of it.
+/// Why the server can't run. As a text, what the log says of it.
 #[derive(Debug, Drop, thiserror::Error)]
 pub enum RunFault {
-    /// An address can't be listened at, and this was told.
+    /// An address can't be listened at. This was printed already.
     #[error("an address can't be listened at")]
     Told,
-    /// There was no memory for it.
+    /// Memory ran out.
     #[error("there is no memory for it")]
     NoMemory,
-    /// An address or the standard output failed.
+    /// A listener's address or the standard output failed.
     #[error("{0}")]
     Device(io::Error),
-    /// A replica or its peer isn't among those that were read.
+    /// A replica has no number, or its peer isn't among the replicas.
     #[error("a replica has no number or no peer")]
     Unnamed,
-    /// A replica that ran didn't hand its journal out.
+    /// A replica that ran didn't return its journal.
     #[error("a replica's journal was not handed out")]
     Unfinished,
 }
@@ -57,8 +58,8 @@ impl From<io::Error> for RunFault {
     }
 }
 
-/// Reads the command line and runs the server, and gives the program's status: 0 where the server stopped or help was asked for, 1 where it
-/// can't run, 2 where the words ask for nothing.
+/// Reads the command line, runs the server, and returns the program's status: 0 if the server
+/// stopped or help was asked for, 1 if it can't run, 2 if the words are wrong.
 pub fn run<
     R: Env
         + Print
@@ -125,27 +126,30 @@ fn run_as<
     Ok(())
 }
 
-/// Takes a large block of memory and gives it back. The C library then takes blocks of up to its size from memory that it keeps, and gives memory
-/// back to the system only where there is twice as much of it (mallopt(3): both thresholds follow the largest block that was given back, up
-/// to 32 MiB). Else each FETCH of many messages pays once more for the pages of its answers. Where there is no such block, all goes on without.
+/// Takes a large block of memory and gives it back. The C library then takes blocks of up to its
+/// size from memory that it holds, and gives memory back to the system only if it holds twice as
+/// much unused (mallopt(3): both thresholds follow the largest block that was given back, up to 32
+/// MiB). Otherwise each FETCH of many messages would pay again for the pages of its answers. If
+/// there is no such block, the server runs without it.
 fn raise_memory_thresholds(alloc: Global) {
     if let Ok(block) = Vec::<u8>::with_capacity(alloc, LARGEST_BLOCK) {
         drop(block);
     }
 }
 
-/// What is made of the replicas while their addresses are gone through.
+/// The replicas for which the server listens, or which are to join, so far.
 #[derive(Drop)]
 struct Opened<'a> {
-    /// How the others reach each.
+    /// How the others reach each replica.
     replicas: Vec<ReplicaHandle>,
-    /// Their parts.
+    /// Each replica's setup.
     parts: Vec<ReplicaSetup<'a>>,
-    /// How those are called that are to join.
+    /// The signals for the replicas that are to join.
     calls: Vec<JoinSignal>,
 }
 
-/// Listens at the addresses, in their order: what the threads of the server will share, and the parts of the replicas.
+/// Listens at the addresses, in their order. Returns the state that the server's threads will
+/// share, and the replicas' setups. An error drops the listeners that were made.
 pub fn open_all<'a, R: Print + Log + Net<Listener = TcpListener, Stream = TcpStream>>(
     rt: &R,
     alloc: Global,
@@ -189,7 +193,7 @@ fn open_each<'a, R: Print + Log + Net<Listener = TcpListener, Stream = TcpStream
     Ok(())
 }
 
-/// Listens at a replica's address, and tells so.
+/// Listens at a replica's address, prints that it does, and adds the replica.
 fn open_place<R: Print + Log + Net<Listener = TcpListener, Stream = TcpStream>>(
     rt: &R,
     alloc: Global,
@@ -203,7 +207,7 @@ fn open_place<R: Print + Log + Net<Listener = TcpListener, Stream = TcpStream>>(
     add_setup(alloc, place.replica, beginning, Some(address), opened)
 }
 
-/// A replica that is to join, and how it is called.
+/// Adds a replica that is to join, with its signals.
 fn await_join<'a>(
     alloc: Global,
     settings: &CommandLine<'a>,
@@ -224,7 +228,7 @@ fn await_join<'a>(
     add_setup(alloc, join.place.replica, beginning, None, opened)
 }
 
-/// Adds a way to call a replica that is to join, and gives the replica's ends of it.
+/// Adds the signals for a replica that is to join, and returns the replica's sides of them.
 fn add_join_signal(
     alloc: Global,
     calls: &mut Vec<JoinSignal>,
@@ -235,7 +239,7 @@ fn add_join_signal(
     Ok((begins, ends))
 }
 
-/// Adds one replica's parts, with its place among all.
+/// Adds one replica's setup, with its place among all.
 fn add_setup<'a>(
     alloc: Global,
     name: u16,
@@ -268,7 +272,7 @@ fn add_setup<'a>(
     }
 }
 
-/// Adds a replica as the others reach it, and gives the ends at which it hears them.
+/// Adds a replica's handle, and returns the receivers of what others send by it.
 fn add_replica(
     alloc: Global,
     address: Option<SocketAddr>,

@@ -1,4 +1,4 @@
-//! The replicas of a server, as the others reach them.
+//! The replicas of a server, as others reach them.
 
 ghost use Rattle.std.specs.Prelude.{◌≡◌, IfOk};
 ghost use Rattle.server_runtime.specs.Places.{all_but};
@@ -10,47 +10,50 @@ use std::alloc::{AllocError, Global};
 use std::net::{Net, SocketAddr, TcpListener, TcpStream};
 use std::sync::{Mutex, Wait};
 
-/// What the thread is asked that lends copies of what its replica applied.
+/// A request to the thread that copies its replica's operations.
 #[derive(Drop)]
 pub enum CopyRequest {
-    /// To send copies of the operations, in the order in which they were applied; `None` where there is no memory for them.
+    /// Send copies of the operations, in the order in which they were applied; `None` if memory
+    /// runs out.
     Copy(Sender<Option<Vec<SoundOp>>>),
-    /// To end.
+    /// End the thread.
     Stop,
 }
 
-/// A replica, as the others reach it.
+/// A replica, as others reach it.
 #[derive(Drop)]
 pub struct ReplicaHandle {
-    /// Takes letters to it.
+    /// Sends messages to it.
     pub link: Sender<PeerMsg>,
-    /// Takes orders of copies of what it applied.
+    /// Sends requests for copies of its operations.
     pub orders: Sender<CopyRequest>,
-    /// Where it listens; `None` as long as it hasn't joined.
+    /// The address at which it listens; `None` as long as it hasn't joined.
     pub address: Mutex<Option<SocketAddr>>,
-    /// Held from a command of a client until what it issued is handed on, so that the others get a replica's operations in their order.
+    /// Locked from a client's command until what it issued was sent, so that the others get a
+    /// replica's operations in their order.
     pub order: Mutex<()>,
 }
 
 impl ReplicaHandle {
-    /// Whether the replica is there: one that is to join isn't.
+    /// Whether the replica runs; false until one that is to join has joined.
     pub fn is_open<R: Wait>(&self, rt: &R) -> bool {
         self.address.lock(rt).is_some()
     }
 
-    /// The replica is there, and listens at this address.
+    /// Opens the replica for others: it listens at this address.
     pub fn open<R: Wait>(&self, rt: &R, address: SocketAddr) {
         *self.address.lock(rt) = Some(address);
     }
 
-    /// Sends a letter to the replica, if it is there.
+    /// Sends a message to the replica, if it runs.
     pub fn send<R: Wait>(&self, rt: &R, letter: PeerMsg) {
         if self.is_open(rt) {
             let _ = self.link.send(rt, letter);
         }
     }
 
-    /// Wakes the replica's threads, so that they see that the server stops: by a connection, a letter of the replica's own place and an order.
+    /// Wakes the replica's threads, so that they notice that the server stops: by a connection, a
+    /// message `Stop` from the replica's own place, and a request `Stop`.
     pub fn wake<R: Wait + Net<Listener = TcpListener, Stream = TcpStream>>(
         &self,
         rt: &R,
@@ -70,12 +73,13 @@ impl ReplicaHandle {
     }
 }
 
-/// How the thread of a replica that is to join is told to, and tells that it did or couldn't.
+/// The signals between the thread of a replica that is to join and the thread that starts the
+/// joins.
 #[derive(Drop)]
 pub struct JoinSignal {
-    /// Tells the replica to join.
+    /// Sends the signal to join.
     pub begin: Sender<()>,
-    /// Comes when it has joined, or couldn't.
+    /// Receives the signal that it has joined, or couldn't.
     pub done: Receiver<()>,
 }
 
@@ -86,14 +90,15 @@ pub struct JoiningReplicas {
 }
 
 impl JoiningReplicas {
-    /// Those that these calls reach, in their order.
+    /// The replicas with these signals, in their order.
     pub fn new(calls: Vec<JoinSignal>) -> JoiningReplicas {
         JoiningReplicas {
             calls: Mutex::new(calls),
         }
     }
 
-    /// Has all join, in their order, and waits until each did or couldn't: the first time that this is called. Whoever calls it meanwhile waits too.
+    /// At its first call, signals each replica to join, in their order, and waits until it did or
+    /// couldn't. A caller that comes meanwhile waits too.
     pub fn begin_all<R: Wait>(&self, rt: &R) {
         let mut calls = self.calls.lock(rt);
         for call in calls.iter() {
@@ -105,7 +110,7 @@ impl JoiningReplicas {
     }
 }
 
-/// All of so many places but one, ascending.
+/// The places below `places` except `own`, ascending. `Err` if memory runs out.
 #[tactic(auto, using(crate::proofs::PlaceLemmas::all_but_own, crate::proofs::PlaceLemmas::all_but_other))]
 pub fn others(alloc: Global, places: usize, own: usize) -> Result<Vec<usize>, AllocError>
     ensures { IfOk result (λ others. others.items ≡ all_but own places) }

@@ -1,4 +1,4 @@
-//! Replicas that listen.
+//! The threads of the replicas that a server runs.
 
 ghost use Rattle.std.specs.Prelude.{◌≡◌};
 
@@ -25,68 +25,68 @@ use std::time::Duration;
 use tags_clocks::ReplicaId;
 use uid_projection::Counters;
 
-/// How a replica begins.
+/// How a replica starts.
 #[derive(Drop)]
 pub enum StartMode<'a> {
     /// It listens, and has received nothing.
     Listening(TcpListener),
-    /// It joins once it is told to.
+    /// It joins at a signal.
     Joining(JoiningReplica<'a>),
 }
 
-/// One replica's parts.
+/// What the thread of a replica needs to start.
 #[derive(Drop)]
 pub struct ReplicaSetup<'a> {
     /// Its name.
     pub replica: ReplicaId,
     /// Its place among all.
     pub own: usize,
-    /// What comes from the other replicas.
+    /// Messages from the other replicas.
     pub letters: Receiver<PeerMsg>,
-    /// What is ordered of copies of what it applied.
+    /// Requests for copies of its operations.
     pub orders: Receiver<CopyRequest>,
-    /// How it begins.
+    /// How it starts.
     pub beginning: StartMode<'a>,
 }
 
-/// One replica's parts, until its thread takes them.
+/// A replica's setup, until its thread takes it.
 #[derive(Drop)]
 struct SetupSlot<'a> {
     part: Mutex<Option<ReplicaSetup<'a>>>,
 }
 
 impl<'a> SetupSlot<'a> {
-    /// The parts; `None` where they were taken.
+    /// The setup; `None` if it was taken already.
     fn take<R: Wait>(&self, rt: &R) -> Option<ReplicaSetup<'a>> {
         self.part.lock(rt).take()
     }
 }
 
-/// What a replica that runs hears, and whom it asks.
+/// What reaches a replica that runs, and the replicas that it asks.
 #[derive(Drop)]
 pub struct ReplicaInputs {
     /// Its place among all.
     pub own: usize,
-    /// Where it listens.
+    /// Its listener.
     pub listener: TcpListener,
-    /// What comes from the other replicas.
+    /// Messages from the other replicas.
     pub letters: Receiver<PeerMsg>,
-    /// What is ordered of copies of what it applied.
+    /// Requests for copies of its operations.
     pub orders: Receiver<CopyRequest>,
     /// The places of the others.
     pub peers: Vec<usize>,
-    /// Whether it asks them at once for what it lacks.
+    /// Whether it first asks the others for what it lacks.
     pub asks: bool,
 }
 
-/// A replica as the threads that serve it see it.
+/// What the threads that serve a replica share.
 #[derive(Drop)]
 pub struct ServedReplica<'a, L: Ledger> {
-    /// What all its connections have in common.
+    /// What all its connections share.
     pub context: &'a ReplicaContext<'a, L>,
-    /// What it hears, and whom it asks.
+    /// What reaches it, and the replicas that it asks.
     pub ends: &'a ReplicaInputs,
-    /// Takes the passes of connections that ended.
+    /// The passes of connections that ended.
     pub back: &'a Mutex<Vec<Pass<L>>>,
 }
 
@@ -95,13 +95,13 @@ pub struct ServedReplica<'a, L: Ledger> {
 pub struct AcceptedConnection<L: Ledger, G> {
     /// The connection.
     pub stream: TcpStream,
-    /// What is passed before each command of it.
+    /// The gate that is passed before each command.
     pub gate: G,
     /// The pass of its session.
     pub pass: Pass<L>,
 }
 
-/// A gate that is open.
+/// A gate that never waits.
 #[derive(Drop)]
 pub struct OpenGate;
 
@@ -109,7 +109,8 @@ impl Gate for OpenGate {
     fn pass(&mut self, _n: u64) {}
 }
 
-/// Runs all replicas, each in a thread of its own, until the server stops. True where each that ran handed its whole journal out.
+/// Runs all replicas, each in a thread of its own, until the server stops. True if each that ran
+/// returned its whole journal.
 pub fn serve<
     R: Threads
         + Wait
@@ -129,7 +130,7 @@ pub fn serve<
     }
 }
 
-/// The parts, each in a room from which its thread takes it, and the places of the rooms.
+/// The setups, each in a slot from which its thread takes it, and the places of the slots.
 fn rooms_of<'a>(
     alloc: Global,
     parts: Vec<ReplicaSetup<'a>>,
@@ -145,7 +146,7 @@ fn rooms_of<'a>(
     Ok((rooms, places))
 }
 
-/// Runs the replica whose parts are in this room.
+/// Runs the replica whose setup is in the slot at this place.
 fn run_at<
     R: Threads
         + Wait
@@ -164,7 +165,8 @@ fn run_at<
     }
 }
 
-/// Runs a replica in a call of its own, so that its ledger has a name of its own. True also where one that was to join couldn't.
+/// Runs a replica in a call of its own, so that its ledger has a name of its own. True also if a
+/// replica couldn't join.
 fn run_part<
     R: Threads
         + Wait
@@ -212,7 +214,7 @@ fn run_part<
     run_replica::<Brand, R>(rt, alloc, Blank::new(4_294_967_295), server, book, ends)
 }
 
-/// A new replica that listens; `None` where there is no memory for it.
+/// A new replica with its listener; `None` if memory runs out.
 fn start_listening(
     alloc: Global,
     server: &ServerState<'_>,
@@ -236,7 +238,8 @@ fn start_listening(
     })
 }
 
-/// A replica that has received nothing, whose UIDs count from 1.
+/// The book of a replica that has received nothing and whose UIDs count from 1; `None` if memory
+/// runs out.
 fn new_book(alloc: Global, replica: ReplicaId) -> Option<Book> {
     let start = Counters {
         replica,
@@ -292,7 +295,7 @@ fn run_replica<
     }
 }
 
-/// Tells by the log what a replica served.
+/// Logs what a replica served.
 fn tell_totals<R: Log>(rt: &R, book: &Book) {
     let Totals {
         sessions,
@@ -304,7 +307,8 @@ fn tell_totals<R: Log>(rt: &R, book: &Book) {
     info!(rt; "replica {replica} served {sessions} sessions and {commands} commands; it applied {operations} operations, and its journal has {entries} entries");
 }
 
-/// Takes and answers what comes from the other replicas, and gives the pass back. A replica that has joined begins by asking them all for what it lacks.
+/// Takes and answers messages from the other replicas until the server stops, and returns the pass.
+/// A replica that has joined first asks all others for what it lacks.
 fn run_link<L: Ledger, R: Wait + Clock>(
     rt: &R,
     alloc: Global,
@@ -327,12 +331,13 @@ fn run_link<L: Ledger, R: Wait + Clock>(
     taker.into_pass()
 }
 
-/// Gives a pass back.
+/// Adds a pass to those that can be used again. If memory runs out, the pass is lost.
 fn give_back<L: Ledger, R: Wait>(rt: &R, back: &Mutex<Vec<Pass<L>>>, pass: Pass<L>) {
     let _ = back.lock(rt).push(pass);
 }
 
-/// A pass without a session: one that was given back, or a new one.
+/// A pass without a session: one of a connection that ended, or a new one. `None` if no pass is
+/// left.
 fn next_pass<L: Ledger, R: Wait>(
     rt: &R,
     back: &Mutex<Vec<Pass<L>>>,
@@ -344,7 +349,7 @@ fn next_pass<L: Ledger, R: Wait>(
     }
 }
 
-/// Serves a connection to its end, closes it, and gives its pass back.
+/// Serves a connection to its end, closes it, and returns its pass.
 fn serve_connection<
     L: Ledger + Send + Sync,
     R: Threads + Wait + Clock + Log + Sync,
@@ -363,8 +368,10 @@ fn serve_connection<
     connection_worker(rt, alloc, &mut gate, context, &stream, pass)
 }
 
-/// Serves these connections at once, each in a thread of its own and with the gate at its place, and gives their passes back once all have ended. One without
-/// a gate is closed, and one for which no pass can be cut is turned away. `Err` where there was no memory, and passes may be lost then.
+/// Serves these connections at once, each in a thread of its own and with the gate at the same
+/// place in the list, and returns their passes once all have ended. A connection without a gate is
+/// closed, and one for which no pass can be cut is turned away. `Err` if memory runs out; passes
+/// may be lost then.
 pub fn serve_over<
     L: Ledger + Send + Sync,
     R: Threads + Wait + Clock + Log + Sync,
@@ -385,7 +392,7 @@ pub fn serve_over<
     )
 }
 
-/// The connections with a gate and a pass each.
+/// The connections, each with its gate and a pass. `Err` if memory runs out.
 fn accepted_connections<L: Ledger, G: Gate + Drop>(
     alloc: Global,
     first: &mut Pass<L>,
@@ -403,7 +410,8 @@ fn accepted_connections<L: Ledger, G: Gate + Drop>(
     Ok(visits)
 }
 
-/// Serves the connections of a listener, each in a thread of its own, and the link and the orders of copies in two others, until the server stops.
+/// Serves the connections of a listener, each in a thread of its own, and in two further threads
+/// the link and the requests for copies, until the server stops.
 fn serve_listener<
     L: Ledger + Send + Sync,
     R: Threads + Wait + Clock + Log + Sync + Net<Listener = TcpListener, Stream = TcpStream>,
@@ -450,7 +458,8 @@ fn serve_listener<
     })
 }
 
-/// A connection ended. Behind the first one those join that are to, and behind the last one the threads of all replicas are woken, so that they end too.
+/// Counts a connection that ended. After the first one, the replicas that are to join do so; after
+/// the last one, the threads of all replicas are woken, so that they end too.
 fn end_one<R: Wait + Net<Listener = TcpListener, Stream = TcpStream>>(
     rt: &R,
     server: &ServerState<'_>,

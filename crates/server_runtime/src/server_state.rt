@@ -1,4 +1,4 @@
-//! What the threads of a server share.
+//! The state that the threads of a server share.
 
 ghost use Rattle.std.specs.Prelude.{◌≡◌, IfOk};
 ghost use Rattle.server_runtime.specs.Logins.{auth_of, login_of};
@@ -11,21 +11,21 @@ use server_settings::Access;
 use std::alloc::{AllocError, Global};
 use std::sync::{Mutex, Wait};
 
-/// How many connections are still to end before the server stops; `None` where it goes on for good.
+/// The number of connections that must still end before the server stops; `None` if it never stops.
 #[derive(Drop)]
 pub struct StopCounter {
     left: Mutex<Option<u32>>,
 }
 
 impl StopCounter {
-    /// Behind so many connections.
+    /// Stops after this number of connections.
     pub fn after(connections: Option<u32>) -> StopCounter {
         StopCounter {
             left: Mutex::new(connections),
         }
     }
 
-    /// One connection ended. True where it was the last.
+    /// Counts a connection that ended. True if it was the last.
     pub fn end_one<R: Wait>(&self, rt: &R) -> bool {
         let mut left = self.left.lock(rt);
         match *left {
@@ -43,20 +43,20 @@ impl StopCounter {
     }
 }
 
-/// What the threads of a server share.
+/// The state that the threads of a server share.
 #[derive(Drop)]
 pub struct ServerState<'a> {
     /// Who may use the server.
     pub access: Access<'a>,
-    /// The replicas, those that are to join behind the others.
+    /// The replicas; those that are to join come after the others.
     pub replicas: Vec<ReplicaHandle>,
-    /// Those that are to join.
+    /// The replicas that are to join.
     pub joining: JoiningReplicas,
-    /// When to stop.
+    /// When the server stops.
     pub stop: StopCounter,
 }
 
-/// What a greeting says of the user.
+/// The login that a greeting asks for.
 pub fn login_of(access: Access<'_>) -> Login
     ensures { result ≡ login_of access.entry }
 {
@@ -66,7 +66,7 @@ pub fn login_of(access: Access<'_>) -> Login
     }
 }
 
-/// How the users of sessions become known; `Err` where there is no memory for it.
+/// How the users of sessions are authenticated; `Err` if memory runs out.
 pub fn auth_of(alloc: Global, access: Access<'_>) -> Result<Auth, AllocError>
     ensures { IfOk result (λ auth. auth ≡ auth_of access.entry) }
 {

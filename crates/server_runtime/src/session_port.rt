@@ -1,4 +1,4 @@
-//! One session of a replica behind its lock, as a port.
+//! One session of a replica under its lock, as the port of a conversation.
 
 ghost use Rattle.std.specs.Prelude.{◌≡◌, ◌⊎◌, ◌≤◌, ◌<◌, ℕ, [], Err, IfOk, IsOk, IsSome, IsTrue, Ok, OnErr, OnOk, Some, length, vec_capacity};
 ghost use Rattle.std.specs.Option.{option_map};
@@ -29,23 +29,24 @@ use std::sync::ledger::Ledger;
 use std::sync::{Mutex, MutexGuard, Wait};
 use std::time::{SystemTime, UNIX_EPOCH};
 
-/// A session whose pass stands under a lock of its own, which is taken for one call at a time.
+/// A session whose pass is under a lock of its own, which is taken for one call at a time.
 #[derive(Drop)]
 pub struct SessionPort<'a, L: Ledger, R: Wait + Clock, G: Gate> {
     rt: &'a R,
     shared: &'a Shared<L>,
     pass: &'a Mutex<Pass<L>>,
     server: &'a ServerState<'a>,
-    /// The place of the replica's own link among all.
+    /// The replica's own place among all.
     own: usize,
     shared_phase: &'a SharedPhase,
     gate: &'a mut G,
     commands: u64,
-    /// Where the last call of this port left it.
+    /// The position after this port's last call.
     at: SessionPosition,
 }
 
-/// Where a connection stands at its replica: the session that it opened, and how far its pass had seen the journal.
+/// A connection's position at its replica: the session that it opened, and the length of the
+/// journal that its pass had seen.
 #[derive(Clone, Copy, Debug, PartialEq, Eq)]
 pub struct SessionPosition {
     session: Option<SessionNo>,
@@ -53,7 +54,7 @@ pub struct SessionPosition {
 }
 
 impl<'a, L: Ledger, R: Wait + Clock, G: Gate> SessionPort<'a, L, R, G> {
-    /// A session at the replica of this desk.
+    /// A port for a session at the replica of this context, which no call has opened yet.
     pub fn new(
         rt: &'a R,
         context: &ReplicaContext<'a, L>,
@@ -79,7 +80,7 @@ impl<'a, L: Ledger, R: Wait + Clock, G: Gate> SessionPort<'a, L, R, G> {
 }
 
 impl<'a, L: Ledger, R: Wait + Clock, G: Gate> SessionPort<'a, L, R, G> {
-    /// Opens the session in its pass, by one call at most.
+    /// Opens the session in its pass, by at most one call.
     fn open_in(&self, alloc: Global, pass: &mut Pass<L>) -> Result<Login, PortFault>
         ensures told { OpensIn self.now.server.now.access pass.old result pass.new }
         ensures once { CallsOnce pass.old (events.Open (auth_of self.now.server.now.access)) pass.new }
@@ -96,7 +97,7 @@ impl<'a, L: Ledger, R: Wait + Clock, G: Gate> SessionPort<'a, L, R, G> {
         }
     }
 
-    /// Gives the session a command in its pass, by one call at most.
+    /// Gives the session a command in its pass, by at most one call.
     fn command_in(
         &self,
         alloc: Global,
@@ -122,7 +123,7 @@ impl<'a, L: Ledger, R: Wait + Clock, G: Gate> SessionPort<'a, L, R, G> {
         }
     }
 
-    /// Gives the session brief commands in its pass, in one turn at the replica.
+    /// Gives the session brief commands in its pass, while the replica's lock is held once for all.
     fn commands_in(
         &self,
         alloc: Global,
@@ -146,7 +147,7 @@ impl<'a, L: Ledger, R: Wait + Clock, G: Gate> SessionPort<'a, L, R, G> {
         told
     }
 
-    /// Gives the session a line of IDLE in its pass, by one call at most.
+    /// Gives the session a line of IDLE in its pass, by at most one call.
     fn line_in(&self, alloc: Global, pass: &mut Pass<L>, line: IdleLine) -> Result<Reply, PortFault>
         ensures told { StepsIn pass.old (asked.Line line) result pass.new }
         ensures once { CallsOnceIn pass.old (λ n. events.Line n line) pass.new }
@@ -161,7 +162,8 @@ impl<'a, L: Ledger, R: Wait + Clock, G: Gate> SessionPort<'a, L, R, G> {
         }
     }
 
-    /// Closes the session of its pass, by one call, if it has one. An error leaves the pass as it was.
+    /// Closes the session of its pass, by one call, if it has one. An error leaves the pass as it
+    /// was.
     fn close_in(&self, alloc: Global, pass: &mut Pass<L>) -> Result<(), CallFault>
         ensures ok { OnOk result (IsClosedIn pass.old pass.new) }
         ensures err { OnErr result (pass.new ≡ pass.old) }
@@ -173,7 +175,7 @@ impl<'a, L: Ledger, R: Wait + Clock, G: Gate> SessionPort<'a, L, R, G> {
         self.shared.close(self.rt, alloc, pass)
     }
 
-    /// Whether a pass has the session of this port, and has seen the journal no less far.
+    /// Whether a pass has the session of this port, and has seen at least as much of the journal.
     fn knows(&self, pass: &Pass<L>) -> bool
         ensures session { IsTrue result → self.now.at.session ≡ pass.now.session }
         ensures seen { IsTrue result → self.now.at.seen ≤ pass.now.seen }
@@ -181,8 +183,9 @@ impl<'a, L: Ledger, R: Wait + Clock, G: Gate> SessionPort<'a, L, R, G> {
         self.at.session == pass.session() && self.at.seen <= pass.seen()
     }
 
-    /// The place in the order in which the replica's operations are handed on, for a command that may issue some. Two that overtake each other cost the
-    /// replica that gets them a question, and this one a look through all that it applied.
+    /// The lock that orders the sending of the replica's operations, for a command that may issue
+    /// some. If operations overtook each other, the receiving replica would have to ask for them,
+    /// and this one would have to search all that it applied.
     fn order_for(&self, command: &Command) -> Option<MutexGuard<'_, ()>> {
         if !may_issue(command) {
             return None;
@@ -191,7 +194,7 @@ impl<'a, L: Ledger, R: Wait + Clock, G: Gate> SessionPort<'a, L, R, G> {
         Some(handle.order.lock(self.rt))
     }
 
-    /// Hands on what a command issued, and says whether the session idles behind it.
+    /// Sends the others what a command issued, and notes whether the session idles after it.
     fn follow(&self, alloc: Global, idles: bool, last: Option<&Outcome>) {
         let mail = PeerSender::new(self.rt, self.server, self.own);
         mail.send_to_all(alloc, issued_ops(last));
@@ -266,7 +269,8 @@ impl<'a, L: Ledger, R: Wait + Clock, G: Gate> Port for SessionPort<'a, L, R, G> 
     }
 }
 
-/// Gives the session of a pass commands, which came at this moment, one behind another, and notes the replies.
+/// Gives the session of a pass commands, which came at this moment, one after another, and appends
+/// the replies.
 fn give_all<L: Ledger>(
     alloc: Global,
     turn: &mut LockTurn<'_, L>,
@@ -289,7 +293,7 @@ fn give_all<L: Ledger>(
     Ok(())
 }
 
-/// Gives the session of a pass a command, which came at this moment, by one call at most.
+/// Gives the session of a pass a command, which came at this moment, by at most one call.
 fn give_command<L: Ledger>(
     alloc: Global,
     turn: &mut LockTurn<'_, L>,
@@ -316,7 +320,7 @@ fn fault_of(fault: CallFault) -> PortFault
     }
 }
 
-/// What a connection is told of the opening of its session, whose user becomes known so.
+/// The result of opening a session, for its connection: `login` if the session was opened.
 fn login_of_outcome(last: Option<&Outcome>, login: Login) -> Result<Login, PortFault>
     ensures ok { IfOk result (λ told. (told ≡ login) × ((n : ℕ) × (option_map (λ o. o.now) last.entry ≡ Some (Opened (Ok n))))) }
     ensures full { result ≡ Err TooManySessions → option_map (λ o. o.now) last.entry ≡ Some (Opened (Err refusals.TooManySessions)) }
@@ -337,7 +341,7 @@ fn login_of_outcome(last: Option<&Outcome>, login: Login) -> Result<Login, PortF
     }
 }
 
-/// The reply, in the same memory; `NoMemory` where so many copies share it that they can't be counted.
+/// The reply, in shared memory; `NoMemory` if it has too many copies to be counted.
 fn reply_of_outcome(last: Option<&Outcome>) -> Result<Reply, PortFault>
     ensures { IfOk result (λ reply. option_map (λ o. o.now) last.entry ≡ Some (Replied reply)) }
 {
@@ -390,7 +394,7 @@ fn may_issue(command: &Command) -> bool {
     )
 }
 
-/// The moment now; the epoch where the clock can't be read.
+/// The moment now; the epoch if the clock can't be read.
 fn moment_now<R: Clock>(rt: &R) -> Moment {
     seconds_now(rt)
         .and_then(Moment::new)

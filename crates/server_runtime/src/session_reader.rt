@@ -1,4 +1,4 @@
-//! The octets of a client, with word of when its connection waits for them.
+//! A client's octets, and the signal that its connection waits for them.
 
 ghost use Rattle.std.specs.Prelude.{◌≡◌, None};
 
@@ -9,7 +9,8 @@ use std::io::Read;
 use std::sync::ledger::Ledger;
 use std::sync::{Mutex, Wait};
 
-/// A reader that tells when it waits. What its session's pass keeps of earlier calls is let go then, while the client is at work.
+/// A reader that notes in the connection's phase when it waits for the client. Before it waits, it
+/// drops the outcome of an earlier call, so that this is done while the client is at work.
 #[derive(Drop)]
 pub struct SessionReader<'a, T, L: Ledger, R: Wait> {
     rt: &'a R,
@@ -19,7 +20,7 @@ pub struct SessionReader<'a, T, L: Ledger, R: Wait> {
 }
 
 impl<'a, T, L: Ledger, R: Wait> SessionReader<'a, T, L, R> {
-    /// Octets from this device, for the session of this pass.
+    /// A reader of this device, for the session of this pass.
     pub fn new(
         rt: &'a R,
         shared_phase: &'a SharedPhase,

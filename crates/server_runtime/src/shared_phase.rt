@@ -1,29 +1,31 @@
-//! A connection's two sides: its own thread, and the thread that tells an idling session what changed.
+//! The phase of a connection, which its own thread and the thread that sends an idling session what
+//! changed share.
 
 use std::sync::{Condvar, Mutex, Wait};
 
-/// What a connection is about.
+/// The phase of a connection.
 #[derive(Clone, Copy, Debug, PartialEq, Eq)]
 pub struct ConnectionPhase {
-    /// Its thread waits for the client, and has written all it had to say.
+    /// Its thread waits for the client, and has written all answers.
     pub reads: bool,
     /// Its session idles.
     pub idles: bool,
-    /// It has ended.
+    /// The connection has ended.
     pub ended: bool,
 }
 
-/// Who may write to a client. The connection's own thread writes while it doesn't wait for the client; else whoever has the lock does.
+/// The phase under a lock, which decides who may write to the client: the connection's own thread
+/// while it doesn't wait for the client, and otherwise the thread that holds the lock.
 #[derive(Drop)]
 pub struct SharedPhase {
-    /// What the connection is about.
+    /// The phase.
     pub phase: Mutex<ConnectionPhase>,
-    /// Signals that this changed.
+    /// Signals that the phase changed.
     pub changed: Condvar,
 }
 
 impl SharedPhase {
-    /// A connection that begins.
+    /// The phase of a new connection.
     pub fn new() -> SharedPhase {
         SharedPhase {
             phase: Mutex::new(ConnectionPhase {
@@ -35,8 +37,8 @@ impl SharedPhase {
         }
     }
 
-    /// The connection's thread waits for the client from now on, or no more. Where the session doesn't idle, nobody is woken: whoever waits for that would wait on,
-    /// and be woken twice a command.
+    /// Notes whether the connection's thread waits for the client. If the session doesn't idle, no
+    /// thread is woken: it would only wait again, twice for each command.
     pub fn set_reads<R: Wait>(&self, rt: &R, reads: bool) {
         let mut phase = self.phase.lock(rt);
         phase.reads = reads;
@@ -45,20 +47,21 @@ impl SharedPhase {
         }
     }
 
-    /// The session idles from now on, or no more.
+    /// Notes whether the session idles.
     pub fn set_idles<R: Wait>(&self, rt: &R, idles: bool) {
         let mut phase = self.phase.lock(rt);
         phase.idles = idles;
     }
 
-    /// The connection has ended.
+    /// Notes that the connection has ended.
     pub fn end<R: Wait>(&self, rt: &R) {
         let mut phase = self.phase.lock(rt);
         phase.ended = true;
         self.changed.notify_all();
     }
 
-    /// Waits until the session idles and all answers before were written. False where the connection ended first.
+    /// Waits until the session idles and all earlier answers were written. False if the connection
+    /// ended first.
     pub fn await_idling<R: Wait>(&self, rt: &R) -> bool {
         let phase = self.changed.wait_while(
             rt,

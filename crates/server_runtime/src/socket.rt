@@ -1,4 +1,5 @@
-//! A client's socket as the thread of its connection reads it, and as whoever has something to tell the client writes to it.
+//! A client's socket, for the connection's thread that reads from it and for the threads that write
+//! to it.
 
 ghost use Rattle.std.specs.Prelude.{IfSome};
 ghost use Rattle.std.specs.Io.{ReadsAtMost};
@@ -9,24 +10,27 @@ use std::rt::Clock;
 use std::time::{Duration, Instant};
 use std::{io, thread};
 
-/// How long a read looks for octets again and again before it sleeps until some come, in microseconds. To wake a thread takes longer than to answer most commands.
+/// How long a read polls for octets before it sleeps until some come, in microseconds. Waking a
+/// thread takes longer than answering most commands.
 const SOON: u64 = 50;
 
-/// So often a read looks at most, whatever the clock says.
+/// The number of times that a read polls at most, whatever the clock says.
 const MAX_LOOKS: u32 = 100_000;
 
-/// What a client sends. Where its last octets came soon, as those of a client do that sends one command behind another, a read looks for the next ones again and again for a while, and lets
-/// other threads run between; only then it sleeps. A client that takes its time costs no more than it did: behind octets that came late a read sleeps at once.
+/// A reader of what a client sends. If the last octets came soon, as from a client that sends one
+/// command after another, a read polls for the next ones for a while, and lets other threads run
+/// between two polls; only then does it sleep. A client that takes its time costs nothing further:
+/// after octets that came late, a read sleeps at once.
 #[derive(Drop)]
 pub struct SocketReader<'a, R: Clock> {
     rt: &'a R,
     stream: &'a TcpStream,
-    /// Whether the next read looks before it sleeps; then the socket tells at once that nothing is there.
+    /// Whether the next read polls before it sleeps. The socket doesn't block then.
     looks: bool,
 }
 
 impl<'a, R: Clock> SocketReader<'a, R> {
-    /// Reads what comes in this stream, which waits for octets where none are there.
+    /// A reader of this stream, which blocks while it has no octets.
     pub fn new(rt: &'a R, stream: &'a TcpStream) -> SocketReader<'a, R> {
         SocketReader {
             rt,
@@ -35,7 +39,7 @@ impl<'a, R: Clock> SocketReader<'a, R> {
         }
     }
 
-    /// Looks for octets until some are there, or the end or a fault is, or they don't come soon, which is `None`.
+    /// Polls until there are octets, an end or a fault. `None` if they don't come soon.
     fn poll_soon(&self, begun: Option<Instant>, buf: &mut [u8]) -> Option<io::Result<usize>>
         ensures { IfSome result (λ told. ReadsAtMost told buf.new) }
     {
@@ -53,7 +57,7 @@ impl<'a, R: Clock> SocketReader<'a, R> {
         None
     }
 
-    /// Sleeps until octets are there, or the end or a fault is.
+    /// Sleeps until there are octets, an end or a fault.
     fn wait_octets(&mut self, buf: &mut [u8]) -> io::Result<usize>
         ensures { ReadsAtMost result buf.new }
     {
@@ -65,7 +69,7 @@ impl<'a, R: Clock> SocketReader<'a, R> {
         stream.read(buf)
     }
 
-    /// Whether a read that began then has not taken long; no where the clock couldn't be read.
+    /// Whether less than `SOON` has passed since a read began; false if the clock can't be read.
     fn is_soon(&self, begun: Option<Instant>) -> bool {
         match begun {
             Some(begun) => begun
@@ -90,14 +94,15 @@ impl<'a, R: Clock> Read for SocketReader<'a, R> {
     }
 }
 
-/// What is told a client. A write waits until the socket takes some octets, though a read may have it tell at once that it can't.
+/// A writer to a client. A write waits until the socket takes some octets, even if a read has set
+/// it not to block.
 #[derive(Drop)]
 pub struct SocketWriter<'a> {
     stream: &'a TcpStream,
 }
 
 impl<'a> SocketWriter<'a> {
-    /// Writes to this stream.
+    /// A writer to this stream.
     pub fn new(stream: &'a TcpStream) -> SocketWriter<'a> {
         SocketWriter { stream }
     }
@@ -119,7 +124,7 @@ impl<'a> Write for SocketWriter<'a> {
     }
 }
 
-/// Whether a socket told that it can't go on at once.
+/// Whether a socket would have had to block.
 fn would_wait(told: &io::Result<usize>) -> bool {
     match told {
         Ok(_) => false,

@@ -1,4 +1,4 @@
-//! What a replica served until it stopped.
+//! Totals of what a replica served until it stopped.
 
 ghost use Rattle.std.specs.Prelude.{◌≡◌, ◌+◌, ◌<◌, if◌then◌else◌};
 ghost use Rattle.server_runtime.specs.Totals.{has_opened, is_command, totals_of};
@@ -8,17 +8,17 @@ use replica_lock::{Book, BookEvent, CompactEntry, EntryRef, Outcome};
 /// What a replica served until it stopped.
 #[derive(Clone, Copy, Debug, PartialEq, Eq)]
 pub struct Totals {
-    /// How many sessions were opened.
+    /// The number of sessions that were opened.
     pub sessions: u64,
-    /// How many commands came, those that were refused among them.
+    /// The number of commands that arrived, refused ones included.
     pub commands: u64,
-    /// How many operations were applied.
+    /// The number of operations that were applied.
     pub operations: u64,
-    /// How many entries the journal has.
+    /// The number of entries in the journal.
     pub entries: u64,
 }
 
-/// What a replica served, by its book: one pass over the journal. Takes no memory.
+/// The totals of a book, from one pass over its journal. Takes no memory.
 pub fn totals_of(book: &Book) -> Totals
     ensures { result ≡ totals_of book.now }
 {
@@ -39,7 +39,7 @@ pub fn totals_of(book: &Book) -> Totals
     }
 }
 
-/// One more where it is so.
+/// One more than `count` if `is_so`, otherwise `count`.
 fn count_if(count: u64, is_so: bool) -> u64
     requires { count < 18446744073709551615 }
     ensures { result ≡ (if is_so then count + 1 else count) }
@@ -47,7 +47,7 @@ fn count_if(count: u64, is_so: bool) -> u64
     if is_so { count + 1 } else { count }
 }
 
-/// Whether a session was opened.
+/// Whether the entry opened a session.
 fn has_opened(kept: &CompactEntry) -> bool
     ensures { result ≡ has_opened kept.now }
 {
@@ -62,7 +62,7 @@ fn has_opened(kept: &CompactEntry) -> bool
     }
 }
 
-/// Whether a command came.
+/// Whether the entry is of a command.
 fn is_command(kept: &CompactEntry) -> bool
     ensures { result ≡ is_command kept.now }
 {
