@@ -31,13 +31,13 @@ clock_of op = op.clock
 
 -- ---- ascending operations
 
--- one more behind the last
+-- one more after the last
 pub ordered_more : (ops : List Op) (op : Op) → StandsBehind ops op.id → AreOrdered ops → AreOrdered (ops ++ op ∷ [])
 ordered_more [] op s a = (tt, tt)
 ordered_more (x ∷ []) op s a = (s, (tt, tt))
 ordered_more (x ∷ y ∷ ops) op s a = (a.0, ordered_more (y ∷ ops) op s a.1)
 
--- what stands behind the last
+-- what comes after the last
 pub behind_last : (ops : List Op) (id : OpId) (op : Op) (n : ℕ) → length ops ≡ n + 1 → op ≡ get_or ops n op → (id_order op.id id ≡ Less) ↔ StandsBehind ops id
 behind_last [] id op n l e = absurd (omega (arith, l))
 behind_last (x ∷ []) id op zero l e = (λ t. subst (λ (o : Op). id_order o.id id ≡ Less) e t, λ t. subst (λ (o : Op). id_order o.id id ≡ Less) (sym e) t)
@@ -45,7 +45,7 @@ behind_last (x ∷ []) id op (suc n) l e = absurd (omega (arith, l))
 behind_last (x ∷ y ∷ ops) id op zero l e = absurd (omega (arith, l))
 behind_last (x ∷ y ∷ ops) id op (suc n) l e = behind_last (y ∷ ops) id op n (omega (arith, l)) e
 
--- the first stands before all others
+-- the first is below all others
 first_before : (x o : Op) (ops : List Op) → AreOrdered (x ∷ ops) → IsIn o ops → id_order x.id o.id ≡ Less
 first_before x o [] a h = absurd h
 first_before x o (y ∷ ops) a h =
@@ -74,7 +74,7 @@ ordered_determine (x ∷ ops) a o p h k s =
       ]
     ]
 
--- what holds of all in front and of the next holds of all in front of the one behind it
+-- what holds of the first `i` and of the next holds of the first `i + 1`
 pub all_more : {X : Type 0} (P : X → Type 0) (xs : List X) (i : ℕ) (x : X) → i < length xs → x ≡ get_or xs i x → ((y : X) → IsIn y (take i xs) → P y) → P x → (y : X) → IsIn y (take (i + 1) xs) → P y
 all_more P xs i x l is before here y h =
     let next : take (i + 1) xs ≡ take i xs ++ x ∷ [] = take_more xs i x l ∙ ap (λ z. take i xs ++ z ∷ []) (sym is) in
@@ -88,7 +88,7 @@ in_at [] i x l e = absurd (omega (arith, l))
 in_at (y ∷ xs) zero x l e = inl (sym e)
 in_at (y ∷ xs) (suc i) x l e = inr (in_at xs i x (omega (arith, l)) e)
 
--- with one of the operations more, an inbox has only such operations
+-- an inbox that has only such operations has only such after receiving one of them
 pub holds_more : {S : Type 0} (ops : List Op) (old new : ReceivedOps S Op) (op : Op) (i : ℕ) → i < length ops → op ≡ get_or ops i op → HoldsOnly ops old → ((o : Op) → IsReceived new o → IsReceived old o ⊎ (o ≡ op)) → HoldsOnly ops new
 holds_more ops old new op i l is h grown o r =
     elim (grown o r) [
@@ -104,14 +104,14 @@ made_both contents subscriptions applied e sound causal =
       record { sound = sound; causal = causal; made = ap (λ (v : Contents × Subscriptions). v.1) both },
     )
 
--- ---- what one set means
+-- ---- what a set means
 
 same_state : (xs ys : List Op) → MeansTheSame xs ys → state_text xs ≡ state_text ys
 same_state xs ys m = λ i.
     flat_map (λ (folder : List ℕ). (codes "folder " ++ (name_text folder ++ 32 ∷ (ids_text (m.folder_tags folder i) ++ 10 ∷ []))) ++ flat_map message_line (m.messages folder i)) (m.folders i)
     ++ flat_map (λ (name : List ℕ). codes "subscribed " ++ (name_text name ++ 32 ∷ (ids_text (m.subscription_tags name i) ++ 10 ∷ []))) (m.subscribed i)
 
--- all was applied, and nothing else
+-- exactly the operations of the list were applied
 all_applied : {S : Type 0} (ops : List Op) (seen : ReceivedOps S Op) (clock : List (ℕ × ℕ)) → AreOrdered ops → HoldsOnly ops seen → IsClockOf id_of seen.applied clock → ((o : Op) → IsIn o ops → IsCause clock o.id) → HaveSameElements ops seen.applied
 all_applied ops seen clock a only counts all o = (
   λ h.
@@ -129,7 +129,7 @@ causes_there ops applied same causal op h cause c =
     let found = element_of_id id_of cause applied there in
     subst (HasId id_of ops) found.2 (id_of_element id_of found.0 ops ((same found.0).1 found.1))
 
--- where all was applied, what follows is what the set defines
+-- if all were applied, what follows is what the set defines
 pub expected_of : {S : Type 0} (one_set : (xs ys : List Op) → HaveSameElements xs ys → IdsDetermine id_of xs → MeansTheSame xs ys) {E : Type 0} (ops : List Op) (seen : ReceivedOps S Op) (clock : List (ℕ × ℕ)) (result : Result Expected E) → AreOrdered ops → HoldsOnly ops seen → IsClockOf id_of seen.applied clock → ((o : Op) → IsIn o ops → IsCause clock o.id) → IfOk result (IsExpectedOf seen.applied) → IfOk result (IsExpected ops)
 expected_of one_set ops seen clock (Err e) a only counts all h = tt
 expected_of one_set ops seen clock (Ok (Stuck place)) a only counts all h = absurd h

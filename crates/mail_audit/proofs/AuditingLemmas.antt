@@ -18,7 +18,7 @@ appends_both (Some as') None c xs ys h k = absurd h
 appends_both (Some as') (Some bs) None xs ys h k = absurd k
 appends_both (Some as') (Some bs) (Some cs) xs ys h k = k ∙ ap (λ zs. zs ++ ys) h ∙ append_assoc as' xs ys
 
--- what is kept is added to by nothing
+-- unchanged contents have nothing added
 pub keeps_appends : (a b : Option (List ℕ)) → Keeps a b → Appends a b []
 keeps_appends None b h = tt
 keeps_appends (Some xs) None h = absurd h
@@ -49,11 +49,11 @@ advance_at_first front audit text s = record {
 }
 
 module _ (front : List (List ℕ)) (old : Audit) (text : List ℕ) (mid : Audit) (left : List ℕ) (a : Advances front old text mid left) (line rest : List ℕ) (cut : cut_at 10 left ≡ Some (line, rest)) where
-  -- the lines of a text where one more is cut off
+  -- the lines of a text from which one more line is cut off
   lines_on : (more : List ℕ) → lines_of (text ++ more) ≡ a.done ++ line ∷ lines_of (rest ++ more)
   lines_on more = a.lines more ∙ ap (λ (ls : List (List ℕ)). a.done ++ ls) (lines_next left line rest more cut)
 
-  -- one line more was taken
+  -- one further line was taken
   pub advance_on : (new : Audit) → HasTaken ((front ++ a.done) ++ line ∷ []) new → Advances front old text new rest
   advance_on new s =
       let n = cut_parts left line rest cut in
@@ -68,20 +68,21 @@ module _ (front : List (List ℕ)) (old : Audit) (text : List ℕ) (mid : Audit)
         fits = omega (arith, n, k, x, y, f);
       }
 
-  -- the audit ends with that line
+  -- the audit ends at that line
   pub ends_there : (end : AuditEnd) → EndsAt (front ++ a.done) line end → EndsWithin front text end
   ends_there end e more =
       subst (λ (ls : List (List ℕ)). Audits ls end)
       (append_assoc front a.done (line ∷ lines_of (rest ++ more)) ∙ ap (λ (ls : List (List ℕ)). front ++ ls) (sym (lines_on more)))
       (e (lines_of (rest ++ more)))
 
-  -- and there is a line, so that one more can be counted
+  -- a line is left, so one more can be counted
   pub line_fits : mid.taken + 1 ≤ old.taken + length text
   line_fits = let n = cut_parts left line rest cut in let f = a.fits in omega (arith, n, f)
 
 -- ---- a reader's octets
 
--- How far an audit came: of what was read the whole lines were taken, and the beginning of one is left.
+-- How far an audit has come: the whole lines of what was read were taken, and the beginning of a
+-- line is left.
 pub record Came (start left : Option (List ℕ)) (audit : Audit) (text : List ℕ) : Type 0 where
   pub read : List ℕ
   pub front : List (List ℕ)
@@ -117,11 +118,11 @@ module _ (start left : Option (List ℕ)) (audit : Audit) (text : List ℕ) (cam
     known = λ input e. let q = came.known input e in (q.0, q.1, keeps_known q.0 left' (subst (λ (o : Option (List ℕ)). Keeps o left') q.2 k));
   }
 
-  -- octets that are read stand behind those that were
+  -- octets that are read follow those read before
   joined : (bs more : List ℕ) → lines_of ((came.read ++ bs) ++ more) ≡ came.front ++ lines_of ((text ++ bs) ++ more)
   joined bs more = ap lines_of (append_assoc came.read bs more) ∙ came.lines (bs ++ more) ∙ ap (λ (zs : List ℕ). came.front ++ lines_of zs) (sym (append_assoc text bs more))
 
-  -- the lines of the input where octets are read
+  -- the lines of the input after octets are read
   behind : (bs : List ℕ) (left' : Option (List ℕ)) → Consumes left left' bs → (input : List ℕ) → start ≡ Some input → (more : List ℕ) × (left' ≡ Some more) × (input ≡ (came.read ++ bs) ++ more) × (lines_of input ≡ came.front ++ lines_of ((text ++ bs) ++ more))
   behind bs left' k input e =
       let q = came.known input e in
@@ -129,7 +130,7 @@ module _ (start left : Option (List ℕ)) (audit : Audit) (text : List ℕ) (cam
       let i : input ≡ (came.read ++ bs) ++ p.0 = q.1 ∙ ap (λ (zs : List ℕ). came.read ++ zs) p.2 ∙ sym (append_assoc came.read bs p.0) in
       (p.0, p.1, i, ap lines_of i ∙ joined bs p.0)
 
-  -- lines of a piece that was read are taken
+  -- the lines of a piece that was read are taken
   pub came_on : (bs : List ℕ) (left' : Option (List ℕ)) (audit' : Audit) (text' : List ℕ) → Consumes left left' bs → Advances came.front audit (text ++ bs) audit' text' → Came start left' audit' text'
   came_on bs left' audit' text' k a = record {
     read = came.read ++ bs;

@@ -14,7 +14,7 @@ flat_map_both : {X : Type 0} (f : X → List ℕ) (xs ys : List X) → flat_map 
 flat_map_both f [] ys = refl
 flat_map_both f (x ∷ xs) ys = ap (λ zs. f x ++ zs) (flat_map_both f xs ys) ∙ sym (append_assoc (f x) (flat_map f xs) (flat_map f ys))
 
--- a dump goes on
+-- a dump continues
 pub open_more : (lines : List (List ℕ)) (sessions : List Session) (old new : OpenDump) (line : List ℕ) → (begun : IsOpen lines sessions old) → new.first ≡ old.first → new.replica ≡ old.replica → IsNoEnd line → PhaseStands (begun.inside ++ line ∷ []) new.phase → IsOpen (lines ++ line ∷ []) sessions new
 open_more lines sessions old new line begun f r n p = record {
   front = begun.front;
@@ -83,7 +83,7 @@ open_wrong lines more sessions dump line number begun a b =
       there = omega (arith, b, c, n, m, k);
     })
 
--- the same where the input ends
+-- a dump is wrong, and the input ends
 pub open_wrong_at_end : (lines : List (List ℕ)) (sessions : List Session) (dump : OpenDump) (number : ℕ) → (begun : IsOpen lines sessions dump) → dump.first < number → number ≤ dump.first + length begun.inside → IsNo lines number
 open_wrong_at_end lines sessions dump number begun a b =
     let n = ap length begun.whole in

@@ -24,7 +24,7 @@ head_of : List ℕ → ℕ
 head_of [] = 0
 head_of (x ∷ xs) = x
 
--- what stands before the first separator lacks it
+-- the part before the first separator lacks it
 pub cut_lacks : (separator : ℕ) (text : List ℕ) (parts : List ℕ × List ℕ) → cut_at separator text ≡ Some parts → list_all (λ octet. not (eqb octet separator)) parts.0 ≡ true
 cut_lacks separator [] parts h = absurd cc
 cut_lacks separator (octet ∷ octets) parts h =
@@ -37,7 +37,7 @@ cut_lacks separator (octet ∷ octets) parts h =
           subst (λ (xs : List ℕ). list_all (λ octet. not (eqb octet separator)) xs ≡ true) (sym y.2) (and_from _ _ (ap not f.0) (cut_lacks separator octets y.0 y.1))
     ]
 
--- what an operation's text has behind its id, and behind its clock
+-- the parts of an operation's text after its id, and after its clock
 behind_id : (op : Op) (id back : List ℕ) → IsInForm op → list_all (λ octet. not (eqb octet 32)) id ≡ true → id ++ 32 ∷ back ≡ op_text op → (id ≡ id_text op.id) × (back ≡ clock_text op.clock ++ 32 ∷ kind_text op.kind)
 unfolding front_of back_of
 behind_id op id back form l e =
@@ -76,7 +76,7 @@ delete_fields op fields s =
     let clock = (behind_id op (codes "1:1") (codes "- delete " ++ fields) s.0 refl s.1).1 in
     by_delete op.kind fields s.0.parts.fields (behind_clock op (codes "delete " ++ fields) s.0 clock)
 
--- and so are those of an Unsubscribe
+-- the fields of an Unsubscribe are a name and ids
 pub unsubscribe_fields : (op : Op) (fields : List ℕ) → IsSpelled op (codes "1:1 - unsubscribe " ++ fields) → AreTagFields fields
 unsubscribe_fields op fields s =
     let clock = (behind_id op (codes "1:1") (codes "- unsubscribe " ++ fields) s.0 refl s.1).1 in
@@ -96,7 +96,7 @@ by_append op (Store folder flags olds origin) id rest form i f d e = absurd (let
 by_append op (Subscribe name) id rest form i f d e = absurd (let k : 97 ≡ 115 = ap head_of e in omega (arith, k))
 by_append op (Unsubscribe name seen) id rest form i f d e = absurd (let k : 97 ≡ 117 = ap head_of e in omega (arith, k))
 
--- an id, and what an Append has behind its folder
+-- an id, and the fields of an Append after its folder
 pub letter_fields : (op : Op) (id rest : List ℕ) → list_all (λ octet. not (eqb octet 32)) id ≡ true → IsSpelled op ((id ++ codes " - append INBOX ") ++ rest) → AreLetterFields id rest
 letter_fields op id rest l s =
     let parts = behind_id op id (codes "- append INBOX " ++ rest) s.0 l (sym (append_assoc id (codes " - append INBOX ") rest) ∙ s.1) in
@@ -125,7 +125,7 @@ message_fields fields origin behind versions rest c d v l = (
   cut_takes 32 fields (origin, behind) (sym c) ∙ (λ j. l.8 j ++ 32 ∷ (cut_takes 32 behind (versions, rest) (sym d) ∙ (λ k. v.2 k ++ 32 ∷ l.9 k)) j),
 )
 
--- ---- where such fields were found
+-- ---- if such fields were read
 
 pub where_delete : {E : Type 0} (result : Result Bool E) (fields : List ℕ) → IfOk result (λ spelled. IsTrue spelled → (op : Op) × IsSpelled op (codes "1:1 - delete " ++ fields)) → IfOk result (λ are. IsTrue are → AreTagFields fields)
 where_delete (Ok spelled) fields h = λ t. let s = h t in delete_fields s.0 fields s.1

@@ -12,7 +12,7 @@ pub gone_low : (from : ℕ) (gone : List ℕ) (came : ℕ) → AreGone from gone
 gone_low from [] came a = let e : from ≤ came = a in omega (arith, e)
 gone_low from (g ∷ gone) came a = let r = gone_low (g + 1) gone came a.1 in let l : from ≤ g = a.0 in omega (arith, r, l)
 
--- so many are there as came and aren't gone
+-- the existing messages and the expunged ones are all that came
 pub length_places : (from : ℕ) (gone : List ℕ) (came : ℕ) → AreGone from gone came → length (places_from from gone came) + length gone ≡ came - from
 length_places from [] came a = let l = length_upward from (came - from) in omega (arith, l)
 length_places from (g ∷ gone) came a =
@@ -23,7 +23,7 @@ length_places from (g ∷ gone) came a =
     let f : from ≤ g = a.0 in
     omega (arith, l, u, r, b, f)
 
--- gone places lie apart
+-- the `j`th expunged place is at least `j` after the first place
 gone_least : (from : ℕ) (gone : List ℕ) (came j : ℕ) → AreGone from gone came → j < length gone → from + j ≤ get_or gone j 0
 gone_least from [] came j a l = absurd (omega (arith, l))
 gone_least from (g ∷ gone) came zero a l = let f : from ≤ g = a.0 in omega (arith, f)
@@ -39,13 +39,13 @@ gone_apart from (g ∷ gone) came zero (suc j) a k l = let r = gone_least (g + 1
 gone_apart from (g ∷ gone) came (suc i) zero a k l = absurd (omega (arith, k))
 gone_apart from (g ∷ gone) came (suc i) (suc j) a k l = let r = gone_apart (g + 1) gone came i j a.1 (omega (arith, k)) (omega (arith, l)) in omega (arith, r)
 
--- so many are gone in front of the one behind so many that are there
+-- exactly `at` expunged messages come before the existing one that follows the first `k`
 abbrev pub AreBefore : ℕ → ℕ → ℕ → List ℕ → Type 0
 AreBefore from k at gone =
     ((i : ℕ) → i < at → get_or gone i 0 ≤ from + k + i)
     × ((i : ℕ) → at ≤ i → i < length gone → from + k + i < get_or gone i 0)
 
--- the same behind the first gone one
+-- the same after the first expunged one
 before_rest : (from k at g : ℕ) (gone : List ℕ) → from ≤ g → AreBefore from k (suc at) (g ∷ gone) → AreBefore (g + 1) (k - (g - from)) at gone
 before_rest from k at g gone f h =
     let z : g ≤ from + k + 0 = h.0 0 (omega arith) in (
@@ -56,7 +56,7 @@ before_rest from k at g gone f h =
 first_before : (from k at g : ℕ) (gone : List ℕ) → AreBefore from k (suc at) (g ∷ gone) → g ≤ from + k
 first_before from k at g gone h = let z : g ≤ from + k + 0 = h.0 0 (omega arith) in omega (arith, z)
 
--- the place of the one behind so many that are there
+-- the place of the existing message that follows the first `k`
 pub place_behind : (from k at : ℕ) (gone : List ℕ) (came : ℕ) → AreGone from gone came → at ≤ length gone → AreBefore from k at gone → k < length (places_from from gone came) → get_or (places_from from gone came) k 0 ≡ from + k + at
 place_behind from k zero [] came a b h l =
     let u = length_upward from (came - from) in
@@ -112,7 +112,7 @@ places_without from n (suc at) place (g ∷ gone) came w p a b h l =
     ∙ ap (λ (m : ℕ). numbers_upward from (g - from) ++ without (n - m) (places_from (g + 1) gone came)) (sym u)
     ∙ sym (without_behind n (numbers_upward from (g - from)) (places_from (g + 1) gone came) (omega (arith, u, z, f, p)))
 
--- with that one they ascend still
+-- with that place the expunged places still ascend
 pub gone_with : (from k at place : ℕ) (gone : List ℕ) (came : ℕ) → place ≡ from + k + at → AreGone from gone came → at ≤ length gone → AreBefore from k at gone → k < length (places_from from gone came) → AreGone from (insert gone at place) came
 gone_with from k zero place [] came w a b h l =
     let u = length_upward from (came - from) in
@@ -128,7 +128,7 @@ gone_with from k (suc at) place (g ∷ gone) came w a b h l =
     let s = length-append (numbers_upward from (g - from)) (places_from (g + 1) gone came) in
     (f, gone_with (g + 1) (k - (g - from)) at place gone came (omega (arith, w, z, f)) a.1 (omega (arith, b)) (before_rest from k at g gone f h) (omega (arith, l, u, s, z, f)))
 
--- and the place came
+-- that message came
 pub place_came : (from k at : ℕ) (gone : List ℕ) (came : ℕ) → AreGone from gone came → at ≤ length gone → AreBefore from k at gone → k < length (places_from from gone came) → from + k + at < came
 place_came from k zero [] came a b h l = let u = length_upward from (came - from) in omega (arith, l, u)
 place_came from k (suc at) [] came a b h l = absurd (omega (arith, b))
@@ -144,7 +144,7 @@ place_came from k (suc at) (g ∷ gone) came a b h l =
     let r = place_came (g + 1) (k - (g - from)) at gone came a.1 (omega (arith, b)) (before_rest from k at g gone f h) (omega (arith, l, u, s, z, f)) in
     omega (arith, r, z, f)
 
--- more that came
+-- further messages
 upward_more : (from n m : ℕ) → numbers_upward from n ++ numbers_upward (from + n) m ≡ numbers_upward from (n + m)
 upward_more from zero m = let e : from + zero ≡ from = omega arith in let f : m ≡ zero + m = omega arith in λ i. numbers_upward (e i) (f i)
 upward_more from (suc n) m =
@@ -166,7 +166,7 @@ gone_more from (g ∷ gone) came m a = (a.0, gone_more (g + 1) gone came m a.1)
 
 -- ---- a search
 
--- the gone ones in front of one that so many precede come first
+-- the expunged messages before an existing one come first
 pub first_in_front : (gone : List ℕ) (came skipped : ℕ) → AreGone 0 gone came → (i j d : ℕ) → i ≤ j → j < length gone → leb (get_or gone j d) (skipped + j) ≡ true → leb (get_or gone i d) (skipped + i) ≡ true
 first_in_front gone came skipped a i j d order inside front =
     let later : get_or gone j 0 ≤ skipped + j = grind (arith, nat_tests, get_or_default_zero gone j d inside) in

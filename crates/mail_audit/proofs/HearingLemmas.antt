@@ -35,11 +35,11 @@ pub each_last : {X : Type 0} (P : X → Type 0) (xs : List X) (x : X) → Each P
 each_last P [] x e p = (p, tt)
 each_last P (y ∷ xs) x e p = (e.0, each_last P xs x e.1 p)
 
--- lines of parts with one more
+-- lines of parts with one more line
 pub whole_last : (lines : List (List ℕ)) (line : List ℕ) (parts : List Part) (part : Part) → text_of lines ≡ flat_map part_text parts → ended_line line ≡ part_text part → text_of (lines ++ line ∷ []) ≡ flat_map part_text (parts ++ part ∷ [])
 whole_last lines line parts part h e = flat_map_last ended_line lines line ∙ (λ i. h i ++ e i) ∙ sym (flat_map_last part_text parts part)
 
--- ---- what was said
+-- ---- what was sent
 
 said_last : (session other : List ℕ) (speaker : Speaker) (text : List ℕ) (parts : List Part) → bytes_eq session other ≡ true → said_in session (parts ++ Spoken other speaker text ∷ []) ≡ said_in session parts ++ said_by speaker text ∷ []
 said_last session other speaker text [] e = rw e refl
@@ -81,7 +81,7 @@ said_behind_dump session text (Spoken third s t ∷ parts) =
 said_behind_dump session text (Result l ∷ parts) = said_behind_dump session text parts
 said_behind_dump session text (Dumped t ∷ parts) = said_behind_dump session text parts
 
--- ---- what is heard
+-- ---- what was taken
 
 hears_last : (old : SessionKnowledge) (said : List Said) (mid new : SessionKnowledge) (s : Said) → TakesAllSaid old said mid → TakesSaid mid s new → TakesAllSaid old (said ++ s ∷ []) new
 hears_last old [] mid new s a h = (new, subst (λ (m : SessionKnowledge). TakesSaid m s new) a h, refl)
@@ -106,7 +106,7 @@ heard_right lines parts sessions h = record {
 }
 
 module _ (same_name : (xs ys : List ℕ) → bytes_eq xs ys ≡ true → xs ≡ ys) where
-  -- one more was said that may follow
+  -- one more line was sent that can follow
   pub heard_more : (lines : List (List ℕ)) (parts : List Part) (old new : List Session) (session : List ℕ) (speaker : Speaker) (text : List ℕ) → AreHeard lines parts old → IsTrue (is_session_name session) → AreOctets text → TakesSaid (hearing_of session old) (said_by speaker text) (hearing_of session new) → ((other : List ℕ) → bytes_eq other session ≡ false → hearing_of other new ≡ hearing_of other old) → AreHeard (lines ++ spoken_line session speaker text ∷ []) (parts ++ Spoken session speaker text ∷ []) new
   heard_more lines parts old new session speaker text h named octets hears others = record {
     whole = whole_last lines (spoken_line session speaker text) parts (Spoken session speaker text) h.whole refl;
@@ -123,7 +123,7 @@ module _ (same_name : (xs ys : List ℕ) → bytes_eq xs ys ≡ true → xs ≡ 
     ];
   }
 
--- one result more
+-- one further result
 pub heard_result : (lines : List (List ℕ)) (parts : List Part) (sessions : List Session) (line : List ℕ) → AreHeard lines parts sessions → IsResult line → AreHeard (lines ++ line ∷ []) (parts ++ Result line ∷ []) sessions
 heard_result lines parts sessions line h r = record {
   whole = whole_last lines line parts (Result line) h.whole refl;
@@ -134,7 +134,7 @@ heard_result lines parts sessions line h r = record {
 pub said_of_dump : (session text : List ℕ) (parts : List Part) (sessions : List Session) → TakesAllSaid nothing_known (said_in session parts) (hearing_of session sessions) → TakesAllSaid nothing_known (said_in session (parts ++ Dumped text ∷ [])) (hearing_of session sessions)
 said_of_dump session text parts sessions h = subst (λ (ss : List Said). TakesAllSaid nothing_known ss (hearing_of session sessions)) (sym (said_behind_dump session text parts)) h
 
--- ---- what isn't heard
+-- ---- what can't be taken
 
 module _ (one_command : (this that : Tagged) (frame : List ℕ) → IsSpelled this frame → IsSpelled that frame → this ≡ that) (one_answer : (one other : Answer) (rest more : List ℕ) → IsPrintable one → IsPrintable other → text_of_answer one ++ rest ≡ text_of_answer other ++ more → (one ≡ other) × (rest ≡ more)) where
   rejected_at : (old new : SessionKnowledge) (said : List Said) (s : Said) (events : List SlotEvent) → TakesAllSaid old said new → RejectsSaid new s → AreEvents old.running (said ++ s ∷ []) events → PassesFrom old.known.there old.known.slots events → ⊥
@@ -151,7 +151,7 @@ module _ (one_command : (this that : Tagged) (frame : List ℕ) → IsSpelled th
   rejected : (said : List Said) (new : SessionKnowledge) (s : Said) → TakesAllSaid nothing_known said new → RejectsSaid new s → ¬ IsExplainedTranscript (said ++ s ∷ [])
   rejected said new s a r x = rejected_at nothing_known new said s x.0 a r x.1 ((explained x.0).0 x.2)
 
-  -- one more was said that may not follow
+  -- one more line was sent that can't follow
   pub heard_not : (same : (xs : List ℕ) → bytes_eq xs xs ≡ true) (lines more : List (List ℕ)) (parts : List Part) (old : List Session) (session : List ℕ) (speaker : Speaker) (text : List ℕ) (number : ℕ) → AreHeard lines parts old → IsTrue (is_session_name session) → AreOctets text → RejectsSaid (hearing_of session old) (said_by speaker text) → number ≡ length lines + 1 → IsNo (lines ++ spoken_line session speaker text ∷ more) number
   heard_not same lines more parts old session speaker text number h named octets r n = inl (record {
     front = lines;

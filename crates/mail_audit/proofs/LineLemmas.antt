@@ -27,7 +27,7 @@ dump_of line digits (Some replica) l e = let t = replica_takes digits replica (s
 pub spoken_of : (line name said heard session octets : List ℕ) (speaker : Speaker) → Some (name, said) ≡ cut_at 32 line → session ≡ name → 32 ∷ said ≡ mark_of speaker ++ heard → heard ≡ escape_text Text octets → line ≡ spoken_line session speaker octets
 spoken_of line name said heard session octets speaker c n m e = cut_takes 32 line (name, said) (sym c) ∙ (λ i. sym n i ++ (m ∙ ap (λ (t : List ℕ). mark_of speaker ++ t) e) i)
 
--- it is cut behind its session's name
+-- it is cut after its session's name
 cut_spoken : (session : List ℕ) (speaker : Speaker) (text : List ℕ) → IsTrue (is_session_name session) → (said : List ℕ) × (cut_at 32 (spoken_line session speaker text) ≡ Some (session, said)) × (32 ∷ said ≡ mark_of speaker ++ escape_text Text text)
 cut_spoken session Client text n = let said = codes "C: " ++ escape_text Text text in (said, cut_again 32 session said (session_no_space session n), refl)
 cut_spoken session Server text n = let said = codes "S: " ++ escape_text Text text in (said, cut_again 32 session said (session_no_space session n), refl)
@@ -38,7 +38,7 @@ not_cut line e s =
     let k : ◌≡◌ {A = Option (List ℕ × List ℕ)} None (Some (s.0, c.0)) = e ∙ ap (cut_at 32) s.5 ∙ c.1 in
     cc
 
--- a text behind one speaker's mark is behind no other's
+-- a text after one speaker's mark follows no other speaker's mark
 same_text : (one other : Speaker) (xs ys : List ℕ) → mark_of one ++ xs ≡ mark_of other ++ ys → xs ≡ ys
 same_text Client Client xs ys e = ap (λ (zs : List ℕ). drop 4 zs) e
 same_text Client Server xs ys e = absurd (let k : 67 ≡ 83 = ap (λ (zs : List ℕ). get_or zs 1 0) e in omega (arith, k))
@@ -53,14 +53,14 @@ module _ (line name said : List ℕ) (cut : Some (name, said) ≡ cut_at 32 line
       let both : ◌≡◌ {A = List ℕ × List ℕ} (name, said) (s.0, c.0) = cc in
       (ap (λ (p : List ℕ × List ℕ). p.0) both, ap (λ (p : List ℕ × List ℕ). 32 ∷ p.1) both ∙ c.2)
 
-  -- no speaker is marked
+  -- there is no speaker's mark
   pub no_speech : ((speaker : Speaker) (text : List ℕ) → 32 ∷ said ≡ mark_of speaker ++ text → ⊥) → IsSpokenLine line → ⊥
   no_speech n s = n s.1 (escape_text Text s.2) (parts_of s).1
 
-  -- the text isn't in the escape
+  -- the text isn't properly escaped
   pub no_text : (speaker : Speaker) (heard : List ℕ) → 32 ∷ said ≡ mark_of speaker ++ heard → ((octets : List ℕ) → AreOctets octets → heard ≡ escape_text Text octets → ⊥) → IsSpokenLine line → ⊥
   no_text speaker heard m n s = n s.2 s.4 (same_text speaker s.1 heard (escape_text Text s.2) (sym m ∙ (parts_of s).1))
 
-  -- no session bears the name
+  -- no session has the name
   pub no_name : (IsTrue (is_session_name name) → ⊥) → IsSpokenLine line → ⊥
   no_name n s = n (subst (λ (xs : List ℕ). IsTrue (is_session_name xs)) (sym (parts_of s).0) s.3)

@@ -19,7 +19,7 @@ use Rattle.mail_audit.specs.ResultReading.{agreed_at, applied_at, counted_at, co
 use Rattle.mail_audit.specs.Results.{IsCount, IsDeliveryResult, IsJoinResult, IsPassedOver, IsResult, IsSettleResult}
 use Rattle.mail_audit.specs.declared.results.AppliedCount.{AppliedCount}
 
--- What is printed of an outcome is read as that outcome.
+-- The text of an outcome is read as that outcome.
 
 counted_alone : (n : ℕ) → IsCount n → counted_at (decimal n) ≡ Some (record { count = n; stalled = false })
 unfolding counted_at counted_by
@@ -47,7 +47,7 @@ result_again HeldFull h = refl
 result_again Exhausted h = refl
 result_again NoMemoryForIt h = refl
 
--- an id, a replica and what is told, with what stands between them
+-- an id, a replica and a result, with the separators between them
 to_parts : (id : OpId) (r : ℕ) (told : List ℕ) → (id_text id ++ (32 ∷ (decimal r ++ codes ": "))) ++ told ≡ id_text id ++ 32 ∷ (decimal r ++ 58 ∷ 32 ∷ told)
 to_parts id r told = append_assoc (id_text id) (32 ∷ (decimal r ++ codes ": ")) told ∙ ap (λ (xs : List ℕ). id_text id ++ 32 ∷ xs) (append_assoc (decimal r) (codes ": ") told)
 
@@ -89,7 +89,7 @@ settled_again (ConflictOfTwo id) h = ap (λ (o : Option SettleResult). o >>= (λ
 settled_again ExhaustedInIt h = refl
 settled_again NoMemoryToSettle h = refl
 
--- two replicas and what is told, with what stands between them
+-- two replicas and a result, with the separators between them
 pair_parts : (r s : ℕ) (told : List ℕ) → (decimal r ++ (32 ∷ (decimal s ++ codes ": "))) ++ told ≡ decimal r ++ 32 ∷ (decimal s ++ 58 ∷ 32 ∷ told)
 pair_parts r s told = append_assoc (decimal r) (32 ∷ (decimal s ++ codes ": ")) told ∙ ap (λ (xs : List ℕ). decimal r ++ 32 ∷ xs) (append_assoc (decimal s) (codes ": ") told)
 
@@ -151,7 +151,7 @@ outcome_again (BadScript line) h = absurd h
 outcome_again CannotRead h = absurd h
 outcome_again NoMemory h = absurd h
 
--- where a line is read as an outcome, it tells a result just where it is that outcome's
+-- if a line is read as an outcome, it reports a result exactly if it is that outcome's text
 pub result_where : {E : Type 0} (line : List ℕ) (told : OutcomeLine) (result : Result Bool E) → Some told ≡ outcome_at line → IsPassedOver told → IfOk result (λ tells. IsTrue tells ↔ (line ≡ outcome_text told)) → IfOk result (λ tells. IsTrue tells ↔ IsResult line)
 result_where line told (Err e) s p h = tt
 result_where line told (Ok tells) s p h = (
@@ -162,7 +162,7 @@ result_where line told (Ok tells) s p h = (
       h.1 (r.2 ∙ ap outcome_text (sym same)),
 )
 
--- and where it is read as none, it tells none
+-- if a line is read as no outcome, it reports none
 pub no_result : (line : List ℕ) → ◌≡◌ {A = Option OutcomeLine} None (outcome_at line) → IsTrue false ↔ IsResult line
 no_result line s = (
   λ t. absurd (let k : false ≡ true = t in cc),

@@ -14,7 +14,7 @@ pub replica_in_range : (text : List ℕ) (found : Option ℕ) → found ≡ repl
 replica_in_range text None e = tt
 replica_in_range text (Some replica) e = (replica_takes text replica (sym e)).0
 
--- what is printed, with its end, is the line with its end just where it is the line
+-- a text equals the line with LF exactly if the text without its LF equals the line
 pub told_where : (line told text whole : List ℕ) → text ≡ told ++ 10 ∷ [] → whole ≡ line ++ 10 ∷ [] → (text ≡ whole) ↔ (line ≡ told)
 told_where line told text whole a b = (
   λ e. append_cancel_right line told (10 ∷ []) (sym b ∙ sym e ∙ a),

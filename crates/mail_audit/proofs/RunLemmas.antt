@@ -7,7 +7,7 @@ pub length_upward : (from m : ℕ) → length (numbers_upward from m) ≡ m
 length_upward from zero = refl
 length_upward from (suc m) = ap suc (length_upward (suc from) m)
 
--- parts of a run
+-- parts of a run of numbers
 pub take_upward : (from n m : ℕ) (ys : List ℕ) → n ≤ m → take n (numbers_upward from m ++ ys) ≡ numbers_upward from n
 take_upward from zero m ys l = refl
 take_upward from (suc n) zero ys l = absurd (omega (arith, l))
@@ -34,7 +34,7 @@ get_behind n [] ys l = ap (λ (i : ℕ). get_or ys i 0) (let e : n ≡ n - zero 
 get_behind zero (x ∷ xs) ys l = absurd (omega (arith, l))
 get_behind (suc n) (x ∷ xs) ys l = get_behind n xs ys (omega (arith, l)) ∙ ap (λ (i : ℕ). get_or ys i 0) (let e : n - length xs ≡ suc n - suc (length xs) = omega arith in e)
 
--- without one behind the first part
+-- without an element after the first part
 pub without_behind : (k : ℕ) (xs ys : List ℕ) → length xs < k → without k (xs ++ ys) ≡ xs ++ without (k - length xs) ys
 without_behind k xs ys l =
     let n = k - length xs in

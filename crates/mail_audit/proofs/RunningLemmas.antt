@@ -16,7 +16,7 @@ use Rattle.mail_audit.specs.Transcripts.{without_ended}
 use Rattle.mail_audit.specs.declared.in_progress.RunningCommand.{RunningCommand}
 use Rattle.mail_audit.proofs.SessionLemmas.{same_name}
 
--- some are so exactly where their number isn't 0
+-- some are so exactly if their count isn't 0
 pub any_counted : (p : RunningCommand → Bool) (rs : List RunningCommand) → ltb 0 (how_many p rs) ≡ list_any p rs
 any_counted p [] = refl
 any_counted p (r ∷ rs) =
@@ -60,12 +60,12 @@ rising_from : (low mid high : ℕ) (es : List Begun) → low ≤ mid → AreRisi
 rising_from low mid high [] l a = omega (arith, l, a)
 rising_from low mid high (e ∷ es) l a = (omega (arith, l, a.0), a.1)
 
--- there are no more of them than numbers
+-- there are no more commands than numbers
 pub rising_length : (low high : ℕ) (es : List Begun) → AreRising low high es → low + length (values_of es) ≤ high
 rising_length low high [] a = omega (arith, a)
 rising_length low high (e ∷ es) a = let m = rising_length (1 + e.0) high es a.1 in omega (arith, a.0, m)
 
--- a command with the next number is put behind the others
+-- a command with the next number is inserted at the end
 pub put_last : (low high : ℕ) (es : List Begun) (r : RunningCommand) → AreRising low high es → insert_entry nat_cmp es high r ≡ es ++ (high, r) ∷ []
 put_last low high [] r a = refl
 put_last low high (e ∷ es) r a =
@@ -94,7 +94,7 @@ numbers_more tag (e ∷ es) n r =
       | inr f ↦ rw f m
     ]
 
--- and is taken back from there
+-- it can be removed from there again
 pub taken_back : (low high : ℕ) (es : List Begun) (r : RunningCommand) → AreRising low high es → remove_entry (is_at (nat_cmp high)) (es ++ (high, r) ∷ []) ≡ es
 taken_back low high [] r a =
     let t : is_at (nat_cmp high) high ≡ true = grind (arith, nat_tests) in
@@ -120,7 +120,7 @@ own_number x n q = grind (arith, nat_tests, q)
 other_number : (x n : ℕ) → 1 + x ≤ n → is_at (nat_cmp n) x ≡ false
 other_number x n l = grind (arith, nat_tests, l)
 
--- it is the one that ends
+-- the first with a tag is the one that ends
 pub first_ended : (low high : ℕ) (tag : List ℕ) (es : List Begun) (n : ℕ) (ns : List ℕ) → AreRising low high es → numbers_of tag es ≡ n ∷ ns
     → without_ended tag (values_of es) ≡ values_of (remove_entry (is_at (nat_cmp n)) es)
 first_ended low high tag [] n ns a e = absurd (cc e)
@@ -178,7 +178,7 @@ first_there tag (x ∷ es) n ns e =
           ]
     ]
 
--- where there is none, none ends
+-- if no command has the tag, none ends
 pub none_ended : (tag : List ℕ) (es : List Begun) → numbers_of tag es ≡ [] → without_ended tag (values_of es) ≡ values_of es
 none_ended tag [] e = refl
 none_ended tag (x ∷ es) e =
@@ -187,7 +187,7 @@ none_ended tag (x ∷ es) e =
       | inr f ↦ let k = rw f at e in rw f (ap (λ (rs : List RunningCommand). x.1 ∷ rs) (none_ended tag es k))
     ]
 
--- without one of them
+-- without one of them the numbers still ascend
 pub rising_less : (low high : ℕ) (test : ℕ → Bool) (es : List Begun) → AreRising low high es → AreRising low high (remove_entry test es)
 rising_less low high test [] a = a
 rising_less low high test (e ∷ es) a =
@@ -221,7 +221,7 @@ pub at_error : {T E : Type 0} (r : Result T E) (P : Type 0) → P → OnErr r P
 at_error (Ok t) P h = tt
 at_error (Err e) P h = h
 
--- ---- the numbers that are kept for each tag
+-- ---- the numbers stored for each tag
 
 abbrev pub Kept : Type 0
 Kept = Vec ℕ × VecDeque ℕ Global
@@ -232,7 +232,7 @@ same_key a b = bytes_eq a.items b.items
 abbrev has_tag : List ℕ → Vec ℕ → Bool
 has_tag tag key = bytes_eq tag key.items
 
--- a change at a tag leaves those of others
+-- a change at a tag leaves the numbers of other tags unchanged
 pub kept_beside : (tag : List ℕ) (old new : List Kept) → KeepsOthers same_key (has_tag tag) old new → (other : List ℕ) → bytes_eq other tag ≡ false → kept_for other new ≡ kept_for other old
 unfolding KeepsOthers
 kept_beside tag old new keeps other d =
@@ -262,7 +262,8 @@ kept_more tag old new n keeps e other =
       | inr f ↦ rw f (kept_beside tag old new keeps other f ∙ sym (append-nil (kept_for other old)))
     ]
 
--- where the first number that is kept for a tag is taken out, the rest are those of the commands without the first with this tag
+-- after the first number stored for a tag is taken out, the rest are those of the commands without
+-- the first with this tag
 pub first_taken : (low high : ℕ) (tag : List ℕ) (es : List Begun) (n : ℕ) (old new : List Kept) → AreRising low high es → ((other : List ℕ) → numbers_of other es ≡ kept_for other old)
     → kept_for tag old ≡ n ∷ kept_for tag new → ((other : List ℕ) → bytes_eq other tag ≡ false → kept_for other new ≡ kept_for other old)
     → (other : List ℕ) → numbers_of other (remove_entry (is_at (nat_cmp n)) es) ≡ kept_for other new

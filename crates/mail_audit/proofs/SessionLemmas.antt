@@ -18,7 +18,7 @@ same_name xs ys e = (bytes_eq-Decides xs ys).0 e
 pub own_name : (xs ys : List ℕ) → xs ≡ ys → bytes_eq xs ys ≡ true
 own_name xs ys e = (bytes_eq-Decides xs ys).1 e
 
--- ---- sessions that are kept by their names
+-- ---- sessions stored by name
 
 abbrev Kept : Type 0
 Kept = Vec ℕ × SessionKnowledge
@@ -36,7 +36,7 @@ place_among name (k ∷ kept) =
       | inr f ↦ let rest = place_among name kept in rw f (omega (arith, rest))
     ]
 
--- the first place that passes, where one does
+-- the first place that passes a test, if any
 pub position_some : {X : Type 0} (p : X → Bool) (xs : List X) (i : ℕ) → Some i ≡ position p xs → (i < length xs) × (i ≡ position_or_len p xs)
 position_some p xs i e =
     elim (cases_Bool (nat_lt (position_or_len p xs) (length xs))) [
@@ -51,7 +51,7 @@ position_none p xs e =
       | inr f ↦ grind (arith, nat_tests, f)
     ]
 
--- a name that is there
+-- a name that is stored
 pub found : (name : List ℕ) (kept : List Kept) (i : ℕ) → Some i ≡ position (λ (k : Vec ℕ). bytes_eq name k.items) (keys_of kept) → (i < length (sessions_of kept)) × (i ≡ place_or_end name (sessions_of kept))
 found name kept i e =
     let at = position_some (λ (k : Vec ℕ). bytes_eq name k.items) (keys_of kept) i e in
@@ -59,7 +59,7 @@ found name kept i e =
     let many = length_sessions kept in
     (omega (arith, at.0, keys, many), at.1 ∙ place_among name kept)
 
--- a name that isn't
+-- a name that isn't stored
 pub missing : (name : List ℕ) (kept : List Kept) → None ≡ position (λ (k : Vec ℕ). bytes_eq name k.items) (keys_of kept) → length kept ≤ place_or_end name (sessions_of kept)
 missing name kept e =
     let none = position_none (λ (k : Vec ℕ). bytes_eq name k.items) (keys_of kept) e in
@@ -67,7 +67,7 @@ missing name kept e =
     let among = place_among name kept in
     omega (arith, none, keys, among)
 
--- a name that has no place is put behind the others
+-- a name that isn't stored is added at the end
 pub kept_new : (name : Vec ℕ) (kept : List Kept) (h : SessionKnowledge) → length kept ≤ place_or_end name.items (sessions_of kept)
     → sessions_of (insert_entry (λ (a b : Vec ℕ). bytes_eq a.items b.items) kept name h) ≡ sessions_of kept ++ (record { name = name.items; transcript = h }) ∷ []
 kept_new name [] h l = refl
@@ -89,7 +89,7 @@ kept_at [] i d h e = absurd (cc e)
 kept_at (k ∷ kept) zero d h e = (omega arith, cc)
 kept_at (k ∷ kept) (suc i) d h e = let r = kept_at kept i d h e in (omega (arith, r.0), r.1)
 
--- a session that wasn't heard before is put behind the others
+-- a new session is added at the end
 pub placed_new : (name : List ℕ) (ss : List Session) (s : Session) → name ≡ s.name → place_or_end name ss ≡ length ss → length ss ≡ place_or_end name (ss ++ s ∷ [])
 placed_new name [] s q e = rw (own_name name s.name q) refl
 placed_new name (x ∷ ss) s q e =
@@ -110,7 +110,7 @@ place_most name (x ∷ ss) =
       | inr f ↦ rw f (omega (arith, m))
     ]
 
--- it is there, and the first of its name
+-- its place is in the list, and it is the first with its name
 pub placed_last : (name : List ℕ) (ss new : List Session) (s : Session) (place : ℕ) → new ≡ ss ++ s ∷ [] → name ≡ s.name → place ≡ place_or_end name ss → length ss ≤ place → (place < length new) × (place ≡ place_or_end name new)
 placed_last name ss new s place i q p l =
     let m = place_most name ss in
@@ -120,7 +120,7 @@ placed_last name ss new s place i q p l =
     let one : length (s ∷ []) ≡ 1 = refl in
     (omega (arith, p, e, n, k, one), p ∙ e ∙ placed_new name ss s q e ∙ ap (place_or_end name) (sym i))
 
--- and is the first of its name there
+-- after it is added, its place is that of its name
 pub placed_kept : (name : Vec ℕ) (kept new : List Kept) (h : SessionKnowledge) (place : ℕ) → length kept ≤ place_or_end name.items (sessions_of kept)
     → new ≡ insert_entry (λ (a b : Vec ℕ). bytes_eq a.items b.items) kept name h → place ≡ position_or_len (λ (k : Vec ℕ). bytes_eq name.items k.items) (keys_of kept)
     → (place < length (sessions_of new)) × (place ≡ place_or_end name.items (sessions_of new))
@@ -156,7 +156,7 @@ heard_at name (s ∷ ss) (suc p) d e l =
       | inr f ↦ let k = rw f at e in rw f (heard_at name ss p d (omega (arith, k)) (omega (arith, l)))
     ]
 
--- where another transcript is put there, it is what is known of that session
+-- replacing the transcript at that place replaces what is known of that session
 pub heard_set : (name : List ℕ) (ss : List Session) (p : ℕ) (d new : Session) → p ≡ place_or_end name ss → p < length ss → new.name ≡ (get_or ss p d).name → hearing_of name (set ss p new) ≡ new.transcript
 heard_set name [] p d new e l q = absurd (omega (arith, l))
 heard_set name (s ∷ ss) zero d new e l q =
@@ -170,7 +170,7 @@ heard_set name (s ∷ ss) (suc p) d new e l q =
       | inr f ↦ let k = rw f at e in rw f (heard_set name ss p d new (omega (arith, k)) (omega (arith, l)) q)
     ]
 
--- and nothing else is known of the others
+-- and leaves what is known of the others unchanged
 pub heard_beside : (name other : List ℕ) (ss : List Session) (p : ℕ) (d new : Session) → p ≡ place_or_end name ss → p < length ss → new.name ≡ (get_or ss p d).name → bytes_eq other name ≡ false → hearing_of other (set ss p new) ≡ hearing_of other ss
 heard_beside name other [] p d new e l q o = absurd (omega (arith, l))
 heard_beside name other (s ∷ ss) zero d new e l q o =

@@ -12,7 +12,7 @@ use Rattle.mail_audit.proofs.GoneLemmas.{AreBefore, gone_more, gone_with, place_
 use Rattle.mail_audit.proofs.Stepping.{room_in_gaps}
 use Rattle.mail_audit.proofs.ToldLemmas.{gaps_for, gaps_low, gaps_with, length_slots, places_more, places_with, set_told, set_untold, slot_told, slot_untold, slots_more}
 
--- what is known by what is kept
+-- what is known, from what is stored
 abbrev pub known_by : List ℕ → List KnownUid → ℕ → SlotKnowledge
 known_by gone tolds came = record { there = places_from 0 gone came; slots = slots_from 0 tolds came }
 
@@ -38,7 +38,7 @@ few gone tolds came k = let l = gaps_low 0 0 tolds came k.places_ascend k.gaps i
 pub slots_count : (gone : List ℕ) (tolds : List KnownUid) (came : ℕ) → AreKnownUids gone tolds came → length (slots_from 0 tolds came) ≡ came
 slots_count gone tolds came k = let l = length_slots 0 tolds came k.places_ascend in omega (arith, l)
 
--- ---- more that came
+-- ---- further messages
 
 pub add_fits : (gone : List ℕ) (tolds : List KnownUid) (came m : ℕ) → AreKnownUids gone tolds came → HasRoomFor 0 0 tolds (came + m) ↔ HasRoomAbove 0 (with_more (known_by gone tolds came) m).slots
 add_fits gone tolds came m k =
@@ -68,7 +68,7 @@ add_next gone tolds came m k =
     let s = sym (slots_more 0 tolds came m k.places_ascend) in
     λ i. record { there = t i; slots = s i }
 
--- ---- one that goes
+-- ---- an expunged message
 
 before_of : (k at : ℕ) (gone : List ℕ) → ((i : ℕ) → i < at → get_or gone i 0 ≤ k + i) → ((i : ℕ) → at ≤ i → i < length gone → k + i < get_or gone i 0) → AreBefore 0 k at gone
 before_of k at gone f b = (λ i l. let r = f i l in omega (arith, r), λ i l m. let r = b i l m in omega (arith, r))
@@ -98,7 +98,7 @@ module _ (gone : List ℕ) (tolds : List KnownUid) (came n at : ℕ) (k : AreKno
       let p = places_without 0 n at (n - 1 + at) gone came (omega arith) number.0 k.gone_ascend within (before_of (n - 1) at gone front behind) number.1 in
       λ i. record { there = p i; slots = slots_from 0 tolds came }
 
--- ---- one whose UID is told
+-- ---- a message whose UID is reported
 
 same_number : (a b : ℕ) → nat_eq a b ≡ true → a ≡ b
 same_number a b h = grind (arith, nat_tests)

@@ -24,7 +24,7 @@ use Rattle.mail_audit.proofs.DumpLemmas.{open_first, open_last, open_more, open_
 use Rattle.mail_audit.proofs.HearingLemmas.{heard_more, heard_not, heard_result, heard_right}
 use Rattle.mail_audit.proofs.SessionLemmas.{own_name, same_name}
 
--- the number of a line is that of all lines up to it
+-- the number of a line is the number of all lines up to it
 pub one_more : (lines : List (List ℕ)) (line : List ℕ) (taken : ℕ) → taken ≡ length lines + 1 → taken ≡ length (lines ++ line ∷ [])
 one_more lines line taken e =
     let n = length-append lines (line ∷ []) in

@@ -24,15 +24,15 @@ use Rattle.mail_audit.specs.declared.open_dump.DumpStep.{DumpStep}
 use Rattle.mail_audit.specs.declared.open_dump.DumpStep.TheVariants.{GoesOn, Ends, Wrong, Unreadable}
 use Rattle.mail_audit.specs.declared.op_lines.OpLines.{OpLines}
 
--- lines with one more
+-- lines with one more line
 text_more : (inside : List (List ℕ)) (line : List ℕ) → text_of (inside ++ line ∷ []) ≡ text_of inside ++ (line ++ 10 ∷ [])
 text_more inside line = flat_map-append ended_line inside (line ∷ []) ∙ ap (λ (xs : List ℕ). text_of inside ++ xs) (append-nil (line ++ 10 ∷ []))
 
--- an op line is no end
+-- an op line doesn't end a dump
 pub op_no_end : (line spelled : List ℕ) → line ≡ codes "op " ++ spelled → IsNoEnd line
 op_no_end line spelled e f = absurd (let k : ◌≡◌ {A = List ℕ} (111 ∷ 112 ∷ 32 ∷ spelled) (101 ∷ 110 ∷ 100 ∷ []) = sym e ∙ f in cc)
 
--- one op line more
+-- one further op line
 pub longer_stands : (inside : List (List ℕ)) (line spelled : List ℕ) (old new : OpLines) (op : Op) → OpsStand inside old → line ≡ codes "op " ++ spelled → IsSpelled op spelled → IsLonger old op new → OpsStand (inside ++ line ∷ []) new
 longer_stands inside line spelled old new op s e p g =
     let count : length (inside ++ line ∷ []) ≡ length inside + 1 = length-append inside (line ∷ []) in
@@ -66,9 +66,9 @@ longer_stands inside line spelled old new op s e p g =
           )
     ]
 
--- ---- the lines behind the op lines
+-- ---- the lines after the op lines
 
--- where a line is the next, what comes then
+-- if a line is the next expected one, what is left after it
 pub taken : (lines line rest : List ℕ) (came next : ℕ) → came ≤ length lines → drop came lines ≡ line ++ 10 ∷ rest → next ≡ came + (length line + 1) → (next ≤ length lines) × (drop came lines ≡ line ++ 10 ∷ drop next lines)
 taken lines line rest came next within is e =
     let size : length (drop came lines) ≡ length line + (length rest + 1) = ap length is ∙ length-append line (10 ∷ rest) ∙ ap (λ (n : ℕ). length line + n) (omega arith) in
@@ -80,7 +80,7 @@ taken lines line rest came next within is e =
     ∙ drop-append_seam (line ++ 10 ∷ []) rest in
     (omega arith, is ∙ ap (λ (xs : List ℕ). line ++ 10 ∷ xs) (sym left))
 
--- the lines that came, with one more that was the next
+-- the lines that came, with the expected line that came next
 moved : (inside : List (List ℕ)) (line whole left more : List ℕ) → text_of inside ++ left ≡ whole → left ≡ line ++ 10 ∷ more → text_of (inside ++ line ∷ []) ++ more ≡ whole
 moved inside line whole left more e n =
     ap (λ (xs : List ℕ). xs ++ more) (text_more inside line)
@@ -88,7 +88,7 @@ moved inside line whole left more e n =
     ∙ ap (λ (xs : List ℕ). text_of inside ++ xs) (append_assoc line (10 ∷ []) more ∙ sym n)
     ∙ e
 
--- what comes of a line that is compared
+-- the effect of a line that is compared
 pub compared_step : (first : ℕ) (inside : List (List ℕ)) (line : List ℕ) (number : ℕ) (old new : Comparison) (step : DumpStep) → PhaseStands inside (State old) → number ≡ first + 1 + length inside → IsCompared old line number new step → IsStep first inside line (State new) step
 compared_step first inside line number old new GoesOn s n c =
     let text : text_of (inside ++ line ∷ []) ++ drop new.came new.lines.items ≡ inside_text s.0 =
@@ -106,7 +106,7 @@ compared_step first inside line number old new Ends s n c =
 compared_step first inside line number old new (Wrong found) s n c = (omega (arith, n, c), omega (arith, n, c))
 compared_step first inside line number old new Unreadable s n c = tt
 
--- what comes of a line that can't be read where op lines may still come
+-- the effect of a line that can't be read while op lines may still come
 pub early_step : (first : ℕ) (inside : List (List ℕ)) (line : List ℕ) (lines : OpLines) (phase : DumpPhase) (step : DumpStep) → OpsStand inside lines → IsEarly first lines step → IsStep first inside line phase step
 early_step first inside line lines phase GoesOn s e = absurd e
 early_step first inside line lines phase Ends s e = absurd e
@@ -144,7 +144,7 @@ closed_of inside lines (Ok (Lines expected)) s b h =
 
 -- ---- the beginning
 
--- no line came
+-- no line has come
 pub none_stands : (lines : OpLines) → lines.ops.items ≡ [] → lines.is_bad ≡ false → OpsStand [] lines
 none_stands lines e b = (
   omega (arith, ap length e),
@@ -153,12 +153,12 @@ none_stands lines e b = (
   subst AreOrdered (sym e) tt,
 )
 
--- ---- the line to come
+-- ---- the next expected line
 
 pub next_found : (text whole line : List ℕ) (came : ℕ) (parts : List ℕ × List ℕ) → text ≡ drop came whole → Some parts ≡ cut_at 10 text → parts.0 ≡ line → (rest : List ℕ) × (drop came whole ≡ line ++ 10 ∷ rest)
 next_found text whole line came parts t e q = (parts.1, sym t ∙ cut_takes 10 text parts (sym e) ∙ ap (λ (l : List ℕ). l ++ 10 ∷ parts.1) q)
 
--- what comes of the line that was to come
+-- the effect of the next expected line
 pub behind_compared : (old new : Comparison) (line : List ℕ) (number : ℕ) (step : DumpStep) → Takes old line new → IsStepBehind new line number step → IsCompared old line number new step
 behind_compared old new line number GoesOn t s = (t, s)
 behind_compared old new line number Ends t s = (t, s)

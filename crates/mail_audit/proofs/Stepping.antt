@@ -8,7 +8,7 @@ use Rattle.mail_audit.specs.SlotSteps.{EventFits, SlotKnowledge, after_events, a
 use Rattle.mail_audit.specs.declared.slots.KnownUid.{KnownUid}
 use Rattle.mail_audit.proofs.Deciding.{explained}
 
--- a front of explained events is explained
+-- the first part of explained events is explained
 fitting_front : (there coming : List ℕ) (front back : List SlotEvent) → AreFitting there coming (front ++ back) → AreFitting there coming front
 fitting_front there coming [] back f = tt
 fitting_front there coming (Selects ∷ front) back f = (f.0, f.1, fitting_front [] f.0 front back f.2)
@@ -21,7 +21,7 @@ fitting_front there coming (Passes ∷ front) back f = fitting_front there comin
 pub explained_front : (front back : List SlotEvent) → IsExplained (front ++ back) → IsExplained front
 explained_front front back h = (h.0, h.1, fitting_front [] h.0 front back h.2)
 
--- events pass where the first fits and the others pass then
+-- events pass if the first fits and the others pass after it
 pub passes_one : (known : SlotKnowledge) (event : SlotEvent) (events : List SlotEvent) → PassesFrom known.there known.slots (event ∷ events) ↔ (EventFits known event × PassesFrom (after_event known event).there (after_event known event).slots events)
 passes_one known Selects events = (λ p. (tt, p), λ p. p.1)
 passes_one known (Exists n) events = (λ p. ((p.0, p.1), p.2), λ p. (p.0.0, p.0.1, p.1))
@@ -42,14 +42,14 @@ passes_last known (first ∷ events) event = (
       (passes_one known first (events ++ event ∷ [])).1 (q.0, (passes_last (after_event known first) events event).1 (q.1, p.1)),
 )
 
--- one event more is explained exactly where it fits
+-- a further event is explained exactly if it fits
 pub explained_last : (events : List SlotEvent) (event : SlotEvent) → IsExplained events → IsExplained (events ++ event ∷ []) ↔ EventFits (after_events no_slots events) event
 explained_last events event h = (
   λ g. ((passes_last no_slots events event).0 ((explained (events ++ event ∷ [])).0 g)).1,
   λ f. (explained (events ++ event ∷ [])).1 ((passes_last no_slots events event).1 ((explained events).0 h, f)),
 )
 
--- room behind slots of which nothing is known
+-- UIDs after slots of which nothing is known
 room_unknown : (low m : ℕ) (slots : List (Option ℕ)) → low ≤ 4294967295 → HasRoomAbove low (replicate m None ++ slots) ↔ ((low + m ≤ 4294967295) × HasRoomAbove (low + m) slots)
 room_unknown low zero slots l =
     let e : low + zero ≡ low = omega arith in
@@ -60,7 +60,7 @@ room_unknown low (suc m) slots l =
       λ h. (omega (arith, h.0), (room_unknown (low + 1) m slots (omega (arith, h.0))).1 (omega (arith, h.0), subst (λ (n : ℕ). HasRoomAbove n slots) (sym e) h.1)),
     )
 
--- there is room exactly where the gaps are wide enough
+-- enough UIDs are left exactly if the gaps are wide enough
 pub room_in_gaps : (low from : ℕ) (tolds : List KnownUid) (came : ℕ) → low ≤ 4294967295 → HasRoomAbove low (slots_from from tolds came) ↔ HaveGaps low from tolds came
 room_in_gaps low from [] came l =
     let e : replicate (came - from) None ++ [] ≡ slots_from from [] came = append-nil (replicate (came - from) None) in

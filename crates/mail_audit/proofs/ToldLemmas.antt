@@ -11,7 +11,7 @@ pub places_low : (from : ℕ) (tolds : List KnownUid) (came : ℕ) → ArePlaces
 places_low from [] came a = a
 places_low from (t ∷ tolds) came a = let r = places_low (t.place + 1) tolds came a.1 in let l : from ≤ t.place = a.0 in omega (arith, r, l)
 
--- so many came as there are UIDs for
+-- no more messages came than there are UIDs
 pub gaps_low : (low from : ℕ) (tolds : List KnownUid) (came : ℕ) → ArePlaces from tolds came → HaveGaps low from tolds came → low + (came - from) ≤ 4294967295
 gaps_low low from [] came a h = h
 gaps_low low from (t ∷ tolds) came a h =
@@ -31,7 +31,7 @@ length_slots from (t ∷ tolds) came a =
     let l : from ≤ t.place = a.0 in
     omega (arith, s, n, r, p, l)
 
--- ---- more that came
+-- ---- further messages
 
 pub slots_more : (from : ℕ) (tolds : List KnownUid) (came m : ℕ) → ArePlaces from tolds came → slots_from from tolds came ++ replicate m None ≡ slots_from from tolds (came + m)
 slots_more from [] came m a =
@@ -52,7 +52,7 @@ gaps_for low from (t ∷ tolds) came other h =
     let r = gaps_for t.uid (t.place + 1) tolds came other h.2 in
     (λ g. r.0 g.2, λ g. (h.0, h.1, r.1 g))
 
--- the last one decides
+-- the last known UID decides
 pub room_behind_last : (low from : ℕ) (tolds : List KnownUid) (came : ℕ) (t : KnownUid) → Some t ≡ slice_get tolds (length tolds - 1) → HasRoomFor low from tolds came ≡ (t.uid + (came - (t.place + 1)) ≤ 4294967295)
 room_behind_last low from [] came t e = cc
 room_behind_last low from (x ∷ []) came t e = let k : t ≡ x = cc in ap (λ (y : KnownUid). y.uid + (came - (y.place + 1)) ≤ 4294967295) (sym k)
@@ -60,7 +60,7 @@ room_behind_last low from (x ∷ y ∷ tolds) came t e =
     let k : suc (suc (length tolds)) - 1 ≡ suc (suc (length tolds) - 1) = omega arith in
     room_behind_last x.uid (x.place + 1) (y ∷ tolds) came t (rw k at e)
 
--- ---- one that is told
+-- ---- one that is reported
 
 slot_before : (n k : ℕ) (slot : Option ℕ) (slots : List (Option ℕ)) → k < n → get_or (replicate n None ++ slot ∷ slots) k None ≡ None
 slot_before zero k slot slots l = absurd (omega (arith, l))
@@ -72,7 +72,7 @@ slot_in_none zero k = refl
 slot_in_none (suc n) zero = refl
 slot_in_none (suc n) (suc k) = slot_in_none n k
 
--- behind the first told one
+-- the slots after the first known one
 get_behind_first : (from place : ℕ) (t : KnownUid) (slots : List (Option ℕ)) → from ≤ t.place → t.place < place → get_or (replicate (t.place - from) None ++ Some t.uid ∷ slots) (place - from) None ≡ get_or slots (place - (t.place + 1)) None
 get_behind_first from place t slots f l =
     let n = length-replicate {A = Option ℕ} (t.place - from) None in
@@ -112,7 +112,7 @@ slot_told from (suc at) place uid (t ∷ tolds) came a f h =
     get_behind_first from place t (slots_from (t.place + 1) tolds came) a.0 l
     ∙ slot_told (t.place + 1) at place uid tolds came a.1 (omega (arith, l)) h.1
 
--- what was told may be told again
+-- a reported UID may be reported again
 pub set_told : (from at place uid : ℕ) (tolds : List KnownUid) (came : ℕ) → ArePlaces from tolds came → from ≤ place → IsUidKnown at place uid tolds → set (slots_from from tolds came) (place - from) (Some uid) ≡ slots_from from tolds came
 set_told from at place uid [] came a f h = absurd h
 set_told from zero place uid (t ∷ tolds) came a f h =
@@ -127,7 +127,7 @@ set_told from (suc at) place uid (t ∷ tolds) came a f h =
     set_behind_first from place uid t (slots_from (t.place + 1) tolds came) a.0 l
     ∙ ap (λ ss. replicate (t.place - from) None ++ Some t.uid ∷ ss) (set_told (t.place + 1) at place uid tolds came a.1 (omega (arith, l)) h.1)
 
--- a slot of none among none
+-- setting a slot among unknown ones
 set_none : (n k uid : ℕ) → k < n → set {A = Option ℕ} (replicate n None) k (Some uid) ≡ replicate k None ++ Some uid ∷ replicate (n - (k + 1)) None
 set_none zero k uid l = absurd (omega (arith, l))
 set_none (suc n) zero uid l = let e : n ≡ suc n - (zero + 1) = omega arith in ap (λ (m : ℕ). Some uid ∷ replicate m None) e
@@ -135,7 +135,7 @@ set_none (suc n) (suc k) uid l =
     let e : n - (k + 1) ≡ suc n - (suc k + 1) = omega arith in
     ap (λ ss. None ∷ ss) (set_none n k uid (omega (arith, l))) ∙ ap (λ (m : ℕ). None ∷ (replicate k None ++ Some uid ∷ replicate m None)) e
 
--- what wasn't told is told
+-- a UID that wasn't reported before is added
 pub set_untold : (from at : ℕ) (told : KnownUid) (tolds : List KnownUid) (came : ℕ) → ArePlaces from tolds came → from ≤ told.place → told.place < came → IsUidUnknown at told.place tolds → set (slots_from from tolds came) (told.place - from) (Some told.uid) ≡ slots_from from (insert tolds at told) came
 set_untold from zero told [] came a f c h =
     let e : came - from - (told.place - from + 1) ≡ came - (told.place + 1) = omega (arith, f, c) in
@@ -162,7 +162,7 @@ places_with from zero told (t ∷ tolds) came a f c h = let l : told.place < t.p
 places_with from (suc at) told [] came a f c h = absurd h
 places_with from (suc at) told (t ∷ tolds) came a f c h = let l : t.place < told.place = h.0 in (a.0, places_with (t.place + 1) at told tolds came a.1 (omega (arith, l)) c h.1)
 
--- with one more the gaps are wide enough exactly where it fits between its neighbours
+-- with one more UID the gaps are wide enough exactly if it fits between its neighbours
 pub gaps_with : (low from at : ℕ) (told : KnownUid) (tolds : List KnownUid) (came : ℕ) → told.uid ≤ 4294967295 → HaveGaps low from tolds came → IsUidUnknown at told.place tolds → HaveGaps low from (insert tolds at told) came ↔ FitsAt low from at tolds told came
 gaps_with low from zero told [] came u h n = (λ g. (g.0, g.2), λ g. (g.0, u, g.1))
 gaps_with low from zero told (t ∷ tolds) came u h n = (λ g. (g.0, g.2.0), λ g. (g.0, u, (g.1, h.1, h.2)))
@@ -179,7 +179,7 @@ fits_behind_one low from (suc j) told d (t ∷ tolds) l = fits_behind_one t.uid 
 pub fits_first : (low from : ℕ) (tolds : List KnownUid) (told : KnownUid) → FitsAfter low from zero tolds told ≡ (low + (told.place - from) < told.uid)
 fits_first low from tolds told = refl
 
--- ---- what a search finds
+-- ---- the result of a search
 
 told_above : (from : ℕ) (tolds : List KnownUid) (came : ℕ) → ArePlaces from tolds came → (j : ℕ) (d : KnownUid) → j < length tolds → from ≤ (get_or tolds j d).place
 told_above from [] came a j d l = absurd (omega (arith, l))
@@ -221,7 +221,7 @@ found_none place zero (x ∷ tolds) b p n =
     omega (arith, l, ne)
 found_none place (suc at) (x ∷ tolds) b p n = (below_of x.place place (p.0 0 x (omega arith) (omega arith)), found_none place at tolds (omega (arith, b)) (parts_rest place at x tolds p) n)
 
--- ---- what stands at a place
+-- ---- the entry at a place
 
 pub none_there : (tolds : List KnownUid) (at : ℕ) (t : KnownUid) → length tolds ≤ at → Some t ≡ slice_get tolds at → ⊥
 none_there [] at t l e = let n : Some t ≡ None = e in cc

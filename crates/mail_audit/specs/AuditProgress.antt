@@ -1,4 +1,5 @@
--- How far an audit came, line by line. What its answers mean is told by `Audits`.
+-- How far an audit has come, line by line. The meaning of its verdicts is defined by `Audits`.
+
 use Rattle.std.specs.Prelude.{◌≡◌, ℕ, ◌+◌, ◌≤◌, List, ◌∷◌, ◌++◌, Option, Some, None, length}
 use Rattle.std.specs.List.{flat_map}
 use Rattle.crdt_ops.specs.Form.{IsReplica}
@@ -13,13 +14,13 @@ use Rattle.mail_audit.specs.declared.open_dump.OpenDump.{OpenDump}
 use Rattle.mail_audit.specs.Sessions.{Session}
 use Rattle.mail_audit.specs.declared.verdict.AuditEnd.{AuditEnd}
 
--- The lines are those of these parts, and this is known of the sessions behind them.
+-- The lines are the text of these parts, and this is what they say of the sessions.
 pub record AreHeard (lines : List (List ℕ)) (parts : List Part) (sessions : List Session) : Type 0 where
   pub whole : text_of lines ≡ flat_map part_text parts
   pub right : Each IsRightPart parts
   pub heard : (session : List ℕ) → TakesAllSaid nothing_known (said_in session parts) (hearing_of session sessions)
 
--- Behind lines of whole parts a dump began and hasn't ended.
+-- After lines that make whole parts, a dump has begun and not ended.
 pub record IsOpen (lines : List (List ℕ)) (sessions : List Session) (dump : OpenDump) : Type 0 where
   pub front : List (List ℕ)
   pub inside : List (List ℕ)
@@ -39,15 +40,16 @@ HasTakenDump lines sessions (Some dump) = IsOpen lines sessions dump
 abbrev pub HasTaken : List (List ℕ) → Audit → Type 0
 HasTaken lines audit = (audit.taken ≡ length lines) × HasTakenDump lines audit.sessions audit.dump
 
--- The audit ends with a line behind these, whatever comes behind it.
+-- The audit ends at the line after these, whatever follows.
 abbrev pub EndsAt : List (List ℕ) → List ℕ → AuditEnd → Type 0
 EndsAt lines line end = (more : List (List ℕ)) → Audits (lines ++ line ∷ more) end
 
--- The audit ends within a text behind these lines, whatever comes behind it.
+-- The audit ends within a text after these lines, whatever follows.
 abbrev pub EndsWithin : List (List ℕ) → List ℕ → AuditEnd → Type 0
 EndsWithin front text end = (more : List ℕ) → Audits (front ++ lines_of (text ++ more)) end
 
--- Behind these lines those that a text completes were taken, and another text is left.
+-- After the first lines, the lines that a text completes were taken, and this rest of the text is
+-- left.
 pub record Advances (front : List (List ℕ)) (old : Audit) (text : List ℕ) (new : Audit) (left : List ℕ) : Type 0 where
   pub done : List (List ℕ)
   pub lines : (more : List ℕ) → lines_of (text ++ more) ≡ done ++ lines_of (left ++ more)

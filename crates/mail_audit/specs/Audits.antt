@@ -1,3 +1,6 @@
+-- The meaning of an audit's verdicts: what a `yes`, a `no` and an unreadable line say of the lines
+-- of the input.
+
 use Rattle.std.specs.Prelude.{◌≡◌, ◌⊎◌, ℕ, ◌+◌, ◌<◌, ◌≤◌, List, [], ◌∷◌, ◌++◌, length, codes, IsTrue, if◌then◌else◌}
 use Rattle.std.specs.List.{flat_map}
 use Rattle.std.specs.Str.{bytes_eq}
@@ -19,18 +22,18 @@ use Rattle.mail_audit.specs.declared.verdict.AuditEnd.TheVariants.{Yes, No, Unre
 abbrev pub ended_line : List ℕ → List ℕ
 ended_line line = line ++ 10 ∷ []
 
--- Lines with their ends, one behind another.
+-- Lines with their ends, one after another.
 abbrev pub text_of : List (List ℕ) → List ℕ
 text_of lines = flat_map ended_line lines
 
--- What an input is made of: lines of transcripts, lines that tell results, and whole dumps.
+-- The parts of an input: lines of transcripts, lines that report results, and whole dumps.
 pub data Part : Type 0 where
   Spoken : List ℕ → Speaker → List ℕ → Part
   Result : List ℕ → Part
   Dumped : List ℕ → Part
 
--- A line of a transcript: the session, who spoke, and what was said, which lacks its closing CRLF, in the escape in which
--- the space stands for itself.
+-- A line of a transcript: the session, who sent the text, and the text without its closing CRLF,
+-- escaped so that spaces stay as they are.
 abbrev pub spoken_line : List ℕ → Speaker → List ℕ → List ℕ
 spoken_line session speaker text = session ++ (mark_of speaker ++ escape_text Text text)
 
@@ -48,34 +51,36 @@ part_text (Spoken session speaker text) = ended_line (spoken_line session speake
 part_text (Result line) = ended_line line
 part_text (Dumped text) = text
 
--- The part is one that can be read, and a dump is right.
+-- The part can be read, and is right if it is a dump.
 abbrev pub IsRightPart : Part → Type 0
 IsRightPart (Spoken session speaker text) = IsTrue (is_session_name session) × AreOctets text
 IsRightPart (Result line) = IsResult line
 IsRightPart (Dumped text) = IsRightDump text
 
--- What was said, with its closing CRLF (13, 10).
+-- The octets that a line of a transcript shows, with their closing CRLF (13, 10).
 abbrev pub said_by : Speaker → List ℕ → Said
 said_by speaker text = record { speaker = speaker; octets = text ++ 13 ∷ 10 ∷ [] }
 
--- What was said in a session.
+-- What was sent in a session, in order.
 abbrev pub said_in : List ℕ → List Part → List Said
 said_in session [] = []
 said_in session (Spoken other speaker text ∷ parts) = if bytes_eq session other then said_by speaker text ∷ said_in session parts else said_in session parts
 said_in session (Result line ∷ parts) = said_in session parts
 said_in session (Dumped text ∷ parts) = said_in session parts
 
--- These lines are those of such parts, every dump is right, and every session's transcript is explained.
+-- The lines are the text of these parts, every dump is right, and every session's transcript is
+-- explained.
 pub record AreRight (lines : List (List ℕ)) (parts : List Part) : Type 0 where
   pub whole : text_of lines ≡ flat_map part_text parts
   pub right : Each IsRightPart parts
   pub explained : (session : List ℕ) → IsExplainedTranscript (said_in session parts)
 
--- The lines of an input of which the audit answers yes.
+-- An input whose verdict is yes.
 abbrev pub IsRight : List (List ℕ) → Type 0
 IsRight lines = (parts : List Part) × AreRight lines parts
 
--- The line of this number, from 1 on, is of a session's transcript, which isn't explained through it; all in front is right.
+-- The line of this number, from 1, belongs to a session's transcript, which isn't explained if it
+-- ends with that line; everything before the line is right.
 pub record IsUnexplained (lines : List (List ℕ)) (number : ℕ) : Type 0 where
   pub front : List (List ℕ)
   pub back : List (List ℕ)
@@ -90,11 +95,12 @@ pub record IsUnexplained (lines : List (List ℕ)) (number : ℕ) : Type 0 where
   pub octets : AreOctets text
   pub unexplained : ¬ IsExplainedTranscript (said_in session (parts ++ Spoken session speaker text ∷ []))
 
--- The line is no end of a dump.
+-- The line doesn't end a dump.
 abbrev pub IsNoEnd : List ℕ → Type 0
 IsNoEnd line = line ≡ codes "end" → ⊥
 
--- The line of this number stands in a dump: all in front of the dump is right, and it doesn't end before the line.
+-- The line of this number is in a dump, after its first line: everything before the dump is right,
+-- and the dump doesn't end before the line.
 pub record IsInDump (lines : List (List ℕ)) (number : ℕ) : Type 0 where
   pub front : List (List ℕ)
   pub inside : List (List ℕ)
@@ -113,7 +119,8 @@ pub record IsInDump (lines : List (List ℕ)) (number : ℕ) : Type 0 where
 abbrev pub IsNo : List (List ℕ) → ℕ → Type 0
 IsNo lines number = IsUnexplained lines number ⊎ IsInDump lines number
 
--- All in front of the line of this number is right, and it is no line of a transcript, begins no dump and tells no result.
+-- Everything before the line of this number is right, and the line belongs to no transcript, begins
+-- no dump and reports no result.
 pub record IsUnread (lines : List (List ℕ)) (number : ℕ) : Type 0 where
   pub front : List (List ℕ)
   pub line : List ℕ
@@ -126,8 +133,8 @@ pub record IsUnread (lines : List (List ℕ)) (number : ℕ) : Type 0 where
   pub begins_no_dump : IsDumpBegin line → ⊥
   pub no_result : IsResult line → ⊥
 
--- The line of this number is the first of a dump or stands in it: all in front of the dump is right, and it doesn't end
--- before the line.
+-- The line of this number is in a dump or begins it: everything before the dump is right, and the
+-- dump doesn't end before the line.
 pub record IsOfDump (lines : List (List ℕ)) (number : ℕ) : Type 0 where
   pub front : List (List ℕ)
   pub inside : List (List ℕ)
@@ -142,11 +149,11 @@ pub record IsOfDump (lines : List (List ℕ)) (number : ℕ) : Type 0 where
   pub at_most : number ≤ length front + length inside + 2
   pub there : number ≤ length lines
 
--- A line that can't be read, or with which the input ends within a dump.
+-- A line that can't be read, or at which the input ends within a dump.
 abbrev pub IsUnreadable : List (List ℕ) → ℕ → Type 0
 IsUnreadable lines number = IsUnread lines number ⊎ IsOfDump lines number
 
--- What an audit's answer says of the lines of its input.
+-- The meaning of a verdict on the lines of an input.
 abbrev pub Audits : List (List ℕ) → AuditEnd → Type 0
 Audits lines Yes = IsRight lines
 Audits lines (No number) = IsNo lines number
@@ -155,7 +162,7 @@ Audits lines ReadFailed = Unit {0}
 Audits lines WriteFailed = Unit {0}
 Audits lines NoMemory = Unit {0}
 
--- What is written of an audit's answer.
+-- The text of a verdict.
 abbrev pub end_text : AuditEnd → List ℕ
 end_text Yes = codes "yes\n"
 end_text (No number) = codes "no: line " ++ (decimal number ++ 10 ∷ [])

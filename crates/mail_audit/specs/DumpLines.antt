@@ -1,4 +1,6 @@
--- How a dump is read, line by line. What makes it right is told by `IsRightDump`.
+-- How the audit reads a dump, line by line. The meaning of a right dump is defined by
+-- `IsRightDump`.
+
 use Rattle.std.specs.Prelude.{◌≡◌, ◌⊎◌, ℕ, ◌+◌, ◌<◌, ◌≤◌, true, false, List, [], ◌∷◌, ◌++◌, length, drop, codes}
 use Rattle.std.specs.List.{flat_map}
 use Rattle.std.specs.declared.cmp.Ordering.TheVariants.{Less}
@@ -24,17 +26,18 @@ use Rattle.mail_audit.specs.declared.line_forms.DumpLine.TheVariants as line
 use Rattle.mail_audit.specs.declared.op_lines.OpLines.{OpLines}
 use Rattle.crdt_ops.specs.Ops.{clock_of, id_of}
 
--- The line is `op ` and a text that spells an operation.
+-- The line is `op ` and a text that spells the operation.
 abbrev pub IsOp : List ℕ → Op → Type 0
 IsOp text op = (spelled : List ℕ) × (text ≡ codes "op " ++ spelled) × IsSpelled op spelled
 
--- What a line of a dump is: one that spells its operation, or one that spells none.
+-- The kind of a line of a dump: one that spells its operation, or one that spells none.
 abbrev pub IsDumpLine : List ℕ → DumpLine → Type 0
 IsDumpLine text (line.Op op) = IsOp text op
 IsDumpLine text line.Other = (op : Op) → ¬ IsOp text op
 IsDumpLine text line.Unreadable = (op : Op) → ¬ IsOp text op
 
--- One op line more was taken: it is good and stands behind the others, or none is from there on.
+-- A further op line was taken: it is good and follows the others, or all lines from it on count as
+-- bad.
 abbrev pub IsLonger : OpLines → Op → OpLines → Type 0
 IsLonger old op new =
     ((old.is_bad ≡ false) × (new.is_bad ≡ false) × (new.ops.items ≡ old.ops.items ++ op ∷ []) × (AreOrdered old.ops.items → AreOrdered new.ops.items))
@@ -46,23 +49,24 @@ StandsBehind [] id = Unit {0}
 StandsBehind (op ∷ []) id = id_order op.id id ≡ Less
 StandsBehind (op ∷ next ∷ ops) id = StandsBehind (next ∷ ops) id
 
--- What the inbox has received is of these operations.
+-- The inbox has received none but these operations.
 abbrev pub HoldsOnly : {S : Type 0} → List Op → ReceivedOps S Op → Type 0
 HoldsOnly ops seen = (o : Op) → IsReceived seen o → IsIn o ops
 
--- What is to follow op lines: where their causes are among them, what the set of them defines.
+-- What must follow op lines: the lines of what the set of them defines, if their causes are among
+-- them.
 abbrev pub IsExpected : List Op → Expected → Type 0
 IsExpected ops (Lines lines) = HasCauses ops × AreSound IsSound ops × (lines.items ≡ state_text ops ++ (codes "end" ++ 10 ∷ []))
 IsExpected ops (Stuck place) = place < length ops
 
--- What is to follow these applied operations.
+-- What must follow these applied operations.
 abbrev pub IsExpectedOf : List Op → Expected → Type 0
 IsExpectedOf applied (Lines lines) =
     AreSound IsSound applied × IsCausal id_of clock_of applied
     × (lines.items ≡ state_text applied ++ (codes "end" ++ 10 ∷ []))
 IsExpectedOf applied (Stuck place) = ⊥
 
--- The lines of a dump behind its first that came so far.
+-- These op lines are the lines of a dump, after its first, that have come so far.
 abbrev pub OpsStand : List (List ℕ) → OpLines → Type 0
 OpsStand inside lines =
     (length lines.ops.items ≤ length inside)
@@ -76,19 +80,20 @@ PhaseStands inside (State comparison) =
     (ops : List Op) × AreDumped ops × (comparison.came ≤ length comparison.lines.items)
     × (text_of inside ++ drop comparison.came comparison.lines.items ≡ inside_text ops)
 
--- What is to follow the op lines that came, or where they are wrong.
+-- What must follow the op lines that have come, or the place where they are wrong.
 abbrev pub IsClosed : List (List ℕ) → Expected → Type 0
 IsClosed inside (Lines lines) = (ops : List Op) × AreDumped ops × (text_of inside ++ lines.items ≡ inside_text ops)
 IsClosed inside (Stuck place) = place ≤ length inside
 
--- What comes of a line that can't be read behind op lines.
+-- The effect of a line that can't be read after op lines.
 abbrev pub IsEarly : ℕ → OpLines → DumpStep → Type 0
 IsEarly first lines GoesOn = ⊥
 IsEarly first lines Ends = ⊥
 IsEarly first lines (Wrong number) = (first < number) × (number ≤ first + 1 + length lines.ops.items)
 IsEarly first lines Unreadable = Unit {0}
 
--- What comes of a line of a dump that has these inside, whose first line has this number.
+-- The effect of a line of a dump whose first line has this number and is followed by the lines
+-- `inside`.
 abbrev pub IsStep : ℕ → List (List ℕ) → List ℕ → DumpPhase → DumpStep → Type 0
 IsStep first inside line phase GoesOn = PhaseStands (inside ++ line ∷ []) phase × IsNoEnd line
 IsStep first inside line phase Ends = (ops : List Op) × AreDumped ops × (text_of (inside ++ line ∷ []) ≡ inside_text ops)
@@ -101,14 +106,14 @@ Takes old line new =
     (new.lines.items ≡ old.lines.items) × (new.came ≤ length new.lines.items)
     × (drop old.came old.lines.items ≡ line ++ 10 ∷ drop new.came old.lines.items)
 
--- What comes of a line, of this number, that is compared with the one to come.
+-- The effect of a line, of this number, that is compared with the next expected one.
 abbrev pub IsCompared : Comparison → List ℕ → ℕ → Comparison → DumpStep → Type 0
 IsCompared old line number new GoesOn = Takes old line new × IsNoEnd line
 IsCompared old line number new Ends = Takes old line new × (new.came ≡ length new.lines.items)
 IsCompared old line number new (Wrong found) = found ≡ number
 IsCompared old line number new Unreadable = Unit {0}
 
--- What comes of a line, of this number, that was the one to come.
+-- The effect of a line, of this number, that is the next expected one.
 abbrev pub IsStepBehind : Comparison → List ℕ → ℕ → DumpStep → Type 0
 IsStepBehind comparison line number GoesOn = IsNoEnd line
 IsStepBehind comparison line number Ends = comparison.came ≡ length comparison.lines.items

@@ -1,3 +1,5 @@
+-- Right dumps: the form that a replica's dump must have.
+
 use Rattle.std.specs.Prelude.{◌≡◌, ℕ, List, [], ◌∷◌, ◌++◌, codes}
 use Rattle.std.specs.Fmt.{decimal}
 use Rattle.std.specs.List.{flat_map}
@@ -19,18 +21,19 @@ dump_line replica = codes "dump " ++ decimal replica
 abbrev pub HasCauses : List Op → Type 0
 HasCauses ops = (op : Op) → IsIn op ops → (cause : OpId) → IsCause op.clock cause → HasId id_of ops cause
 
--- Operations that ascend by their ids, so that none stands twice.
+-- Operations whose ids ascend strictly.
 abbrev pub AreOrdered : List Op → Type 0
 AreOrdered ops = IsAscending (λ (a b : Op). id_order a.id b.id) ops
 
--- The operations of a right dump: they have a text and are sound, they ascend, and their causes are among them.
+-- The operations of a right dump: they have a text and are sound, they ascend, and their causes are
+-- among them.
 pub record AreDumped (ops : List Op) : Type 0 where
   pub in_form : AreSound IsInForm ops
   pub sound : AreSound IsSound ops
   pub ascending : AreOrdered ops
   pub causes : HasCauses ops
 
--- The lines of a dump behind its first: its op lines, and what the set of them defines.
+-- The lines of a dump after its first: its op lines, and what the set of them defines.
 abbrev pub inside_text : List Op → List ℕ
 inside_text ops = flat_map op_line ops ++ (state_text ops ++ (codes "end" ++ 10 ∷ []))
 

@@ -1,3 +1,5 @@
+-- The lines that a script may print besides op lines, regardless of the lines around them.
+
 use Rattle.std.specs.Prelude.{◌≡◌, ◌⊎◌, ℕ, List, ◌∷◌, ◌++◌, codes}
 use Rattle.imap_types.specs.DateTimes.{IsDateTime}
 use Rattle.imap_types.specs.Escape.{AreOctets}
@@ -9,31 +11,29 @@ pub use Rattle.mail_audit.specs.Audits.{IsSpokenLine}
 use Rattle.mail_audit.specs.Dumps.{dump_line}
 use Rattle.mail_audit.specs.Results.{IsResult}
 
--- Which lines a script may print besides op lines, whatever stands around them.
-
--- A name with ids behind it.
+-- A name followed by ids.
 abbrev pub AreTagFields : List ℕ → Type 0
 AreTagFields fields = (name : List ℕ) × (ids : List OpId) × AreOctets name × AreIds ids × (fields ≡ name_text name ++ 32 ∷ ids_text ids)
 
--- Ids as they are written.
+-- The text of a list of ids.
 abbrev pub AreIdsText : List ℕ → Type 0
 AreIdsText text = (ids : List OpId) × AreIds ids × (text ≡ ids_text ids)
 
--- An origin, and a message's flags, date and text, as they are written.
+-- The texts of an origin and of a message's flags, date and text.
 abbrev pub AreLetterFields : List ℕ → List ℕ → Type 0
 AreLetterFields origin rest =
     (id : OpId) × (flags : Flags) × (date : List ℕ) × (text : List ℕ)
     × IsId id × HasWords flags × IsDateTime date × AreOctets text
     × (origin ≡ id_text id) × (rest ≡ flags_text flags ++ 32 ∷ (date ++ 32 ∷ text_field text))
 
--- An origin with versions, flags, a date and a text behind it.
+-- An origin followed by versions, flags, a date and a text.
 abbrev pub AreMessageFields : List ℕ → Type 0
 AreMessageFields fields =
     (origin : OpId) × (versions : List OpId) × (flags : Flags) × (date : List ℕ) × (text : List ℕ)
     × IsId origin × AreIds versions × HasWords flags × IsDateTime date × AreOctets text
     × (fields ≡ id_text origin ++ 32 ∷ (ids_text versions ++ 32 ∷ (flags_text flags ++ 32 ∷ (date ++ 32 ∷ text_field text))))
 
--- A line in the form of a folder's, a message's or a subscription's.
+-- A line in the form of a folder's, a message's or a subscription's line.
 abbrev pub IsStateLine : List ℕ → Type 0
 IsStateLine line =
     (fields : List ℕ)
@@ -41,7 +41,8 @@ IsStateLine line =
     ⊎ (((line ≡ codes "message " ++ fields) × AreMessageFields fields)
     ⊎ ((line ≡ codes "subscribed " ++ fields) × AreTagFields fields)))
 
--- A dump's last line or its first, one of its folders, messages or subscriptions, a line of a transcript, or one that tells a result.
+-- A dump's first or last line, one of its folder, message or subscription lines, a line of a
+-- transcript, or one that reports a result.
 abbrev pub IsOtherLine : List ℕ → Type 0
 IsOtherLine line =
     (line ≡ codes "end")

@@ -1,40 +1,42 @@
--- How the auditor sees that UIDs are left, by the neighbours alone.
+-- How the auditor sees that UIDs are left, from the known neighbours only.
+
 use Rattle.std.specs.Prelude.{◌≡◌, ℕ, zero, suc, true, false, ltb, ◌+◌, ◌-◌, ◌<◌, ◌≤◌, List, [], ◌∷◌, drop}
 use Rattle.std.specs.List.Sorted.{IsPartitionPoint}
 use Rattle.mail_audit.specs.declared.slots.KnownUid.{KnownUid}
 
--- Behind the known ones UIDs are left for so many messages.
+-- After the last known one, UIDs are left for all `came` messages.
 abbrev pub HasRoomFor : ℕ → ℕ → List KnownUid → ℕ → Type 0
 HasRoomFor low from [] came = low + (came - from) ≤ 4294967295
 HasRoomFor low from (told ∷ rest) came = HasRoomFor told.uid (told.place + 1) rest came
 
--- Between the known one in front, behind which so many known ones stand, and this one UIDs are left.
+-- UIDs are left between the previous known one, the last of the first `at`, and this one.
 abbrev pub FitsAfter : ℕ → ℕ → ℕ → List KnownUid → KnownUid → Type 0
 FitsAfter low from zero tolds told = low + (told.place - from) < told.uid
 FitsAfter low from (suc at) [] told = low + (told.place - from) < told.uid
 FitsAfter low from (suc at) (first ∷ rest) told = FitsAfter first.uid (first.place + 1) at rest told
 
--- Between this one and the next known one UIDs are left, or, where there is none, for all behind it.
+-- UIDs are left between this one and the next known one, or, if none follows, for all later
+-- messages.
 abbrev pub FitsBefore : KnownUid → List KnownUid → ℕ → Type 0
 FitsBefore told [] came = told.uid + (came - (told.place + 1)) ≤ 4294967295
 FitsBefore told (next ∷ rest) came = told.uid + (next.place - (told.place + 1)) < next.uid
 
--- On either side of one that stands behind so many known ones UIDs are left.
+-- UIDs are left on either side of one that follows the first `at` known ones.
 abbrev pub FitsAt : ℕ → ℕ → ℕ → List KnownUid → KnownUid → ℕ → Type 0
 FitsAt low from at tolds told came = FitsAfter low from at tolds told × FitsBefore told (drop at tolds) came
 
--- So many known ones have lesser places.
+-- Exactly `at` known ones have lower places.
 abbrev pub SplitsAt : ℕ → List KnownUid → ℕ → Type 0
 SplitsAt place tolds at = IsPartitionPoint (λ (t : KnownUid). ltb t.place place ≡ true) (λ t. ltb t.place place ≡ false) tolds at
 
--- Nothing is told of this place, and so many are told in front of it.
+-- No UID of this place is known, and `at` known ones have lower places.
 abbrev pub IsUidUnknown : ℕ → ℕ → List KnownUid → Type 0
 IsUidUnknown zero place [] = Unit {0}
 IsUidUnknown zero place (t ∷ tolds) = place < t.place
 IsUidUnknown (suc at) place [] = ⊥
 IsUidUnknown (suc at) place (t ∷ tolds) = (t.place < place) × IsUidUnknown at place tolds
 
--- This UID is told of this place, and so many are told in front of it.
+-- This UID of this place is known, and `at` known ones have lower places.
 abbrev pub IsUidKnown : ℕ → ℕ → ℕ → List KnownUid → Type 0
 IsUidKnown at place uid [] = ⊥
 IsUidKnown zero place uid (t ∷ tolds) = (t.place ≡ place) × (t.uid ≡ uid)

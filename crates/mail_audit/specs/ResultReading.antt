@@ -1,4 +1,6 @@
--- How a line that tells a result is taken apart. What it says is told by its text (`IsResult`).
+-- How a line that reports a result is read. The meaning of such a line is defined by its text
+-- (`IsResult`).
+
 use Rattle.std.specs.Prelude.{ℕ, true, false, List, Option, Some, None, codes, if◌then◌else◌}
 use Rattle.std.specs.Str.{bytes_eq}
 use Rattle.mail_script.specs.declared.outcome_line.BrokenRule.TheVariants.{OwnEntry, UncoveredId, UnlawfulName, UnlawfulFlags, InboxDeleted, OldIdCount}
@@ -13,16 +15,16 @@ use Rattle.mail_script.specs.declared.outcome_line.SettleResult.TheVariants.{Don
 use Rattle.text_fields.specs.FieldReading.{◌>>=◌, cut_at, id_at, number_at, replica_at}
 use Rattle.mail_audit.specs.declared.results.AppliedCount.{AppliedCount}
 
--- A count, and whether a word stands behind it.
+-- A count, and whether a word follows it.
 unfoldable pub counted_by : Option (List ℕ × List ℕ) → List ℕ → Option AppliedCount
 counted_by None text = number_at 18446744073709551615 text >>= (λ count. Some (record { count = count; stalled = false }))
 counted_by (Some parts) text = number_at 18446744073709551615 parts.0 >>= (λ count. Some (record { count = count; stalled = true }))
 
--- A count with its ` stalled`.
+-- A count with or without ` stalled`.
 unfoldable pub counted_at : List ℕ → Option AppliedCount
 counted_at text = counted_by (cut_at 32 text) text
 
--- The result of one word.
+-- The delivery result that is a single word.
 unfoldable pub plain_at : List ℕ → Option DeliveryResult
 plain_at word =
     if bytes_eq word (codes "Held") then Some (Held false) else
@@ -35,11 +37,11 @@ plain_at word =
 abbrev pub conflict_at : List ℕ → Option DeliveryResult
 conflict_at value = id_at value >>= (λ id. Some (Conflict id))
 
--- The result that so many operations were applied.
+-- The result that this number of operations was applied.
 abbrev pub applied_at : List ℕ → Option DeliveryResult
 applied_at value = counted_at value >>= (λ counted. Some (Applied counted.count counted.stalled))
 
--- The result of a word with what stands behind it.
+-- The delivery result that is a word with a text after it.
 unfoldable pub valued_at : List ℕ → List ℕ → Option DeliveryResult
 valued_at kind value =
     if bytes_eq kind (codes "Held") then Some (Held true) else
@@ -55,7 +57,7 @@ result_by (Some parts) text = valued_at parts.0 parts.1
 unfoldable pub result_at : List ℕ → Option DeliveryResult
 result_at text = result_by (cut_at 32 text) text
 
--- The outcome behind `deliver`.
+-- The outcome after `deliver`.
 unfoldable pub delivered_at : List ℕ → Option OutcomeLine
 delivered_at fields = do
   name ← cut_at 32 fields
@@ -66,7 +68,7 @@ delivered_at fields = do
   result ← result_at told.1
   Some (Delivered id replica result)
 
--- The outcome behind `forge`.
+-- The outcome after `forge`.
 unfoldable pub forged_at : List ℕ → Option OutcomeLine
 forged_at fields = do
   name ← cut_at 32 fields
@@ -77,7 +79,7 @@ forged_at fields = do
   result ← result_at told.1
   Some (Forged id replica result)
 
--- The outcome behind `forge:`.
+-- The outcome after `forge:`.
 unfoldable pub unsound_at : List ℕ → Option OutcomeLine
 unsound_at fields =
     if bytes_eq fields (codes "Unsound U1") then Some (Unsound OwnEntry) else
@@ -87,7 +89,7 @@ unsound_at fields =
     (if bytes_eq fields (codes "Unsound U5") then Some (Unsound InboxDeleted) else
     (if bytes_eq fields (codes "Unsound U6") then Some (Unsound OldIdCount) else None)))))
 
--- The outcome behind `drain`.
+-- The outcome after `drain`.
 unfoldable pub drained_at : List ℕ → Option OutcomeLine
 drained_at fields = do
   by ← cut_at 58 fields
@@ -97,7 +99,7 @@ drained_at fields = do
   counted ← counted_at value.1
   Some (Drained replica counted.count counted.stalled)
 
--- The result of an exchange of one word.
+-- The result of an exchange that is a single word.
 unfoldable pub settled_plainly_at : List ℕ → Option SettleResult
 settled_plainly_at word =
     if bytes_eq word (codes "Ok") then Some Done else
@@ -112,11 +114,11 @@ settle_result_by (Some parts) text = id_at parts.1 >>= (λ id. Some (ConflictOfT
 unfoldable pub settle_result_at : List ℕ → Option SettleResult
 settle_result_at text = settle_result_by (cut_at 32 text) text
 
--- The outcome behind `settle:`.
+-- The outcome after `settle:`.
 unfoldable pub settled_at : List ℕ → Option OutcomeLine
 settled_at fields = settle_result_at fields >>= (λ result. Some (Settled result))
 
--- The outcome behind `agree`.
+-- The outcome after `agree`.
 unfoldable pub agreed_at : List ℕ → Option OutcomeLine
 agreed_at fields = do
   one ← cut_at 32 fields
@@ -125,7 +127,7 @@ agreed_at fields = do
   second ← replica_at other.0
   Some (Agreed first second (bytes_eq other.1 (codes " yes")))
 
--- The result of a join of one word.
+-- The result of a join that is a single word.
 unfoldable pub joined_plainly_at : List ℕ → Option JoinResult
 joined_plainly_at word =
     if bytes_eq word (codes "Ok") then Some DoneJoining else
@@ -140,7 +142,7 @@ join_result_by (Some parts) text = id_at parts.1 >>= (λ id. Some (Own id))
 unfoldable pub join_result_at : List ℕ → Option JoinResult
 join_result_at text = join_result_by (cut_at 32 text) text
 
--- The outcome behind `join`.
+-- The outcome after `join`.
 unfoldable pub joined_at : List ℕ → Option OutcomeLine
 joined_at fields = do
   one ← cut_at 32 fields

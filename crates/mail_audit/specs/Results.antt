@@ -1,3 +1,5 @@
+-- The lines that report results, among the output of a script, with the ranges of their numbers.
+
 use Rattle.std.specs.Prelude.{◌≡◌, ℕ, ◌<◌, ◌^◌, List}
 use Rattle.mail_script.specs.Fields.{IsId, IsReplica}
 use Rattle.mail_script.specs.Outcomes.{outcome_text}
@@ -10,28 +12,28 @@ use Rattle.mail_script.specs.declared.outcome_line.OutcomeLine.TheVariants.{Deli
 use Rattle.mail_script.specs.declared.outcome_line.SettleResult.{SettleResult}
 use Rattle.mail_script.specs.declared.outcome_line.SettleResult.TheVariants.{Conflict as ConflictOfTwo}
 
--- A count of operations that a line may tell: one of 64 bits.
+-- A count of operations that a line may report: one of 64 bits.
 abbrev pub IsCount : ℕ → Type 0
 IsCount count = count < 2 ^ 64
 
--- What came of a delivery, with a count and an id that a line may tell.
+-- The result of a delivery, with a count and an id that a line may report.
 abbrev pub IsDeliveryResult : DeliveryResult → Type 0
 IsDeliveryResult (Applied count stalled) = IsCount count
 IsDeliveryResult (Conflict id) = IsId id
 IsDeliveryResult _ = Unit {0}
 
--- What came of an exchange, with an id that a line may tell.
+-- The result of an exchange, with an id that a line may report.
 abbrev pub IsSettleResult : SettleResult → Type 0
 IsSettleResult (ConflictOfTwo id) = IsId id
 IsSettleResult _ = Unit {0}
 
--- What came of a join, with an id that a line may tell.
+-- The result of a join, with an id that a line may report.
 abbrev pub IsJoinResult : JoinResult → Type 0
 IsJoinResult (Own id) = IsId id
 IsJoinResult _ = Unit {0}
 
--- What came of a delivery, a drain, an exchange, a comparison or a join, and not how a script ended; its ids, replicas and counts are ones
--- that a line may tell.
+-- The outcome of a delivery, a drain, an exchange, a comparison or a join, and not of a whole
+-- script; its ids, replicas and counts are in range.
 abbrev pub IsPassedOver : OutcomeLine → Type 0
 IsPassedOver (Delivered id replica result) = IsId id × IsReplica replica × IsDeliveryResult result
 IsPassedOver (Forged id replica result) = IsId id × IsReplica replica × IsDeliveryResult result
@@ -44,6 +46,6 @@ IsPassedOver (BadScript line) = ⊥
 IsPassedOver CannotRead = ⊥
 IsPassedOver NoMemory = ⊥
 
--- A line that tells what came of a delivery, a drain, an exchange, a comparison or a join.
+-- A line that reports the result of a delivery, a drain, an exchange, a comparison or a join.
 abbrev pub IsResult : List ℕ → Type 0
 IsResult line = (told : OutcomeLine) × IsPassedOver told × (line ≡ outcome_text told)

@@ -1,4 +1,5 @@
--- The sessions that were heard.
+-- The sessions whose transcripts are audited.
+
 use Rattle.std.specs.Prelude.{ℕ, ◌+◌, List, [], ◌∷◌, if◌then◌else◌}
 use Rattle.std.specs.Str.{bytes_eq}
 use Rattle.std.specs.Global.{Vec}
@@ -9,7 +10,7 @@ pub record Session : Type 0 where
   pub name : List ℕ
   pub transcript : SessionKnowledge
 
--- The sessions that are kept by their names.
+-- The sessions stored by their names.
 abbrev pub sessions_of : List (Vec ℕ × SessionKnowledge) → List Session
 sessions_of [] = []
 sessions_of (kept ∷ rest) = record { name = kept.0.items; transcript = kept.1 } ∷ sessions_of rest

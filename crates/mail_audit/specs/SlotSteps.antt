@@ -1,16 +1,17 @@
--- The auditor's steps, one event at a time.
+-- The auditor's knowledge of a session's messages, and how each event changes it.
+
 use Rattle.std.specs.Prelude.{ℕ, ◌-◌, ◌≤◌, List, [], ◌∷◌, ◌++◌, Option, Some, None, length, get_or, set, replicate}
 use Rattle.mail_audit.specs.declared.event.SlotEvent.{SlotEvent}
 use Rattle.mail_audit.specs.declared.event.SlotEvent.TheVariants.{Selects, Exists, Expunge, Names, Tells, Passes}
 use Rattle.mail_audit.specs.Explained.{IsNumberOf, without}
 use Rattle.mail_audit.specs.Passing.{HasRoomAbove, MayBeUid, numbers_upward}
 
--- What is known: the places of the messages that are there, and for each place the UID, where one was told.
+-- What is known: the places of the existing messages, and for each place its reported UID, if any.
 pub record SlotKnowledge : Type 0 where
   pub there : List ℕ
   pub slots : List (Option ℕ)
 
--- So many more came.
+-- Further messages came, as many as the number says.
 abbrev pub with_more : SlotKnowledge → ℕ → SlotKnowledge
 with_more known m = record { there = known.there ++ numbers_upward (length known.slots) m; slots = known.slots ++ replicate m None }
 

@@ -1,3 +1,6 @@
+-- Explained transcripts of sessions: which commands a frame begins, which answers may be sent while
+-- commands are in progress, and the events of both (RFC 9051, section 7.5.1; RFC 2177).
+
 use Rattle.std.specs.Prelude.{◌≡◌, ◌⊎◌, ℕ, Bool, true, false, List, [], ◌∷◌, ◌++◌, Option, Some, None, IsTrue, IsFalse, if◌then◌else◌}
 use Rattle.std.specs.List.{list_any}
 use Rattle.std.specs.Str.{bytes_eq}
@@ -16,7 +19,8 @@ use Rattle.mail_audit.specs.declared.event.SlotEvent.TheVariants.{Selects, Exist
 use Rattle.mail_audit.specs.declared.in_progress.RunningCommand.{RunningCommand}
 use Rattle.mail_audit.specs.Explained.{IsExplained}
 
--- EXPUNGE isn't told while FETCH, STORE or SEARCH by message numbers are in progress alone (RFC 9051, section 7.5.1).
+-- EXPUNGE isn't sent while only FETCH, STORE or SEARCH by message numbers are in progress (RFC
+-- 9051, section 7.5.1).
 abbrev pub may_expunge : Command → Bool
 may_expunge (command.Fetch asked) = asked.by_uid
 may_expunge (command.Store asked) = asked.by_uid
@@ -30,7 +34,8 @@ idles _ = false
 abbrev pub running_by : Tagged → RunningCommand
 running_by tagged = record { tag = tagged.tag; may_expunge = may_expunge tagged.command; idles = idles tagged.command }
 
--- What a command does to the messages that the session sees: SELECT and EXAMINE start anew, also where they are refused later.
+-- The event of a command's beginning: SELECT and EXAMINE forget all messages, even if they are refused
+-- later.
 abbrev pub event_by : Command → SlotEvent
 event_by (command.Select name condstore) = Selects
 event_by (command.Examine name condstore) = Selects
@@ -40,7 +45,7 @@ event_by _ = Passes
 abbrev pub Begins : List RunningCommand → List ℕ → Tagged → Type 0
 Begins running frame tagged = IsFalse (list_any (λ (r : RunningCommand). r.idles) running) × IsSpelled tagged frame
 
--- What the client's frame does to the commands in progress and to the messages.
+-- The effect of a client's frame on the commands in progress, and its event.
 abbrev pub IsAsked : List RunningCommand → List ℕ → List RunningCommand → SlotEvent → Type 0
 IsAsked running frame after event =
     ((tagged : Tagged) × Begins running frame tagged × (after ≡ running ++ running_by tagged ∷ []) × (event ≡ event_by tagged.command))
@@ -51,7 +56,7 @@ abbrev pub without_ended : List ℕ → List RunningCommand → List RunningComm
 without_ended tag [] = []
 without_ended tag (r ∷ running) = if bytes_eq tag r.tag then running else r ∷ without_ended tag running
 
--- The commands in progress behind an answer: a tagged one ends its command.
+-- The commands in progress after an answer: a tagged one ends its command.
 abbrev pub running_after : List RunningCommand → Answer → List RunningCommand
 running_after running (answer.Completed tag code done) = without_ended tag running
 running_after running (answer.Refused tag reason) = without_ended tag running
@@ -61,25 +66,26 @@ abbrev pub event_of_uid : ℕ → Option ℕ → SlotEvent
 event_of_uid number None = Names number
 event_of_uid number (Some uid) = Tells number uid
 
--- What an answer tells of the messages.
+-- The event of an answer.
 abbrev pub event_of : Answer → SlotEvent
 event_of (answer.Exists count) = Exists count
 event_of (answer.Expunge number) = Expunge number
 event_of (answer.Fetch number items) = event_of_uid number items.uid
 event_of _ = Passes
 
--- The answer may stand while these commands are in progress.
+-- The answer may be sent while these commands are in progress.
 abbrev pub MayStand : List RunningCommand → Answer → Type 0
 MayStand running (answer.Expunge number) = IsTrue (list_any (λ (r : RunningCommand). r.may_expunge) running)
 MayStand running _ = Unit {0}
 
--- The octets are one printed answer, which may stand here; what it does to the commands in progress and to the messages.
+-- The octets are one printed answer, which may be sent here; its effect on the commands in
+-- progress, and its event.
 abbrev pub IsAnswered : List RunningCommand → List ℕ → List RunningCommand → SlotEvent → Type 0
 IsAnswered running octets after event =
     (given : Answer) × IsPrintable given × (octets ≡ text_of_answer given) × MayStand running given
     × (after ≡ running_after running given) × (event ≡ event_of given)
 
--- What was said in a session: by whom, and the frame or answer.
+-- A frame or answer, and who sent it.
 pub record Said : Type 0 where
   pub speaker : Speaker
   pub octets : List ℕ
@@ -88,7 +94,8 @@ abbrev pub IsHeard : List RunningCommand → Speaker → List ℕ → List Runni
 IsHeard running Client frame after event = IsAsked running frame after event
 IsHeard running Server octets after event = IsAnswered running octets after event
 
--- The events of a session's transcript: every answer is printed, and EXPUNGE stands only where it may.
+-- The events of a session's transcript: every answer is printed, and EXPUNGE is sent only when it
+-- may be.
 abbrev pub AreEvents : List RunningCommand → List Said → List SlotEvent → Type 0
 AreEvents running [] events = events ≡ []
 AreEvents running (said ∷ more) events =

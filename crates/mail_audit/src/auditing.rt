@@ -1,4 +1,4 @@
-//! The audit of a reader's octets, told to a writer.
+//! The audit of a reader's octets, whose verdict goes to a writer.
 
 ghost use Rattle.std.specs.Prelude.{◌≡◌, ◌≢◌, ◌++◌, ◌+◌, ◌^◌, ◌<◌, ℕ, List, [], ◌∷◌, None, Some, IfErr, IfOk, MatchOption, OnOk, length};
 ghost use Rattle.std.specs.Fmt.{decimal};
@@ -16,17 +16,18 @@ use mail_script::ScriptLines;
 use std::alloc::{AllocError, Global};
 use std::io::{ErrorKind, Read, Write};
 
-/// The most reads of one audit.
+/// The largest number of reads in one audit.
 pub const MAX_READS: u64 = 16_777_216;
 
-/// The most octets that one read gives.
+/// The largest number of octets that one read gives.
 pub const PIECE_OCTETS: usize = 65_536;
 
-/// Audits what a script printed, and writes what came of it as one line.
+/// Audits the output of scripts, and writes the verdict as one line.
 ///
-/// It ends with `Yes` where every transcript is explained and every dump is right. `No` names the first line up to which that
-/// isn't so, `Unreadable` the first that is none that a script prints; `ReadFailed` says that the reader failed, or that
-/// 16,777,216 reads didn't come to the input's end; `WriteFailed` that the writer did; `NoMemory` that there was none.
+/// The result is `Yes` if every transcript is explained and every dump is right. `No` names the
+/// first line up to which that fails, `Unreadable` the first line that no script prints;
+/// `ReadFailed` says that the reader failed, or that 16,777,216 reads didn't reach the end of the
+/// input; `WriteFailed` that the writer failed; `NoMemory` that memory ran out.
 pub fn audit<R: Read, W: Write>(alloc: Global, reader: &mut R, writer: &mut W) -> AuditEnd
     ensures audits { (input : List ℕ) → R.remaining reader.old ≡ Some input → Audits (lines_of input) result }
     ensures told { result ≢ NotWritten → Appends (W.contents writer.old) (W.contents writer.new) (end_text result) }
@@ -41,15 +42,15 @@ pub fn audit<R: Read, W: Write>(alloc: Global, reader: &mut R, writer: &mut W) -
     }
 }
 
-/// How far an audit's reading has come.
+/// An audit and the part of its input that it hasn't taken.
 #[derive(Drop)]
 struct Progress {
     audit: Audit,
-    /// What was read of the input and isn't taken.
+    /// The octets that were read and not yet taken.
     lines: ScriptLines,
 }
 
-/// Reads an input by pieces into this room, and audits its lines.
+/// Reads an input in pieces, into the given buffer, and audits its lines.
 fn judge<R: Read>(alloc: Global, reader: &mut R, piece: &mut [u8]) -> AuditEnd
     requires { length piece.old ≡ PIECE_OCTETS }
     ensures { (input : List ℕ) → R.remaining reader.old ≡ Some input → Audits (lines_of input) result }
@@ -76,14 +77,14 @@ fn judge<R: Read>(alloc: Global, reader: &mut R, piece: &mut [u8]) -> AuditEnd
     AuditEnd::ReadFailed
 }
 
-/// Room for so many octets.
+/// A buffer of `octets` zero octets; `Err` if memory runs out.
 fn room_for(alloc: Global, octets: usize) -> Result<Vec<u8>, AllocError>
     ensures { IfOk result (λ room. length room.items ≡ octets) }
 {
     vec![in alloc; 0u8; octets]
 }
 
-/// Takes the lines that a piece completes, and tells how the audit ends where it ends with one.
+/// Takes the lines that a piece completes; `Some` if the audit ends at one of them.
 fn take_piece(alloc: Global, progress: &mut Progress, piece: &[u8]) -> Option<AuditEnd>
     requires room { progress.old.audit.taken + length progress.old.lines + length piece.now < 2 ^ 64 }
     requires stands { (front : List (List ℕ)) × HasTaken front progress.old.audit }
@@ -105,7 +106,7 @@ fn take_piece(alloc: Global, progress: &mut Progress, piece: &[u8]) -> Option<Au
     }
 }
 
-/// Takes the next line, and tells how the audit ends where it ends with it.
+/// Takes the next line; `Some` if the audit ends at it.
 fn take_line(alloc: Global, audit: &mut Audit, line: &[u8]) -> Option<AuditEnd>
     requires room { audit.old.taken + 1 < 2 ^ 64 }
     requires stands { (lines : List (List ℕ)) × HasTaken lines audit.old }
@@ -117,7 +118,7 @@ fn take_line(alloc: Global, audit: &mut Audit, line: &[u8]) -> Option<AuditEnd>
     }
 }
 
-/// Takes the last line, which has no LF, where there is one, and ends the audit.
+/// Takes the last line, which has no LF, if there is one, and ends the audit.
 fn take_last(alloc: Global, progress: Progress) -> AuditEnd
     requires room { progress.audit.taken + 1 < 2 ^ 64 }
     requires rest { cut_at 10 progress.lines ≡ None }
@@ -135,7 +136,7 @@ fn take_last(alloc: Global, progress: Progress) -> AuditEnd
     }
 }
 
-/// How an audit ends whose input ends.
+/// The verdict at the end of the input.
 fn end_of(alloc: Global, audit: Audit) -> AuditEnd
     requires { (lines : List (List ℕ)) × HasTaken lines audit }
     ensures { (lines : List (List ℕ)) → HasTaken lines audit → Audits lines result }
@@ -146,7 +147,7 @@ fn end_of(alloc: Global, audit: Audit) -> AuditEnd
     }
 }
 
-/// Writes what came of an audit.
+/// Writes a verdict.
 fn tell<W: Write>(end: AuditEnd, writer: &mut W) -> Result<(), AuditEnd>
     ensures ok { OnOk result (Appends (W.contents writer.old) (W.contents writer.new) (end_text end)) }
     ensures err { IfErr result (λ why. why ≡ NotWritten) }

@@ -1,4 +1,4 @@
-//! What the lines of a dump behind its op lines are to say.
+//! The lines that must follow the op lines of a dump.
 
 ghost use Rattle.std.specs.Prelude.{◌≡◌, ◌++◌, ◌∷◌, [], ℕ, List, OnOk, OnErr, IfOk, codes};
 ghost use Rattle.std.specs.List.{flat_map};
@@ -17,7 +17,8 @@ use imap_types::Name;
 use std::alloc::{AllocError, Global};
 use subs_state::Subs;
 
-/// The lines of the folders, messages and subscriptions, with the line that ends the dump.
+/// The lines of the folders, messages and subscriptions, and the line that ends the dump; `Err` if
+/// memory runs out.
 pub fn state_lines(alloc: Global, folders: &Folders, subs: &Subs) -> Result<Vec<u8>, AllocError>
     ensures { (ops : List Op) → IsMadeBy (contents_of folders.now) ops → AreMadeBy (subscriptions_of subs.now) ops → IfOk result (λ text. text.items ≡ state_text ops ++ (codes "end" ++ 10 ∷ [])) }
 {
@@ -28,7 +29,7 @@ pub fn state_lines(alloc: Global, folders: &Folders, subs: &Subs) -> Result<Vec<
     Ok(text)
 }
 
-/// The lines of the folders, each with those of its messages.
+/// Appends each folder's line, followed by the lines of its messages.
 fn push_folders(alloc: Global, folders: &Folders, text: &mut Vec<u8>) -> Result<(), AllocError>
     ensures { (ops : List Op) → IsMadeBy (contents_of folders.now) ops → OnOk result (text.new.items ≡ text.old.items ++ flat_map (folder_lines ops) (folders_of ops)) }
 {
@@ -64,7 +65,7 @@ fn push_folder_line(
     push_name_line(alloc, b"folder ", name, &tags, text)
 }
 
-/// The lines of the names that are subscribed to.
+/// Appends the lines of the names that are subscribed to.
 fn push_subscriptions(alloc: Global, subs: &Subs, text: &mut Vec<u8>) -> Result<(), AllocError>
     ensures { (ops : List Op) → AreMadeBy (subscriptions_of subs.now) ops → OnOk result (text.new.items ≡ text.old.items ++ flat_map (subscription_line ops) (subscribed_names_of ops)) }
 {

@@ -1,4 +1,4 @@
-//! The state to which the op lines of a dump lead.
+//! The lines that must follow the op lines of a dump, worked out by applying its operations.
 
 ghost use Rattle.std.specs.Prelude.{◌≡◌, ◌⊎◌, ◌<◌, IfOk, MatchOption, length};
 ghost use Rattle.merge_laws.specs.Orders.{IsIn};
@@ -17,16 +17,17 @@ use std::alloc::{AllocError, Global};
 use subs_state::Subs;
 use tags_clocks::Clock;
 
-/// What is to follow the op lines of a dump.
+/// The lines that must follow the op lines of a dump.
 #[derive(Drop)]
 pub enum Expected {
     /// These lines, each with its end.
     Lines(Vec<u8>),
-    /// Nothing: behind so many op lines stands one that no replica can apply, whatever it applied of the others.
+    /// No lines can follow: the operation after this number of op lines can't be applied by any
+    /// replica, whichever of the others it applied.
     Stuck(usize),
 }
 
-/// What is to follow these op lines.
+/// The lines that must follow these op lines; `Err` if memory runs out.
 pub fn expected_after(alloc: Global, ops: &[SoundOp]) -> Result<Expected, AllocError>
     requires { IsAscending (λ (a b : Op). id_order a.id b.id) ops.now }
     ensures { IfOk result (IsExpected ops.now) }
@@ -44,7 +45,7 @@ pub fn expected_after(alloc: Global, ops: &[SoundOp]) -> Result<Expected, AllocE
     }
 }
 
-/// What the inbox's operations define, as the lines that follow them.
+/// The lines of the state that the inbox's operations define.
 fn lines_of(
     alloc: Global,
     inbox: &Inbox<Pair<Folders, Subs>, Unfollowed>,
@@ -57,7 +58,7 @@ fn lines_of(
     Ok(Expected::Lines(lines))
 }
 
-/// Applies all that can be applied: goes over the operations until none is ripe.
+/// Applies all operations that can be applied: passes over the list until none is ripe.
 fn apply_all(
     alloc: Global,
     ops: &[SoundOp],
@@ -74,7 +75,7 @@ fn apply_all(
     Ok(())
 }
 
-/// Goes over the operations once, and applies those that are ripe; tells whether one was.
+/// Passes over the operations once, and applies those that are ripe; says whether any was.
 fn apply_ripe(
     alloc: Global,
     ops: &[SoundOp],
@@ -93,12 +94,12 @@ fn apply_ripe(
     Ok(has_applied)
 }
 
-/// Whether the operation isn't counted and all its causes are.
+/// Whether the clock counts all causes of the operation and not the operation itself.
 fn is_next(clock: &Clock, op: &SoundOp) -> bool {
     !clock.covers(op.id()) && op.clock().is_covered_by(clock)
 }
 
-/// Applies an operation that is ripe.
+/// Applies a ripe operation.
 fn apply(
     alloc: Global,
     op: &SoundOp,
@@ -115,7 +116,7 @@ fn apply(
     }
 }
 
-/// How many operations stand before the first that the clock doesn't count.
+/// The place of the first operation that the clock doesn't count, if any.
 fn first_unapplied(ops: &[SoundOp], clock: &Clock) -> Option<usize>
     ensures { MatchOption result ((o : Op) → IsIn o ops.now → IsCause clock.now o.id) (λ place. place < length ops.now) }
 {

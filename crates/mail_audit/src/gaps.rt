@@ -1,4 +1,4 @@
-//! Whether UIDs are left between those that are known.
+//! Tests of whether enough UIDs are left between the known ones.
 
 ghost use Rattle.std.specs.Prelude.{◌≡◌, ◌↔◌, ℕ, ◌+◌, ◌-◌, ◌<◌, ◌≤◌, List, IsTrue, drop, length};
 ghost use Rattle.mail_audit.specs.Gaps.{FitsAt, FitsAfter, FitsBefore, HasRoomFor, SplitsAt};
@@ -10,7 +10,7 @@ use tree_list::TreeList;
 /// The greatest UID (RFC 9051, section 2.3.1.1).
 const LAST_UID: u64 = 4_294_967_295;
 
-/// How many of the known messages have lesser places.
+/// The number of known messages at lower places.
 pub fn known_before(tolds: &TreeList<KnownUid>, place: u32) -> usize
     requires { (came : ℕ) × ArePlaces 0 tolds.now came }
     ensures within { result ≤ length tolds.now }
@@ -19,7 +19,7 @@ pub fn known_before(tolds: &TreeList<KnownUid>, place: u32) -> usize
     tolds.partition_point(|_, told| told.place < place)
 }
 
-/// Whether UIDs are left for so many messages behind the known ones.
+/// Whether UIDs are left for the messages after the last known one, `came` messages in all.
 pub fn has_room(tolds: &TreeList<KnownUid>, came: u32) -> bool
     ensures { IsTrue result ↔ HasRoomFor 0 0 tolds.now came }
 {
@@ -29,7 +29,7 @@ pub fn has_room(tolds: &TreeList<KnownUid>, came: u32) -> bool
     }
 }
 
-/// Whether UIDs are left for so many messages behind a known one.
+/// Whether UIDs are left for the messages after a known one, `came` messages in all.
 fn has_room_behind(told: KnownUid, came: u32) -> bool
     ensures { IsTrue result ↔ (told.uid + (came - (told.place + 1)) ≤ 4294967295) }
 {
@@ -45,7 +45,7 @@ fn has_room_between(told: KnownUid, next: KnownUid) -> bool
     u64::from(told.uid) + u64::from(next.place).saturating_sub(from) < u64::from(next.uid)
 }
 
-/// Whether UIDs are left on either side of one that is told, which stands behind so many known ones.
+/// Whether UIDs are left on either side of a reported UID, which follows the first `at` known ones.
 pub fn fits_between(tolds: &TreeList<KnownUid>, at: usize, told: KnownUid, came: u32) -> bool
     requires { at ≤ length tolds.now }
     ensures { IsTrue result ↔ FitsAt 0 0 at tolds.now told came }
@@ -53,7 +53,7 @@ pub fn fits_between(tolds: &TreeList<KnownUid>, at: usize, told: KnownUid, came:
     fits_behind(tolds, at, told) && fits_in_front(tolds, at, told, came)
 }
 
-/// Whether UIDs are left for the messages between the known one in front and this one.
+/// Whether UIDs are left for the messages between the previous known one and this one.
 fn fits_behind(tolds: &TreeList<KnownUid>, at: usize, told: KnownUid) -> bool
     requires { at ≤ length tolds.now }
     ensures { IsTrue result ↔ FitsAfter 0 0 at tolds.now told }
@@ -67,7 +67,8 @@ fn fits_behind(tolds: &TreeList<KnownUid>, at: usize, told: KnownUid) -> bool
     }
 }
 
-/// Whether UIDs are left for the messages between this one and the known one behind it, or for all behind it.
+/// Whether UIDs are left for the messages between this one and the next known one, or for all later
+/// ones if no known one follows.
 fn fits_in_front(tolds: &TreeList<KnownUid>, at: usize, told: KnownUid, came: u32) -> bool
     requires { at ≤ length tolds.now }
     ensures { IsTrue result ↔ FitsBefore told (drop at tolds.now) came }

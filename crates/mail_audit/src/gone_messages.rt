@@ -1,11 +1,12 @@
-//! The places of messages that are gone.
+//! Searches over the places of expunged messages.
 
 ghost use Rattle.std.specs.Prelude.{◌↔◌, ℕ, ◌+◌, ◌<◌, ◌≤◌, IsTrue, get_or, length};
 ghost use Rattle.mail_audit.specs.KnownUids.{AreGone};
 
 use tree_list::TreeList;
 
-/// How many messages are gone in front of the one behind so many that are there.
+/// The number of expunged messages before the existing message that follows the first `skipped`
+/// existing ones.
 pub fn gone_before(gone: &TreeList<u32>, skipped: u32) -> usize
     requires { (came : ℕ) × AreGone 0 gone.now came }
     ensures within { result ≤ length gone.now }
@@ -15,7 +16,8 @@ pub fn gone_before(gone: &TreeList<u32>, skipped: u32) -> usize
     gone.partition_point(|before, place| is_in_front(*place, skipped, before))
 }
 
-/// Whether a gone message, which is the one behind so many gone ones, is in front of the one behind so many that are there.
+/// Whether an expunged message, which follows `before` expunged ones, comes before the existing
+/// message that follows the first `skipped` existing ones.
 fn is_in_front(gone: u32, skipped: u32, before: usize) -> bool
     ensures { IsTrue result ↔ (gone ≤ skipped + before) }
 {

@@ -13,8 +13,8 @@ use std::alloc::{AllocError, Global};
 use std::collections::{BTreeMap, VecDeque};
 use std::marker::Model;
 
-/// A command in progress: its tag, whether EXPUNGE may be told meanwhile (RFC 9051, section 7.5.1), and whether it is IDLE
-/// (RFC 2177).
+/// A command in progress: its tag, whether EXPUNGE may be sent meanwhile (RFC 9051, section 7.5.1),
+/// and whether it is IDLE (RFC 2177).
 #[derive(Drop)]
 pub struct RunningCommand {
     pub tag: Octets,
@@ -26,15 +26,15 @@ pub struct RunningCommand {
 #[derive(Drop)]
 pub struct InProgress {
     alloc: Global,
-    /// Each by its number: they are numbered on as they begin.
+    /// The commands by number; numbers ascend in the order in which commands begin.
     commands: BTreeMap<u64, RunningCommand>,
-    /// The number of the next one.
+    /// The number of the next command.
     next: u64,
-    /// The numbers of those with each tag, in order.
+    /// The numbers of the commands with each tag, in order.
     numbers: IndexMap<Vec<u8>, VecDeque<u64>>,
-    /// How many of them let EXPUNGE be told.
+    /// The number of commands during which EXPUNGE may be sent.
     expunging: usize,
-    /// How many of them are IDLE.
+    /// The number of IDLE commands.
     idling: usize,
 }
 
@@ -67,7 +67,7 @@ impl InProgress {
         }
     }
 
-    /// Whether EXPUNGE may be told now.
+    /// Whether EXPUNGE may be sent now.
     pub fn may_expunge(&self) -> bool
         ensures { result ≡ list_any (λ c. c.may_expunge) self.now }
     {
@@ -81,7 +81,8 @@ impl InProgress {
         0 < self.idling
     }
 
-    /// A command begins; `Err` where there is no memory for it, or `u64::MAX` commands began before, and then the audit ends.
+    /// Adds a command that begins; `Err` if memory runs out or `u64::MAX` commands began before.
+    /// After an `Err` the audit ends.
     pub fn begin(&mut self, command: RunningCommand) -> Result<(), AllocError>
         ensures { OnOk result (self.new ≡ self.old ++ command ∷ []) }
     {
@@ -104,7 +105,7 @@ impl InProgress {
         Ok(())
     }
 
-    /// The first command with this tag ends, where there is one.
+    /// Removes the first command with this tag, if any.
     pub fn end(&mut self, tag: &[u8])
         ensures { self.new ≡ without_ended tag.now self.old }
     {
@@ -118,7 +119,7 @@ impl InProgress {
     }
 }
 
-/// Keeps a number for a tag behind those that are kept for it; `Err` where there is no memory for it, and then nothing changes.
+/// Adds a number to the end of a tag's list; `Err` if memory runs out, and then nothing changes.
 fn add(
     numbers: &mut IndexMap<Vec<u8>, VecDeque<u64>>,
     alloc: Global,
@@ -138,7 +139,7 @@ fn add(
     Ok(())
 }
 
-/// Takes out the first number that is kept for a tag.
+/// Takes the first number out of a tag's list; `None` if it has none.
 fn take_first(numbers: &mut IndexMap<Vec<u8>, VecDeque<u64>>, tag: &[u8]) -> Option<u64>
     ensures taken { kept_for tag.now numbers.old.entries ≡ option_to_list result ++ kept_for tag.now numbers.new.entries }
     ensures none { IfNone result (kept_for tag.now numbers.old.entries ≡ []) }

@@ -14,18 +14,18 @@ use crate::verdict::AuditEnd;
 use imap_types::Octets;
 use std::alloc::{AllocError, Global};
 
-/// How far an audit has come.
+/// The state of an audit between lines.
 #[derive(Drop)]
 pub struct Audit {
     pub sessions: AuditSessions,
-    /// The dump that began and hasn't ended.
+    /// The dump that has begun and not ended.
     pub dump: Option<OpenDump>,
-    /// So many lines were taken.
+    /// The number of lines taken.
     pub taken: u64,
 }
 
 impl Audit {
-    /// No line was taken.
+    /// An audit that has taken no line.
     pub fn new(alloc: Global) -> Audit
         ensures { HasTaken [] result }
     {
@@ -36,7 +36,8 @@ impl Audit {
         }
     }
 
-    /// Takes the next line, and tells how the audit ends where it ends with it.
+    /// Takes the next line; `Some` if the audit ends at it. After an `Err`, which means that memory
+    /// ran out, the audit can't be used.
     pub fn take(&mut self, alloc: Global, line: &[u8]) -> Result<Option<AuditEnd>, AllocError>
         requires room { self.old.taken + 1 < 2 ^ 64 }
         requires stands { (lines : List (List ℕ)) × HasTaken lines self.old }
@@ -95,7 +96,7 @@ impl Audit {
         }
     }
 
-    /// Takes a line that is of no transcript and of no dump that began before it.
+    /// Takes a line that belongs to no transcript and to no dump that began before it.
     fn pass(&mut self, alloc: Global, line: &[u8]) -> Result<Option<AuditEnd>, AllocError>
         ensures { (lines : List (List ℕ)) (parts : List Part) → AreHeard lines parts self.old.sessions → self.old.taken ≡ length lines + 1 → self.old.dump ≡ None → (IsSpokenLine line.now → ⊥) → IfOk result (λ end. MatchOption end (HasTaken (lines ++ line.now ∷ []) self.new) (EndsAt lines line.now)) }
     {
@@ -110,7 +111,7 @@ impl Audit {
         }
     }
 
-    /// How the audit ends where the input does.
+    /// The verdict if the input ends here; `Err` if memory runs out.
     pub fn end(self, alloc: Global) -> Result<AuditEnd, AllocError>
         requires { (lines : List (List ℕ)) × HasTaken lines self }
         ensures { (lines : List (List ℕ)) → HasTaken lines self → IfOk result (Audits lines) }
@@ -123,7 +124,7 @@ impl Audit {
     }
 }
 
-/// What was said, with its closing CRLF.
+/// The octets that were sent, with their closing CRLF; `Err` if memory runs out.
 fn with_line_end(text: Octets) -> Result<Vec<u8>, AllocError>
     ensures { IfOk result (λ octets. octets.items ≡ text ++ 13 ∷ 10 ∷ []) }
 {

@@ -1,4 +1,4 @@
-//! Which lines can be read at all.
+//! The forms of the lines that a script can print.
 
 ghost use Rattle.std.specs.Prelude.{◌≡◌, ◌++◌, ◌==◌, IfOk, IsTrue, MatchOption, not, true};
 ghost use Rattle.std.specs.List.{list_all};
@@ -13,18 +13,18 @@ use crdt_ops::{Op, OpFault, read_op};
 use std::alloc::{AllocError, Global};
 use text_fields::split;
 
-/// What a line of a dump is.
+/// The kinds of line that a dump can hold.
 #[derive(Drop)]
 pub enum DumpLine {
     /// An op line.
     Op(Op),
     /// Another line that a script may print.
     Other,
-    /// None of these.
+    /// A line that no script prints.
     Unreadable,
 }
 
-/// What the line is that stands in a dump.
+/// The kind of a line in a dump; `Err` if memory runs out.
 pub fn dump_line(alloc: Global, line: &[u8]) -> Result<DumpLine, AllocError>
     ensures { IfOk result (IsDumpLine line.now) }
 {
@@ -40,7 +40,7 @@ pub fn dump_line(alloc: Global, line: &[u8]) -> Result<DumpLine, AllocError>
     }
 }
 
-/// The operation that a text spells, where it spells one.
+/// The operation that a text spells, if any; `Err` if memory runs out.
 fn operation(alloc: Global, text: &[u8]) -> Result<Option<Op>, AllocError>
     ensures { IfOk result (λ read. MatchOption read ((op : Op) → IsSpelled op text.now → ⊥) (λ op. IsSpelled op text.now)) }
 {
@@ -51,7 +51,7 @@ fn operation(alloc: Global, text: &[u8]) -> Result<Option<Op>, AllocError>
     }
 }
 
-/// Whether a script may print this line, beside op lines.
+/// Whether a script may print this line, op lines aside; `Err` if memory runs out.
 pub fn is_other(alloc: Global, line: &[u8]) -> Result<bool, AllocError>
     ensures { IfOk result (λ prints. IsTrue prints → IsOtherLine line.now) }
 {
@@ -67,7 +67,7 @@ pub fn is_other(alloc: Global, line: &[u8]) -> Result<bool, AllocError>
     is_result(alloc, line)
 }
 
-/// Whether the line is one of a transcript.
+/// Whether the line belongs to a transcript.
 fn is_spoken(alloc: Global, line: &[u8]) -> Result<bool, AllocError>
     ensures { IfOk result (λ spoken. IsTrue spoken → IsSpokenLine line.now) }
 {
@@ -80,7 +80,7 @@ fn is_spoken(alloc: Global, line: &[u8]) -> Result<bool, AllocError>
     }
 }
 
-/// Whether the line has the form of a folder's, a message's or a subscription's.
+/// Whether the line has the form of a folder's, a message's or a subscription's line.
 fn is_state_line(alloc: Global, line: &[u8]) -> Result<bool, AllocError>
     ensures { IfOk result (λ has. IsTrue has → IsStateLine line.now) }
 {
@@ -113,7 +113,8 @@ fn are_unsubscribe_fields(alloc: Global, fields: &[u8]) -> Result<bool, AllocErr
     is_spelled(alloc, b"1:1 - unsubscribe ", fields)
 }
 
-/// Whether the fields are those of a message's line: its origin, its versions, and its flags, date and text.
+/// Whether the fields are those of a message's line: its origin, its versions, and its flags, date
+/// and text.
 fn are_message_fields(alloc: Global, fields: &[u8]) -> Result<bool, AllocError>
     ensures { IfOk result (λ are. IsTrue are → AreMessageFields fields.now) }
 {
@@ -129,14 +130,15 @@ fn are_message_fields(alloc: Global, fields: &[u8]) -> Result<bool, AllocError>
     are_letter_fields(alloc, origin, rest)
 }
 
-/// Whether the text is that of ids, as a Delete lists them.
+/// Whether the text lists ids as a Delete does.
 fn are_ids(alloc: Global, text: &[u8]) -> Result<bool, AllocError>
     ensures { IfOk result (λ are. IsTrue are → AreIdsText text.now) }
 {
     is_spelled(alloc, b"1:1 - delete a ", text)
 }
 
-/// Whether these are an id, and flags, a date and a text as an Append with this id has them behind its folder.
+/// Whether these are an id, and the flags, date and text that an Append with this id has after its
+/// folder.
 fn are_letter_fields(alloc: Global, id: &[u8], rest: &[u8]) -> Result<bool, AllocError>
     requires { list_all (λ octet. not (octet == 32)) id.now ≡ true }
     ensures { IfOk result (λ are. IsTrue are → AreLetterFields id.now rest.now) }
@@ -146,7 +148,7 @@ fn are_letter_fields(alloc: Global, id: &[u8], rest: &[u8]) -> Result<bool, Allo
     is_spelled(alloc, &front, rest)
 }
 
-/// Whether an operation is spelled by these two, one behind the other.
+/// Whether two texts, one after the other, spell an operation.
 fn is_spelled(alloc: Global, front: &[u8], fields: &[u8]) -> Result<bool, AllocError>
     ensures { IfOk result (λ spelled. IsTrue spelled → (op : Op) × IsSpelled op (front.now ++ fields.now)) }
 {

@@ -1,4 +1,4 @@
-//! The lines of transcripts, and the first lines of dumps.
+//! Readers of the lines of transcripts, and of the first lines of dumps.
 
 ghost use Rattle.std.specs.Prelude.{◌≡◌, ◌++◌, ◌∷◌, ℕ, List, IfOk, IsTrue, MatchOption};
 ghost use Rattle.imap_types.specs.Escape.{AreOctets, escape_text};
@@ -15,16 +15,16 @@ use std::alloc::{AllocError, Global};
 use tags_clocks::ReplicaId;
 use text_fields::split;
 
-/// What a line of a transcript tells.
+/// The session, the speaker and the octets that a line of a transcript shows.
 #[derive(Drop)]
 pub struct SpokenLine {
     pub session: SessionName,
     pub speaker: Speaker,
-    /// What was said, without its closing CRLF.
+    /// The octets that were sent, unescaped and without their closing CRLF.
     pub text: Octets,
 }
 
-/// What a line tells, where it is one of a transcript.
+/// Reads a line of a transcript; `None` if it is none, and `Err` if memory runs out.
 pub fn read_spoken(alloc: Global, line: &[u8]) -> Result<Option<SpokenLine>, AllocError>
     ensures { IfOk result (λ found. MatchOption found (IsSpokenLine line.now → ⊥) (λ spoken. IsTrue (is_session_name spoken.session) × AreOctets spoken.text × (line.now ≡ spoken_line spoken.session spoken.speaker spoken.text))) }
 {
@@ -47,7 +47,7 @@ pub fn read_spoken(alloc: Global, line: &[u8]) -> Result<Option<SpokenLine>, All
     }
 }
 
-/// Who spoke, and the text behind it.
+/// The speaker, and the text after the speaker's mark.
 fn speech(said: &[u8]) -> Option<(Speaker, &[u8])>
     ensures { MatchOption result ((speaker : Speaker) (text : List ℕ) → 32 ∷ said.now ≡ mark_of speaker ++ text → ⊥) (λ speech. 32 ∷ said.now ≡ mark_of speech.0 ++ speech.1.now) }
 {
@@ -60,7 +60,8 @@ fn speech(said: &[u8]) -> Option<(Speaker, &[u8])>
     }
 }
 
-/// What a text in the escape that keeps spaces stands for, where it is in it.
+/// Undoes the escape that keeps spaces; `None` if the text isn't so escaped, and `Err` if memory
+/// runs out.
 fn unescape_or_none(alloc: Global, text: &[u8]) -> Result<Option<Octets>, AllocError>
     ensures { IfOk result (λ found. MatchOption found ((octets : List ℕ) → AreOctets octets → text.now ≡ escape_text Kept octets → ⊥) (λ octets. AreOctets octets × (text.now ≡ escape_text Kept octets))) }
 {
@@ -71,7 +72,7 @@ fn unescape_or_none(alloc: Global, text: &[u8]) -> Result<Option<Octets>, AllocE
     }
 }
 
-/// The replica whose dump begins with this line, where one does.
+/// The replica whose dump begins at this line, if any.
 pub fn replica_of_dump(line: &[u8]) -> Option<ReplicaId>
     ensures { MatchOption result (IsDumpBegin line.now → ⊥) (λ replica. IsReplica replica × (line.now ≡ dump_line replica)) }
 {

@@ -10,8 +10,9 @@ use merge_laws::Caused;
 use std::alloc::{AllocError, Global};
 use tags_clocks::{Clock, OpId, ReplicaId};
 
-/// The op lines of a dump: the operations of those before the first bad one, which isn't sound or not above the one in
-/// front of it; and the ids of those from there on.
+/// The op lines of a dump. A line is bad if its operation isn't sound, or if its id isn't above
+/// that of the line before it. The operations of the lines before the first bad one are stored, and
+/// of the later lines only the ids.
 #[derive(Drop)]
 pub struct OpLines {
     pub ops: Vec<SoundOp>,
@@ -31,7 +32,7 @@ impl OpLines {
         }
     }
 
-    /// Takes the operation of the next line. `Err` where there is no memory for it.
+    /// Takes the operation of the next line; `Err` if memory runs out.
     pub fn push(&mut self, op: Op) -> Result<(), AllocError>
         ensures { OnOk result (IsLonger self.old op self.new) }
     {
@@ -49,7 +50,7 @@ impl OpLines {
         }
     }
 
-    /// Takes the id of a line that is bad, or behind one.
+    /// Takes the id of a bad line or of a later one; `Err` if memory runs out.
     fn push_bad(&mut self, id: &OpId) -> Result<(), AllocError>
         ensures { OnOk result ((self.new.is_bad ≡ true) × (self.new.ops.items ≡ self.old.ops.items)) }
     {
@@ -58,8 +59,9 @@ impl OpLines {
         Ok(())
     }
 
-    /// How many op lines stand before the first that makes the dump wrong, where one does: it is bad, or has a cause that no op
-    /// line has. Where op lines may still come, a cause may come with them whose id is above the last one's.
+    /// The place of the first op line that makes the dump wrong, if any: it is bad, or has a cause
+    /// that no op line has. If op lines may still come, a cause whose id is above that of the last
+    /// line may come with them, and isn't missed. `Err` if memory runs out.
     pub fn first_wrong(&self, alloc: Global, may_come: bool) -> Result<Option<usize>, AllocError>
         ensures within { IfOk result (λ found. IfSome found (λ place. place ≤ length self.now.ops.items)) }
         ensures bad { IfOk result (λ found. self.now.is_bad ≡ true → IsSome found) }
@@ -82,7 +84,8 @@ impl OpLines {
         }
     }
 
-    /// The clock that counts for each replica the op lines with its numbers from 1 on, without a gap.
+    /// The clock that counts, for each replica, the op lines with its numbers from 1 on without a
+    /// gap; `Err` if memory runs out.
     fn clock(&self, alloc: Global) -> Result<Clock, AllocError> {
         let mut ids = Vec::with_capacity(alloc, self.others.len())?;
         for op in &self.ops {
@@ -117,8 +120,8 @@ fn is_below(op: &SoundOp, id: &OpId) -> bool
     op.id() < *id
 }
 
-/// The place of the first operation with a cause that isn't counted; where op lines may still come behind an id, only with one
-/// that isn't above it.
+/// The place of the first operation with a cause that isn't counted. If op lines may still come
+/// after the id `last`, only causes whose ids aren't above it are missed.
 fn first_lacking(ops: &[SoundOp], there: &Clock, last: &Option<OpId>) -> Option<usize>
     ensures { IfSome result (λ place. place < length ops.now) }
 {
@@ -130,7 +133,8 @@ fn first_lacking(ops: &[SoundOp], there: &Clock, last: &Option<OpId>) -> Option<
     None
 }
 
-/// Whether a cause isn't counted; where op lines may still come behind an id, only one that isn't above it.
+/// Whether a cause isn't counted. If op lines may still come after the id `last`, only causes whose
+/// ids aren't above it are missed.
 fn lacks(clock: &Clock, there: &Clock, last: &Option<OpId>) -> bool {
     for (replica, count) in clock.entries() {
         let counted = there.get(*replica);
@@ -141,7 +145,8 @@ fn lacks(clock: &Clock, there: &Clock, last: &Option<OpId>) -> bool {
     false
 }
 
-/// Whether the replica's operation behind so many is missed where op lines may still come behind an id.
+/// Whether the replica's operation after the first `counted` is missed. If op lines may still come
+/// after the id `last`, it is missed only if its id isn't above that one.
 fn is_missed(replica: ReplicaId, counted: u32, last: &Option<OpId>) -> bool {
     let Some(last) = last else {
         return true;

@@ -15,49 +15,49 @@ use std::alloc::{AllocError, Global};
 use tags_clocks::ReplicaId;
 use text_fields::split;
 
-/// A dump that began and hasn't ended.
+/// A dump that has begun and not ended.
 #[derive(Drop)]
 pub struct OpenDump {
-    /// The number of its first line.
+    /// The number of its first line, from 1.
     pub first: u64,
-    /// Whose it is.
+    /// The replica whose dump it is.
     pub replica: ReplicaId,
-    /// How far it came.
+    /// The part of the dump that has been reached.
     pub phase: DumpPhase,
 }
 
-/// How far a dump came.
+/// The part of a dump that has been reached.
 #[derive(Drop)]
 pub enum DumpPhase {
-    /// To its op lines.
+    /// The op lines.
     Ops(OpLines),
-    /// To the lines behind them, which are to be these.
+    /// The later lines, which must be those that the op lines define.
     State(Comparison),
 }
 
-/// The lines that are to follow the op lines.
+/// The lines that must follow the op lines.
 #[derive(Drop)]
 pub struct Comparison {
-    /// Each with its end.
+    /// The expected lines, each with its end.
     pub lines: Vec<u8>,
-    /// So many of their octets came.
+    /// The number of octets of the expected lines that have been matched.
     pub came: usize,
 }
 
-/// What comes of a line of a dump.
+/// The effect of a line on a dump.
 pub enum DumpStep {
-    /// The dump goes on.
+    /// The dump continues.
     GoesOn,
-    /// It has ended, and is right.
+    /// The dump has ended, and is right.
     Ends,
-    /// It is wrong at the line of this number.
+    /// The dump is wrong at the line of this number.
     Wrong(u64),
     /// The line can't be read.
     Unreadable,
 }
 
 impl OpenDump {
-    /// A dump that begins with the line of this number.
+    /// A dump that begins at the line of this number.
     pub fn new(alloc: Global, first: u64, replica: ReplicaId) -> OpenDump
         ensures { (result.first ≡ first) × (result.replica ≡ replica) × PhaseStands [] result.phase }
     {
@@ -68,7 +68,7 @@ impl OpenDump {
         }
     }
 
-    /// Takes the next line, which has this number.
+    /// Takes the next line, which has this number; `Err` if memory runs out.
     pub fn take(&mut self, alloc: Global, line: &[u8], number: u64) -> Result<DumpStep, AllocError>
         requires { (inside : List (List ℕ)) × PhaseStands inside self.old.phase × (number ≡ self.old.first + 1 + length inside) }
         ensures place { (self.new.first ≡ self.old.first) × (self.new.replica ≡ self.old.replica) }
@@ -95,7 +95,8 @@ impl OpenDump {
         }
     }
 
-    /// How an audit ends whose input ends here, with the line of this number.
+    /// The verdict if the input ends here, within the dump, at the line of this number; `Err` if
+    /// memory runs out.
     pub fn end(self, alloc: Global, last: u64) -> Result<AuditEnd, AllocError>
         requires { (lines : List (List ℕ)) × (sessions : List Session) × IsOpen lines sessions self × (last ≡ length lines) }
         ensures { (lines : List (List ℕ)) (sessions : List Session) → IsOpen lines sessions self → last ≡ length lines → IfOk result (Audits lines) }
@@ -110,7 +111,8 @@ impl OpenDump {
     }
 }
 
-/// What is to follow op lines behind which others stand, or where they are wrong.
+/// The lines that must follow these op lines if other lines come now, or the place where the op
+/// lines are wrong.
 fn close(alloc: Global, lines: &OpLines) -> Result<Expected, AllocError>
     requires { AreOrdered lines.now.ops.items }
     ensures { (inside : List (List ℕ)) → OpsStand inside lines.now → IfOk result (IsClosed inside) }
@@ -121,7 +123,7 @@ fn close(alloc: Global, lines: &OpLines) -> Result<Expected, AllocError>
     }
 }
 
-/// What comes of a line that can't be read where op lines may still come.
+/// The effect of a line that can't be read while op lines may still come.
 fn wrong_before(alloc: Global, first: u64, lines: &OpLines) -> Result<DumpStep, AllocError>
     requires { first + 1 + length lines.now.ops.items < 2 ^ 64 }
     ensures { IfOk result (IsEarly first lines.now) }
@@ -133,7 +135,7 @@ fn wrong_before(alloc: Global, first: u64, lines: &OpLines) -> Result<DumpStep, 
 }
 
 impl Comparison {
-    /// Takes the next line, which has this number.
+    /// Takes the next line, which has this number; `Err` if memory runs out.
     fn take(&mut self, alloc: Global, line: &[u8], number: u64) -> Result<DumpStep, AllocError>
         requires { self.old.came ≤ length self.old.lines.items }
         ensures { IfOk result (IsCompared self.old line.now number self.new) }
@@ -149,7 +151,7 @@ impl Comparison {
         }
     }
 
-    /// Whether this is the line that is to come.
+    /// Whether this is the next expected line.
     fn has_next(&self, line: &[u8]) -> bool
         requires { self.now.came ≤ length self.now.lines.items }
         ensures { IsTrue result → (rest : List ℕ) × (drop self.now.came self.now.lines.items ≡ line.now ++ 10 ∷ rest) }
@@ -160,7 +162,7 @@ impl Comparison {
         }
     }
 
-    /// What comes of a line of this number that is the one that was to come.
+    /// The effect of the next expected line, which has this number.
     fn step_behind(&self, line: &[u8], number: u64) -> DumpStep
         ensures { IsStepBehind self.now line.now number result }
     {
@@ -174,7 +176,7 @@ impl Comparison {
     }
 }
 
-/// Whether the line is an op line.
+/// Whether the line is an op line; `Err` if memory runs out.
 fn is_op(alloc: Global, line: &[u8]) -> Result<bool, AllocError> {
     match dump_line(alloc, line)? {
         DumpLine::Op(op) => {

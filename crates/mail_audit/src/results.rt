@@ -1,4 +1,5 @@
-//! The lines that tell what came of deliveries, drains, exchanges, comparisons and joins.
+//! Readers of the lines that report the results of deliveries, drains, exchanges, comparisons and
+//! joins.
 
 ghost use Rattle.std.specs.Prelude.{◌≡◌, ◌↔◌, IfOk, IfSome, IsTrue};
 ghost use Rattle.mail_script.specs.Fields.{IsId, IsReplica};
@@ -15,14 +16,16 @@ use std::alloc::{AllocError, Global};
 use tags_clocks::{OpId, ReplicaId};
 use text_fields::{number, split};
 
-/// How many operations were applied, and whether one stays held whose causes were.
+/// The number of operations that were applied, and whether an operation whose causes are applied is
+/// still held.
 #[derive(Clone, Copy)]
 struct AppliedCount {
     count: u64,
     stalled: bool,
 }
 
-/// Whether the line tells what came of a delivery, a drain, an exchange, a comparison or a join.
+/// Whether the line reports the result of a delivery, a drain, an exchange, a comparison or a join;
+/// `Err` if memory runs out.
 pub fn is_result(alloc: Global, line: &[u8]) -> Result<bool, AllocError>
     ensures { IfOk result (λ tells. IsTrue tells ↔ IsResult line.now) }
 {
@@ -32,7 +35,7 @@ pub fn is_result(alloc: Global, line: &[u8]) -> Result<bool, AllocError>
     }
 }
 
-/// Whether the line tells this outcome.
+/// Whether the line is exactly the text of this outcome; `Err` if memory runs out.
 fn is_told(alloc: Global, outcome: OutcomeLine, line: &[u8]) -> Result<bool, AllocError>
     ensures { IfOk result (λ tells. IsTrue tells ↔ (line.now ≡ outcome_text outcome)) }
 {
@@ -49,7 +52,7 @@ fn is_same(one: &[u8], other: &[u8]) -> bool
     one == other
 }
 
-/// The id that the text writes.
+/// The id that the text spells.
 fn id(text: &[u8]) -> Option<OpId>
     ensures read { result ≡ id_at text.now }
     ensures range { IfSome result IsId }
@@ -57,7 +60,7 @@ fn id(text: &[u8]) -> Option<OpId>
     text_fields::id(text)
 }
 
-/// The replica that the text writes.
+/// The replica that the text spells.
 fn replica(text: &[u8]) -> Option<ReplicaId>
     ensures read { result ≡ replica_at text.now }
     ensures range { IfSome result IsReplica }
@@ -65,7 +68,8 @@ fn replica(text: &[u8]) -> Option<ReplicaId>
     text_fields::replica(text)
 }
 
-/// The outcome that the line seems to tell.
+/// The outcome that the line seems to report. Readers from here on are lenient: the line is
+/// compared with the outcome's own text afterwards.
 #[tactic(auto, unfolding(crate::specs::ResultReading::outcome_at))]
 fn outcome(line: &[u8]) -> Option<OutcomeLine>
     ensures read { result ≡ outcome_at line.now }
@@ -75,7 +79,7 @@ fn outcome(line: &[u8]) -> Option<OutcomeLine>
     outcome_of(word, fields)
 }
 
-/// The outcome that a line of this word with these fields seems to tell.
+/// The outcome that a line with this word and these fields seems to report.
 #[tactic(auto, unfolding(crate::specs::ResultReading::fields_at))]
 fn outcome_of(word: &[u8], fields: &[u8]) -> Option<OutcomeLine>
     ensures read { result ≡ fields_at word.now fields.now }
@@ -94,7 +98,8 @@ fn outcome_of(word: &[u8], fields: &[u8]) -> Option<OutcomeLine>
     }
 }
 
-/// The outcome of an exchange, a comparison or a join that a line of this word with these fields seems to tell.
+/// The outcome of an exchange, a comparison or a join that a line with this word and these fields
+/// seems to report.
 #[tactic(auto, unfolding(crate::specs::ResultReading::replicas_at))]
 fn of_replicas(word: &[u8], fields: &[u8]) -> Option<OutcomeLine>
     ensures read { result ≡ replicas_at word.now fields.now }
@@ -111,7 +116,7 @@ fn of_replicas(word: &[u8], fields: &[u8]) -> Option<OutcomeLine>
     }
 }
 
-/// The outcome that these fields behind `deliver` seem to tell.
+/// The outcome that the fields after `deliver` seem to report.
 #[tactic(auto, unfolding(crate::specs::ResultReading::delivered_at))]
 fn delivered_outcome(fields: &[u8]) -> Option<OutcomeLine>
     ensures read { result ≡ delivered_at fields.now }
@@ -130,7 +135,7 @@ fn delivered_outcome(fields: &[u8]) -> Option<OutcomeLine>
     })
 }
 
-/// The outcome that these fields behind `forge` seem to tell.
+/// The outcome that the fields after `forge` seem to report.
 #[tactic(auto, unfolding(crate::specs::ResultReading::forged_at))]
 fn forged_outcome(fields: &[u8]) -> Option<OutcomeLine>
     ensures read { result ≡ forged_at fields.now }
@@ -149,7 +154,7 @@ fn forged_outcome(fields: &[u8]) -> Option<OutcomeLine>
     })
 }
 
-/// The outcome that these fields behind `forge:` seem to tell.
+/// The outcome that the fields after `forge:` seem to report.
 #[tactic(auto, unfolding(crate::specs::ResultReading::unsound_at))]
 fn unsound_outcome(fields: &[u8]) -> Option<OutcomeLine>
     ensures read { result ≡ unsound_at fields.now }
@@ -178,7 +183,7 @@ fn broken_rule(rule: BrokenRule) -> OutcomeLine
     OutcomeLine::Unsound { rule }
 }
 
-/// The outcome that these fields behind `drain` seem to tell.
+/// The outcome that the fields after `drain` seem to report.
 #[tactic(auto, unfolding(crate::specs::ResultReading::drained_at))]
 fn drained_outcome(fields: &[u8]) -> Option<OutcomeLine>
     ensures read { result ≡ drained_at fields.now }
@@ -196,7 +201,7 @@ fn drained_outcome(fields: &[u8]) -> Option<OutcomeLine>
     })
 }
 
-/// The result that a text seems to tell.
+/// The delivery result that a text seems to report.
 #[tactic(auto, unfolding(crate::specs::ResultReading::result_at, crate::specs::ResultReading::result_by))]
 fn delivery_result(text: &[u8]) -> Option<DeliveryResult>
     ensures read { result ≡ result_at text.now }
@@ -208,7 +213,7 @@ fn delivery_result(text: &[u8]) -> Option<DeliveryResult>
     }
 }
 
-/// The result of one word.
+/// The delivery result that is a single word.
 #[tactic(auto, unfolding(crate::specs::ResultReading::plain_at))]
 fn plain_result(word: &[u8]) -> Option<DeliveryResult>
     ensures read { result ≡ plain_at word.now }
@@ -229,7 +234,7 @@ fn plain_result(word: &[u8]) -> Option<DeliveryResult>
     }
 }
 
-/// The result of a word with what stands behind it.
+/// The delivery result that is a word with a text after it.
 #[tactic(auto, unfolding(crate::specs::ResultReading::valued_at))]
 fn valued_result(kind: &[u8], value: &[u8]) -> Option<DeliveryResult>
     ensures read { result ≡ valued_at kind.now value.now }
@@ -248,7 +253,7 @@ fn valued_result(kind: &[u8], value: &[u8]) -> Option<DeliveryResult>
     }
 }
 
-/// The result that another operation has the id that the text writes.
+/// The result that another operation has the id that the text spells.
 fn conflict(value: &[u8]) -> Option<DeliveryResult>
     ensures read { result ≡ conflict_at value.now }
     ensures range { IfSome result IsDeliveryResult }
@@ -257,7 +262,7 @@ fn conflict(value: &[u8]) -> Option<DeliveryResult>
     Some(DeliveryResult::Conflict { id })
 }
 
-/// The result that as many operations were applied as the text writes.
+/// The result that the number of operations that the text spells was applied.
 fn applied_result(value: &[u8]) -> Option<DeliveryResult>
     ensures read { result ≡ applied_at value.now }
     ensures range { IfSome result IsDeliveryResult }
@@ -269,7 +274,7 @@ fn applied_result(value: &[u8]) -> Option<DeliveryResult>
     })
 }
 
-/// The count that the text writes, and whether a word stands behind it.
+/// The number that the text spells, and whether a word follows it.
 #[tactic(auto, unfolding(crate::specs::ResultReading::counted_at, crate::specs::ResultReading::counted_by))]
 fn count_and_stall(text: &[u8]) -> Option<AppliedCount>
     ensures read { result ≡ counted_at text.now }
@@ -287,7 +292,7 @@ fn count_and_stall(text: &[u8]) -> Option<AppliedCount>
     }
 }
 
-/// The outcome that these fields behind `settle:` seem to tell.
+/// The outcome that the fields after `settle:` seem to report.
 #[tactic(auto, unfolding(crate::specs::ResultReading::settled_at))]
 fn settled_outcome(fields: &[u8]) -> Option<OutcomeLine>
     ensures read { result ≡ settled_at fields.now }
@@ -297,7 +302,7 @@ fn settled_outcome(fields: &[u8]) -> Option<OutcomeLine>
     Some(OutcomeLine::Settled { result })
 }
 
-/// The result of an exchange that the text seems to tell.
+/// The result of an exchange that the text seems to report.
 #[tactic(auto, unfolding(crate::specs::ResultReading::settle_result_at, crate::specs::ResultReading::settle_result_by))]
 fn settle_result(text: &[u8]) -> Option<SettleResult>
     ensures read { result ≡ settle_result_at text.now }
@@ -312,7 +317,7 @@ fn settle_result(text: &[u8]) -> Option<SettleResult>
     }
 }
 
-/// The result of an exchange that tells no id.
+/// The result of an exchange that is a single word.
 #[tactic(auto, unfolding(crate::specs::ResultReading::settled_plainly_at))]
 fn plain_settle_result(word: &[u8]) -> Option<SettleResult>
     ensures read { result ≡ settled_plainly_at word.now }
@@ -329,7 +334,7 @@ fn plain_settle_result(word: &[u8]) -> Option<SettleResult>
     }
 }
 
-/// The outcome that these fields behind `agree` seem to tell.
+/// The outcome that the fields after `agree` seem to report.
 #[tactic(auto, unfolding(crate::specs::ResultReading::agreed_at))]
 fn agreed_outcome(fields: &[u8]) -> Option<OutcomeLine>
     ensures read { result ≡ agreed_at fields.now }
@@ -347,7 +352,7 @@ fn agreed_outcome(fields: &[u8]) -> Option<OutcomeLine>
     })
 }
 
-/// The outcome that these fields behind `join` seem to tell.
+/// The outcome that the fields after `join` seem to report.
 #[tactic(auto, unfolding(crate::specs::ResultReading::joined_at))]
 fn joined_outcome(fields: &[u8]) -> Option<OutcomeLine>
     ensures read { result ≡ joined_at fields.now }
@@ -366,7 +371,7 @@ fn joined_outcome(fields: &[u8]) -> Option<OutcomeLine>
     })
 }
 
-/// The result of a join that the text seems to tell.
+/// The result of a join that the text seems to report.
 #[tactic(auto, unfolding(crate::specs::ResultReading::join_result_at, crate::specs::ResultReading::join_result_by))]
 fn join_result(text: &[u8]) -> Option<JoinResult>
     ensures read { result ≡ join_result_at text.now }
@@ -381,7 +386,7 @@ fn join_result(text: &[u8]) -> Option<JoinResult>
     }
 }
 
-/// The result of a join that tells no id.
+/// The result of a join that is a single word.
 #[tactic(auto, unfolding(crate::specs::ResultReading::joined_plainly_at))]
 fn plain_join_result(word: &[u8]) -> Option<JoinResult>
     ensures read { result ≡ joined_plainly_at word.now }

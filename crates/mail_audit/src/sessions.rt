@@ -1,4 +1,4 @@
-//! The sessions whose transcripts are heard.
+//! The sessions whose transcripts are audited.
 
 ghost use Rattle.std.specs.Prelude.{◌≡◌, ◌<◌, ◌+◌, false, ℕ, List, [], ◌∷◌, ◌++◌, IfOk, length};
 ghost use Rattle.std.specs.Str.{bytes_eq};
@@ -11,7 +11,7 @@ use mail_script::{SessionName, Speaker};
 use std::alloc::{AllocError, Global};
 use std::marker::Model;
 
-/// The sessions by their names, in the order in which they were first heard, with what is known of each.
+/// The sessions by name, in the order of their first lines, with what is known of each.
 #[derive(Drop)]
 pub struct AuditSessions {
     heard: IndexMap<Vec<u8>, Transcript>,
@@ -27,7 +27,7 @@ impl Model for AuditSessions {
 }
 
 impl AuditSessions {
-    /// No session was heard.
+    /// No sessions.
     pub fn new(alloc: Global) -> AuditSessions
         ensures { result ≡ [] }
     {
@@ -36,7 +36,8 @@ impl AuditSessions {
         }
     }
 
-    /// Hears what was said in a session, CRLF included, and tells whether it may follow what was said there before.
+    /// Takes octets that were sent in a session, CRLF included; `false` if they can't follow what
+    /// was sent there before. `Err` if memory runs out.
     pub fn hear(
         &mut self,
         alloc: Global,
@@ -54,7 +55,7 @@ impl AuditSessions {
         }
     }
 
-    /// The place of a session, which is put behind the others where it wasn't heard before.
+    /// The place of a session, which is added at the end if it is new; `Err` if memory runs out.
     fn place_of(&mut self, alloc: Global, session: SessionName) -> Result<usize, AllocError>
         ensures there { IfOk result (λ place. place < length self.new) }
         ensures first { IfOk result (λ place. place ≡ place_or_end session self.new) }

@@ -14,15 +14,15 @@ use std::alloc::{AllocError, Global};
 use std::marker::Model;
 use tree_list::TreeList;
 
-/// A message's place among all that came, from 0 on, and the UID that was told of it.
+/// The place of a message among all that came, from 0, and its reported UID.
 #[derive(Clone, Copy, Debug, PartialEq, Eq)]
 pub struct KnownUid {
     pub place: u32,
     pub uid: u32,
 }
 
-/// What is known of a session's messages: how many came, the places of those that are gone, and those whose UIDs were
-/// told, both by ascending places.
+/// What is known of a session's messages: how many came, the places of expunged ones, and those
+/// with reported UIDs, both by ascending place.
 #[derive(Drop)]
 pub struct Slots {
     came: u32,
@@ -44,7 +44,7 @@ impl Model for Slots {
 }
 
 impl Slots {
-    /// Nothing is known, and no message came.
+    /// No message came, and nothing is known.
     pub fn new() -> Slots
         ensures { result ≡ no_slots }
     {
@@ -55,8 +55,8 @@ impl Slots {
         }
     }
 
-    /// Takes note of an event, where it fits what is known; else nothing changes. `Err` where there is no memory for it, and
-    /// then nothing changes either.
+    /// Records an event and gives `true` if it fits what is known; otherwise gives `false`, and
+    /// nothing changes. `Err` if memory runs out, and then nothing changes either.
     pub fn note(&mut self, alloc: Global, event: SlotEvent) -> Result<bool, AllocError>
         ensures fits { IfOk result (λ noted. IsTrue noted ↔ EventFits self.old event) }
         ensures next { IfOk result (λ noted. IsTrue noted → self.new ≡ after_event self.old event) }
@@ -74,7 +74,7 @@ impl Slots {
         }
     }
 
-    /// How many messages are there.
+    /// The number of existing messages.
     fn count(&self) -> u32
         ensures { result ≡ length self.now.there }
     {
@@ -88,7 +88,8 @@ impl Slots {
         0 < number && number <= self.count()
     }
 
-    /// Takes note that so many messages are there, where no more went and UIDs are left for those that came.
+    /// Records that `count` messages exist, if that is no fewer than before and UIDs are left for
+    /// the new ones; otherwise nothing changes.
     fn grow(&mut self, count: u32) -> bool
         ensures fits { IsTrue result ↔ EventFits self.old (CountTold count) }
         ensures next { IsTrue result → self.new ≡ after_event self.old (CountTold count) }
@@ -100,7 +101,8 @@ impl Slots {
         self.add(count - there)
     }
 
-    /// Takes note that so many more messages came, where UIDs are left for them.
+    /// Records that `more` further messages came, if UIDs are left for them; otherwise nothing
+    /// changes.
     fn add(&mut self, more: u32) -> bool
         ensures fits { IsTrue result ↔ HasRoomAbove 0 (with_more self.old more).slots }
         ensures next { IsTrue result → self.new ≡ with_more self.old more }
@@ -115,7 +117,8 @@ impl Slots {
         true
     }
 
-    /// Takes note that the message of this number went, where there is one.
+    /// Records that the message with this number was expunged, if there is one; otherwise nothing
+    /// changes. `Err` if memory runs out.
     fn take_out(&mut self, alloc: Global, number: u32) -> Result<bool, AllocError>
         ensures fits { IfOk result (λ noted. IsTrue noted ↔ EventFits self.old (GoneTold number)) }
         ensures next { IfOk result (λ noted. IsTrue noted → self.new ≡ after_event self.old (GoneTold number)) }
@@ -128,7 +131,7 @@ impl Slots {
         Ok(true)
     }
 
-    /// The place of the message of this number.
+    /// The place of the message with this number, from 0.
     fn place_of(&self, number: u32) -> u32
         requires { IsNumberOf number self.now.there }
         ensures place { result ≡ place_at self.now number }
@@ -138,7 +141,8 @@ impl Slots {
         number - 1 + before as u32
     }
 
-    /// Takes note of the UID of the message of this number, where there is one and its UID may be this.
+    /// Records the UID of the message with this number, if there is one and it may have this UID;
+    /// otherwise nothing changes. `Err` if memory runs out.
     fn tell(&mut self, alloc: Global, number: u32, uid: u32) -> Result<bool, AllocError>
         ensures fits { IfOk result (λ noted. IsTrue noted ↔ EventFits self.old (UidTold number uid)) }
         ensures next { IfOk result (λ noted. IsTrue noted → self.new ≡ after_event self.old (UidTold number uid)) }
@@ -150,7 +154,8 @@ impl Slots {
         self.tell_at(alloc, place, uid)
     }
 
-    /// Takes note of the UID at a place, where its UID may be this.
+    /// Records the UID at a place, if the message there may have it; otherwise nothing changes.
+    /// `Err` if memory runs out.
     fn tell_at(&mut self, alloc: Global, place: u32, uid: u32) -> Result<bool, AllocError>
         requires { place < length self.old.slots }
         ensures fits { IfOk result (λ noted. IsTrue noted ↔ (MayBeUid (get_or self.old.slots place Unknown) uid × HasRoomAbove 0 (set self.old.slots place (Found uid)))) }
@@ -169,7 +174,7 @@ impl Slots {
     }
 }
 
-/// The UID that was told of a place, where one was, behind so many of lesser places.
+/// The reported UID of a place, if any; `at` known ones have lower places.
 fn uid_at(tolds: &TreeList<KnownUid>, at: usize, place: u32) -> Option<u32>
     requires within { at ≤ length tolds.now }
     requires parts { SplitsAt place tolds.now at }

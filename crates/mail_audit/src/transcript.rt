@@ -20,7 +20,7 @@ use mail_script::Speaker;
 use std::alloc::{AllocError, Global};
 use std::marker::Model;
 
-/// What is known of a session from what was said in it.
+/// What is known of a session from the octets sent in it.
 #[derive(Drop)]
 pub struct Transcript {
     running: InProgress,
@@ -36,7 +36,7 @@ impl Model for Transcript {
 }
 
 impl Transcript {
-    /// Nothing was said.
+    /// A transcript in which nothing was sent.
     pub fn new(alloc: Global) -> Transcript
         ensures { result ≡ nothing_known }
     {
@@ -46,7 +46,8 @@ impl Transcript {
         }
     }
 
-    /// Takes what was said, CRLF included, and tells whether it may follow what was said before.
+    /// Takes a frame or answer, CRLF included; `false` if it can't follow what was sent before.
+    /// `Err` if memory runs out.
     pub fn hear(
         &mut self,
         alloc: Global,
@@ -77,7 +78,7 @@ impl Transcript {
         }
     }
 
-    /// A command begins.
+    /// Records that a command begins.
     fn begin(&mut self, alloc: Global, tagged: Tagged) -> Result<(), AllocError>
         ensures { OnOk result ((self.new.running ≡ self.old.running ++ running_by tagged ∷ []) × (self.new.known ≡ after_event self.old.known (event_by tagged.command)) × EventFits self.old.known (event_by tagged.command)) }
     {
@@ -95,7 +96,7 @@ impl Transcript {
         Ok(())
     }
 
-    /// Takes what a server sent.
+    /// Takes the octets that a server sent.
     fn answer(&mut self, alloc: Global, octets: &[u8]) -> Result<bool, AllocError>
         ensures { IfOk result (λ heard. DecidesSaid self.old (record { speaker = Answering; octets = octets.now }) heard self.new) }
     {
@@ -124,7 +125,7 @@ impl Transcript {
         Ok(true)
     }
 
-    /// A tagged answer ends its command.
+    /// Ends the command that a tagged answer completes.
     fn end(&mut self, answer: &Answer)
         ensures running { self.new.running ≡ running_after self.old.running answer.now }
         ensures known { self.new.known ≡ self.old.known }
@@ -137,7 +138,7 @@ impl Transcript {
     }
 }
 
-/// Passes over a frame that spells no command; `Err` where there was no memory to see that.
+/// Passes over a frame that spells no command; `Err` if memory ran out before that was known.
 fn pass_over(fault: ParseFault) -> Result<(), AllocError>
     ensures { OnOk result (fault ≢ NoMemoryToParse) }
 {
@@ -147,7 +148,7 @@ fn pass_over(fault: ParseFault) -> Result<(), AllocError>
     }
 }
 
-/// The answer that these octets are, where they are one.
+/// The answer whose text these octets are, if any; `Err` if memory runs out.
 fn whole_answer(alloc: Global, octets: &[u8]) -> Result<Option<Answer>, AllocError>
     ensures found { IfOk result (λ found. IfSome found (λ answer. IsPrintable answer × (octets.now ≡ text_of_answer answer))) }
     ensures only { IfOk result (λ found. (answer : Answer) → IsPrintable answer → octets.now ≡ text_of_answer answer → found ≡ Some answer) }
@@ -165,7 +166,7 @@ fn whole_answer(alloc: Global, octets: &[u8]) -> Result<Option<Answer>, AllocErr
     }
 }
 
-/// Whether EXPUNGE may be told while the command is in progress (RFC 9051, section 7.5.1).
+/// Whether EXPUNGE may be sent while the command is in progress (RFC 9051, section 7.5.1).
 fn may_expunge(command: &Command) -> bool
     ensures { result ≡ may_expunge command.now }
 {
@@ -184,7 +185,7 @@ fn is_idle(command: &Command) -> bool
     matches!(command, Command::Idle)
 }
 
-/// What the command's beginning does to the slots.
+/// The event of a command's beginning.
 fn event_by(command: &Command) -> SlotEvent
     ensures { result ≡ event_by command.now }
 {
@@ -195,7 +196,7 @@ fn event_by(command: &Command) -> SlotEvent
     }
 }
 
-/// Whether the answer may stand while these commands are in progress.
+/// Whether the answer may be sent while these commands are in progress.
 fn may_stand(running: &InProgress, answer: &Answer) -> bool
     ensures { IsTrue result ↔ MayStand running.now answer.now }
 {
@@ -205,7 +206,7 @@ fn may_stand(running: &InProgress, answer: &Answer) -> bool
     }
 }
 
-/// What the answer tells of the slots.
+/// The event of an answer.
 fn event_of(answer: &Answer) -> SlotEvent
     ensures { result ≡ event_of answer.now }
 {

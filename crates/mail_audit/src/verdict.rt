@@ -1,18 +1,18 @@
-//! How an audit ends.
+//! The verdict of an audit.
 
-/// How an audit ends. Lines count from 1.
+/// The verdict of an audit. Lines count from 1.
 #[derive(Clone, Copy, Debug, PartialEq, Eq)]
 pub enum AuditEnd {
     /// Every transcript is explained, and every dump is right.
     Yes,
-    /// The line of this number is the first that can't stand where it does.
+    /// The line of this number is the first that can't follow the lines before it.
     No(u64),
-    /// The line of this number is none that a script prints, or the input ends with it within a dump.
+    /// No script prints the line of this number, or the input ends at it within a dump.
     Unreadable(u64),
-    /// The reader failed, or 16,777,216 reads didn't come to the input's end.
+    /// The reader failed, or 16,777,216 reads didn't reach the end of the input.
     ReadFailed,
     /// The writer failed.
     WriteFailed,
-    /// There was no memory.
+    /// Memory ran out.
     NoMemory,
 }

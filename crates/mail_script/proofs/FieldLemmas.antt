@@ -118,7 +118,7 @@ first_numbers_takes text numbers h =
     subst (λ (z : ℕ × ℕ). IsFirstUid z.0 × IsFirstK z.1 × (32 ∷ text ≡ first_numbers_text z.0 z.1)) e
     ((s.0, s.1), (t.0, t.1), ap (λ (z : List ℕ). 32 ∷ z) (behind_takes (codes "uid") text a.0 a.1) ∙ ap (λ (z : List ℕ). codes " uid " ++ z) rest)
 
--- The first numbers without the space in front.
+-- The first numbers without the space before them.
 abbrev pub numbers_text : ℕ → ℕ → List ℕ
 numbers_text uid k = codes "uid " ++ (decimal uid ++ (codes " k " ++ decimal k))
 

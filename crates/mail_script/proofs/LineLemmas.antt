@@ -6,7 +6,7 @@ use Rattle.mail_script.specs.Lines.{IsSearched, line_begun, lines_of}
 use Rattle.mail_script.specs.Reading.{cut_at, in_front}
 use Rattle.text_fields.proofs.FieldLemmas.{chosen, cut_takes, front_some}
 
--- a cut stays where more comes behind
+-- a cut stays the same if text is added at the end
 pub lines_next : (text line rest more : List ℕ) → cut_at 10 text ≡ Some (line, rest) → lines_of (text ++ more) ≡ line ∷ lines_of (rest ++ more)
 lines_next [] line rest more h = absurd cc
 lines_next (octet ∷ octets) line rest more h =
@@ -47,7 +47,7 @@ lines_last (octet ∷ next ∷ octets) h n =
       | inr f ↦ rw (f.0) (ap (line_begun octet) (lines_last (next ∷ octets) (none_front octet (cut_at 10 (next ∷ octets)) f.1) (λ k. cc)))
     ]
 
--- what has no separator goes in front of the cut
+-- text that has no separator joins the part before the cut
 cut_past : (front back : List ℕ) → cut_at 10 front ≡ None → cut_at 10 (front ++ back) ≡ in_front front (cut_at 10 back)
 cut_past [] back h = no_front (cut_at 10 back)
 cut_past (octet ∷ front) back h =
@@ -56,7 +56,7 @@ cut_past (octet ∷ front) back h =
       | inr f ↦ rw (f.0) (ap (in_front (octet ∷ [])) (cut_past front back (none_front octet (cut_at 10 front) f.1)) ∙ more_front octet front (cut_at 10 back))
     ]
 
--- the octets from those taken on are those searched and the rest
+-- the octets after those taken are those searched and the rest
 searched_parts : (taken searched : ℕ) (octets : List ℕ) → taken ≤ searched → drop taken octets ≡ take (searched - taken) (drop taken octets) ++ drop searched octets
 searched_parts taken searched octets h =
     sym (take-append-drop (searched - taken) (drop taken octets))
@@ -67,7 +67,7 @@ cut_on taken searched octets h =
     ap (cut_at 10) (searched_parts taken searched octets h.taken_first)
     ∙ cut_past (take (searched - taken) (drop taken octets)) (drop searched octets) h.no_end
 
--- all was searched
+-- everything was searched
 pub all_searched : (taken searched len : ℕ) (octets own : List ℕ) → IsSearched taken searched octets → len ≡ length octets → None ≡ cut_at 10 (drop searched octets) → own ≡ drop taken octets → (cut_at 10 own ≡ None) × IsSearched taken len octets
 all_searched taken searched len octets own h l c o =
     let whole : cut_at 10 (drop taken octets) ≡ None = cut_on taken searched octets h ∙ ap (in_front (take (searched - taken) (drop taken octets))) (sym c) in
@@ -81,7 +81,7 @@ all_searched taken searched len octets own h l c o =
       },
     )
 
--- the end of the line fits
+-- the end of the line is in range
 pub end_fits : (taken searched : ℕ) (octets front behind : List ℕ) → IsSearched taken searched octets → ◌≡◌ {A = Option (List ℕ × List ℕ)} (Some (front, behind)) (cut_at 10 (drop searched octets)) → searched + length front + 1 + length behind ≡ length octets
 end_fits taken searched octets front behind h c =
     let e : drop searched octets ≡ front ++ 10 ∷ behind = cut_takes 10 (drop searched octets) (front, behind) (sym c) in
@@ -98,7 +98,7 @@ front_of count front behind k =
       (λ i. drop (sym one i) (sym (append_assoc front (10 ∷ []) behind) i)) ∙ drop-append_seam (front ++ 10 ∷ []) behind,
     )
 
--- the line up to the LF that was found
+-- the line up to the LF that the search reached
 pub line_found : (taken searched : ℕ) (octets own front behind copied : List ℕ) → IsSearched taken searched octets → own ≡ drop taken octets → ◌≡◌ {A = Option (List ℕ × List ℕ)} (Some (front, behind)) (cut_at 10 (drop searched octets)) → copied ≡ take (searched - taken + length front) own → cut_at 10 own ≡ Some (copied, drop (taken + (searched - taken + length front + 1)) octets)
 line_found taken searched octets own front behind copied h o c k =
     let before : List ℕ = take (searched - taken) (drop taken octets) in
@@ -115,7 +115,7 @@ line_found taken searched octets own front behind copied h o c k =
     sym (drop-drop (searched - taken + length front + 1) taken octets) ∙ ap (drop (searched - taken + length front + 1)) whole ∙ f.1 in
     ap (cut_at 10) o ∙ found ∙ (λ i. Some (sym line i, sym rest i))
 
--- nothing is left between what was taken and what was searched
+-- nothing lies between what was taken and what was searched
 pub none_between : (n : ℕ) (octets : List ℕ) → n ≤ length octets → IsSearched n n octets
 none_between n octets h =
     let z : n - n ≡ 0 = omega arith in

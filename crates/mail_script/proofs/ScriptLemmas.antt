@@ -34,7 +34,7 @@ keyword_text DrainWord = codes "drain"
 keyword_text AgreeWord = codes "agree"
 keyword_text JoinWord = codes "join"
 
--- a word of the table, or one behind it
+-- a word of the table, or a later one
 picked : (word text : List ℕ) (k : ScriptWord) (next : Option ScriptWord) (keyword : ScriptWord) → text ≡ keyword_text k → cond (bytes_eq word text) (Some k) next ≡ Some keyword → (next ≡ Some keyword → word ≡ keyword_text keyword) → word ≡ keyword_text keyword
 picked word text k next keyword s h behind =
     elim (chosen (bytes_eq word text) (Some k) next (Some keyword) h) [
@@ -60,7 +60,7 @@ keyword_takes word keyword h =
     picked word (codes "join") JoinWord _ keyword refl h (λ h.
     absurd (let k = h in cc))))))))))))))
 
--- what is read behind each word is said
+-- the line says what is read after each word
 node_takes : (fields : List ℕ) (cut : Option (List ℕ × List ℕ)) (said : ScriptLine) → ((parts : List ℕ × List ℕ) → cut ≡ Some parts → fields ≡ parts.0 ++ 32 ∷ parts.1) → node_at cut fields ≡ Some said → Says (codes "node " ++ fields) said
 unfolding node_at
 node_takes fields None said c h =
@@ -203,7 +203,7 @@ line_of_words line said h =
       | inr f ↦ words_takes line said f.1
     ]
 
--- what is read of a line is what it says
+-- a line says what is read from it
 pub line_takes : (line : List ℕ) (said : ScriptLine) → line_at line ≡ Some said → Says line said
 line_takes [] said h = let e : Blank ≡ said = cc in subst (Says []) e (inl refl)
 line_takes (octet ∷ octets) said h =
@@ -215,7 +215,7 @@ line_takes (octet ∷ octets) said h =
       | inr f ↦ line_of_words (octet ∷ octets) said f.1
     ]
 
--- the word of a line leads to its fields
+-- the first word of a line selects the reader of its fields
 read_on : (keyword : ScriptWord) (fields : List ℕ) → line_at (keyword_text keyword ++ 32 ∷ fields) ≡ fields_at keyword fields
 unfolding word_or_words_at words_at keyword_at
 read_on NodeWord fields = refl
@@ -277,7 +277,7 @@ join_again r s i j =
     ∙ bound (replica_at (decimal r)) _ r (replica_again r i)
     ∙ bound (replica_at (decimal s)) _ s (replica_again s j)
 
--- the line of one word
+-- the line that is a single word
 settle_again : line_at (codes "settle") ≡ Some Settle
 unfolding word_or_words_at
 settle_again = refl
@@ -288,7 +288,7 @@ forge_again r operation i =
     bound (cut_at 32 (decimal r ++ 32 ∷ operation)) _ (decimal r, operation) (cut_again 32 (decimal r) operation (decimal_lacks 32 r refl (omega arith)))
     ∙ bound (replica_at (decimal r)) _ r (replica_again r i)
 
--- what a line says is read of it
+-- what a line says is read from it
 pub line_again : (line : List ℕ) (said : ScriptLine) → Says line said → line_at line ≡ Some said
 line_again line Blank h = elim h [ inl e ↦ ap line_at e | inr c ↦ ap line_at c.1 ]
 line_again line (Node r uid k) h =

@@ -1,7 +1,9 @@
+-- The lines of a text, and the state of the buffer that cuts a script into lines.
+
 use Rattle.std.specs.Prelude.{◌≡◌, ℕ, ◌-◌, ◌≤◌, ◌==◌, List, [], ◌∷◌, None, length, take, drop, if◌then◌else◌}
 use Rattle.mail_script.specs.Reading.{cut_at}
 
--- One more octet in front of the first line.
+-- Adds an octet to the beginning of the first line.
 abbrev pub line_begun : ℕ → List (List ℕ) → List (List ℕ)
 line_begun octet [] = (octet ∷ []) ∷ []
 line_begun octet (line ∷ lines) = (octet ∷ line) ∷ lines
@@ -11,7 +13,7 @@ abbrev pub lines_of : List ℕ → List (List ℕ)
 lines_of [] = []
 lines_of (octet ∷ octets) = if octet == 10 then [] ∷ lines_of octets else line_begun octet (lines_of octets)
 
--- From the octets taken up to those searched stands no LF (10).
+-- No LF (10) lies between the octets taken and the end of those searched.
 pub record IsSearched (taken searched : ℕ) (octets : List ℕ) : Type 0 where
   pub taken_first : taken ≤ searched
   pub within : searched ≤ length octets

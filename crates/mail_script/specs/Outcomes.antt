@@ -1,3 +1,6 @@
+-- The texts of the lines that report the outcomes of a script's deliveries, exchanges, comparisons
+-- and joins, and why a script ended early.
+
 use Rattle.std.specs.Prelude.{ℕ, Bool, true, false, List, [], ◌∷◌, ◌++◌, codes}
 use Rattle.std.specs.Fmt.{decimal}
 use Rattle.tags_clocks.specs.declared.id.OpId.{OpId}
@@ -13,12 +16,12 @@ use Rattle.mail_script.specs.declared.outcome_line.SettleResult.TheVariants.{Don
 use Rattle.mail_script.specs.declared.outcome_line.OutcomeLine.{OutcomeLine}
 use Rattle.mail_script.specs.declared.outcome_line.OutcomeLine.TheVariants.{Delivered, Forged, Unsound, Drained, Settled, Agreed, Joined, BadScript, CannotRead, NoMemory}
 
--- Says that a ripe operation stays held.
+-- The word that reports that a ripe operation is still held.
 abbrev pub stalled_text : Bool → List ℕ
 stalled_text true = codes " stalled"
 stalled_text false = []
 
--- How many operations were applied.
+-- The number of operations that were applied.
 abbrev pub applied_text : ℕ → Bool → List ℕ
 applied_text count stalled = codes "Applied " ++ (decimal count ++ stalled_text stalled)
 
@@ -52,23 +55,23 @@ settled_text (ConflictOfTwo id) = codes "Conflict " ++ id_text id
 settled_text ExhaustedInIt = codes "Exhausted"
 settled_text NoMemoryToSettle = codes "NoMemory"
 
--- Two replicas of which something is told.
+-- The two replicas that a line is about.
 abbrev pub pair_text : ℕ → ℕ → List ℕ
 pair_text first second = decimal first ++ (32 ∷ (decimal second ++ codes ": "))
 
--- Whether both are the same.
+-- Whether both replicas applied the same operations.
 abbrev pub yes_or_no : Bool → List ℕ
 yes_or_no true = codes "yes"
 yes_or_no false = codes "no"
 
--- Whether a replica begins with what another one applied, or why not.
+-- Whether a replica joined, or why not.
 abbrev pub join_text : JoinResult → List ℕ
 join_text DoneJoining = codes "Ok"
 join_text (Own id) = codes "Own " ++ id_text id
 join_text ExhaustedByJoin = codes "Exhausted"
 join_text NoMemoryToJoin = codes "NoMemory"
 
--- What a line that tells an outcome says.
+-- The text of an outcome's line.
 abbrev pub outcome_text : OutcomeLine → List ℕ
 outcome_text (Delivered id replica result) = codes "deliver " ++ (delivery_text id replica ++ result_text result)
 outcome_text (Forged id replica result) = codes "forge " ++ (delivery_text id replica ++ result_text result)
@@ -81,6 +84,6 @@ outcome_text (BadScript line) = codes "bad script: line " ++ decimal line
 outcome_text CannotRead = codes "cannot read"
 outcome_text NoMemory = codes "no memory"
 
--- The line with its LF (10).
+-- An outcome's line with its LF (10).
 abbrev pub outcome_line : OutcomeLine → List ℕ
 outcome_line outcome = outcome_text outcome ++ 10 ∷ []

@@ -1,3 +1,6 @@
+-- How the code reads a script line, step by step. The meaning of a line is defined by `Says`; the
+-- contract of `read_line` joins the two.
+
 use Rattle.std.specs.Prelude.{◌≡◌, ℕ, ◌==◌, List, [], ◌∷◌, Option, Some, None, Result, Ok, Err, codes, if◌then◌else◌}
 use Rattle.std.specs.Str.{bytes_eq}
 use Rattle.imap_types.specs.Escape.{unescape}
@@ -12,18 +15,16 @@ use Rattle.mail_script.specs.declared.script.LineFault.TheVariants.{NotALine, No
 use Rattle.mail_script.specs.declared.script.ScriptLine.{ScriptLine}
 use Rattle.mail_script.specs.declared.script.ScriptLine.TheVariants.{Blank, Node, Now, Open, Line, Send, Poll, Close, Show, Deliver, Forge, Drain, Settle, Agree, Join}
 
--- How the readers below take a line apart. What a line says is told by `Says`, and the laws join the two.
-
--- A fault other than for memory says that nothing could be read.
+-- A fault other than lack of memory means that the text can't be read.
 abbrev pub Fails : {Y : Type 0} → LineFault → Option Y → Type 0
 Fails NoMemory read = Unit {0}
 Fails NotALine read = read ≡ None
 
--- A reader gives what could be read, or runs out of memory.
+-- A reader gives what its definition reads, or runs out of memory.
 abbrev pub Gives : {X Y : Type 0} → (X → Y) → Result X LineFault → Option Y → Type 0
 Gives = GivesBy Fails
 
--- The moment that a field tells.
+-- The moment that a field gives.
 unfoldable pub moment_at : List ℕ → Option ℕ
 moment_at text = number_at 253402300799 text
 
@@ -31,7 +32,7 @@ moment_at text = number_at 253402300799 text
 unfoldable pub session_at : List ℕ → Option (List ℕ)
 session_at text = if is_session_name text then Some text else None
 
--- A session and the text behind it.
+-- A session and the unescaped text after it.
 unfoldable pub session_and_text_at : List ℕ → Option (List ℕ × List ℕ)
 session_and_text_at text = do
   parts ← cut_at 32 text
@@ -39,19 +40,19 @@ session_and_text_at text = do
   spoken ← unescape Text parts.1
   Some (session, spoken)
 
--- The text behind a word and a space.
+-- The text after a word and a space.
 unfoldable pub behind_at : List ℕ → List ℕ → Option (List ℕ)
 behind_at word text = do
   parts ← cut_at 32 text
   if bytes_eq parts.0 word then Some parts.1 else None
 
--- The number from 1 to the limit that a field tells.
+-- The number that a field spells, from 1 to a limit.
 unfoldable pub counted_at : ℕ → List ℕ → Option ℕ
 counted_at limit text = do
   number ← number_at limit text
   positive number
 
--- The numbers with which a replica's counters begin.
+-- The first numbers of a replica's counters.
 unfoldable pub first_numbers_at : List ℕ → Option (ℕ × ℕ)
 first_numbers_at text = do
   numbers ← behind_at (codes "uid") text
@@ -79,7 +80,7 @@ keyword_at word =
     else (if bytes_eq word (codes "join") then Some JoinWord
     else None))))))))))))
 
--- What the fields behind `node` say.
+-- Reads the fields after `node`.
 unfoldable pub node_at : Option (List ℕ × List ℕ) → List ℕ → Option ScriptLine
 node_at None fields = replica_at fields >>= (λ replica. Some (Node replica 1 1))
 node_at (Some parts) fields = do
@@ -87,7 +88,7 @@ node_at (Some parts) fields = do
   numbers ← first_numbers_at parts.1
   Some (Node replica numbers.0 numbers.1)
 
--- What the fields behind `open` say.
+-- Reads the fields after `open`.
 unfoldable pub open_at : List ℕ → Option ScriptLine
 open_at fields = do
   parts ← cut_at 32 fields
@@ -95,7 +96,7 @@ open_at fields = do
   session ← session_at parts.1
   Some (Open replica session)
 
--- What the fields behind `deliver` say.
+-- Reads the fields after `deliver`.
 unfoldable pub deliver_at : List ℕ → Option ScriptLine
 deliver_at fields = do
   parts ← cut_at 32 fields
@@ -103,7 +104,7 @@ deliver_at fields = do
   replica ← replica_at parts.1
   Some (Deliver id replica)
 
--- What the fields behind `agree` say.
+-- Reads the fields after `agree`.
 unfoldable pub agree_at : List ℕ → Option ScriptLine
 agree_at fields = do
   parts ← cut_at 32 fields
@@ -111,7 +112,7 @@ agree_at fields = do
   second ← replica_at parts.1
   Some (Agree first second)
 
--- What the fields behind `join` say.
+-- Reads the fields after `join`.
 unfoldable pub join_at : List ℕ → Option ScriptLine
 join_at fields = do
   parts ← cut_at 32 fields
@@ -119,14 +120,14 @@ join_at fields = do
   peer ← replica_at parts.1
   Some (Join replica peer)
 
--- What the fields behind `forge` say.
+-- Reads the fields after `forge`.
 unfoldable pub forge_at : List ℕ → Option ScriptLine
 forge_at fields = do
   parts ← cut_at 32 fields
   replica ← replica_at parts.0
   Some (Forge replica parts.1)
 
--- What the fields behind a word say.
+-- Reads the fields after a line's first word.
 abbrev pub fields_at : ScriptWord → List ℕ → Option ScriptLine
 fields_at NodeWord fields = node_at (cut_at 32 fields) fields
 fields_at NowWord fields = moment_at fields >>= (λ moment. Some (Now moment))
@@ -142,18 +143,18 @@ fields_at DrainWord fields = replica_at fields >>= (λ replica. Some (Drain repl
 fields_at AgreeWord fields = agree_at fields
 fields_at JoinWord fields = join_at fields
 
--- What a line of a word and its fields says.
+-- Reads a line that consists of a word and its fields.
 unfoldable pub words_at : List ℕ → Option ScriptLine
 words_at line = do
   parts ← cut_at 32 line
   keyword ← keyword_at parts.0
   fields_at keyword parts.1
 
--- What a line that isn't blank says.
+-- Reads a line that isn't blank.
 unfoldable pub word_or_words_at : List ℕ → Option ScriptLine
 word_or_words_at line = if bytes_eq line (codes "settle") then Some Settle else words_at line
 
--- What a line says.
+-- Reads a line.
 abbrev pub line_at : List ℕ → Option ScriptLine
 line_at [] = Some Blank
 line_at (octet ∷ octets) = if octet == 35 then Some Blank else word_or_words_at (octet ∷ octets)

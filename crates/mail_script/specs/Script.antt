@@ -1,3 +1,5 @@
+-- The lines of a replay script.
+
 use Rattle.std.specs.Prelude.{◌≡◌, ℕ, ◌⊎◌, ◌++◌, List, [], ◌∷◌, IsTrue, codes}
 use Rattle.std.specs.Fmt.{decimal}
 use Rattle.imap_types.specs.Escape.{AreOctets, escape_text}
@@ -6,13 +8,13 @@ use Rattle.mail_script.specs.Fields.{IsFirstK, IsFirstUid, IsMoment, IsNumber, I
 use Rattle.mail_script.specs.declared.script.ScriptLine.{ScriptLine}
 use Rattle.mail_script.specs.declared.script.ScriptLine.TheVariants.{Blank, Node, Now, Open, Line, Send, Poll, Close, Show, Deliver, Forge, Drain, Settle, Agree, Join}
 
--- The numbers with which a replica's counters begin, behind its own.
+-- The first numbers of a replica's counters, which follow the replica's own number.
 abbrev pub first_numbers_text : ℕ → ℕ → List ℕ
 first_numbers_text uid k = codes " uid " ++ (decimal uid ++ (codes " k " ++ decimal k))
 
--- What a line of a replay script says: a word and its fields, one space (32) between them. A `#` (35) begins a comment.
--- A replica whose first numbers aren't told begins with 1 and 1.
--- A TEXT is the rest of the line in the escape in which the space stands for itself.
+-- The meaning of a script line: a word and its fields, with one space (32) between them. A `#` (35)
+-- begins a comment. A replica whose first numbers are left out begins with 1 and 1. A TEXT is the
+-- rest of the line, escaped so that spaces stay as they are.
 abbrev pub Says : List ℕ → ScriptLine → Type 0
 Says line Blank = (line ≡ []) ⊎ ((comment : List ℕ) × (line ≡ 35 ∷ comment))
 Says line (Node replica uid k) = IsReplica replica × IsFirstUid uid × IsFirstK k × ((line ≡ codes "node " ++ (decimal replica ++ first_numbers_text uid k)) ⊎ ((line ≡ codes "node " ++ decimal replica) × (uid ≡ 1) × (k ≡ 1)))

@@ -1,4 +1,4 @@
-//! The fields of a line: numbers, names, ids and texts.
+//! Readers of the fields of a script line: numbers, names, ids and texts.
 
 ghost use Rattle.mail_script.specs.Reading.{Gives, behind_at, counted_at, cut_at, first_numbers_at, id_at, moment_at, replica_at, session_at, session_and_text_at};
 
@@ -9,7 +9,7 @@ use std::alloc::Global;
 use tags_clocks::{OpId, ReplicaId};
 use text_fields::split;
 
-/// What stands before the first separator, where a field has to be there, and what behind it.
+/// The parts of a text before and after its first separator, or `NotALine` if it has no separator.
 pub fn split_field(separator: u8, text: &[u8]) -> Result<(&[u8], &[u8]), LineFault>
     ensures { Gives (λ parts. (parts.0.now, parts.1.now)) result (cut_at separator text.now) }
 {
@@ -19,7 +19,7 @@ pub fn split_field(separator: u8, text: &[u8]) -> Result<(&[u8], &[u8]), LineFau
     }
 }
 
-/// The replica that a field names.
+/// The replica that a field names; `NotALine` unless the field is a number from 1 to 65,535.
 pub fn replica(text: &[u8]) -> Result<ReplicaId, LineFault>
     ensures { Gives (λ replica. replica) result (replica_at text.now) }
 {
@@ -29,7 +29,8 @@ pub fn replica(text: &[u8]) -> Result<ReplicaId, LineFault>
     }
 }
 
-/// The moment that a field tells.
+/// The moment that a field gives in seconds; `NotALine` unless it is a number up to the last second
+/// of the year 9999.
 #[tactic(auto, unfolding(crate::specs::Reading::moment_at))]
 pub fn moment(text: &[u8]) -> Result<Moment, LineFault>
     ensures { Gives (λ moment. moment) result (moment_at text.now) }
@@ -40,7 +41,7 @@ pub fn moment(text: &[u8]) -> Result<Moment, LineFault>
     }
 }
 
-/// The id that a field names.
+/// The id that a field names; `NotALine` if it spells none.
 pub fn id(text: &[u8]) -> Result<OpId, LineFault>
     ensures { Gives (λ id. id) result (id_at text.now) }
 {
@@ -50,7 +51,8 @@ pub fn id(text: &[u8]) -> Result<OpId, LineFault>
     }
 }
 
-/// The session that a field names.
+/// The session that a field names; `NotALine` unless the field is a session name, `NoMemory` if
+/// memory runs out.
 #[tactic(auto, unfolding(crate::specs::Reading::session_at))]
 pub fn session(alloc: Global, text: &[u8]) -> Result<SessionName, LineFault>
     ensures { Gives (λ session. session) result (session_at text.now) }
@@ -62,7 +64,8 @@ pub fn session(alloc: Global, text: &[u8]) -> Result<SessionName, LineFault>
     SessionName::new(octets).ok_or(LineFault::NotALine)
 }
 
-/// A session and the text behind it.
+/// The session named before the first space, and the unescaped text after it; `NotALine` if either
+/// can't be read, `NoMemory` if memory runs out.
 #[tactic(auto, unfolding(crate::specs::Reading::session_and_text_at))]
 pub fn session_and_text(alloc: Global, fields: &[u8]) -> Result<(SessionName, Octets), LineFault>
     ensures { Gives (λ spoken. spoken) result (session_and_text_at fields.now) }
@@ -73,7 +76,8 @@ pub fn session_and_text(alloc: Global, fields: &[u8]) -> Result<(SessionName, Oc
     Ok((session, text))
 }
 
-/// The numbers with which a replica's counters begin: `uid U k K`.
+/// The first numbers of a replica's counters, spelled `uid U k K`: U from 1 to 4,294,967,295 and K
+/// from 1 to 65,536; `NotALine` otherwise.
 #[tactic(auto, unfolding(crate::specs::Reading::first_numbers_at))]
 pub fn first_numbers(text: &[u8]) -> Result<(u32, u32), LineFault>
     ensures { Gives (λ numbers. (numbers.0, numbers.1)) result (first_numbers_at text.now) }
@@ -86,7 +90,7 @@ pub fn first_numbers(text: &[u8]) -> Result<(u32, u32), LineFault>
     Ok((uid, k))
 }
 
-/// The text behind a word and a space.
+/// The text after a given word and a space; `NotALine` if the text doesn't begin with them.
 #[tactic(auto, unfolding(crate::specs::Reading::behind_at))]
 fn text_after_word<'a>(word: &[u8], text: &'a [u8]) -> Result<&'a [u8], LineFault>
     ensures { Gives (λ rest. rest.now) result (behind_at word.now text.now) }
@@ -98,7 +102,7 @@ fn text_after_word<'a>(word: &[u8], text: &'a [u8]) -> Result<&'a [u8], LineFaul
     Ok(rest)
 }
 
-/// The number from 1 to the limit that a field tells.
+/// The number that a field spells, from 1 to a limit; `NotALine` otherwise.
 #[tactic(auto, unfolding(crate::specs::Reading::counted_at))]
 fn number_up_to(text: &[u8], limit: u32) -> Result<u32, LineFault>
     ensures { Gives (λ number. number) result (counted_at limit text.now) }

@@ -1,4 +1,4 @@
-//! The lines that tell what came of a script's deliveries, and how it ended early.
+//! The lines that report the outcomes of a script's deliveries, and why a script ended early.
 
 ghost use Rattle.std.specs.Prelude.{◌≡◌, ◌++◌, ℕ, List, [], ◌∷◌, OnErr, OnOk};
 ghost use Rattle.std.specs.Fmt.{decimal};
@@ -9,69 +9,72 @@ use std::alloc::AllocError;
 use tags_clocks::{OpId, ReplicaId};
 use text_fields::{push_id, push_number};
 
-/// What came of a delivery. A count is of the operations that it applied; `stalled` says that a ripe operation stays held.
+/// The result of a delivery. `count` is the number of operations that it applied; `stalled` says
+/// that an operation whose causes are all applied is still held.
 #[derive(Clone, Copy, Debug, PartialEq, Eq)]
 pub enum DeliveryResult {
-    /// The operation was applied, and those that waited for it.
+    /// The operation was applied, and so were those that waited for it.
     Applied { count: u64, stalled: bool },
-    /// It waits for its causes.
+    /// The operation waits for its causes.
     Held { stalled: bool },
-    /// It came before.
+    /// The operation was received before.
     Repeat { stalled: bool },
     /// Another operation has this id.
     Conflict { id: OpId },
-    /// It came early, and no more can wait.
+    /// The operation's causes are missing, and no further operation can be held.
     HeldFull,
     /// A counter is at its end.
     Exhausted,
-    /// There is no memory for it.
+    /// Memory ran out.
     NoMemory,
 }
 
-/// What came of an exchange of all operations between all replicas.
+/// The result of an exchange of all operations between all replicas.
 #[derive(Clone, Copy, Debug, PartialEq, Eq)]
 pub enum SettleResult {
     /// All replicas applied the same operations.
     Done,
-    /// Two replicas received different operations with this id, the least such; nothing was delivered.
+    /// Two replicas received different operations with this id, the least such id; nothing was
+    /// delivered.
     Conflict { id: OpId },
     /// A counter is at its end.
     Exhausted,
-    /// There is no memory for it.
+    /// Memory ran out.
     NoMemory,
 }
 
-/// What came of a replica's beginning with what another one applied.
+/// The result of declaring a replica that begins with the operations that another one applied.
 #[derive(Clone, Copy, Debug, PartialEq, Eq)]
 pub enum JoinResult {
-    /// The replica is there.
+    /// The replica exists now.
     Done,
-    /// The other one applied operations of the replica that would begin; this id is the least of theirs.
+    /// The other replica applied operations issued by the joining replica; this id is the least of
+    /// them.
     Own { id: OpId },
     /// A counter is at its end.
     Exhausted,
-    /// There is no memory for it.
+    /// Memory ran out.
     NoMemory,
 }
 
-/// The rule of sound operations that one breaks.
+/// The rule of sound operations that an operation breaks.
 #[derive(Clone, Copy, Debug, PartialEq, Eq)]
 pub enum BrokenRule {
-    /// The clock's own entry isn't the number less one.
+    /// The clock's entry for the issuing replica isn't the operation's number less one.
     OwnEntry,
-    /// A removed id or the origin isn't covered by the clock.
+    /// The clock doesn't cover a removed id or the origin.
     UncoveredId,
     /// The name isn't lawful.
     UnlawfulName,
     /// The flags aren't lawful.
     UnlawfulFlags,
-    /// INBOX is deleted.
+    /// The operation deletes INBOX.
     InboxDeleted,
-    /// No old id is named, or more than 64.
+    /// The operation names no old id, or more than 64.
     OldIdCount,
 }
 
-/// A line of a script's output that is no line of a transcript or a dump.
+/// A line of a script's output that belongs to no transcript and no dump.
 #[derive(Clone, Copy, Debug, PartialEq, Eq)]
 pub enum OutcomeLine {
     /// `deliver ID R: RESULT`
@@ -86,33 +89,34 @@ pub enum OutcomeLine {
         replica: ReplicaId,
         result: DeliveryResult,
     },
-    /// `forge: Unsound U1` and the like
+    /// `forge: Unsound RULE`, with a rule from `U1` to `U6`
     Unsound {
         rule: BrokenRule,
     },
-    /// `drain R: Applied N`; the count is of the operations that were applied.
+    /// `drain R: Applied N`, where N is the number of operations that were applied
     Drained {
         replica: ReplicaId,
         count: u64,
         stalled: bool,
     },
-    /// `settle: Ok` and the like
+    /// `settle: RESULT`
     Settled {
         result: SettleResult,
     },
-    /// `agree R S: yes` or `agree R S: no`; `same` says that both applied the same operations.
+    /// `agree R S: yes` or `agree R S: no`; `same` says that both replicas applied the same
+    /// operations.
     Agreed {
         first: ReplicaId,
         second: ReplicaId,
         same: bool,
     },
-    /// `join R S: Ok` and the like; R is the replica that begins, S the one whose operations it takes.
+    /// `join R S: RESULT`; R is the joining replica, S the one whose operations it takes.
     Joined {
         replica: ReplicaId,
         peer: ReplicaId,
         result: JoinResult,
     },
-    /// `bad script: line N`, lines from 1
+    /// `bad script: line N`; lines count from 1.
     BadScript {
         line: u64,
     },
@@ -122,7 +126,7 @@ pub enum OutcomeLine {
     NoMemory,
 }
 
-/// Appends the line with its LF; `Err` where there is no memory for it, and then `out` is as it was.
+/// Appends the line with its LF; `Err` if memory runs out, and then `out` is unchanged.
 pub fn write_outcome(outcome: OutcomeLine, out: &mut Vec<u8>) -> Result<(), AllocError>
     ensures ok { OnOk result (out.new.items ≡ out.old.items ++ outcome_line outcome) }
     ensures err { OnErr result (out.new.items ≡ out.old.items) }
@@ -223,7 +227,7 @@ fn push_delivery(id: OpId, replica: ReplicaId, out: &mut Vec<u8>) -> Result<(), 
     push(b": ", out)
 }
 
-/// Appends how many operations were applied.
+/// Appends the number of operations that were applied.
 fn push_applied(count: u64, stalled: bool, out: &mut Vec<u8>) -> Result<(), AllocError>
     ensures ok { OnOk result (out.new.items ≡ out.old.items ++ applied_text count stalled) }
     ensures kept { (more : List ℕ) × (out.new.items ≡ out.old.items ++ more) }
@@ -287,7 +291,7 @@ fn push_join(joined: JoinResult, out: &mut Vec<u8>) -> Result<(), AllocError>
     }
 }
 
-/// Appends of which two replicas something is told.
+/// Appends the two replicas that a line is about.
 fn push_pair(first: ReplicaId, second: ReplicaId, out: &mut Vec<u8>) -> Result<(), AllocError>
     ensures ok { OnOk result (out.new.items ≡ out.old.items ++ pair_text first second) }
     ensures kept { (more : List ℕ) × (out.new.items ≡ out.old.items ++ more) }

@@ -1,4 +1,4 @@
-//! What a line of a replay script says.
+//! The lines of a replay script, and their reader.
 
 ghost use Rattle.std.specs.Prelude.{◌≡◌, ℕ, List, IfOk, MatchResult};
 ghost use Rattle.mail_script.specs.declared.script.ScriptLine.{ScriptLine};
@@ -18,14 +18,15 @@ use text_fields::split;
 pub enum ScriptLine {
     /// Nothing: the line is empty or a comment.
     Blank,
-    /// `node R uid U k K` declares a replica: U is INBOX's first UID, from 1, and K the k of the first incarnation of another
-    /// folder that begins there, from 1 to 65,536, which leaves none to begin. `node R` alone says 1 and 1.
+    /// `node R uid U k K` declares a replica. U is INBOX's first UID, from 1. K is the k of the
+    /// first incarnation of another folder that begins at R, from 1 to 65,536; 65,536 leaves no
+    /// incarnation to begin. A bare `node R` means 1 and 1.
     Node {
         replica: ReplicaId,
         uid: u32,
         k: u32,
     },
-    /// `now N` sets the moment.
+    /// `now N` sets the moment, in seconds.
     Now {
         moment: Moment,
     },
@@ -34,12 +35,13 @@ pub enum ScriptLine {
         replica: ReplicaId,
         session: SessionName,
     },
-    /// `line NAME TEXT` feeds a session the text and CRLF; the text is without its escapes and without the CRLF.
+    /// `line NAME TEXT` feeds a session the unescaped text and a CRLF; `text` holds the unescaped
+    /// text without the CRLF.
     Line {
         session: SessionName,
         text: Octets,
     },
-    /// `send NAME TEXT` feeds a session the text alone, which is without its escapes.
+    /// `send NAME TEXT` feeds a session only the unescaped text.
     Send {
         session: SessionName,
         text: Octets,
@@ -61,36 +63,38 @@ pub enum ScriptLine {
         id: OpId,
         replica: ReplicaId,
     },
-    /// `forge R OP` delivers an operation to a replica; the operation is the rest of the line as it stands.
+    /// `forge R OP` delivers an operation to a replica; the operation is the rest of the line, with
+    /// no escape undone.
     Forge {
         replica: ReplicaId,
         operation: Octets,
     },
-    /// `drain R` goes on with a replica's ripe held operations.
+    /// `drain R` applies a replica's held operations whose causes are all applied.
     Drain {
         replica: ReplicaId,
     },
-    /// `settle` exchanges all operations between all replicas, in the order in which they were declared.
+    /// `settle` exchanges all operations between all replicas, in the order in which they were
+    /// declared.
     Settle,
     /// `agree R S` asks whether two replicas applied the same operations.
     Agree {
         first: ReplicaId,
         second: ReplicaId,
     },
-    /// `join R S` declares a replica that begins with what a declared one applied.
+    /// `join R S` declares a replica that begins with the operations that a declared one applied.
     Join {
         replica: ReplicaId,
         peer: ReplicaId,
     },
 }
 
-/// Why a line isn't read.
+/// Why a line can't be read.
 #[derive(thiserror::Error, Clone, Copy, Debug, PartialEq, Eq)]
 pub enum LineFault {
-    /// It says nothing that a script may say.
+    /// The text is no line of a script.
     #[error("not a line of a script")]
     NotALine,
-    /// There is no memory for its fields.
+    /// Memory ran out.
     #[error("no memory")]
     NoMemory,
 }
@@ -138,8 +142,8 @@ pub enum ScriptWord {
     Join,
 }
 
-/// What a line says, which is given without its LF; a CR before the LF belongs to it. `NotALine` exactly where the line
-/// says nothing, and `NoMemory` where there is no memory for its fields.
+/// Reads a line, which is passed without its LF; a CR before the LF belongs to the line. `NotALine`
+/// exactly if it is no line of a script, and `NoMemory` if memory runs out.
 pub fn read_line(alloc: Global, line: &[u8]) -> Result<ScriptLine, LineFault>
     ensures found { IfOk result (λ said. Says line.now said) }
     ensures only { (meaning : ScriptLine) → Says line.now meaning → MatchResult result (λ said. said ≡ meaning) (λ fault. fault ≡ NoMemory) }

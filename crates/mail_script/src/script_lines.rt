@@ -1,4 +1,4 @@
-//! The lines of a script that comes in pieces.
+//! A buffer that cuts a script, which arrives in pieces, into lines.
 
 ghost use Rattle.std.specs.Prelude.{◌≡◌, ◌≢◌, ◌++◌, ℕ, List, [], ◌∷◌, Option, Some, None, IfOk, MatchOption, OnErr, OnOk};
 ghost use Rattle.mail_script.specs.Lines.{lines_of};
@@ -9,13 +9,14 @@ use std::alloc::{AllocError, Global};
 use std::marker::Model;
 use text_fields::split;
 
-/// What came of a script and wasn't yet taken as lines. Each line ends with LF; the last may lack its own.
+/// The part of a script that has arrived and hasn't been taken as lines. Each line ends with LF;
+/// the last line may lack it.
 #[derive(Drop)]
 pub struct ScriptLines {
     octets: Vec<u8>,
-    /// So many of them were taken as lines.
+    /// The number of octets in the buffer that were taken as lines.
     taken: usize,
-    /// No LF stands from there up to here.
+    /// No LF lies between `taken` and this place.
     searched: usize,
 }
 
@@ -31,7 +32,7 @@ impl Model for ScriptLines {
 }
 
 impl ScriptLines {
-    /// Nothing came yet.
+    /// An empty buffer.
     pub fn new(alloc: Global) -> ScriptLines
         ensures { result ≡ [] }
     {
@@ -42,7 +43,7 @@ impl ScriptLines {
         }
     }
 
-    /// Adds the next piece of the script; `Err` where there is no memory for it, and then nothing changes.
+    /// Adds the next piece of the script; `Err` if memory runs out, and then nothing changes.
     pub fn push(&mut self, piece: &[u8]) -> Result<(), AllocError>
         ensures ok { OnOk result (self.new ≡ self.old ++ piece.now) }
         ensures err { OnErr result (self.new ≡ self.old) }
@@ -52,8 +53,8 @@ impl ScriptLines {
         Ok(())
     }
 
-    /// Takes the next line, without its LF; `None` where the rest has no LF, and `Err` where there is no memory for the
-    /// line. Then nothing changes.
+    /// Takes the next line, without its LF; `None` if the rest has no LF, and `Err` if memory runs
+    /// out for the line. In both cases nothing changes.
     pub fn next_line(&mut self, alloc: Global) -> Result<Option<Octets>, AllocError>
         ensures ok { IfOk result (λ next. MatchOption next ((cut_at 10 self.old ≡ None) × (self.new ≡ self.old)) (λ line. cut_at 10 self.old ≡ Some (line, self.new))) }
         ensures err { OnErr result (self.new ≡ self.old) }
@@ -73,7 +74,8 @@ impl ScriptLines {
         }
     }
 
-    /// The octets that aren't taken: the last line, where the script has ended and they are any.
+    /// The octets that weren't taken. When the script has ended and they aren't empty, they are its
+    /// last line.
     pub fn into_rest(self) -> Octets
         ensures { result ≡ self }
     {
@@ -101,7 +103,8 @@ impl ScriptLines {
     }
 }
 
-/// A text's lines are those that are cut off it in turn, whatever comes behind, and then the octets behind the last LF.
+/// Cutting a text at its first LF, and then the rest in the same way, gives the text's lines,
+/// whatever is added at the end; the octets after the last LF, if any, are the last line.
 pub fn cut_in_turn()
     ensures next { (text line rest more : List ℕ) → cut_at 10 text ≡ Some (line, rest) → lines_of (text ++ more) ≡ line ∷ lines_of (rest ++ more) }
     ensures last { (text : List ℕ) → cut_at 10 text ≡ None → text ≢ [] → lines_of text ≡ text ∷ [] }

@@ -1,3 +1,5 @@
+//! The name of a session in a script.
+
 ghost use Rattle.std.specs.Prelude.{◌≡◌, ◌↔◌, IfOk, IsTrue, SomeIff};
 ghost use Rattle.std.specs.Char.{is_ascii_alphanumeric};
 ghost use Rattle.std.specs.List.{list_all};
@@ -6,7 +8,7 @@ ghost use Rattle.mail_script.specs.Fields.{is_session_name};
 use std::alloc::{AllocError, Global};
 use std::marker::Model;
 
-/// The longest name of a session, in octets.
+/// The length of the longest session name, in octets.
 pub const MAX_SESSION_NAME_OCTETS: usize = 16;
 
 /// The name of a session in a script: 1 to 16 ASCII letters or digits.
@@ -27,7 +29,8 @@ impl Model for SessionName {
 }
 
 impl SessionName {
-    /// The name of these octets, whose memory it takes over; `None` unless they are 1 to 16 ASCII letters or digits.
+    /// Makes a name of these octets, whose memory it takes over; `None` unless they are 1 to 16
+    /// ASCII letters or digits.
     pub fn new(octets: Vec<u8>) -> Option<SessionName>
         ensures { SomeIff result (IsTrue (is_session_name octets.items)) octets.items }
     {
@@ -38,7 +41,7 @@ impl SessionName {
         }
     }
 
-    /// The octets.
+    /// The name's octets.
     pub fn as_bytes(&self) -> &[u8]
         ensures value { result.now ≡ self.now }
         ensures lawful { IsTrue (is_session_name result.now) }
@@ -46,14 +49,14 @@ impl SessionName {
         &self.octets
     }
 
-    /// Whether both are the same name.
+    /// Whether two names are equal.
     pub fn same(&self, other: &SessionName) -> bool
         ensures { IsTrue result ↔ (self.now ≡ other.now) }
     {
         self.as_bytes() == other.as_bytes()
     }
 
-    /// An equal name; `Err` where there is no memory for it.
+    /// An equal name; `Err` if memory runs out.
     pub fn copy(&self, alloc: Global) -> Result<SessionName, AllocError>
         ensures { IfOk result (λ copied. copied ≡ self.now) }
     {
@@ -63,7 +66,7 @@ impl SessionName {
     }
 }
 
-/// Whether a session may bear this name.
+/// Whether the octets may name a session: 1 to 16 ASCII letters or digits.
 pub fn is_session_name(octets: &[u8]) -> bool
     ensures { result ≡ is_session_name octets.now }
 {

@@ -1,4 +1,4 @@
-//! The lines of a transcript.
+//! The lines of a transcript, which shows what the client and the server sent in a session.
 
 ghost use Rattle.std.specs.Prelude.{◌≡◌, ◌++◌, ℕ, List, OnErr, OnOk};
 ghost use Rattle.mail_script.specs.Transcript.{mark_of, transcript_line, without_line_end};
@@ -7,12 +7,12 @@ use crate::session_name::SessionName;
 use imap_types::{Escape, write_escaped};
 use std::alloc::AllocError;
 
-/// Who said something in a session.
+/// Who sent the octets that a line shows.
 #[derive(Clone, Copy, Debug, PartialEq, Eq)]
 pub enum Speaker {
-    /// The client, with a frame.
+    /// The client, which sent a frame.
     Client,
-    /// The server, with an answer.
+    /// The server, which sent an answer.
     Server,
 }
 
@@ -27,8 +27,8 @@ impl Speaker {
     }
 }
 
-/// Appends `NAME C: ` or `NAME S: `, the frame or answer without its closing CRLF in the escape that keeps spaces, and LF;
-/// `Err` where there is no memory for it, and then `out` is as it was.
+/// Appends `NAME C: ` or `NAME S: `, then the frame or answer without its closing CRLF, escaped so
+/// that spaces stay as they are, then LF; `Err` if memory runs out, and then `out` is unchanged.
 pub fn write_transcript_line(
     session: &SessionName,
     speaker: Speaker,
