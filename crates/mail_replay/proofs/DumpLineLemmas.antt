@@ -7,12 +7,12 @@ no_end : (front : List ℕ) → ◌≡◌ {A = List ℕ} [] (front ++ 10 ∷ [])
 no_end [] e = absurd cc
 no_end (octet ∷ front) e = absurd cc
 
--- one more octet in front of the first line
+-- one more octet at the beginning of the first line
 begun : (octet : ℕ) (lines : List (List ℕ)) (front : List ℕ) → text_of lines ≡ front ++ 10 ∷ [] → text_of (line_begun octet lines) ≡ octet ∷ (front ++ 10 ∷ [])
 begun octet [] front e = absurd (no_end front e)
 begun octet (line ∷ lines) front e = ap (λ (text : List ℕ). octet ∷ text) e
 
--- a text that ends with LF is its lines, each with its end
+-- a text that ends with LF consists of its lines, each with its end
 pub whole_lines : (front : List ℕ) → text_of (lines_of (front ++ 10 ∷ [])) ≡ front ++ 10 ∷ []
 whole_lines [] = refl
 whole_lines (octet ∷ front) =

@@ -3,14 +3,14 @@ use Rattle.imap_node.specs.Nodes.{NodeWithRoom}
 use Rattle.mail_replay.specs.Exchanges.{nodes_in, with_nodes}
 use Rattle.mail_replay.specs.declared.script_state.ScriptReplica.{ScriptReplica}
 
--- the replicas of which so many have these nodes
+-- the replicas, of which the first `k` have these nodes
 abbrev pub replicas_until : ℕ → List ScriptReplica → List NodeWithRoom → List ScriptReplica
 replicas_until zero replicas nodes = replicas
 replicas_until (suc k) [] nodes = []
 replicas_until (suc k) (r ∷ rs) [] = r ∷ rs
 replicas_until (suc k) (r ∷ rs) (n ∷ ns) = record r { node = n } ∷ replicas_until k rs ns
 
--- the nodes, so many of which are the replicas'
+-- the nodes, of which the first `k` are the replicas'
 abbrev pub nodes_until : ℕ → List ScriptReplica → List NodeWithRoom → List NodeWithRoom
 nodes_until zero replicas nodes = nodes
 nodes_until (suc k) [] nodes = nodes
@@ -34,7 +34,7 @@ node_put k (r0 ∷ rs) [] r same within = absurd (omega (arith, same))
 node_put zero (r0 ∷ rs) (n0 ∷ ns) r same within = refl
 node_put (suc k) (r0 ∷ rs) (n0 ∷ ns) r same within = ap (λ (zs : List NodeWithRoom). r0.node ∷ zs) (node_put k rs ns r (omega (arith, same)) (omega (arith, within)))
 
--- the same of lists that are so, and of what stands at their places
+-- the same for lists that equal these, and for the elements at a place
 module _ (k : ℕ) (rs xs : List ScriptReplica) (ns ys : List NodeWithRoom) (r : ScriptReplica) (n : NodeWithRoom) (e : xs ≡ replicas_until k rs ns) (f : ys ≡ nodes_until k rs ns) (same : length ns ≡ length rs) (within : k < length rs) where
   pub one_more_replica : (new : ScriptReplica) → new ≡ record (get_or xs k r) { node = get_or ys k n } → slice_set xs k new ≡ replicas_until (k + 1) rs ns
   one_more_replica new is =
@@ -67,20 +67,20 @@ all_nodes zero (r ∷ rs) ns same whole = absurd (omega (arith, whole))
 all_nodes (suc k) (r ∷ rs) [] same whole = absurd (omega (arith, same))
 all_nodes (suc k) (r ∷ rs) (n ∷ ns) same whole = ap (λ (zs : List NodeWithRoom). r.node ∷ zs) (all_nodes k rs ns (omega (arith, same)) (omega (arith, whole)))
 
--- other nodes in the places of those that stood in for a while
+-- nodes that replace those that stood in for a while
 pub with_others : (rs : List ScriptReplica) (ms ns : List NodeWithRoom) → length ms ≡ length rs → length ns ≡ length rs → with_nodes (with_nodes rs ms) ns ≡ with_nodes rs ns
 with_others [] ms ns e f = refl
 with_others (r ∷ rs) [] ns e f = absurd (omega (arith, e))
 with_others (r ∷ rs) (m ∷ ms) [] e f = absurd (omega (arith, f))
 with_others (r ∷ rs) (m ∷ ms) (n ∷ ns) e f = ap (λ (zs : List ScriptReplica). record r { node = n } ∷ zs) (with_others rs ms ns (omega (arith, e)) (omega (arith, f)))
 
--- replicas stay as many
+-- the number of replicas stays the same
 pub as_many : (rs : List ScriptReplica) (ns : List NodeWithRoom) → length (with_nodes rs ns) ≡ length rs
 as_many [] ns = refl
 as_many (r ∷ rs) [] = refl
 as_many (r ∷ rs) (n ∷ ns) = ap suc (as_many rs ns)
 
--- and there is one node for each
+-- there is one node for each replica
 pub one_each : (rs : List ScriptReplica) → length (nodes_in rs) ≡ length rs
 one_each [] = refl
 one_each (r ∷ rs) = ap suc (one_each rs)

@@ -6,12 +6,12 @@ use Rattle.mail_replay.specs.declared.script_state.ScriptReplica.{ScriptReplica}
 use Rattle.mail_replay.proofs.StageLemmas.{some_same, stands_at}
 use Rattle.imap_node.specs.Operations.{id_of}
 
--- what a list that is as it was gives at a place stood there
+-- an element of an unchanged list was at the same place before
 pub there_still : (old items : List ScriptReplica) (place : ℕ) (x : ScriptReplica) → items ≡ old → place < length old → x ≡ get_or items place x → slice_get old place ≡ Some x
 there_still old items place x same within e =
     subst (λ (rs : List ScriptReplica). slice_get rs place ≡ Some x) same (stands_at items items place x refl (subst (λ (rs : List ScriptReplica). place < length rs) (sym same) within) e)
 
--- no operation of the one at a place is the joining replica's own
+-- no operation of the replica at a place is the joining replica's own
 pub none_own : (old : List ScriptReplica) (place name : ℕ) (x y : ScriptReplica) (ops : List Op) → slice_get old place ≡ Some x → slice_get old place ≡ Some y → ops ≡ x.node.state.applied
     → IsLeastOwn id_of name ops None → IsLeastOwn id_of name y.node.state.applied None
 none_own old place name x y ops e f same none =

@@ -24,7 +24,7 @@ appends_both (Some as') None c xs ys h k = absurd h
 appends_both (Some as') (Some bs) None xs ys h k = absurd k
 appends_both (Some as') (Some bs) (Some cs) xs ys h k = k ∙ ap (λ zs. zs ++ ys) h ∙ append_assoc as' xs ys
 
--- what is kept is added to by nothing
+-- unchanged contents have nothing added
 pub keeps_appends : (a b : Option (List ℕ)) → Keeps a b → Appends a b []
 keeps_appends None b h = tt
 keeps_appends (Some xs) None h = absurd h
@@ -37,12 +37,12 @@ appends_none (Some xs) = sym (append-nil xs)
 pub appends_kept : (a b c : Option (List ℕ)) (xs : List ℕ) → Appends a b xs → Keeps b c → Appends a c xs
 appends_kept a b c xs h k = subst (λ (zs : List ℕ). Appends a c zs) (append-nil xs) (appends_both a b c xs [] h (keeps_appends b c k))
 
--- of a line for which there is no memory nothing may be printed
+-- a line for which memory runs out may print nothing
 pub nothing_in_part : (scene : ScriptContents) (lines : List (List ℕ)) → FirstInPart scene lines []
 nothing_in_part scene [] = refl
 nothing_in_part scene (line ∷ lines) = inl refl
 
--- one more line behind those that were served
+-- one more line after those that were served
 pub serves_one_more : (old mid new : ScriptContents) (lines : List (List ℕ)) (line told more : List ℕ) (said : ScriptLine)
     → ServesAll old lines told mid → Says line said → Serves mid said more new → ServesAll old (lines ++ line ∷ []) (told ++ more) new
 serves_one_more old mid new [] line told more said s says serves =
@@ -52,7 +52,7 @@ serves_one_more old mid new [] line told more said s says serves =
 serves_one_more old mid new (first ∷ lines) line told more said s says serves =
     (s.0, s.1, s.2, s.3 ++ more, s.4, s.5, ap (λ zs. zs ++ more) s.6 ∙ append_assoc s.1 s.3 more, serves_one_more s.2 mid new lines line s.3 more said s.7 says serves)
 
--- the lines served behind others
+-- lines served after others
 pub serves_both : (old mid new : ScriptContents) (xs ys : List (List ℕ)) (told more : List ℕ) → ServesAll old xs told mid → ServesAll mid ys more new → ServesAll old (xs ++ ys) (told ++ more) new
 serves_both old mid new [] ys told more s t =
     let start : mid ≡ old = s.1 in
@@ -73,7 +73,7 @@ module _ (held : Option (List ℕ)) (scene : ScriptContents) (served : ℕ) (tex
     fits = omega arith;
   }
 
-  -- no memory behind some of the lines
+  -- memory runs out after some of the lines
   pub stops_behind : (held1 : Option (List ℕ)) (scene1 : ScriptContents) (served1 : ℕ) (text1 : List ℕ) → Advances held scene served text held1 scene1 served1 text1 → Stops held scene text held1
   stops_behind held1 scene1 served1 text1 a = record {
     front = a.front;

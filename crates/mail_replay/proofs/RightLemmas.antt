@@ -64,7 +64,7 @@ causes_among listed applied same causal op h cause c =
     let found = element_of_id id_of cause applied there in
     subst (HasId id_of listed) found.2 (id_of_element id_of found.0 listed ((same found.0).1 found.1))
 
--- ---- the lines behind them
+-- ---- the lines after the op lines
 
 same_state : (xs ys : List Op) → MeansTheSame xs ys → state_text xs ≡ state_text ys
 same_state xs ys m = λ i.
@@ -78,7 +78,7 @@ grouped d n x s e =
     ∙ append_assoc (d ++ n) x (s ++ (e ++ n))
     ∙ append_assoc d n (x ++ (s ++ (e ++ n)))
 
--- ---- a dump of what was applied in a causal order is right
+-- ---- a dump of operations that were applied in a causal order is right
 
 pub right_dump : (replica : ℕ) (applied : List Op) (text : List ℕ) → IsReplica replica → AreSound IsInForm applied → AreSound IsSound applied → IsCausal id_of clock_of applied → IsDump replica applied text → IsRightDump text
 right_dump replica applied text named form sound causal dump =
@@ -100,7 +100,7 @@ right_dump replica applied text named form sound causal dump =
           ∙ grouped (codes "dump " ++ decimal replica) (10 ∷ []) (flat_map op_line listed) (state_text listed) (codes "end"),
     )
 
--- ---- its lines behind right ones
+-- ---- the lines of a dump after right lines
 
 dump_lines : (text : List ℕ) → IsRightDump text → text_of (lines_of text) ≡ text
 dump_lines text dump =
@@ -114,7 +114,7 @@ each_last : {X : Type 0} (P : X → Type 0) (xs : List X) (x : X) → Each P xs 
 each_last P [] x h p = (p, tt)
 each_last P (y ∷ xs) x h p = (h.0, each_last P xs x h.1 p)
 
--- a dump says nothing in a session
+-- a dump adds nothing to what was sent in a session
 said_behind : (session : List ℕ) (parts : List Part) (text : List ℕ) → said_in session (parts ++ Dumped text ∷ []) ≡ said_in session parts
 said_behind session [] text = refl
 said_behind session (Spoken other speaker said ∷ parts) text = λ i. if bytes_eq session other then said_by speaker said ∷ said_behind session parts text i else said_behind session parts text i

@@ -14,7 +14,7 @@ use Rattle.merge_laws.specs.Orders.{HasId, IsIn}
 use Rattle.tags_clocks.specs.declared.id.OpId.{OpId}
 use Rattle.crdt_ops.specs.Ops.{id_of}
 
--- what a place within a list gives stands there
+-- the element that a valid index gives is at that place
 pub stands_at : {X : Type 0} (xs ys : List X) (k : ℕ) (x : X) → ys ≡ xs → k < length ys → x ≡ get_or xs k x → slice_get xs k ≡ Some x
 stands_at {X} xs ys k x same within e =
     let fits : k < length xs = subst (λ (zs : List X). k < length zs) same within in
@@ -36,14 +36,14 @@ never_issued scene id op at source place stands none i =
     let same : i.1 ≡ source = some_same (slice_get scene.replicas at) i.1 source there stands in
     none (has_id_in source.issued op id (subst (λ (r : ScriptReplica). IsIn op r.issued) same i.3) i.4)
 
--- what a node answers to a delivery
+-- a node's answer to a delivery
 pub answers_given : (old : NodeState) (op : Op) (answer : Result Delivered DeliverFault) (new : NodeState)
     → MatchResult answer (λ d. Delivers old op d.arrival new) (λ e. IsRefusedAt old op e) → IfOk answer (λ d. IsTrue d.stalled ↔ HoldsRipe new) → OnErr answer (new ≡ old)
     → Answers old op answer new
 answers_given old op (Ok d) new arrives stalled kept = (arrives, stalled)
 answers_given old op (Err why) new refused stalled kept = (refused, kept)
 
--- what an answer leads to, where there is one
+-- what follows from an `Ok`, if there is one
 pub on_ok : {T E : Type 0} (r : Result T E) {P Q : Type 0} → (P → Q) → OnOk r P → OnOk r Q
 on_ok (Ok x) f h = f h
 on_ok (Err e) f h = h

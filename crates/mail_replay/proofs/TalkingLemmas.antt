@@ -28,7 +28,7 @@ none_some : {X : Type 0} (o : Option X) → IsNone o → IsSome o → ⊥
 none_some None n s = search rules
 none_some (Some x) n s = search rules
 
--- a session whose connection doesn't idle doesn't
+-- a session whose connection doesn't idle doesn't idle
 pub not_idling : (scene : ScriptContents) (name : List ℕ) (t : Feedable scene name) → IsNone (idling_at t.replica.node.state t.connection.number) → IsIdling scene name → ⊥
 not_idling scene name t none i =
     let same = one_talking scene name t i.0 in
@@ -36,7 +36,7 @@ not_idling scene name t none i =
     (subst (λ (c : Connection). IsSome (idling_at t.replica.node.state c.number)) same.1
     (subst (λ (r : ScriptReplica). IsSome (idling_at r.node.state i.0.connection.number)) same.0 i.1))
 
--- what a line says begins with UIDs from 1 on
+-- a line that declares a replica has UIDs from 1
 pub says_first_uid : (line : List ℕ) (said : ScriptLine) → Says line said → HasFirstUid said
 says_first_uid line Blank h = tt
 says_first_uid line (Node replica uid k) h = let positive = h.1.0 in omega (arith, positive)

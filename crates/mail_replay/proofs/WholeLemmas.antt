@@ -13,7 +13,8 @@ use Rattle.mail_replay.specs.declared.replay_end.ReplayEnd.{ReplayEnd}
 use Rattle.mail_replay.specs.declared.replay_end.ReplayEnd.TheVariants.{Done, BadScript, ReadFailed, WriteFailed, NoMemory}
 use Rattle.mail_replay.proofs.LineLemmas.{appends_both, appends_none, nothing_in_part, serves_both}
 
--- How far the replay of a script came: of what was read the whole lines were served, and the beginning of one is kept.
+-- How far the replay of a script has come: the whole lines of what was read were served, and the
+-- beginning of a line is left.
 pub record CameFrom (script : List ℕ) (held left held' : Option (List ℕ)) (scene : ScriptContents) (served : ℕ) (text : List ℕ) : Type 0 where
   pub read : List ℕ
   pub rest : List ℕ
@@ -70,19 +71,19 @@ module _ (start held left held' : Option (List ℕ)) (scene : ScriptContents) (s
       }
 
   module _ (script : List ℕ) (f : CameFrom script held left held' scene served text) where
-    -- the lines of a script are those that were served and those of what is kept and what is left
+    -- the lines of a script are those that were served and those of the texts not yet served
     whole : lines_of script ≡ f.front ++ lines_of (text ++ f.rest)
     whole = ap lines_of f.script_is ∙ f.lines f.rest
 
-    -- octets that are read stand behind those that were
+    -- octets that are read follow those read before
     joined : (bs more : List ℕ) → lines_of ((f.read ++ bs) ++ more) ≡ f.front ++ lines_of ((text ++ bs) ++ more)
     joined bs more = ap lines_of (append_assoc f.read bs more) ∙ f.lines (bs ++ more) ∙ ap (λ (zs : List ℕ). f.front ++ lines_of zs) (sym (append_assoc text bs more))
 
-    -- the lines of a script where octets are read
+    -- the lines of a script after octets are read
     behind : (bs more : List ℕ) → f.rest ≡ bs ++ more → lines_of script ≡ f.front ++ lines_of ((text ++ bs) ++ more)
     behind bs more e = whole ∙ ap (λ (zs : List ℕ). f.front ++ lines_of zs) (ap (λ (zs : List ℕ). text ++ zs) e ∙ sym (append_assoc text bs more))
 
-  -- lines of a piece that was read are served
+  -- the lines of a piece that was read are served
   pub came_on : (bs : List ℕ) (left' held2 : Option (List ℕ)) (scene' : ScriptContents) (served' : ℕ) (text' : List ℕ) → Consumes left left' bs
       → Advances held' scene served (text ++ bs) held2 scene' served' text' → Came start held left' held2 scene' served' text'
   came_on bs left' held2 scene' served' text' k a script e =
@@ -121,7 +122,7 @@ module _ (start held left held' : Option (List ℕ)) (scene : ScriptContents) (s
         appends_both held held' held2 f.told b.told f.writes b.writes,
       )
 
-  -- there is no memory for a line of a piece that was read
+  -- memory runs out for a line of a piece that was read
   pub came_to_stop : (bs : List ℕ) (left' held2 : Option (List ℕ)) → Consumes left left' bs → Stops held' scene (text ++ bs) held2
       → (script : List ℕ) → start ≡ Some script → Replays script NoMemory left' held held2
   came_to_stop bs left' held2 k b script e =
@@ -143,7 +144,7 @@ module _ (start held left held' : Option (List ℕ)) (scene : ScriptContents) (s
   came_to_failure none script e = let f = came script e in (f.read, f.rest, text, f.front, f.told, scene, f.script_is, f.left_is, (none, f.lines), f.serves, f.writes)
 
   module _ (left' : Option (List ℕ)) (k : Consumes left left' []) (end : IsAtEnd left') (script : List ℕ) (e : start ≡ Some script) where
-    -- at the script's end the lines that are left are those of what is kept
+    -- at the script's end the remaining lines are those of the text that is left
     last_lines : (f : CameFrom script held left held' scene served text) → lines_of script ≡ f.front ++ lines_of text
     last_lines f =
         let p = consumes_known f.rest [] left' (subst (λ (o : Option (List ℕ)). Consumes o left' []) f.left_is k) in
@@ -179,11 +180,11 @@ module _ (start held left held' : Option (List ℕ)) (scene : ScriptContents) (s
         let f = came script e in
         (f.front, lines_of text, f.told, more, scene, last_lines f, f.serves, first, appends_both held held' held2 f.told more f.writes writes)
 
--- no memory at all
+-- memory runs out at the beginning
 pub stopped_at_first : (script : List ℕ) (left held : Option (List ℕ)) → Replays script NoMemory left held held
 stopped_at_first script left held = ([], lines_of script, [], [], empty_script_contents, refl, (refl, refl), nothing_in_part empty_script_contents (lines_of script), appends_none held)
 
--- an early end by one cause is one by another that follows
+-- an early end for one cause is one for any cause that follows from it
 pub ends_by : (end : ReplayEnd) {Breaks Breaks' : ℕ → Type 0} {Stops Stops' : Type 0} → ((number : ℕ) → Breaks number → Breaks' number) → (Stops → Stops') → EndsEarly Breaks Stops end → EndsEarly Breaks' Stops' end
 ends_by Done b s h = absurd h
 ends_by (BadScript number) b s h = b number h
@@ -191,7 +192,7 @@ ends_by ReadFailed b s h = absurd h
 ends_by WriteFailed b s h = tt
 ends_by NoMemory b s h = s h
 
--- what a replay comes to that ends early
+-- the result of a replay that ends early
 pub replays_by : (script : List ℕ) (left held held' : Option (List ℕ)) (end : ReplayEnd) {Breaks : ℕ → Type 0} {Stops : Type 0} → ((number : ℕ) → Breaks number → Replays script (BadScript number) left held held')
     → (Stops → Replays script NoMemory left held held') → EndsEarly Breaks Stops end → Replays script end left held held'
 replays_by script left held held' Done b s h = absurd h
@@ -200,7 +201,7 @@ replays_by script left held held' ReadFailed b s h = absurd h
 replays_by script left held held' WriteFailed b s h = tt
 replays_by script left held held' NoMemory b s h = s h
 
--- an error that a `?` hands on
+-- an error that a `?` passes on
 pub handed_on : {T E : Type 0} (r : Result T E) (end : E) (Q P : E → Type 0) → IsErrAnd r Q → ((e : E) → Q e → e ≡ end) → P end → IfErr r P
 handed_on (Ok x) end Q P h same p = tt
 handed_on (Err e) end Q P h same p = subst P (sym (same e h)) p
@@ -215,7 +216,7 @@ none_served held scene (octet ∷ text) e = absurd (omega (arith, e))
 pub one_line : (text : List ℕ) → cut_at 10 text ≡ None → length text ≢ 0 → lines_of text ≡ text ∷ []
 one_line text none n = lines_last text none (λ e. n (ap length e))
 
--- a line that is served is all lines of a text that has one
+-- a served line is the only line of a text that has one
 pub one_served : {T E : Type 0} (r : Result T E) (held held' : Option (List ℕ)) (scene new : ScriptContents) (text : List ℕ) (P : Type 0) → lines_of text ≡ text ∷ []
     → OnOk r ((said : ScriptLine) × (more : List ℕ) × Says text said × Serves scene said more new × Appends held held' more × P)
     → OnOk r ((told : List ℕ) × (new' : ScriptContents) × ServesAll scene (lines_of text) told new' × Appends held held' told)
@@ -223,6 +224,6 @@ one_served (Err e) held held' scene new text P one o = tt
 one_served (Ok x) held held' scene new text P one o =
     (o.1, new, subst (λ (ls : List (List ℕ)). ServesAll scene ls o.1 new) (sym one) (o.0, o.1, new, [], o.2, o.3, sym (append-nil o.1), (refl, refl)), o.4)
 
--- a line that isn't served is the first of a text that has one
+-- a line for which memory runs out is the first of a text that has one
 pub one_in_part : (scene : ScriptContents) (text : List ℕ) (more : List ℕ) → lines_of text ≡ text ∷ [] → ServesInPart scene text more → FirstInPart scene (lines_of text) more
 one_in_part scene text more one h = subst (λ (ls : List (List ℕ)). FirstInPart scene ls more) (sym one) h

@@ -1,3 +1,5 @@
+-- Deliveries of operations to the replicas of a script, and the lines that report their results.
+
 use Rattle.std.specs.Prelude.{◌≡◌, ◌⊎◌, ◌↔◌, ℕ, Bool, IsTrue, List, Some, Result, Ok, Err, slice_get, slice_set}
 use Rattle.causal_inbox.specs.declared.delivery.Arrival.{Arrival}
 use Rattle.causal_inbox.specs.declared.delivery.Arrival.TheVariants as arrivals
@@ -25,7 +27,7 @@ use Rattle.mail_replay.specs.declared.script_state.ScriptReplica.{ScriptReplica}
 use Rattle.merge_laws.specs.Orders.{IsIn}
 use Rattle.tags_clocks.specs.declared.id.OpId.{OpId}
 
--- ---- what a line tells of a delivery
+-- ---- the result that a line reports
 
 abbrev pub arrival_result_of : Arrival → Bool → DeliveryResult
 arrival_result_of (arrivals.Applied count) stalled = results.Applied count stalled
@@ -38,12 +40,12 @@ refusal_result_of refusals.HeldFull = results.HeldFull
 refusal_result_of refusals.Exhausted = results.Exhausted
 refusal_result_of refusals.NoMemory = results.NoMemory
 
--- What is told of a node's answer.
+-- The result that is reported for a node's answer.
 abbrev pub delivery_result_of : Result Answer DeliverFault → DeliveryResult
 delivery_result_of (Ok answer) = arrival_result_of answer.arrival answer.stalled
 delivery_result_of (Err why) = refusal_result_of why
 
--- What is told of an operation that isn't sound.
+-- The rule that is reported for an operation that isn't sound.
 abbrev pub broken_rule_of : Fault → BrokenRule
 broken_rule_of OwnClockEntry = rules.OwnEntry
 broken_rule_of UncoveredId = rules.UncoveredId
@@ -54,20 +56,20 @@ broken_rule_of Count = rules.OldIdCount
 
 -- ---- deliveries
 
--- What a node answers to an operation that is handed to it, and what it is then.
+-- A node's answer to an operation that is handed to it, and its state after that.
 abbrev pub Answers : NodeState → Op → Result Answer DeliverFault → NodeState → Type 0
 Answers old op (Ok answer) new = Delivers old op answer.arrival new × (IsTrue answer.stalled ↔ HoldsRipe new)
 Answers old op (Err why) new = IsRefusedAt old op why × (new ≡ old)
 
--- The replica with this name is declared: it stands at this place.
+-- The replica with this name is declared, and has this place.
 abbrev pub StandsAt : ScriptContents → ℕ → ℕ → ScriptReplica → Type 0
 StandsAt scene name at replica = (replica_place scene.replicas name ≡ Some at) × (slice_get scene.replicas at ≡ Some replica)
 
--- The scene with this node in place of a replica's.
+-- The script's state with this node in place of a replica's.
 abbrev pub with_node : ScriptContents → ℕ → ScriptReplica → NodeWithRoom → ScriptContents
 with_node scene at replica node = record scene { replicas = slice_set scene.replicas at (record replica { node = node }) }
 
--- An operation is handed to a replica, and this is told of it.
+-- An operation is handed to a replica, with this result.
 abbrev pub DeliversOp : ScriptContents → ℕ → Op → DeliveryResult → ScriptContents → Type 0
 DeliversOp old name op told new =
     (at : ℕ) × (replica : ScriptReplica) × (node : NodeWithRoom) × (answer : Result Answer DeliverFault)
@@ -77,12 +79,12 @@ DeliversOp old name op told new =
 abbrev pub Issued : ScriptContents → OpId → Op → Type 0
 Issued scene id op = (at : ℕ) × (source : ScriptReplica) × StandsAt scene id.replica at source × IsIn op source.issued × (op.id ≡ id)
 
--- The line that tells what came of an operation that was handed to a replica.
+-- The line that reports the result of a delivery.
 abbrev pub outcome_line_of : Source → OpId → ℕ → DeliveryResult → OutcomeLine
 outcome_line_of sources.Issued id name told = Delivered id name told
 outcome_line_of sources.Forged id name told = Forged id name told
 
--- An operation is handed to a replica, and what came of it is printed.
+-- An operation is handed to a replica, and the result is printed.
 abbrev pub DeliversAndPrints : ScriptContents → Source → ℕ → Op → List ℕ → ScriptContents → Type 0
 DeliversAndPrints old source name op more new = (told : DeliveryResult) × DeliversOp old name op told new × (more ≡ outcome_line (outcome_line_of source op.id name told))
 
@@ -90,7 +92,8 @@ DeliversAndPrints old source name op more new = (told : DeliveryResult) × Deliv
 abbrev pub DeliversTo : ScriptContents → OpId → ℕ → List ℕ → ScriptContents → Type 0
 DeliversTo old id name more new = (op : Op) × Issued old id op × DeliversAndPrints old sources.Issued name op more new
 
--- A forged operation is handed to a replica if it is sound; else the rule that it breaks is told.
+-- A forged operation is handed to a replica if it is sound; otherwise the rule that it breaks is
+-- reported.
 abbrev pub Forges : ScriptContents → ℕ → Op → List ℕ → ScriptContents → Type 0
 Forges old name op more new =
     (IsSound op × DeliversAndPrints old sources.Forged name op more new)
@@ -100,7 +103,7 @@ Forges old name op more new =
 abbrev pub ForgesAt : ScriptContents → ℕ → List ℕ → List ℕ → ScriptContents → Type 0
 ForgesAt old name text more new = (op : Op) × IsSpelled op text × Forges old name op more new
 
--- A replica goes on with the operations that it holds.
+-- A replica applies its held operations that are ripe.
 abbrev pub DrainsAt : ScriptContents → ℕ → List ℕ → ScriptContents → Type 0
 DrainsAt old name more new =
     (at : ℕ) × (replica : ScriptReplica) × (node : NodeWithRoom) × (count : ℕ) × (stalled : Bool)

@@ -1,3 +1,5 @@
+-- The program's status and its last line for each end of a replay or an audit.
+
 use Rattle.std.specs.Prelude.{ℕ, Option, Some, None}
 use Rattle.mail_script.specs.declared.outcome_line.OutcomeLine.{OutcomeLine}
 use Rattle.mail_script.specs.declared.outcome_line.OutcomeLine.TheVariants as lines
@@ -6,7 +8,7 @@ use Rattle.mail_audit.specs.declared.verdict.AuditEnd.TheVariants as audits
 use Rattle.mail_replay.specs.declared.replay_end.ReplayEnd.{ReplayEnd}
 use Rattle.mail_replay.specs.declared.replay_end.ReplayEnd.TheVariants.{Done, BadScript, ReadFailed, WriteFailed, NoMemory}
 
--- The program's status: 0 where every line was served, else 3.
+-- The program's status after a replay: 0 if every line was served, otherwise 3.
 abbrev pub status_of : ReplayEnd → ℕ
 status_of Done = 0
 status_of (BadScript line) = 3
@@ -14,7 +16,7 @@ status_of ReadFailed = 3
 status_of WriteFailed = 3
 status_of NoMemory = 3
 
--- What the last line of the output says of the end. A failed write leaves nothing to say it with.
+-- The last line of the output, which reports the end. After a failed write nothing can be reported.
 abbrev pub last_line_of : ReplayEnd → Option OutcomeLine
 last_line_of Done = None
 last_line_of (BadScript line) = Some (lines.BadScript line)
@@ -22,7 +24,7 @@ last_line_of ReadFailed = Some lines.CannotRead
 last_line_of WriteFailed = None
 last_line_of NoMemory = Some lines.NoMemory
 
--- The program's status where it audits: 0 for a yes, 1 for a no, else 3.
+-- The program's status after an audit: 0 for a yes, 1 for a no, otherwise 3.
 abbrev pub audit_status_of : AuditEnd → ℕ
 audit_status_of audits.Yes = 0
 audit_status_of (audits.No line) = 1

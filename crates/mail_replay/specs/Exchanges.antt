@@ -1,3 +1,5 @@
+-- Comparisons of replicas, and exchanges of operations between all of them.
+
 use Rattle.std.specs.Prelude.{◌≡◌, ◌↔◌, ℕ, Bool, IsTrue, List, [], ◌∷◌, map, MatchResult, Result, Ok, Err}
 use Rattle.imap_node.specs.Nodes.{NodeWithRoom}
 use Rattle.mail_script.specs.Outcomes.{outcome_line}
@@ -13,7 +15,7 @@ use Rattle.world_core.specs.Settling.{AllTakeSomeOf, AreAgreed, AreSettled, AreU
 use Rattle.world_core.specs.declared.settling.SettleFault.{SettleFault}
 use Rattle.world_core.specs.declared.settling.SettleFault.TheVariants as faults
 
--- Two replicas are compared: it is printed whether they applied the same operations.
+-- Two replicas are compared: whether they applied the same operations is printed.
 abbrev pub Compares : ScriptContents → ℕ → ℕ → List ℕ → Type 0
 Compares scene first second more =
     (at : ℕ) × (one : ScriptReplica) × (by : ℕ) × (other : ScriptReplica) × (same : Bool)
@@ -21,7 +23,7 @@ Compares scene first second more =
     × (IsTrue same ↔ HaveSameElements one.node.state.applied other.node.state.applied)
     × (more ≡ outcome_line (Agreed first second same))
 
--- The nodes of replicas, in their order.
+-- The nodes of replicas, in order.
 abbrev pub nodes_in : List ScriptReplica → List NodeWithRoom
 nodes_in replicas = map (λ (replica : ScriptReplica). replica.node) replicas
 
@@ -31,15 +33,16 @@ with_nodes [] nodes = []
 with_nodes (replica ∷ replicas) [] = replica ∷ replicas
 with_nodes (replica ∷ replicas) (node ∷ nodes) = record replica { node = node } ∷ with_nodes replicas nodes
 
--- What is told of an exchange between all replicas.
+-- The result that is reported for an exchange between all replicas.
 abbrev pub settle_line : Result (Unit {0}) SettleFault → SettleResult
 settle_line (Ok done) = results.Done
 settle_line (Err (faults.Conflict id)) = results.Conflict id
 settle_line (Err faults.Exhausted) = results.Exhausted
 settle_line (Err faults.NoMemory) = results.NoMemory
 
--- Replicas exchange what they received, applied or held, until all applied one set; or it is told what stands against it. Whatever comes of
--- it, each takes what some of them had received, and loses nothing.
+-- Replicas exchange what they received, applied or held, until all have applied one set; otherwise
+-- what prevents it is reported. In either case each takes what some of them had received, and loses
+-- nothing.
 abbrev pub Exchanges : List ScriptReplica → SettleResult → List ScriptReplica → Type 0
 Exchanges old told new =
     (nodes : List NodeWithRoom) × (answer : Result (Unit {0}) SettleFault)
@@ -49,7 +52,7 @@ Exchanges old told new =
     × AllTakeSomeOf (IsReceivedBy (all_without_room (nodes_in old))) (all_without_room (nodes_in old)) (all_without_room nodes)
     × (told ≡ settle_line answer) × (new ≡ with_nodes old nodes)
 
--- All replicas exchange what they received, and what came of it is printed.
+-- All replicas exchange what they received, and the result is printed.
 abbrev pub Settles : ScriptContents → List ℕ → ScriptContents → Type 0
 Settles old more new =
     (told : SettleResult) × (replicas : List ScriptReplica)

@@ -1,3 +1,5 @@
+-- Replicas that begin with the operations that another one applied.
+
 use Rattle.std.specs.Prelude.{◌≡◌, ℕ, List, [], ◌∷◌, ◌++◌, Some, None}
 use Rattle.causal_inbox.specs.OwnIds.{IsLeastOwn}
 use Rattle.crdt_ops.specs.declared.op.Op.{Op}
@@ -12,13 +14,15 @@ use Rattle.imap_node.specs.Nodes.{joined_node}
 use Rattle.imap_node.specs.Operations.{id_of}
 use Rattle.world_core.specs.Joins.{LacksNumbers}
 
--- A replica of this name that applied these operations, as if each had been delivered to it in turn, and that has issued none.
+-- A replica of this name that applied these operations, as if each had been delivered to it in
+-- turn, and that has issued none.
 abbrev pub IsJoined : ℕ → List Op → ScriptReplica → Type 0
 IsJoined name ops replica = (replica.name ≡ name) × (replica.node.state ≡ joined_node name ops) × (replica.issued ≡ [])
 
--- What is told of a replica's beginning with these operations, and which replicas there are then: one more behind the others. But it isn't
--- there where one of the operations is its own, of which the least id is told; nor where a counter of its own lacks a number for one of
--- them; and it may be refused for want of memory.
+-- The result that is reported for a replica's join with these operations, and the replicas after
+-- it: the new one is added at the end. No replica is added if one of the operations is the new
+-- replica's own, of which the least id is reported, or if one of its counters lacks a number for
+-- one of them; and memory may run out.
 abbrev pub JoinsBehind : List ScriptReplica → ℕ → List Op → JoinResult → List ScriptReplica → Type 0
 JoinsBehind old name ops results.Done new =
     IsLeastOwn id_of name ops None × (¬ LacksNumbers name ops) × ((replica : ScriptReplica) × IsJoined name ops replica × (new ≡ old ++ replica ∷ []))
@@ -26,7 +30,8 @@ JoinsBehind old name ops (results.Own id) new = IsLeastOwn id_of name ops (Some 
 JoinsBehind old name ops results.Exhausted new = IsLeastOwn id_of name ops None × LacksNumbers name ops × (new ≡ old)
 JoinsBehind old name ops results.NoMemory new = IsLeastOwn id_of name ops None × (new ≡ old)
 
--- A replica that isn't declared begins with what a declared one applied, and what came of it is printed.
+-- A replica that isn't declared begins with the operations that a declared one applied, and the
+-- result is printed.
 abbrev pub Joins : ScriptContents → ℕ → ℕ → List ℕ → ScriptContents → Type 0
 Joins old name peer more new =
     (at : ℕ) × (from : ScriptReplica) × (told : JoinResult) × (replicas : List ScriptReplica)

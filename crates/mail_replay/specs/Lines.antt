@@ -1,3 +1,5 @@
+-- What each line of a script does to the script's state, and what it prints.
+
 use Rattle.std.specs.Prelude.{◌≡◌, ◌≢◌, ◌⊎◌, ℕ, ◌<◌, ◌≤◌, ◌++◌, List, [], ◌∷◌, Option, Some, None, IsSome, IsNone, Ok, drop, length, slice_get, slice_set, take}
 use Rattle.crdt_ops.specs.Form.{IsSpelled}
 use Rattle.crdt_ops.specs.declared.op.Op.{Op}
@@ -36,35 +38,37 @@ use Rattle.uid_projection.specs.declared.first_numbers.Counters.{Counters}
 abbrev pub crlf : List ℕ
 crlf = 13 ∷ 10 ∷ []
 
--- What a replica's counters begin with: its name, INBOX's first UID, and the k of the first incarnation of another folder.
+-- A replica's first counters: its name, INBOX's first UID, and the k of the first incarnation of
+-- another folder.
 abbrev pub start_at : ℕ → ℕ → ℕ → Counters
 start_at name uid k = record { replica = name; uid = uid; k = k }
 
--- A replica is declared whose counters begin so.
+-- A replica with these first counters is declared.
 abbrev pub Declares : ScriptContents → Counters → ScriptContents → Type 0
 Declares old first new =
     (replica_place old.replicas first.replica ≡ None)
     × ((replica : ScriptReplica) × IsNew first replica × (new ≡ record old { replicas = old.replicas ++ replica ∷ [] }))
 
--- A replica opens a session and greets; or, where 1,024 are open, it says that it has no room for one more, and the session
--- has ended.
+-- A replica opens a session and greets; or, if 1,024 are open, it says that there are too many
+-- sessions, and the session has ended.
 abbrev pub Begins : NodeState → Answer → NodeState → Option Connection → Type 0
 Begins old answer new (Some connection) =
     Opens old.sessions Preauth connection.number new.sessions × (new ≡ record old { sessions = new.sessions })
     × (connection.framer ≡ record { limits = record { line = 8192; literals = 1048576 }; state = Ok start }) × (answer ≡ Greeting Given)
 Begins old answer new None = ((n : ℕ) → 0 < n → n ≤ 1024 → IsOpen old.sessions n) × (new ≡ old) × (answer ≡ Bye TooManySessions)
 
--- A conversation ends for a fault of framing, or at a line of IDLE that was refused, and not for want of memory behind a part of what it
--- shows.
+-- A conversation ends for a fault of framing, or at a refused line of IDLE, and not because memory
+-- ran out partway.
 abbrev pub IsToldEnd : TalkFaultKind → Type 0
 IsToldEnd why = (why ≢ Framing faults.NoMemory) × (why ≢ NoMemory)
 
--- What octets that come to a connection at a moment complete.
+-- The commands that octets complete which arrive at a connection at a moment.
 abbrev pub cut_at_connection : Connection → ℕ → List ℕ → TimedCut
 cut_at_connection connection moment octets = cut_at moment (cut_onward connection.framer.limits connection.framer.state octets)
 
--- What octets that come at a moment make of a connection: the turns of its conversation, and the connection as it goes on, whose framer
--- keeps its limits; none where a LOGOUT was answered OK, the octets can't be framed, or a line of IDLE was refused.
+-- The effect of octets that arrive at a connection at a moment: the turns of the conversation, and
+-- the connection afterwards, whose framer has the same limits; no connection if a LOGOUT was
+-- answered OK, the octets can't be framed, or a line of IDLE was refused.
 abbrev pub TalksOn : NodeState → Connection → ℕ → List ℕ → List Turn → NodeState → Option Connection → Type 0
 TalksOn old connection moment octets turns new (Some left) =
     (left.number ≡ connection.number) × (left.framer.limits ≡ connection.framer.limits) × IsGoing new left.number
@@ -73,7 +77,7 @@ TalksOn old connection moment octets turns new None =
     ((IsGoing new connection.number → ⊥) × ((state : _) × Talks old connection.number (cut_at_connection connection moment octets) turns new state))
     ⊎ ((why : TalkFaultKind) × IsToldEnd why × EndsTalk why old connection.number connection.framer.state (cut_at_connection connection moment octets) turns new)
 
--- A session that can be fed: it was opened, and has a connection with a declared replica, which hasn't logged out.
+-- A session that can be fed: it was opened, and has a connection with a declared replica.
 pub record Feedable (scene : ScriptContents) (name : List ℕ) : Type 0 where
   pub place : ℕ
   pub session : ScriptSession
@@ -86,20 +90,20 @@ pub record Feedable (scene : ScriptContents) (name : List ℕ) : Type 0 where
   pub replica_is : slice_get scene.replicas at ≡ Some replica
   pub connection_is : session.connection ≡ Some connection
 
--- The operations that a node applied behind these.
+-- The operations that a node applied after these.
 abbrev pub ops_applied_since : NodeState → NodeState → List Op
 ops_applied_since old new = drop (length old.applied) new.applied
 
--- The replica after a conversation: what its node applied meanwhile it issued.
+-- The replica after a conversation: it issued what its node applied meanwhile.
 abbrev pub replica_after_talk : ScriptReplica → NodeWithRoom → ScriptReplica
 replica_after_talk old node = record old { node = node; issued = old.issued ++ ops_applied_since old.node.state node.state }
 
--- The scene with this node and this connection in place of those of a session.
+-- The script's state with this node and this connection in place of a session's.
 abbrev pub with_talk : (scene : ScriptContents) (name : List ℕ) → Feedable scene name → NodeWithRoom → Option Connection → ScriptContents
 with_talk scene name t node left =
     record scene { replicas = slice_set scene.replicas t.at (replica_after_talk t.replica node); sessions = slice_set scene.sessions t.place (record t.session { connection = left }) }
 
--- The session can be fed, and goes on.
+-- The session can be fed, and hasn't logged out.
 abbrev pub IsTalking : ScriptContents → List ℕ → Type 0
 IsTalking scene name = (t : Feedable scene name) × IsGoing t.replica.node.state t.connection.number
 
@@ -107,13 +111,14 @@ IsTalking scene name = (t : Feedable scene name) × IsGoing t.replica.node.state
 abbrev pub IsIdling : ScriptContents → List ℕ → Type 0
 IsIdling scene name = (t : Feedable scene name) × IsSome (idling_at t.replica.node.state t.connection.number)
 
--- A session is fed these octets, at the moment that the clock shows: the turns of its conversation are printed.
+-- A session is fed these octets, at the time on the clock: the turns of its conversation are
+-- printed.
 abbrev pub Feeds : ScriptContents → List ℕ → List ℕ → List ℕ → ScriptContents → Type 0
 Feeds old name octets more new =
     (t : Feedable old name) × (turns : List Turn) × (node : NodeWithRoom) × (left : Option Connection)
     × TalksOn t.replica.node.state t.connection old.moment octets turns node.state left × (more ≡ transcript name turns) × (new ≡ with_talk old name t node left)
 
--- A session that idles is polled: the answers that tell it what changed are printed.
+-- An idling session is polled: the answers that report changes are printed.
 abbrev pub PollsAt : ScriptContents → List ℕ → List ℕ → ScriptContents → Type 0
 PollsAt old name more new =
     (t : Feedable old name) × (turns : List Turn) × (node : NodeWithRoom) × IsSome (idling_at t.replica.node.state t.connection.number)
@@ -144,7 +149,7 @@ abbrev pub Shows : ScriptContents → ℕ → List ℕ → Type 0
 Shows scene name more =
     (at : ℕ) × (replica : ScriptReplica) × (replica_place scene.replicas name ≡ Some at) × (slice_get scene.replicas at ≡ Some replica) × IsDump replica.node.state.start.replica replica.node.state.applied more
 
--- What a line does in a scene, and what it prints.
+-- The effect of a line on the script's state, and what it prints.
 abbrev pub Serves : ScriptContents → ScriptLine → List ℕ → ScriptContents → Type 0
 Serves old Blank more new = (more ≡ []) × (new ≡ old)
 Serves old (Node replica uid k) more new = (more ≡ []) × Declares old (start_at replica uid k) new
@@ -162,8 +167,9 @@ Serves old Settle more new = Settles old more new
 Serves old (Agree first second) more new = Compares old first second more × (new ≡ old)
 Serves old (Join replica peer) more new = Joins old replica peer more new
 
--- A line that can't be served where it stands: it names what isn't declared, or declares what is, or names a session that
--- has ended or an operation that was never issued, or polls a session that doesn't idle, or its text is none of an operation's.
+-- A line that can't be served in this state: it names something that isn't declared, or declares
+-- something that is, or names a session that has ended or an operation that was never issued, or
+-- polls a session that doesn't idle, or its text spells no operation.
 abbrev pub IsMisplaced : ScriptContents → ScriptLine → Type 0
 IsMisplaced scene Blank = ⊥
 IsMisplaced scene (Node replica uid k) = IsSome (replica_place scene.replicas replica)
@@ -181,13 +187,14 @@ IsMisplaced scene Settle = ⊥
 IsMisplaced scene (Agree first second) = IsNone (replica_place scene.replicas first) ⊎ IsNone (replica_place scene.replicas second)
 IsMisplaced scene (Join replica peer) = IsSome (replica_place scene.replicas replica) ⊎ IsNone (replica_place scene.replicas peer)
 
--- A line that isn't served: it says nothing that could be, where it stands.
+-- A line that can't be served: whatever it says can't be served in this state.
 abbrev pub IsBad : ScriptContents → List ℕ → Type 0
 IsBad scene line = (said : ScriptLine) → Says line said → IsMisplaced scene said
 
--- ---- what is printed where memory runs out
+-- ---- what is printed if memory runs out
 
--- The turns that octets make of a connection: to their end, or until a fault or want of memory ends the conversation.
+-- The turns that octets lead to: all of them, or those until a fault or lack of memory ends the
+-- conversation.
 abbrev pub HasTurns : NodeState → Connection → ℕ → List ℕ → List Turn → Type 0
 HasTurns old connection moment octets turns =
     ((new : NodeState) × (state : _) × Talks old connection.number (cut_at_connection connection moment octets) turns new state)
@@ -199,7 +206,7 @@ FeedsInPart scene name octets more =
     (t : Feedable scene name) × (turns : List Turn) × (count : ℕ)
     × HasTurns t.replica.node.state t.connection scene.moment octets turns × (more ≡ transcript name (take count turns))
 
--- The turns that a poll makes: all of them, or those in front of the one for which there is no memory.
+-- The turns of a poll: all of them, or those before the one for which memory runs out.
 abbrev pub HasPolledTurns : NodeState → ℕ → List Turn → Type 0
 HasPolledTurns old session turns = ((new : NodeState) × Polls old session turns new) ⊎ ((new : NodeState) × BreaksPoll old session turns new)
 
@@ -209,7 +216,8 @@ PollsInPart scene name more =
     (t : Feedable scene name) × (turns : List Turn) × (count : ℕ)
     × HasPolledTurns t.replica.node.state t.connection.number turns × (more ≡ transcript name (take count turns))
 
--- What a line prints that finds no memory for all of it: a session is opened and forgotten, or some of its turns are told.
+-- What a line prints if memory runs out partway: a session is opened and forgotten, or some of its
+-- first turns are printed.
 abbrev pub PrintsInPart : ScriptContents → ScriptLine → List ℕ → Type 0
 PrintsInPart scene (Open replica name) more = (new : ScriptContents) × OpensAt scene replica name more new
 PrintsInPart scene (Line name text) more = FeedsInPart scene name (text ++ crlf) more
@@ -217,13 +225,13 @@ PrintsInPart scene (Send name text) more = FeedsInPart scene name text more
 PrintsInPart scene (Poll name) more = PollsInPart scene name more
 PrintsInPart scene said more = ⊥
 
--- What is printed of a line for which there is no memory: nothing, or a part of it.
+-- What is printed of a line for which memory runs out: nothing, or a part.
 abbrev pub ServesInPart : ScriptContents → List ℕ → List ℕ → Type 0
 ServesInPart scene line more = (more ≡ []) ⊎ ((said : ScriptLine) × Says line said × PrintsInPart scene said more)
 
--- ---- what a line that says something may be taken for
+-- ---- a bound on what lines say
 
--- Where the line declares a replica, its first UID isn't 0.
+-- If the line declares a replica, its first UID isn't 0.
 abbrev pub HasFirstUid : ScriptLine → Type 0
 HasFirstUid (Node replica uid k) = 1 ≤ uid
 HasFirstUid said = Unit {0}

@@ -1,3 +1,5 @@
+-- The replay of a whole script: what is written, and the meaning of each end.
+
 use Rattle.std.specs.Prelude.{◌≡◌, ℕ, ◌+◌, ◌≤◌, ◌++◌, List, [], ◌∷◌, Option, Some, None, length}
 use Rattle.std.specs.Io.KnownBytes.{Appends}
 use Rattle.mail_script.specs.Lines.{lines_of}
@@ -13,43 +15,44 @@ use Rattle.mail_replay.specs.declared.replay_end.ReplayEnd.TheVariants.{Done, Ba
 abbrev pub empty_script_contents : ScriptContents
 empty_script_contents = record { moment = 0; replicas = []; sessions = [] }
 
--- Lines are served in their order, and this is what they print together.
+-- Lines are served in order, and this is what they print together.
 abbrev pub ServesAll : ScriptContents → List (List ℕ) → List ℕ → ScriptContents → Type 0
 ServesAll old [] told new = (told ≡ []) × (new ≡ old)
 ServesAll old (line ∷ lines) told new =
     (said : ScriptLine) × (first : List ℕ) × (mid : ScriptContents) × (rest : List ℕ) × Says line said × Serves old said first mid
     × (told ≡ first ++ rest) × ServesAll mid lines rest new
 
--- A text is these whole lines and the beginning of one, whatever comes behind it.
+-- A text consists of these whole lines and the beginning of a line, whatever follows.
 abbrev pub IsWholeLines : List ℕ → List (List ℕ) → List ℕ → Type 0
 IsWholeLines text lines begun = (cut_at 10 begun ≡ None) × ((more : List ℕ) → lines_of (text ++ more) ≡ lines ++ lines_of (begun ++ more))
 
--- What is printed of the first of these lines, for which there is no memory.
+-- What is printed of the first of these lines, for which memory runs out.
 abbrev pub FirstInPart : ScriptContents → List (List ℕ) → List ℕ → Type 0
 FirstInPart scene [] more = more ≡ []
 FirstInPart scene (line ∷ lines) more = ServesInPart scene line more
 
--- What the replay of a script comes to, whose reader has then this left, and whose writer held the one and holds the other.
+-- The result of a replay, whose reader then has `left` still to read, and whose writer had written
+-- `held` before and `held'` after it.
 abbrev pub Replays : List ℕ → ReplayEnd → Option (List ℕ) → Option (List ℕ) → Option (List ℕ) → Type 0
--- every line was served, and what was written is what they print
+-- every line was served, and what was written is their output
 Replays script Done left held held' = (told : List ℕ) × (scene : ScriptContents) × ServesAll empty_script_contents (lines_of script) told scene × Appends held held' told
--- the first line that can't be served where it stands has this number; those before it were served
+-- the first line that can't be served has this number; the lines before it were served
 Replays script (BadScript number) left held held' =
     (front back : List (List ℕ)) × (line : List ℕ) × (told : List ℕ) × (scene : ScriptContents) × (lines_of script ≡ front ++ line ∷ back)
     × (number ≡ length front + 1) × ServesAll empty_script_contents front told scene × IsBad scene line × Appends held held' told
--- the lines that are whole in what was read were served
+-- the lines that were read whole were served
 Replays script ReadFailed left held held' =
     (read rest begun : List ℕ) × (front : List (List ℕ)) × (told : List ℕ) × (scene : ScriptContents) × (script ≡ read ++ rest) × (left ≡ Some rest)
     × IsWholeLines read front begun × ServesAll empty_script_contents front told scene × Appends held held' told
--- a writer that failed doesn't tell what it holds
+-- nothing is known of what a failed writer wrote
 Replays script WriteFailed left held held' = Unit {0}
--- some lines were served, and what they print was written, and perhaps a part of what the next one does
+-- some lines were served and their output was written, and perhaps a part of the next line's
 Replays script NoMemory left held held' =
     (front back : List (List ℕ)) × (told more : List ℕ) × (scene : ScriptContents) × (lines_of script ≡ front ++ back)
     × ServesAll empty_script_contents front told scene × FirstInPart scene back more × Appends held held' (told ++ more)
 
--- A part of a replay that reads nothing ends it early: at a bad line or for want of memory, of which this is true, or since
--- the writer failed.
+-- A part of a replay that reads nothing ends it early: at a bad line, of which `Breaks` is true;
+-- for lack of memory, and then `Stops` is true; or because the writer failed.
 abbrev pub EndsEarly : (ℕ → Type 0) → Type 0 → ReplayEnd → Type 0
 EndsEarly Breaks Stops Done = ⊥
 EndsEarly Breaks Stops (BadScript number) = Breaks number
@@ -80,7 +83,8 @@ pub record Breaks (held : Option (List ℕ)) (scene : ScriptContents) (served : 
   pub bad : IsBad scene' line
   pub writes : Appends held held' told
 
--- Some lines at the beginning of a text were served, and there is no memory for the next, whatever comes behind the text.
+-- Some lines at the beginning of a text were served, and memory runs out for the next, whatever
+-- follows the text.
 pub record Stops (held : Option (List ℕ)) (scene : ScriptContents) (text : List ℕ) (held' : Option (List ℕ)) : Type 0 where
   pub front : List (List ℕ)
   pub back : List ℕ → List (List ℕ)

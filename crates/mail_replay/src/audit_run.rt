@@ -1,4 +1,4 @@
-//! What the program does where it is asked for an audit.
+//! The program's audit of a file or of the standard input.
 
 ghost use Rattle.std.specs.Prelude.{◌≡◌};
 ghost use Rattle.mail_replay.specs.Endings.{audit_status_of};
@@ -8,7 +8,8 @@ use std::io::{BufWriter, Read, Write};
 use std::rt::Files;
 use std::{fs, io};
 
-/// The status with which the program ends: 0 where all is right, 1 where something isn't, else 3.
+/// The program's status after an audit: 0 if everything is right, 1 if something isn't, otherwise
+/// 3.
 pub fn status(end: AuditEnd) -> u8
     ensures { result ≡ audit_status_of end }
 {
@@ -19,7 +20,7 @@ pub fn status(end: AuditEnd) -> u8
     }
 }
 
-/// Audits what this file holds, and gives the program's status.
+/// Audits a file, and returns the program's status.
 pub fn audit_file<R: Files + Print + AllocGlobal>(rt: &R, path: &str) -> u8 {
     match fs::open(rt, path) {
         Ok(file) => audit_from(rt, file),
@@ -27,7 +28,7 @@ pub fn audit_file<R: Files + Print + AllocGlobal>(rt: &R, path: &str) -> u8 {
     }
 }
 
-/// Audits what this reader gives, and gives the program's status.
+/// Audits the octets of a reader, and returns the program's status.
 pub fn audit_from<R: Print + AllocGlobal, S: Read + Drop>(rt: &R, mut input: S) -> u8 {
     match BufWriter::new(rt.alloc(), io::writer(rt)) {
         Ok(mut writer) => status(audit(rt.alloc(), &mut input, &mut writer)),
@@ -35,7 +36,7 @@ pub fn audit_from<R: Print + AllocGlobal, S: Read + Drop>(rt: &R, mut input: S) 
     }
 }
 
-/// Says why nothing was audited.
+/// Prints why nothing was audited, and returns the status 3.
 fn say<R: Print>(rt: &R, why: &[u8]) -> u8 {
     let mut writer = io::writer(rt);
     let _ = writer.write_all(why);

@@ -1,4 +1,4 @@
-//! The lines that hand operations to replicas.
+//! The service of the lines `deliver`, `forge` and `drain`, which hand operations to replicas.
 
 ghost use Rattle.std.specs.Prelude.{◌≡◌, ◌⊎◌, ◌++◌, ℕ, List, Err, IfOk, IsNone, OnErr, OnOk};
 ghost use Rattle.crdt_ops.specs.Form.{IsSpelled};
@@ -16,17 +16,17 @@ use merge_laws::Caused;
 use std::alloc::Global;
 use tags_clocks::{OpId, ReplicaId};
 
-/// Where an operation that is handed to a replica comes from.
+/// The source of an operation that is handed to a replica.
 #[derive(Clone, Copy, Debug, PartialEq, Eq)]
 enum Source {
-    /// The replica that it names issued it.
+    /// The replica that the operation's id names issued it.
     Issued,
     /// A line of the script spells it.
     Forged,
 }
 
-/// Delivers an operation that a replica issued, and prints what came of it. It is a bad script where no such operation was
-/// issued, or the replica isn't declared.
+/// Delivers an operation that a replica issued, and prints the result. `BadScript` if no such
+/// operation was issued, or the receiving replica isn't declared.
 pub fn deliver(
     alloc: Global,
     stage: &mut ScriptState,
@@ -44,7 +44,8 @@ pub fn deliver(
     }
 }
 
-/// Delivers an operation that the line spells, and prints what came of it, or why it isn't sound.
+/// Delivers an operation that the line spells, and prints the result, or why the operation isn't
+/// sound. `BadScript` if the text spells none, or the replica isn't declared.
 pub fn forge(
     alloc: Global,
     stage: &mut ScriptState,
@@ -63,7 +64,7 @@ pub fn forge(
     forge_if_sound(alloc, stage, replica, op, printed)
 }
 
-/// Goes on with the operations that a replica holds, and prints how many were applied.
+/// Applies a replica's held operations that are ripe, and prints how many were applied.
 pub fn drain(
     alloc: Global,
     stage: &mut ScriptState,
@@ -87,7 +88,7 @@ pub fn drain(
     Ok(())
 }
 
-/// A copy of the operation that its replica issued with this id.
+/// A copy of the operation with this id, if its replica issued one.
 fn issued_op(alloc: Global, stage: &ScriptState, id: OpId) -> Result<SoundOp, ServeFault>
     ensures ok { IfOk result (λ op. Issued (script_contents_of stage.now) id op) }
     ensures bad { result ≡ Err BadScript → (op : Op) → Issued (script_contents_of stage.now) id op → ⊥ }
@@ -102,7 +103,7 @@ fn issued_op(alloc: Global, stage: &ScriptState, id: OpId) -> Result<SoundOp, Se
     Ok(copy)
 }
 
-/// The operation that a text spells, sound or not.
+/// The operation that a text spells, sound or not; `BadScript` if it spells none.
 fn spelled_op(alloc: Global, text: &[u8]) -> Result<Op, ServeFault>
     ensures ok { IfOk result (λ op. IsSpelled op text.now) }
     ensures bad { result ≡ Err BadScript → (op : Op) → IsSpelled op text.now → ⊥ }
@@ -114,7 +115,8 @@ fn spelled_op(alloc: Global, text: &[u8]) -> Result<Op, ServeFault>
     }
 }
 
-/// Hands a forged operation to a replica if it is sound, and prints what came of it, or why it isn't.
+/// Hands a forged operation to a replica if it is sound, and prints the result, or why it isn't
+/// sound.
 fn forge_if_sound(
     alloc: Global,
     stage: &mut ScriptState,
@@ -137,7 +139,7 @@ fn forge_if_sound(
     }
 }
 
-/// Hands an operation to a replica, and prints what came of it.
+/// Hands an operation to a replica, and prints the result.
 fn deliver_and_print(
     alloc: Global,
     stage: &mut ScriptState,
@@ -157,7 +159,7 @@ fn deliver_and_print(
     Ok(())
 }
 
-/// The line that tells what came of an operation that was handed over.
+/// The line that reports the result of a delivery.
 fn outcome_line_of(
     source: Source,
     id: OpId,
@@ -180,7 +182,7 @@ fn outcome_line_of(
     }
 }
 
-/// Hands an operation to a replica, and tells what came of it.
+/// Hands an operation to a replica, and returns the result.
 fn deliver_to(
     alloc: Global,
     stage: &mut ScriptState,

@@ -1,5 +1,5 @@
-//! An operation that was found sound has a text: its types keep its octets, numbers and lists in range. These functions do nothing; each
-//! says what every value of a type keeps.
+//! Laws which say that every sound operation has a text: its types hold its octets, numbers and
+//! lists in range. These functions do nothing; each states what holds of every value of a type.
 
 ghost use Rattle.std.specs.Prelude.{◌≡◌, ℕ, ◌^◌, ◌<◌, ◌≤◌, length};
 ghost use Rattle.imap_types.specs.DateTimes.{IsDateTime};
@@ -16,7 +16,7 @@ use crdt_ops::{Ids, Kind, SoundOp};
 use imap_types::{DateTime, Flags, Name, Text};
 use tags_clocks::{Clock, OpId, ReplicaId};
 
-/// Operations that were found sound have texts.
+/// Sound operations have texts.
 pub fn all_in_form(ops: &[SoundOp])
     ensures { AreSound IsInForm ops.now }
 {
@@ -31,7 +31,8 @@ fn each_in_form(ops: &[SoundOp])
     }
 }
 
-/// Operations that were found sound can be told of: they have texts, and the octets of the messages that they append can be counted.
+/// The dump lines of sound operations can be written: the operations have texts, and the octets of
+/// the messages that they append can be counted.
 pub fn all_writable(ops: &[SoundOp])
     ensures { AreWritable ops.now }
 {
@@ -47,7 +48,7 @@ fn each_writable(ops: &[SoundOp])
     }
 }
 
-/// A message that is appended stands in memory, so that its octets are fewer than 2^64.
+/// An appended message is in memory, so it has fewer than 2^64 octets.
 fn text_counts(kind: &Kind)
     ensures { IsCountable kind.now }
 {
@@ -66,7 +67,7 @@ fn count_fits(count: usize)
     ensures { count < 2 ^ 64 }
 {}
 
-/// An operation that was found sound has a text.
+/// A sound operation has a text.
 pub fn in_form(op: &SoundOp)
     ensures { IsInForm op.now }
 {
@@ -76,7 +77,7 @@ pub fn in_form(op: &SoundOp)
     kind_fits(&found.kind);
 }
 
-/// A replica's number is one from 1 to 65,535.
+/// A replica's number is from 1 to 65,535.
 pub fn replica_fits(replica: ReplicaId)
     ensures { IsReplica replica }
 {
@@ -111,7 +112,8 @@ fn clock_fits(clock: &Clock)
     entries_fit(clock.entries());
 }
 
-/// Numbers of entries have 32 bits; that they are from 1 on, the clock itself says.
+/// The numbers of a clock's entries have 32 bits; that they begin at 1 is the clock's own
+/// invariant.
 fn entries_fit(entries: &[(ReplicaId, u32)])
     ensures { Each (λ (entry : ℕ × ℕ). IsReplica entry.0 × (entry.1 ≤ 4294967295)) entries.now }
 {
@@ -125,7 +127,7 @@ fn number_fits(number: u32)
     ensures { number ≤ 4294967295 }
 {}
 
-/// The fields of an operation whose flags are lawful, its date among them.
+/// The fields of an operation with lawful flags, its date among them, are in range.
 fn kind_fits(kind: &Kind)
     requires { HasLawfulFlags kind.now }
     ensures fields { HasFields kind.now }

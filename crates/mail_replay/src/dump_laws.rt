@@ -1,4 +1,4 @@
-//! The dump of a node as the audit takes it.
+//! The law that joins dumps of nodes with the audit.
 
 ghost use Rattle.std.specs.Prelude.{ℕ, List, ◌++◌};
 ghost use Rattle.mail_audit.specs.Audits.{IsRight};
@@ -9,8 +9,8 @@ ghost use Rattle.imap_connection.specs.Dumps.{IsDump};
 use crate::dump_forms::{all_in_form, replica_fits};
 use imap_connection::Node;
 
-/// What `write_dump` writes of a node is a right dump, and its lines are right behind lines that are: where the audit's `Yes` is true of an
-/// input, it is true of that input with the dump behind it.
+/// The text that `write_dump` writes of a node is a right dump. If the audit's `Yes` is true of an
+/// input, it is also true of the input followed by that dump.
 pub fn dumps_are_right(node: &Node)
     ensures dumps { (text : List ℕ) → IsDump node.now.state.start.replica node.now.state.applied text → IsRightDump text }
     ensures lines { (text : List ℕ) → IsDump node.now.state.start.replica node.now.state.applied text → (front : List (List ℕ)) → IsRight front → IsRight (front ++ lines_of text) }

@@ -1,4 +1,5 @@
-//! The lines that compare replicas, and that have them exchange what they received.
+//! The service of the lines `agree` and `settle`, which compare replicas and have them exchange
+//! operations.
 
 ghost use Rattle.std.specs.Prelude.{◌≡◌, ◌⊎◌, ◌++◌, ◌↔◌, ℕ, List, Err, IfErr, IfOk, IsNone, IsTrue, OnErr, OnOk, length};
 ghost use Rattle.mail_replay.specs.Exchanges.{Compares, Exchanges, Settles, nodes_in, settle_line, with_nodes};
@@ -16,7 +17,8 @@ use tags_clocks::ReplicaId;
 use uid_projection::Counters;
 use world_core::{Agreement, SettleFault, agree, settle};
 
-/// Prints whether two replicas applied the same operations. It is a bad script where one of them isn't declared.
+/// Prints whether two replicas applied the same operations; `BadScript` if one of them isn't
+/// declared.
 pub fn compare(
     stage: &ScriptState,
     first: ReplicaId,
@@ -53,7 +55,7 @@ fn are_same(one: &Node, other: &Node) -> bool
     }
 }
 
-/// Has all replicas exchange what they received, and prints what came of it.
+/// Has all replicas exchange the operations that they received, and prints the result.
 pub fn exchange(
     alloc: Global,
     stage: &mut ScriptState,
@@ -68,7 +70,8 @@ pub fn exchange(
     Ok(())
 }
 
-/// Has replicas exchange what they received, and tells what came of it. An error says that there was no memory to begin with.
+/// Has replicas exchange the operations that they received. `Err` if memory runs out before the
+/// exchange, and then nothing changes.
 fn exchange_all(alloc: Global, replicas: &mut [ScriptReplica]) -> Result<SettleResult, AllocError>
     ensures { IfOk result (λ told. Exchanges replicas.old told replicas.new) }
 {
@@ -76,7 +79,8 @@ fn exchange_all(alloc: Global, replicas: &mut [ScriptReplica]) -> Result<SettleR
     Ok(exchange_with(alloc, replicas, &mut nodes))
 }
 
-/// Has replicas exchange what they received, while these nodes stand in the places of theirs; tells what came of it.
+/// Has replicas exchange the operations that they received, while the given nodes stand in for
+/// theirs.
 fn exchange_with(alloc: Global, replicas: &mut [ScriptReplica], nodes: &mut [Node]) -> SettleResult
     requires { length nodes.old ≡ length replicas.old }
     ensures { Exchanges replicas.old result replicas.new }
@@ -87,7 +91,8 @@ fn exchange_with(alloc: Global, replicas: &mut [ScriptReplica], nodes: &mut [Nod
     settle_line(answer)
 }
 
-/// As many nodes as there are replicas, which stand in their places while theirs are lent.
+/// A blank node for each replica, to stand in for the replica's own during an exchange; `Err` if
+/// memory runs out.
 fn blank_nodes(alloc: Global, replicas: &[ScriptReplica]) -> Result<Vec<Node>, AllocError>
     ensures { IfOk result (λ nodes. length nodes.items ≡ length replicas.now) }
 {
@@ -98,7 +103,7 @@ fn blank_nodes(alloc: Global, replicas: &[ScriptReplica]) -> Result<Vec<Node>, A
     Ok(nodes)
 }
 
-/// A node that has received nothing.
+/// A node that has received nothing; `Err` if memory runs out.
 fn blank_node(alloc: Global, replica: ReplicaId) -> Result<Node, AllocError> {
     Node::new(
         alloc,
@@ -110,7 +115,7 @@ fn blank_node(alloc: Global, replica: ReplicaId) -> Result<Node, AllocError> {
     )
 }
 
-/// Puts each of these nodes in the place of a replica's, and the replica's in its place.
+/// Swaps each replica's node with the node at the same place.
 fn swap_nodes(replicas: &mut [ScriptReplica], nodes: &mut [Node])
     requires { length nodes.old ≡ length replicas.old }
     ensures replicas { replicas.new ≡ with_nodes replicas.old nodes.old }

@@ -1,4 +1,4 @@
-//! The program's way from its command line to its status.
+//! The program: what its command line asks for, and the status with which it ends.
 
 use crate::audit_run::{audit_file, audit_from};
 use crate::program_request::{ProgramRequest, read_words};
@@ -11,9 +11,9 @@ use std::io::{BufWriter, Read};
 use std::rt::{Env, Files};
 use std::{env, fs, io};
 
-/// Reads the command line, does what it asks for, and gives the program's status: 0 where a script was served to its end,
-/// an audit answered yes or help was asked for, 1 where an audit answered no, 2 where the words ask for nothing, 3 where a script ended early or an
-/// input can't be audited.
+/// Reads the command line, does what it asks for, and returns the program's status: 0 if a script
+/// was served to its end, an audit answered yes, or help was asked for; 1 if an audit answered no;
+/// 2 if the command line is wrong; 3 if a script ended early or an input can't be audited.
 pub fn run<R: Env + Files + Input + Print + AllocGlobal>(rt: &R) -> u8 {
     match words(rt) {
         Ok(words) => obey(rt, &words),

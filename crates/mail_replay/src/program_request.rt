@@ -8,11 +8,11 @@ use std::alloc::{AllocError, Global};
 pub enum ProgramRequest<'a> {
     /// Replay the script in this file, or on the standard input.
     Replay { file: Option<&'a str> },
-    /// Audit what is in this file, or on the standard input.
+    /// Audit the output in this file, or on the standard input.
     Audit { file: Option<&'a str> },
 }
 
-/// Reads the words of a command line, the program's name first.
+/// Reads the words of a command line, which begin with the program's name.
 pub fn read_words<'a>(alloc: Global, words: &'a [String]) -> Result<ProgramRequest<'a>, Error> {
     let matches = command_words(alloc)?.try_get_matches_from(words)?;
     Ok(match matches.subcommand() {
@@ -26,7 +26,7 @@ pub fn read_words<'a>(alloc: Global, words: &'a [String]) -> Result<ProgramReque
     })
 }
 
-/// The words that the program knows.
+/// The words that the program knows; `Err` if memory runs out.
 fn command_words<'a>(alloc: Global) -> Result<Command<'a>, AllocError> {
     let file = Arg::new(alloc, "FILE").help("The script; the standard input without it");
     let replay = Command::new(alloc, "replay")

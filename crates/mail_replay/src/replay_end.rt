@@ -1,16 +1,18 @@
 //! How a replay ends.
 
-/// How the replay of a script ends. What was printed before stays.
+/// How the replay of a script ends. The output of the lines before the end has been written, unless
+/// the writer failed.
 #[derive(Clone, Copy, Debug, PartialEq, Eq)]
 pub enum ReplayEnd {
     /// Every line was served.
     Done,
-    /// This line, counted from 1, says nothing that can be served where it stands.
+    /// The line of this number, counted from 1, can't be served in the state that the lines before
+    /// it left.
     BadScript { line: u64 },
-    /// The script could not be read to its end.
+    /// The script couldn't be read to its end.
     ReadFailed,
-    /// What was printed could not be written.
+    /// The output couldn't be written.
     WriteFailed,
-    /// There was no memory.
+    /// Memory ran out.
     NoMemory,
 }

@@ -1,4 +1,4 @@
-//! The replay of a script, from the octets that come to those that go.
+//! The replay of a script, from its reader's octets to the writer's.
 
 ghost use Rattle.std.specs.Prelude.{◌≡◌, ◌++◌, ◌+◌, ◌^◌, ◌<◌, ◌≤◌, ℕ, List, [], ◌∷◌, None, Some, IfErr, IfOk, IfSome, OnOk, OnErr, length};
 ghost use Rattle.std.specs.Io.KnownBytes.{Appends, Keeps};
@@ -19,17 +19,19 @@ use std::alloc::{AllocError, Global};
 use std::io::{ErrorKind, Read, Write};
 use std::mem;
 
-/// The most reads of one replay.
+/// The largest number of reads in one replay.
 pub const MAX_READS: u64 = 16_777_216;
 
-/// The most octets that one read gives.
+/// The largest number of octets that one read gives.
 pub const PIECE_OCTETS: usize = 65_536;
 
-/// Replays a script: serves its lines in their order, and writes what they print as it comes.
+/// Replays a script: serves its lines in order, and writes the output of each line once it is
+/// served.
 ///
-/// It ends with `Done` behind the last line. `BadScript` names the first line that can't be served; `ReadFailed` says that
-/// the reader failed, or that the script has more pieces than 16,777,216; `WriteFailed` that the writer did; `NoMemory`
-/// that a line or what it prints found no memory. What was printed before stays.
+/// The result is `Done` after the last line. `BadScript` names the first line that can't be served;
+/// `ReadFailed` says that the reader failed, or that 16,777,216 reads didn't reach the end of the
+/// script; `WriteFailed` that the writer failed; `NoMemory` that memory ran out for a line or its
+/// output. The output of the lines before stays written.
 pub fn replay<R: Read, W: Write>(alloc: Global, reader: &mut R, writer: &mut W) -> ReplayEnd
     ensures { (script : List ℕ) → R.remaining reader.old ≡ Some script → Replays script result (R.remaining reader.new) (W.contents writer.old) (W.contents writer.new) }
 {
@@ -39,13 +41,13 @@ pub fn replay<R: Read, W: Write>(alloc: Global, reader: &mut R, writer: &mut W) 
     }
 }
 
-/// How far a replay has come.
+/// The state of a replay between pieces.
 #[derive(Drop)]
 struct Progress {
     stage: ScriptState,
-    /// What was read of the script and isn't served.
+    /// The octets of the script that were read and not yet served.
     lines: ScriptLines,
-    /// So many lines were served.
+    /// The number of lines served.
     served: u64,
 }
 
@@ -59,7 +61,7 @@ fn play<R: Read, W: Write>(alloc: Global, reader: &mut R, writer: &mut W) -> Res
     serve_pieces(alloc, reader, &mut piece, writer)
 }
 
-/// Reads a script by pieces into this room, and serves its lines.
+/// Reads a script in pieces, into the given buffer, and serves its lines.
 fn serve_pieces<R: Read, W: Write>(
     alloc: Global,
     reader: &mut R,
@@ -89,7 +91,7 @@ fn serve_pieces<R: Read, W: Write>(
     Err(ReplayEnd::ReadFailed)
 }
 
-/// Room for so many octets.
+/// A buffer of `octets` zero octets; `Err` if memory runs out.
 fn room_for(alloc: Global, octets: usize) -> Result<Vec<u8>, AllocError>
     ensures { IfOk result (λ room. length room.items ≡ octets) }
 {
@@ -147,7 +149,7 @@ fn serve_next<W: Write>(
     }
 }
 
-/// Serves the last line, which has no LF, where there is one.
+/// Serves the last line, which has no LF, if there is one.
 fn serve_last<W: Write>(
     alloc: Global,
     progress: &mut Progress,
@@ -163,7 +165,7 @@ fn serve_last<W: Write>(
     flush(writer)
 }
 
-/// Serves a line without an end, where it has octets.
+/// Serves a line without an LF, unless it is empty.
 fn serve_rest<W: Write>(
     alloc: Global,
     progress: &mut Progress,

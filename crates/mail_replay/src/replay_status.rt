@@ -1,4 +1,4 @@
-//! What the program says of how a replay ended.
+//! The last line of the program's output, and its status after a replay.
 
 ghost use Rattle.std.specs.Prelude.{◌≡◌, IfOk};
 ghost use Rattle.mail_script.specs.Outcomes.{outcome_line};
@@ -9,7 +9,7 @@ use mail_script::{OutcomeLine, write_outcome};
 use std::alloc::{AllocError, Global};
 use std::io::Write;
 
-/// The status with which the program ends: 0 where every line was served, else 3.
+/// The program's status after a replay: 0 if every line was served, otherwise 3.
 pub fn status(end: ReplayEnd) -> u8
     ensures { result ≡ status_of end }
 {
@@ -19,7 +19,8 @@ pub fn status(end: ReplayEnd) -> u8
     }
 }
 
-/// What the last line of the output says of the end; `None` where it says nothing.
+/// The last line of the output, which reports why the replay ended early; `None` if it didn't, or
+/// if the writer failed.
 pub fn last_line(end: ReplayEnd) -> Option<OutcomeLine>
     ensures { result ≡ last_line_of end }
 {
@@ -31,7 +32,7 @@ pub fn last_line(end: ReplayEnd) -> Option<OutcomeLine>
     }
 }
 
-/// Writes the last line, and gives the program's status.
+/// Writes the last line, if any, and returns the program's status.
 pub fn tell<W: Write>(alloc: Global, end: ReplayEnd, writer: &mut W) -> u8
     ensures { result ≡ status_of end }
 {

@@ -1,4 +1,5 @@
-//! The line that has a replica begin with what another one applied.
+//! The service of the line `join`, which declares a replica that begins with the operations of
+//! another one.
 
 ghost use Rattle.std.specs.Prelude.{◌≡◌, ◌<◌, ◌⊎◌, ◌++◌, [], ℕ, List, Err, IsNone, IsSome, OnErr, OnOk, Some, length, slice_get};
 ghost use Rattle.mail_replay.specs.Joins.{IsJoined, Joins, JoinsBehind};
@@ -14,8 +15,9 @@ use std::alloc::Global;
 use tags_clocks::ReplicaId;
 use world_core::{JoinRefusal, with_operations_of};
 
-/// Declares a replica that begins with what another one applied, and prints what came of it; where it is refused the replica
-/// stays undeclared. It is a bad script where the replica is declared, or the other one isn't.
+/// Declares a replica that begins with the operations that another one applied, and prints the
+/// result; if the join is refused, the replica stays undeclared. `BadScript` if the replica is
+/// declared already, or the other one isn't.
 pub fn join(
     alloc: Global,
     stage: &mut ScriptState,
@@ -43,7 +45,8 @@ pub fn join(
     Ok(())
 }
 
-/// Puts a replica behind the others that begins with what the one at a place applied, and tells what came of it.
+/// Adds a replica that begins with the operations that the one at `place` applied; if the result
+/// isn't `Done`, nothing changes.
 fn join_after(
     alloc: Global,
     replicas: &mut Vec<ScriptReplica>,

@@ -1,4 +1,4 @@
-//! What each line of a script does.
+//! The service of each kind of script line.
 
 ghost use Rattle.std.specs.Prelude.{◌≡◌, ◌≤◌, ◌⊎◌, ◌++◌, ◌∷◌, [], ℕ, List, None, Some, Err, IfOk, IfErr, IsTrue, IsSome, IsNone, ◌↔◌, OnOk, OnErr, codes, take};
 ghost use Rattle.imap_answers.specs.Printed.{text_of_answer as text_of};
@@ -40,13 +40,13 @@ use tags_clocks::ReplicaId;
 use thiserror::Error;
 use uid_projection::Counters;
 
-/// Why a line isn't served.
+/// Why a line can't be served.
 #[derive(Clone, Copy, Debug, PartialEq, Eq, Error)]
 pub enum ServeFault {
-    /// The line says nothing that can be served where it stands.
+    /// The line isn't a line of a script, or can't be served in the current state.
     #[error("bad script")]
     BadScript,
-    /// There was no memory.
+    /// Memory ran out.
     #[error("no memory")]
     NoMemory,
 }
@@ -87,9 +87,10 @@ impl From<LineFault> for ServeFault {
     }
 }
 
-/// Serves a line of the script, given without its LF, and appends what it prints. `BadScript` says that the line can't be
-/// served where it stands, and then nothing is printed; `NoMemory` may come behind a part of what the line prints: the first
-/// answer of a session that is opened, or some of the first turns of one that is fed or polled.
+/// Serves a line of the script, which is passed without its LF, and appends its output. After
+/// `BadScript`, which means that the line can't be served in the current state, nothing is printed.
+/// After `NoMemory` a part of the output may be printed: the first answer of a session that is
+/// opened, or some of the first turns of a session that is fed or polled.
 pub fn serve_line(
     alloc: Global,
     stage: &mut ScriptState,
@@ -144,7 +145,7 @@ fn serve(
     }
 }
 
-/// The text with CRLF behind it.
+/// The text with CRLF after it; `Err` if memory runs out.
 fn with_line_end(text: Octets) -> Result<Vec<u8>, AllocError>
     ensures { IfOk result (λ octets. octets.items ≡ text ++ crlf) }
 {
@@ -153,7 +154,7 @@ fn with_line_end(text: Octets) -> Result<Vec<u8>, AllocError>
     Ok(octets)
 }
 
-/// Declares a replica, which has received nothing, and whose counters begin so.
+/// Declares a replica that has received nothing and has these counters.
 fn declare(alloc: Global, stage: &mut ScriptState, start: Counters) -> Result<(), ServeFault>
     requires { 1 ≤ start.uid }
     ensures ok { OnOk result (Declares (script_contents_of stage.old) start (script_contents_of stage.new)) }
@@ -168,8 +169,8 @@ fn declare(alloc: Global, stage: &mut ScriptState, start: Counters) -> Result<()
     Ok(())
 }
 
-/// Opens a session at a replica, and prints the greeting. A replica with no room for one more says BYE instead, and the
-/// session has ended.
+/// Opens a session at a replica, and prints the greeting. A replica that has 1,024 open sessions
+/// says BYE instead, and the session has ended.
 fn open(
     alloc: Global,
     stage: &mut ScriptState,
@@ -197,7 +198,8 @@ fn open(
     Ok(())
 }
 
-/// Opens a session at a replica, and prints what stands at its beginning; gives its connection where it goes on.
+/// Opens a session at a replica, and prints its first answer; returns its connection, or `None` if
+/// the session has ended.
 fn begin(
     alloc: Global,
     node: &mut Node,
@@ -232,7 +234,7 @@ fn greet(alloc: Global, name: &SessionName, printed: &mut Vec<u8>) -> Result<(),
     write_answer(alloc, name, &answer, printed)
 }
 
-/// Says that the replica has no room for one more session.
+/// Prints the BYE of a replica that has too many open sessions.
 fn turn_away(alloc: Global, name: &SessionName, printed: &mut Vec<u8>) -> Result<(), AllocError>
     ensures ok { OnOk result (printed.new.items ≡ printed.old.items ++ transcript_line name.now Server (text_of (Bye FullReplica))) }
     ensures err { OnErr result (printed.new.items ≡ printed.old.items) }
@@ -243,7 +245,7 @@ fn turn_away(alloc: Global, name: &SessionName, printed: &mut Vec<u8>) -> Result
     write_answer(alloc, name, &answer, printed)
 }
 
-/// Feeds a session these octets, and prints the turns that they make.
+/// Feeds a session octets, and prints the resulting turns.
 fn feed(
     alloc: Global,
     stage: &mut ScriptState,
@@ -278,16 +280,17 @@ fn feed(
     Ok(())
 }
 
-/// Octets that come of a client.
+/// Octets that arrive from a client.
 #[derive(Drop)]
 struct Piece<'a> {
-    /// When they come.
+    /// When they arrive.
     moment: Moment,
     /// The octets.
     octets: &'a [u8],
 }
 
-/// Feeds a connection these octets, and prints the turns that they make; gives the connection back where it goes on.
+/// Feeds a connection octets, and prints the resulting turns; returns the connection, or `None` if
+/// the session has ended.
 fn converse(
     alloc: Global,
     node: &mut Node,
@@ -335,7 +338,7 @@ fn is_going(node: &Node, session: SessionNo) -> bool
     }
 }
 
-/// Polls a session that idles, and prints the answers that tell it what changed.
+/// Polls an idling session, and prints the answers that report changes.
 fn poll(
     alloc: Global,
     stage: &mut ScriptState,
@@ -360,7 +363,7 @@ fn poll(
     poll_node(alloc, node, connection.number, name, printed)
 }
 
-/// Polls a session of a node, and prints the answers; a bad script where it doesn't idle.
+/// Polls a session of a node, and prints the answers; `BadScript` if the session doesn't idle.
 fn poll_node(
     alloc: Global,
     node: &mut Node,

@@ -1,4 +1,4 @@
-//! What a script has declared so far.
+//! The state that a script has built up: its clock, its replicas and its sessions.
 
 ghost use Rattle.std.specs.Prelude.{◌≡◌, ◌<◌, ◌≤◌, ◌++◌, [], IfOk, IfSome, MatchOption, OnOk, drop, length};
 ghost use Rattle.std.specs.Str.{bytes_eq};
@@ -19,8 +19,8 @@ use std::marker::Model;
 use tags_clocks::{OpId, ReplicaId};
 use uid_projection::Counters;
 
-/// The operations that the sessions of a replica issued, in their order, as copies of those that it applied. Forged ones that
-/// bear its name aren't among them.
+/// Copies of the operations that a replica's sessions issued, in order. Forged operations with the
+/// replica's name aren't among them.
 #[derive(Drop)]
 pub struct IssuedOps {
     ops: Vec<SoundOp>,
@@ -36,7 +36,7 @@ impl Model for IssuedOps {
 }
 
 impl IssuedOps {
-    /// None so far.
+    /// No operations.
     pub fn new(alloc: Global) -> IssuedOps
         ensures { result ≡ [] }
     {
@@ -45,14 +45,15 @@ impl IssuedOps {
         }
     }
 
-    /// The operation with this id, if it was issued.
+    /// The issued operation with this id, if any.
     pub fn find(&self, id: OpId) -> Option<&SoundOp>
         ensures { MatchOption result (¬ HasId id_of self.now id) (λ found. IsIn found.now self.now × (found.now.id ≡ id)) }
     {
         find_in(&self.ops, id)
     }
 
-    /// Adds those of these operations that stand behind the first ones, which are so many. An error leaves some added.
+    /// Adds copies of the operations after the first `first` ones; `Err` if memory runs out, and
+    /// then some may have been added.
     pub fn add_after(
         &mut self,
         alloc: Global,
@@ -80,16 +81,17 @@ impl IssuedOps {
 /// A replica that the script declared.
 #[derive(Drop)]
 pub struct ScriptReplica {
-    /// Its name in the script, and in the operations that it issues.
+    /// The replica's name in the script and in the operations that it issues.
     pub name: ReplicaId,
     /// The replica itself.
     pub node: Node,
-    /// What its sessions issued.
+    /// The operations that its sessions issued.
     pub issued: IssuedOps,
 }
 
 impl ScriptReplica {
-    /// One that has received nothing, and whose counters begin so, UIDs from 1 on; `Err` where there is no memory for it.
+    /// A replica that has received nothing and has these counters, whose first UID is at least 1;
+    /// `Err` if memory runs out.
     pub fn new(alloc: Global, start: Counters) -> Result<ScriptReplica, AllocError>
         requires { 1 ≤ start.uid }
         ensures { IfOk result (IsNew start) }
@@ -102,34 +104,34 @@ impl ScriptReplica {
     }
 }
 
-/// An open session's connection with its replica.
+/// The connection of an open session with its replica.
 #[derive(Drop)]
 pub struct Connection {
     /// The session's number at its replica.
     pub number: SessionNo,
-    /// What came of the client and is no whole command yet.
+    /// The octets from the client that make no whole command yet.
     pub framer: Framer,
 }
 
 /// A session that the script opened.
 #[derive(Drop)]
 pub struct ScriptSession {
-    /// Its name in the script.
+    /// The session's name in the script.
     pub name: SessionName,
-    /// Its replica.
+    /// The session's replica.
     pub replica: ReplicaId,
-    /// None where the session has ended.
+    /// `None` if the session has ended.
     pub connection: Option<Connection>,
 }
 
-/// What a script has declared so far.
+/// The state that a script has built up.
 #[derive(Drop)]
 pub struct ScriptState {
-    /// What the script's clock shows.
+    /// The time on the script's clock.
     pub moment: Moment,
     /// The replicas in the order in which they were declared.
     pub replicas: Vec<ScriptReplica>,
-    /// The sessions in the order in which they were opened, ended ones too.
+    /// The sessions in the order in which they were opened, ended ones included.
     pub sessions: Vec<ScriptSession>,
 }
 

@@ -1,4 +1,4 @@
-//! The lines of a transcript that turns and answers make.
+//! Transcript lines of turns and answers.
 
 ghost use Rattle.std.specs.Prelude.{◌≡◌, ◌++◌, ℕ, OnErr, OnOk, take};
 ghost use Rattle.imap_answers.specs.Printed.{text_of_answer as text_of};
@@ -12,7 +12,8 @@ use imap_print::{Answer, print};
 use mail_script::{SessionName, Speaker, write_transcript_line};
 use std::alloc::{AllocError, Global};
 
-/// Appends a line for each turn; `Err` behind some of them, where there is no memory for the next.
+/// Appends a line for each turn; `Err` if memory runs out, and then lines for some of the first
+/// turns were appended.
 pub fn write_turns(
     session: &SessionName,
     turns: &[Turn],
@@ -47,7 +48,7 @@ fn write_turn(session: &SessionName, turn: &Turn, printed: &mut Vec<u8>) -> Resu
     }
 }
 
-/// Appends a line for an answer; `Err`, and no change, where there is no memory for it.
+/// Appends a line for an answer; `Err` if memory runs out, and then nothing changes.
 pub fn write_answer(
     alloc: Global,
     session: &SessionName,
