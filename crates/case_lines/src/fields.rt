@@ -1,4 +1,4 @@
-//! The fields of a line.
+//! Readers of a case line's fields.
 
 use crate::Trouble;
 use crdt_ops::{OpFault, SoundOp, into_sound_op, read_op};
@@ -6,7 +6,8 @@ use imap_types::{Escape, Name, Octets, read_escaped};
 use std::alloc::{AllocError, Global};
 use tags_clocks::ReplicaId;
 
-/// What stands in front of a line's last ` =>`; the whole of a comment, which begins with `#`.
+/// The part of a line before its last ` =>`; the whole line if it has none or is a comment, which
+/// begins with `#`.
 pub fn asked(line: &str) -> &str {
     if line.starts_with('#') {
         return line;
@@ -17,12 +18,13 @@ pub fn asked(line: &str) -> &str {
     }
 }
 
-/// The first field, and what follows behind a space.
+/// The first field, and the text after the space that follows it.
 pub fn cut(text: &str) -> Result<(&str, &str), Trouble> {
     text.split_once(' ').ok_or(Trouble::NotACase)
 }
 
-/// What stands in front of the first such mark, and what follows it; the whole, and nothing, where there is none.
+/// The texts before and after the first occurrence of a mark; the whole text and nothing if it
+/// doesn't occur.
 pub fn parted<'a>(text: &'a str, mark: &str) -> (&'a str, &'a str) {
     text.split_once(mark).unwrap_or((text, ""))
 }
@@ -32,7 +34,7 @@ pub fn number(text: &str) -> Result<u32, Trouble> {
     text.parse::<u32>().ok().ok_or(Trouble::NotACase)
 }
 
-/// Two numbers with this mark between them.
+/// Two numbers of up to 32 bits with this mark between them.
 pub fn pair(mark: &str, text: &str) -> Result<(u32, u32), Trouble> {
     let (first, second) = parted(text, mark);
     Ok((number(first)?, number(second)?))
@@ -43,7 +45,7 @@ pub fn long_number(text: &str) -> Result<u64, Trouble> {
     text.parse::<u64>().ok().ok_or(Trouble::NotACase)
 }
 
-/// What a word means by a table; `None` where it isn't in it.
+/// The meaning of a word in a table; `None` if the table doesn't have it.
 pub fn meaning<T: Copy>(table: &[(&str, T)], word: &str) -> Option<T> {
     for (name, meaning) in table {
         if *name == word {
@@ -53,7 +55,7 @@ pub fn meaning<T: Copy>(table: &[(&str, T)], word: &str) -> Option<T> {
     None
 }
 
-/// The text with the octet at this place replaced.
+/// The text with the octet at this place replaced; unchanged if it has no such place.
 pub fn with_octet(
     alloc: Global,
     text: &[u8],
@@ -72,12 +74,12 @@ pub fn replica(text: &str) -> Result<ReplicaId, Trouble> {
     ReplicaId::new(number(text)?).ok_or(Trouble::NotACase)
 }
 
-/// The octets that a text in the escape stands for.
+/// The octets of an escaped text.
 pub fn octets(alloc: Global, escape: Escape, text: &str) -> Result<Octets, Trouble> {
     Ok(read_escaped(alloc, escape, text.as_bytes())?)
 }
 
-/// The name that a field in the escape stands for.
+/// The name that an escaped field spells.
 pub fn name(alloc: Global, text: &str) -> Result<Name, Trouble> {
     let octets = octets(alloc, Escape::Field, text)?;
     Ok(Name::new(octets.into_vec()))

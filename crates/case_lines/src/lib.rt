@@ -1,4 +1,15 @@
-//! What the programs of cases have in common: how they read the fields of a line, and how they write its answer.
+//! What the case programs have in common: how they read the fields of a line, and how they write
+//! its answer.
+//!
+//! A case is one line. The text before its last ` =>` says what to compute, and the text after it
+//! is the expected answer. A case program reads the line's fields, computes the answer, and prints
+//! the line again with that answer; the gate compares the output with the stored one.
+//!
+//! `asked`, `cut` and their like read fields; each gives `Trouble::NotACase` for a field that isn't
+//! written as a case is. `Words` collects an answer: once memory has run out, its text is
+//! incomplete and `finish` gives `Err`. `Trouble` says why a line has no answer.
+//!
+//! The functions promise no more than that they return, on any input.
 #![tactic(auto)]
 
 mod fields;

@@ -1,16 +1,16 @@
-//! Why a line gets no answer.
+//! Why a line has no answer.
 
 use imap_types::EscapeFault;
 use std::alloc::{AllocError, AllocFailed};
 
-/// Why a line gets no answer.
+/// Why a line has no answer.
 #[derive(Clone, Copy)]
 pub enum Trouble {
-    /// It isn't written as a case is, or what a program made up for it is none.
+    /// The line isn't written as a case is, or what a program made of it isn't a case.
     NotACase,
-    /// It names a message number that there isn't.
+    /// The line names a message number that doesn't exist.
     OutOfRange,
-    /// No memory.
+    /// Memory ran out.
     NoMemory,
 }
 

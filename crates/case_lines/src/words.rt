@@ -1,4 +1,4 @@
-//! Texts under way.
+//! The text of an answer, as it grows.
 
 use crate::Trouble;
 use crdt_ops::{Ids, SoundOp, write_clock, write_flags, write_id, write_ids, write_op};
@@ -8,8 +8,8 @@ use std::fmt::Debug;
 use tags_clocks::{Clock, OpId};
 use text_fields::push_number;
 
-/// A text that grows at its end, mostly by a word and a value behind it. Once memory ran out it isn't whole, and can't be had
-/// any more.
+/// A text that grows at its end, mostly by a word and a value after it. Once memory has run out it
+/// is incomplete, and `finish` gives `Err`.
 #[derive(Drop)]
 pub struct Words {
     alloc: Global,
@@ -27,12 +27,12 @@ impl Words {
         }
     }
 
-    /// Where memory comes from.
+    /// The allocator.
     pub fn alloc(&self) -> Global {
         self.alloc
     }
 
-    /// The text; `Err` where there was no memory for it.
+    /// The text; `Err` if memory ran out for it.
     pub fn finish(self) -> Result<Vec<u8>, AllocError> {
         if self.is_whole {
             Ok(self.octets)
@@ -41,12 +41,12 @@ impl Words {
         }
     }
 
-    /// The text as far as there was memory for it.
+    /// The text as far as memory sufficed.
     pub fn so_far(&self) -> &[u8] {
         self.octets.as_slice()
     }
 
-    /// There was no memory for what comes next.
+    /// Marks the text as incomplete, since memory ran out for what comes next.
     pub fn give_up(&mut self) {
         self.is_whole = false;
     }
@@ -57,72 +57,72 @@ impl Words {
         }
     }
 
-    /// Puts a word behind the text.
+    /// Appends a word.
     pub fn put(&mut self, word: &str) {
         self.put_octets(word.as_bytes());
     }
 
-    /// Puts octets behind the text.
+    /// Appends octets.
     pub fn put_octets(&mut self, octets: &[u8]) {
         let done = self.octets.extend_from_slice(octets);
         self.keep(done);
     }
 
-    /// Puts a word where something holds.
+    /// Appends a word if a condition holds.
     pub fn put_if(&mut self, holds: bool, word: &str) {
         if holds {
             self.put(word);
         }
     }
 
-    /// Puts a word, and `yes` or `no`.
+    /// Appends a word, and `yes` or `no`.
     pub fn put_whether(&mut self, word: &str, holds: bool) {
         self.put(word);
         self.put(if holds { "yes" } else { "no" });
     }
 
-    /// Puts a word, and octets.
+    /// Appends a word, and octets.
     pub fn put_after(&mut self, word: &str, octets: &[u8]) {
         self.put(word);
         self.put_octets(octets);
     }
 
-    /// Puts a word, and octets between `<` and `>`.
+    /// Appends a word, and octets between `<` and `>`.
     pub fn put_text(&mut self, word: &str, octets: &[u8]) {
         self.put(word);
         self.put_after("<", octets);
         self.put(">");
     }
 
-    /// Puts a word, and octets in the escape of texts, where the space stands for itself.
+    /// Appends a word, and octets escaped so that spaces stay as they are.
     pub fn put_escaped(&mut self, word: &str, octets: &[u8]) {
         self.put(word);
         let done = write_escaped(Escape::Text, octets, &mut self.octets);
         self.keep(done);
     }
 
-    /// Puts a word, and octets in the escape of fields.
+    /// Appends a word, and octets escaped as in fields.
     pub fn put_field(&mut self, word: &str, octets: &[u8]) {
         self.put(word);
         let done = write_escaped(Escape::Field, octets, &mut self.octets);
         self.keep(done);
     }
 
-    /// Puts a word, and a number in decimal.
+    /// Appends a word, and a number in decimal.
     pub fn put_number(&mut self, word: &str, number: u64) {
         self.put(word);
         let done = push_number(number, &mut self.octets);
         self.keep(done);
     }
 
-    /// Puts a word and a number, where there is one.
+    /// Appends a word and a number, if there is one.
     pub fn put_optional(&mut self, word: &str, number: Option<u64>) {
         if let Some(number) = number {
             self.put_number(word, number);
         }
     }
 
-    /// Puts a word, and a value by its name in the code.
+    /// Appends a word, and a value by its name in the code.
     pub fn put_name<T: Debug>(&mut self, word: &str, value: &T) {
         self.put(word);
         match format!(in self.alloc; "{value:?}") {
@@ -131,7 +131,7 @@ impl Words {
         }
     }
 
-    /// Puts a word, and a value by its name in the code in lower case.
+    /// Appends a word, and a value by its name in the code, in lower case.
     pub fn put_lowered<T: Debug>(&mut self, word: &str, value: &T) {
         self.put(word);
         match format!(in self.alloc; "{value:?}") {
@@ -143,42 +143,42 @@ impl Words {
         }
     }
 
-    /// Puts a word, and flags as operations spell them.
+    /// Appends a word, and flags as operations spell them.
     pub fn put_flags(&mut self, word: &str, flags: &Flags) {
         self.put(word);
         let done = write_flags(flags, &mut self.octets);
         self.keep(done);
     }
 
-    /// Puts a word, and the id of an operation.
+    /// Appends a word, and the id of an operation.
     pub fn put_id(&mut self, word: &str, id: OpId) {
         self.put(word);
         let done = write_id(self.alloc, id, &mut self.octets);
         self.keep(done);
     }
 
-    /// Puts a word, and ids of operations.
+    /// Appends a word, and ids of operations.
     pub fn put_ids(&mut self, word: &str, ids: &Ids) {
         self.put(word);
         let done = write_ids(self.alloc, ids, &mut self.octets);
         self.keep(done);
     }
 
-    /// Puts a word, and a clock.
+    /// Appends a word, and a clock.
     pub fn put_clock(&mut self, word: &str, clock: &Clock) {
         self.put(word);
         let done = write_clock(self.alloc, clock, &mut self.octets);
         self.keep(done);
     }
 
-    /// Puts a word, and an operation.
+    /// Appends a word, and an operation.
     pub fn put_op(&mut self, word: &str, op: &SoundOp) {
         self.put(word);
         let done = write_op(self.alloc, op, &mut self.octets);
         self.keep(done);
     }
 
-    /// Puts what there was memory for.
+    /// Appends octets, or marks the text as incomplete if memory ran out for them.
     pub fn put_result(&mut self, made: Result<Vec<u8>, AllocError>) {
         match made {
             Ok(octets) => self.put_octets(&octets),
@@ -186,7 +186,7 @@ impl Words {
         }
     }
 
-    /// Puts a word, and why there is no answer. Without memory the text isn't whole.
+    /// Appends a word, and why there is no answer; marks the text as incomplete if memory ran out.
     pub fn put_trouble(&mut self, word: &str, trouble: Trouble) {
         self.put(word);
         match trouble {

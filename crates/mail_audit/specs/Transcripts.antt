@@ -34,8 +34,8 @@ idles _ = false
 abbrev pub running_by : Tagged → RunningCommand
 running_by tagged = record { tag = tagged.tag; may_expunge = may_expunge tagged.command; idles = idles tagged.command }
 
--- The event of a command's beginning: SELECT and EXAMINE forget all messages, even if they are refused
--- later.
+-- The event of a command's beginning: SELECT and EXAMINE forget all messages, even if they are
+-- refused later.
 abbrev pub event_by : Command → SlotEvent
 event_by (command.Select name condstore) = Selects
 event_by (command.Examine name condstore) = Selects

@@ -89,7 +89,7 @@ digits_heard (digit ∷ digits) n line rest d h =
     count_heard n digit line (digits ++ rest) p.0 ∙ ap (λ (k : ℕ). heard (Count k) (line ++ digit ∷ []) (digits ++ rest)) (counted n digit digits h)
     ∙ digits_heard digits m (line ++ digit ∷ []) rest p.1 h ∙ ap (λ (l : List ℕ). heard (Count (number_from m digits)) l rest) (append_assoc line (digit ∷ []) digits)
 
--- the first one stands behind `{`
+-- the first digit follows `{`
 begins : (digits line rest : List ℕ) → 0 < length digits → all_ascii_digits digits ≡ true → heard Open line (digits ++ rest) ≡ heard (Count 0) line (digits ++ rest)
 begins [] line rest some d = absurd (omega arith)
 begins (digit ∷ digits) line rest some d =
@@ -114,7 +114,7 @@ passed (octet ∷ second ∷ literal) left line rest e some =
     ap (λ (stage : ReplyStage). heard stage line ((second ∷ literal) ++ rest)) (left_more left (suc (length literal)) (sym e) (omega arith))
     ∙ passed (second ∷ literal) (suc (length literal)) line rest refl (omega arith)
 
--- an announcement, from its `{` on
+-- an announcement, from its `{`
 announcement_heard : (literal line rest : List ℕ) → 0 < length literal → length literal ≤ longest_literal
     → heard Open (line ++ 123 ∷ []) (decimal (length literal) ++ 125 ∷ 13 ∷ 10 ∷ rest) ≡ heard (Literal (length literal)) (line ++ announced literal) rest
 announcement_heard literal line rest some short =
@@ -135,7 +135,7 @@ announcement_heard literal line rest some short =
     ∙ append_assoc start digits tail ∙ append_assoc line (123 ∷ []) (digits ++ tail) in
     known ∙ ap (λ (stage : ReplyStage). heard stage (((text ++ 125 ∷ []) ++ 13 ∷ []) ++ 10 ∷ []) rest) last ∙ ap (λ (l : List ℕ). heard (Literal n) l rest) line_is
 
--- whatever octets a literal has, the line goes on behind it
+-- whatever octets a literal has, the line continues after it
 pub literals_are_passed : LiteralsArePassed
 literals_are_passed before line literal rest some short all =
     let n = length literal in

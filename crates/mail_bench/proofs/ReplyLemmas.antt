@@ -6,12 +6,12 @@ use Rattle.mail_bench.specs.Replies.{at_literal, heard, in_line, is_ended, kept,
 use Rattle.mail_bench.specs.declared.replies.ReplyStage.{ReplyStage}
 use Rattle.mail_bench.specs.declared.replies.ReplyStage.TheVariants.{Line, Literal}
 
--- an answer that has ended takes nothing more
+-- an answer that has ended takes no further octets
 pub heard_ended : (stage : ReplyStage) (line octets : List ℕ) → is_ended stage ≡ true → heard stage line octets ≡ (stage, line, octets)
 heard_ended stage line [] e = refl
 heard_ended stage line (octet ∷ octets) e = rw e refl
 
--- one octet more
+-- one further octet
 heard_suc : (stage : ReplyStage) (line octets : List ℕ) (i : ℕ) → i < length octets → is_ended stage ≡ false
     → heard stage line (drop i octets) ≡ heard (next stage (get_or octets i 0)) (kept stage line (get_or octets i 0)) (drop (suc i) octets)
 heard_suc stage line [] i l e = absurd (omega arith)
@@ -24,14 +24,14 @@ heard_next stage line octets i l e =
     let k : suc i ≡ i + 1 = omega arith in
     subst (λ (m : ℕ). heard stage line (drop i octets) ≡ heard (next stage (get_or octets i 0)) (kept stage line (get_or octets i 0)) (drop m octets)) k (heard_suc stage line octets i l e)
 
--- ---- a line's octets as far as they go on with no announcement
+-- ---- a line's octets, up to one that may begin an announcement
 
 passes_by : (a b : Bool) → ¬ ((a || b) ≡ true) → (a ≡ false) × (b ≡ false)
 passes_by true b neither = absurd (neither refl)
 passes_by false true neither = absurd (neither refl)
 passes_by false false neither = (refl, refl)
 
--- octets without `{` and LF are the line's
+-- octets without `{` and LF belong to the line
 pub text_heard : (octets line : List ℕ) (count : ℕ) → count ≤ length octets → Nowhere (Passes (is_byte2 123 10) octets) 0 count
     → heard Line line octets ≡ heard Line (line ++ take count octets) (drop count octets)
 text_heard octets line zero short none = ap (λ (l : List ℕ). heard Line l octets) (sym (append-nil line))
@@ -42,7 +42,7 @@ text_heard (octet ∷ octets) line (suc count) short none =
     let one : heard Line line (octet ∷ octets) ≡ heard Line (line ++ octet ∷ []) octets = rw here.0 (rw here.1 refl) in
     one ∙ text_heard octets (line ++ octet ∷ []) count (omega arith) later ∙ ap (λ (l : List ℕ). heard Line l (drop count octets)) (append_assoc line (octet ∷ []) (take count octets))
 
--- and with them the octet behind them, which ends the answer or may begin an announcement
+-- and so does the octet after them, which ends the answer or may begin an announcement
 pub text_and_more_heard : (octets line : List ℕ) (at : ℕ) → at < length octets → Nowhere (Passes (is_byte2 123 10) octets) 0 at
     → heard Line line octets ≡ heard (in_line (get_or octets at 0)) (line ++ take (at + 1) octets) (drop (at + 1) octets)
 text_and_more_heard octets line at short none =
@@ -73,13 +73,13 @@ literal_heard (octet ∷ octets) line left (suc (suc count)) short some within =
     ∙ literal_heard octets line (left - 1) (suc count) (omega arith) (omega arith) (omega arith)
     ∙ ap (λ (n : ℕ). heard (at_literal n) line (drop (suc count) octets)) fewer
 
--- ---- where a reading stands
+-- ---- the state of a reading
 
--- what is heard, where the stage and the line are these
+-- the result of reading, if the stage and the line are these
 pub heard_so : (octets line rest text more : List ℕ) (stage new : ReplyStage) → heard Line line octets ≡ heard stage text rest → new ≡ stage → more ≡ text → heard Line line octets ≡ heard new more rest
 heard_so octets line rest text more stage new h e f = h ∙ ap (λ (s : ReplyStage). heard s text rest) (sym e) ∙ ap (λ (l : List ℕ). heard new l rest) (sym f)
 
--- piece behind piece: what stands behind a place is read on
+-- piece after piece: reading continues after a place
 pub heard_on : (stage new : ReplyStage) (line more octets : List ℕ) (at count : ℕ)
     → heard stage line (take (length octets - at) (drop at octets)) ≡ heard new more (drop count (take (length octets - at) (drop at octets)))
     → heard stage line (drop at octets) ≡ heard new more (drop (at + count) octets)
@@ -90,6 +90,6 @@ heard_on stage new line more octets at count one =
 pub within_on : (octets : List ℕ) (at count : ℕ) → at ≤ length octets → count ≤ length (take (length octets - at) (drop at octets)) → at + count ≤ length octets
 within_on octets at count low h = omega (arith, length-take (length octets - at) (drop at octets), length-drop at octets)
 
--- nothing more came
+-- no further octets came
 pub heard_whole : (stage : ReplyStage) (line octets : List ℕ) (at : ℕ) → length octets ≤ at → heard stage line (drop at octets) ≡ (stage, line, drop at octets)
 heard_whole stage line octets at past = rw (drop_all at octets past) refl

@@ -7,12 +7,12 @@ use Rattle.clap.proofs.OnLiterals.{clap_on_literals}
 use Rattle.clap_laws.proofs.FoundLemmas.{one_found}
 use Rattle.mail_bench.specs.Options.{IsAmount, bench_words}
 
--- the words that the program knows are ones of which clap's matches are known
+-- clap's matches are known for the words that the program knows
 pub bench_is_simple : is_simple bench_words ≡ true
 unfolding clap_on_literals
 bench_is_simple = refl
 
--- ---- a number that was found
+-- ---- a number among the matches
 
 pub amount_found : (found : Found) (id : List ℕ) (r : Option ℕ) (usual most given number : ℕ) → ((one_text found id ≡ None) → r ≡ None) → r ≡ Some given → 0 < number → number ≤ most
     → IsAmount (rows_of found) id usual most number

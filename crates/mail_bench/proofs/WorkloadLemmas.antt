@@ -3,11 +3,11 @@ use Rattle.mail_bench.specs.Workloads.{NamesNone, word_of}
 use Rattle.mail_bench.specs.declared.workload.Workload.{Workload}
 use Rattle.mail_bench.specs.declared.workload.Workload.TheVariants as workloads
 
--- all, in the order of the code
+-- all workloads, in the order of the code
 abbrev pub all : List Workload
 all = workloads.Noop ∷ workloads.NoopPipelined ∷ workloads.AppendSmall ∷ workloads.AppendLarge ∷ workloads.FetchFlags ∷ workloads.FetchBody ∷ workloads.Store ∷ workloads.SearchUnseen ∷ workloads.SearchSubject ∷ workloads.Mixed ∷ workloads.Login ∷ workloads.IdleFanOut ∷ workloads.NoopBesideIdle ∷ []
 
--- none of these is named where each place's word is another
+-- a word that differs from the word at each place names none of them
 pub none_named : (word : List ℕ) → ((k : ℕ) → k < 13 → word_of (get_or all k workloads.Noop) ≢ word) → NamesNone word
 none_named word h workloads.Noop = h 0 (omega arith)
 none_named word h workloads.NoopPipelined = h 1 (omega arith)

@@ -1,3 +1,5 @@
+-- The meaning of an answer's line (RFC 9051, section 7).
+
 use Rattle.std.specs.Prelude.{ℕ, ◌+◌, ◌-◌, ◌*◌, ◌==◌, ◌&&◌, not, nat_lt, length, take, drop, List, [], ◌∷◌, Option, Some, None, is_some, codes, if◌then◌else◌}
 use Rattle.std.specs.Char.{is_ascii_digit}
 use Rattle.std.specs.Fmt.{decimal}
@@ -9,7 +11,7 @@ use Rattle.mail_bench.specs.declared.answers.Answer.TheVariants.{Bye, Continue, 
 use Rattle.mail_bench.specs.declared.answers.Status.{Status}
 use Rattle.mail_bench.specs.declared.answers.Status.TheVariants.{Bad, Done, No}
 
--- What stands behind this front, and what in front of this end, where the text has them.
+-- The part of a text after a beginning, and the part before an end, if the text has them.
 abbrev pub behind : List ℕ → List ℕ → Option (List ℕ)
 behind front text = if bytes_eq (take (length front) text) front then Some (drop (length front) text) else None
 
@@ -24,7 +26,7 @@ status_of text =
     else if is_some (behind (codes "BAD ") text) then Some Bad
     else None
 
--- The same, in the line that bears the tag with this number: `b`, the number, a space.
+-- How a command ended, in a line that has the tag with this number: `b`, the number, a space.
 abbrev pub status_in : ℕ → List ℕ → Option Status
 status_in number line = do
   rest ← behind (codes "b") line
@@ -32,7 +34,7 @@ status_in number line = do
   rest ← behind (codes " ") rest
   status_of rest
 
--- The number that digits spell behind this one.
+-- The number that digits spell after this one.
 abbrev pub number_from : ℕ → List ℕ → ℕ
 number_from number [] = number
 number_from number (digit ∷ digits) = number_from (number * 10 + (digit - 48)) digits
@@ -41,14 +43,14 @@ number_from number (digit ∷ digits) = number_from (number * 10 + (digit - 48))
 abbrev pub number_of : List ℕ → Option ℕ
 number_of digits = if (not (length digits == 0) && list_all is_ascii_digit digits) && nat_lt (number_from 0 digits) 4294967296 then Some (number_from 0 digits) else None
 
--- How many messages the mailbox has, where the line says so (RFC 9051, section 7.4.1).
+-- The number of messages in the mailbox, if the line reports it (RFC 9051, section 7.4.1).
 abbrev pub exists_in : List ℕ → Option ℕ
 exists_in line = do
   rest ← behind (codes "* ") line
   digits ← front_of (codes " EXISTS\r\n") rest
   number_of digits
 
--- What a line says that is of no tag that is waited for.
+-- The meaning of a line that doesn't have the awaited tag.
 abbrev pub plain_answer : List ℕ → Answer
 plain_answer line =
     if is_some (behind (codes "* BYE") line) then Bye
@@ -64,6 +66,6 @@ abbrev pub answer_by : List ℕ → Option Status → Answer
 answer_by line None = untagged_answer line (exists_in line)
 answer_by line (Some status) = Ended status
 
--- What a line says to whom waits for the end of the command with this number.
+-- The meaning of a line while the end of the command with this number is awaited.
 abbrev pub answer_of : ℕ → List ℕ → Answer
 answer_of number line = answer_by line (status_in number line)

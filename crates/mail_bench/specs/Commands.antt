@@ -1,3 +1,5 @@
+-- The texts of the commands that the program sends (RFC 9051, sections 6 and 9).
+
 use Rattle.std.specs.Prelude.{ℕ, List, [], ◌∷◌, ◌++◌, codes}
 use Rattle.std.specs.Fmt.{decimal}
 use Rattle.mail_bench.specs.declared.commands.Ask.{Ask}
@@ -20,7 +22,7 @@ plain_text asks.SearchSubject = codes "SEARCH SUBJECT \"x\""
 plain_text asks.Idle = codes "IDLE"
 plain_text asks.Logout = codes "LOGOUT"
 
--- One to a message: what stands in front of its number and behind it.
+-- A command on a message: the texts before its number and after it.
 abbrev pub verb_text : MessageAsk → List ℕ
 verb_text messages.FetchFlags = codes "FETCH "
 verb_text messages.FetchBody = codes "FETCH "
@@ -36,7 +38,7 @@ asked_text messages.Unflag = codes " -FLAGS (\\Flagged)"
 abbrev pub counted_text : MessageAsk → ℕ → List ℕ
 counted_text ask number = verb_text ask ++ (decimal number ++ asked_text ask)
 
--- One to a mailbox.
+-- A command on a mailbox: the text before its name.
 abbrev pub mailbox_verb_text : MailboxAsk → List ℕ
 mailbox_verb_text mailboxes.Select = codes "SELECT "
 mailbox_verb_text mailboxes.Create = codes "CREATE "
@@ -47,7 +49,7 @@ named_text ask name = mailbox_verb_text ask ++ quoted name
 abbrev pub login_text : List ℕ → List ℕ → List ℕ
 login_text user pass = codes "LOGIN " ++ (quoted user ++ 32 ∷ quoted pass)
 
--- The announcement of a literal, for which the server says when it may come.
+-- The announcement of a synchronizing literal (RFC 9051, section 4.3).
 abbrev pub announced_text : ℕ → List ℕ
 announced_text octets = codes " {" ++ (decimal octets ++ 125 ∷ [])
 
@@ -61,7 +63,7 @@ command_text (Mailbox ask name) = named_text ask name.now
 command_text (Login user pass) = login_text user.now pass.now
 command_text (Append name octets) = append_text name.now octets
 
--- A command's tag, with the space behind it, and its line.
+-- A command's tag, with the space after it, and its line.
 abbrev pub tag_text : ℕ → List ℕ
 tag_text number = 98 ∷ (decimal number ++ 32 ∷ [])
 

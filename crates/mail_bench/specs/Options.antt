@@ -1,3 +1,5 @@
+-- The words of the program's command line, and the settings that they ask for.
+
 use Rattle.std.specs.Prelude.{◌≡◌, ◌≤◌, ◌<◌, ℕ, true, List, None, Some, unwrap_or, codes}
 use Rattle.std.specs.Borrow.{Bor}
 use Rattle.std.specs.List.{All}
@@ -10,7 +12,7 @@ use Rattle.mail_bench.specs.declared.settings.Settings.{Settings}
 
 -- ---- the words that the program knows
 
--- A word with a value; one that has to be there; one whose value is a number from 1 on.
+-- A word with a value; a required word; a word whose value is a number from 1.
 abbrev pub named_word : List ℕ → Rule
 named_word name = record (new_rule name) { long = Some name; action = Some Set }
 
@@ -20,33 +22,34 @@ required_word name = record (named_word name) { required = true }
 abbrev pub counted_word : List ℕ → ℕ → Rule
 counted_word name most = record (named_word name) { parser = Some (Unsigned 1 most) }
 
--- Those that say which server is measured, and by what.
+-- The words that name the server and the workload.
 abbrev pub with_server : App → App
 with_server app =
     with_rule (with_rule (with_rule (with_rule (with_rule app (required_word (codes "address"))) (required_word (codes "user"))) (required_word (codes "pass")))
     (required_word (codes "workload"))) (named_word (codes "second"))
 
--- Those that say how much is done, and where.
+-- The words that say how much is done, and where.
 abbrev pub with_amounts : App → App
 with_amounts app =
     with_rule (with_rule (with_rule (with_rule app (counted_word (codes "messages") 1000000)) (counted_word (codes "connections") 1000)) (counted_word (codes "seconds") 3600))
     (named_word (codes "mailbox"))
 
--- All.
+-- All words.
 abbrev pub bench_words : App
 bench_words = with_amounts (with_server (new_app (codes "mail_bench")))
 
--- ---- what they ask for
+-- ---- the settings that they ask for
 
--- The text under a word, or the usual one.
+-- The text under a word, or the default.
 abbrev pub text_in : List Row → List ℕ → List ℕ → List ℕ
 text_in rows word usual = unwrap_or (first_of word rows) usual
 
--- A number from 1 on, which is the usual one where the word isn't there.
+-- A number from 1, which is the default if the word is missing.
 abbrev pub IsAmount : List Row → List ℕ → ℕ → ℕ → ℕ → Type 0
 IsAmount rows word usual most number = (0 < number) × (number ≤ most) × (one_of word rows ≡ None → number ≡ usual)
 
--- The server, the user, the mailbox and the workload are those that were found; so are the numbers, from 1 to their bounds, and the usual ones where none was found.
+-- The server, the user, the mailbox and the workload are those of the matches; so are the numbers,
+-- from 1 to their bounds, and the defaults if a word is missing.
 pub record Asks (rows : List Row) (settings : Settings) : Type 0 where
   pub address : settings.address.now ≡ text_in rows (codes "address") (codes "")
   pub second : option_map (λ (s : Bor (List ℕ)). s.now) settings.second ≡ first_of (codes "second") rows

@@ -1,3 +1,6 @@
+-- How a server's octets make up answers: lines with literals in them (RFC 9051, sections 2.2.2 and
+-- 4.3).
+
 use Rattle.std.specs.Prelude.{◌≡◌, ◌≤◌, ◌<◌, ℕ, ◌+◌, ◌-◌, ◌*◌, ◌==◌, Bool, true, false, not, nat_lt, min, length, List, [], ◌∷◌, ◌++◌, Option, Some, None, if◌then◌else◌}
 use Rattle.std.specs.Char.{is_ascii_digit}
 use Rattle.std.specs.Fmt.{decimal}
@@ -7,26 +10,28 @@ use Rattle.mail_bench.specs.declared.replies.ReplyFault.TheVariants.{LongLine, L
 use Rattle.mail_bench.specs.declared.replies.ReplyStage.{ReplyStage}
 use Rattle.mail_bench.specs.declared.replies.ReplyStage.TheVariants.{Announced, Closed, Count, Ended, Line, Literal, Open}
 
--- The octets of the longest line and of the longest literal that are read.
+-- The numbers of octets in the longest line and in the longest literal that are read.
 abbrev pub longest_line : ℕ
 longest_line = 4194304
 
 abbrev pub longest_literal : ℕ
 longest_literal = 1073741824
 
--- Behind an octet that goes on with no announcement: `{` (123) may begin one, and LF (10) ends the answer.
+-- The stage after an octet that continues no announcement: `{` (123) may begin one, and LF (10)
+-- ends the answer.
 abbrev pub in_line : ℕ → ReplyStage
 in_line octet = if octet == 123 then Open else if octet == 10 then Ended else Line
 
--- A count with one digit more. One that is too long stays so.
+-- The count with one further digit. A count that is too large stays so.
 abbrev pub count_more : ℕ → ℕ → ℕ
 count_more octets digit = min (octets * 10 + (digit - 48)) (longest_literal + 1)
 
--- Behind the announcement of a literal of so many octets.
+-- The stage after the announcement of a literal of this number of octets.
 abbrev pub at_literal : ℕ → ReplyStage
 at_literal octets = if octets == 0 then Line else Literal octets
 
--- Where the next octet stands behind this one: RFC 9051, section 9, `literal = "{" number64 "}" CRLF *CHAR8`, at the end of a line.
+-- The stage after an octet: RFC 9051, section 9, `literal = "{" number64 "}" CRLF *CHAR8`, at the
+-- end of a line.
 abbrev pub next : ReplyStage → ℕ → ReplyStage
 next Line octet = in_line octet
 next Open octet = if is_ascii_digit octet then Count (count_more 0 octet) else in_line octet
@@ -36,13 +41,13 @@ next (Announced octets) octet = if octet == 10 then at_literal octets else in_li
 next (Literal left) octet = at_literal (left - 1)
 next Ended octet = Ended
 
--- Whether the octet at this stage is one of the line.
+-- Whether the octet at this stage is part of the line.
 abbrev pub is_kept : ReplyStage → Bool
 is_kept (Literal left) = false
 is_kept Ended = false
 is_kept stage = true
 
--- The line with one octet more: those of literals aren't kept.
+-- The line after one further octet: the octets of literals aren't stored.
 abbrev pub kept : ReplyStage → List ℕ → ℕ → List ℕ
 kept stage line octet = if is_kept stage then line ++ octet ∷ [] else line
 
@@ -50,12 +55,12 @@ abbrev pub is_ended : ReplyStage → Bool
 is_ended Ended = true
 is_ended stage = false
 
--- What becomes of an answer over these octets: its stage, its line, and the octets behind its end.
+-- The result of reading octets: the stage, the line, and the octets after the answer's end.
 abbrev pub heard : ReplyStage → List ℕ → List ℕ → ReplyStage × List ℕ × List ℕ
 heard stage line [] = (stage, line, [])
 heard stage line (octet ∷ octets) = if is_ended stage then (stage, line, octet ∷ octets) else heard (next stage octet) (kept stage line octet) octets
 
--- Why an answer at this stage, with a line of this length, isn't read on.
+-- Why an answer can't be read further at this stage, with a line of this length.
 abbrev pub refusal_at : ReplyStage → Option ReplyFault
 refusal_at (Literal left) = if nat_lt longest_literal left then Some LongLiteral else None
 refusal_at stage = None
@@ -63,11 +68,13 @@ refusal_at stage = None
 abbrev pub refusal : ReplyStage → ℕ → Option ReplyFault
 refusal stage length = if nat_lt longest_line length then Some LongLine else refusal_at stage
 
--- The announcement of a literal: `{` (123), its length in decimal digits, `}` (125), CR (13) and LF (10).
+-- The announcement of a literal: `{` (123), its length in decimal digits, `}` (125), CR (13) and LF
+-- (10).
 abbrev pub announced : List ℕ → List ℕ
 announced literal = 123 ∷ (decimal (length literal) ++ 125 ∷ 13 ∷ 10 ∷ [])
 
--- Whatever octets a literal has, none of them is read as the line's: behind what stood before, a text without LF and the announcement, the line goes on with the octets behind the literal.
+-- Whatever octets a literal has, none of them is read as part of the line: after the line so far, a
+-- text without LF, and the announcement, the line continues with the octets after the literal.
 abbrev pub LiteralsArePassed : Type 0
 LiteralsArePassed =
     (before text literal rest : List ℕ) → 0 < length literal → length literal ≤ longest_literal → list_all (λ octet. not (octet == 10)) text ≡ true

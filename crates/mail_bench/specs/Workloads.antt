@@ -1,3 +1,5 @@
+-- The workloads' words on the command line.
+
 use Rattle.std.specs.Prelude.{◌≢◌, ℕ, List, codes}
 use Rattle.mail_bench.specs.declared.workload.Workload.{Workload}
 use Rattle.mail_bench.specs.declared.workload.Workload.TheVariants as workloads

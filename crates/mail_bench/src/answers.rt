@@ -1,4 +1,4 @@
-//! What an answer's line says.
+//! The meaning of an answer's line.
 
 ghost use Rattle.std.specs.Prelude.{codes, ◌≡◌, ◌+◌, ◌-◌, ◌*◌, ◌<◌, ◌^◌, SomeIff};
 ghost use Rattle.std.specs.Char.{is_ascii_digit};
@@ -19,24 +19,24 @@ pub enum Status {
     Bad,
 }
 
-/// What an answer says.
+/// The meaning of an answer.
 #[derive(Clone, Copy)]
 pub enum Answer {
-    /// The command with the tag that is waited for ended.
+    /// The command whose tag is awaited ended.
     Ended(Status),
-    /// The server waits for a literal, or idles.
+    /// The server waits for a literal, or the session idles.
     Continue,
-    /// The mailbox has so many messages.
+    /// The mailbox has this number of messages.
     Exists(u32),
     /// The server closes the connection.
     Bye,
-    /// Something else that belongs to no tag.
+    /// Another untagged answer.
     Other,
-    /// None of these: of another tag, or no answer.
+    /// None of these: an answer with another tag, or no answer.
     Unreadable,
 }
 
-/// What a line says to whom waits for the end of the command with this number.
+/// The meaning of a line while the end of the command with this number is awaited.
 pub fn answer_of(line: &[u8], number: u64) -> Answer
     ensures { result ≡ answer_of number line.now }
 {
@@ -60,7 +60,7 @@ fn plain_answer(line: &[u8]) -> Answer
     }
 }
 
-/// How the command with this number ended, where the line bears its tag.
+/// How the command with this number ended, if the line has its tag.
 fn status_in(line: &[u8], number: u64) -> Option<Status>
     ensures { result ≡ status_in number line.now }
 {
@@ -88,7 +88,7 @@ fn status_of(text: &[u8]) -> Option<Status>
     None
 }
 
-/// How many messages the mailbox has, where the line says so (RFC 9051, section 7.4.1).
+/// The number of messages in the mailbox, if the line reports it (RFC 9051, section 7.4.1).
 fn exists_in(line: &[u8]) -> Option<u32>
     ensures { result ≡ exists_in line.now }
 {
@@ -99,7 +99,8 @@ fn exists_in(line: &[u8]) -> Option<u32>
     number_of(digits)
 }
 
-/// What stands in front of the end of an answer that tells how many messages there are. Most answers have another octet there in place of its S.
+/// The part of an answer before ` EXISTS` and its line end, if it ends so. Most answers have
+/// another octet in place of the S.
 #[tactic(auto, using(crate::proofs::AnswerLemmas::no_exists, crate::proofs::AnswerLemmas::too_short))]
 fn in_front_of_exists(text: &[u8]) -> Option<&[u8]>
     ensures { option_map (λ rest. rest.now) result ≡ front_of (codes " EXISTS\r\n") text.now }
@@ -110,21 +111,21 @@ fn in_front_of_exists(text: &[u8]) -> Option<&[u8]>
     }
 }
 
-/// What stands behind this front.
+/// The part after this beginning, if the text begins so.
 fn behind<'a>(front: &[u8], text: &'a [u8]) -> Option<&'a [u8]>
     ensures { option_map (λ rest. rest.now) result ≡ behind front.now text.now }
 {
     text.strip_prefix(front)
 }
 
-/// What stands in front of this end.
+/// The part before this end, if the text ends so.
 fn in_front_of<'a>(end: &[u8], text: &'a [u8]) -> Option<&'a [u8]>
     ensures { option_map (λ rest. rest.now) result ≡ front_of end.now text.now }
 {
     text.strip_suffix(end)
 }
 
-/// The number of at most 32 bits that digits spell.
+/// The number of at most 32 bits that digits spell; `None` if they spell none.
 fn number_of(digits: &[u8]) -> Option<u32>
     ensures { result ≡ number_of digits.now }
 {
@@ -140,7 +141,7 @@ fn are_digits(octets: &[u8]) -> bool
     octets.iter().all(|octet| octet.is_ascii_digit())
 }
 
-/// The number that these digits spell, where it has 32 bits.
+/// The number that these digits spell, if it has at most 32 bits.
 #[tactic(auto, using(crate::proofs::AnswerLemmas::number_grows, crate::proofs::AnswerLemmas::number_next))]
 fn number_of_digits(digits: &[u8]) -> Option<u32>
     ensures { SomeIff result (number_from 0 digits.now < 2 ^ 32) (number_from 0 digits.now) }
@@ -155,7 +156,7 @@ fn number_of_digits(digits: &[u8]) -> Option<u32>
     Some(number)
 }
 
-/// A number with one digit more, where it has 32 bits.
+/// The number with one further digit, if it has at most 32 bits.
 fn with_digit(number: u32, digit: u8) -> Option<u32>
     ensures { SomeIff result (number * 10 + (digit - 48) < 2 ^ 32) (number * 10 + (digit - 48)) }
 {

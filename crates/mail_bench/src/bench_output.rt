@@ -1,4 +1,4 @@
-//! What the program says where its command line asks for nothing.
+//! The program's output if its command line asks for no measurement, or a run ends early.
 
 ghost use Rattle.std.specs.Prelude.{IfOk, map};
 ghost use Rattle.clap.specs.Words.{matches_of};
@@ -10,8 +10,9 @@ use clap::Error;
 use std::convert::AsStr;
 use std::io::Eprint;
 
-/// Reads the words of a command line as `read_settings` does. Where they ask for nothing, it says why, or prints the help that they ask for, and gives the program's
-/// status: 0 behind help, 2 where the words are wrong, 1 where there was no memory or nothing could be printed.
+/// Reads the words of a command line as `read_settings` does. If they ask for no measurement,
+/// prints why, or the help that they ask for, and returns the program's status in `Err`: 0 after
+/// help, 2 if the words are wrong, 1 if memory ran out or nothing could be printed.
 pub fn settings_or_status<'a, R: Print + Eprint + AllocGlobal>(
     rt: &R,
     words: &'a [String],
@@ -33,7 +34,7 @@ fn explain<R: Print + Eprint>(rt: &R, why: SettingsFault<'_>) -> u8 {
     }
 }
 
-/// Says what can't be used, and gives the program's status.
+/// Prints what can't be used, and returns the program's status.
 fn tell_usage<R: Eprint>(rt: &R, why: UsageFault<'_>) -> u8 {
     let told = match why {
         UsageFault::BadWorkload(word) => eprintln!(rt; "usage: no workload {word}"),
@@ -45,7 +46,7 @@ fn tell_usage<R: Eprint>(rt: &R, why: UsageFault<'_>) -> u8 {
     }
 }
 
-/// Says that the run ended before its time, and gives the program's status.
+/// Prints why the run ended early, and returns the program's status.
 pub fn tell_fault<R: Eprint>(rt: &R, fault: BenchFault) -> u8 {
     let _ = eprintln!(rt; "mail_bench: {fault}");
     1

@@ -1,4 +1,4 @@
-//! A connection to a server, as its client uses it: a command is sent and its end waited for.
+//! A client's side of a connection: it sends a command and awaits its end.
 
 ghost use Rattle.std.specs.Prelude.{◌≤◌, IfOk, length, vec_len};
 
@@ -11,19 +11,19 @@ use std::io::{ErrorKind, Read, Write};
 use std::net::{Net, TcpListener, TcpStream};
 use std::time::Duration;
 
-/// A read that waits for more than so many seconds fails.
+/// The longest wait of a read, in seconds; then the read fails.
 const PATIENCE: u64 = 30;
 
-/// So many octets are read at once, at most.
+/// The largest number of octets in one read.
 const PIECE: usize = 65_536;
 
-/// So many reads are made for one answer, at most.
+/// The largest number of reads for one answer.
 const MAX_READS: u32 = 100_000_000;
 
-/// So many answers are read for one command, at most.
+/// The largest number of answers that are read for one command.
 const MAX_ANSWERS: u32 = 100_000_000;
 
-/// So often a read is tried that was interrupted.
+/// The number of times that an interrupted read is tried.
 const MAX_TRIES: u32 = 1_000;
 
 /// A client's side of a connection.
@@ -41,7 +41,7 @@ pub struct Client {
     ghost within: { end ≤ vec_len piece },
 }
 
-// By hand, so that whoever has it lets it go as a whole.
+// By hand, so that crates above drop it whole.
 impl Drop for Client {
     fn drop(self) {
         let Self {
@@ -58,7 +58,7 @@ impl Drop for Client {
     }
 }
 
-/// What connects to servers. One bound of one method, in place of the many that come with `Net`.
+/// The ability to connect to servers: one bound with one method, in place of the many of `Net`.
 pub trait Dial {
     /// Connects to this address.
     fn dial(&self, address: &str) -> Result<TcpStream, BenchFault>;
@@ -108,7 +108,7 @@ impl Client {
         }
     }
 
-    /// The number of messages that the server told of last.
+    /// The number of messages that the server reported last.
     pub fn messages(&self) -> u32 {
         self.messages
     }
@@ -139,7 +139,7 @@ impl Client {
         self.await_end(number)
     }
 
-    /// Sends so many NOOPs in one write, and waits until all are answered OK.
+    /// Sends `count` NOOPs in one write, and waits until all are answered OK.
     pub fn run_noops(&mut self, count: u64) -> Result<(), BenchFault> {
         self.line.clear();
         let first = self.sent;
@@ -153,23 +153,23 @@ impl Client {
         Ok(())
     }
 
-    /// Appends a message to a mailbox, as a literal for which the server says when it may come.
+    /// Appends a message to a mailbox, as a synchronizing literal.
     pub fn append(&mut self, name: &str, message: &[u8]) -> Result<(), BenchFault> {
         let number = self.begin_append(name, message.len())?;
         self.finish(message, number)
     }
 
-    /// Announces a message, waits until it may come, and gives the number of its command.
+    /// Announces a message, waits until the server asks for it, and returns the command's number.
     pub fn begin_append(&mut self, name: &str, octets: usize) -> Result<u64, BenchFault> {
         self.announce(Command::Append { name, octets })
     }
 
-    /// Begins to idle, and gives the number of its command.
+    /// Begins to idle, and returns the command's number.
     pub fn idle(&mut self) -> Result<u64, BenchFault> {
         self.announce(Command::Plain(Ask::Idle))
     }
 
-    /// Waits until the server tells that the mailbox has so many messages, or more.
+    /// Waits until the server reports that the mailbox has at least `least` messages.
     pub fn await_messages(&mut self, least: u32) -> Result<(), BenchFault> {
         for _ in 0..MAX_ANSWERS {
             match self.hear(0)? {
@@ -182,19 +182,20 @@ impl Client {
         Err(BenchFault::Endless)
     }
 
-    /// Ends to idle.
+    /// Ends idling.
     pub fn done(&mut self, number: u64) -> Result<(), BenchFault> {
         self.finish(b"DONE", number)
     }
 
-    /// Sends a command of which more is to come, waits until the server asks for it, and gives the command's number.
+    /// Sends the beginning of a command, waits until the server asks for more, and returns the
+    /// command's number.
     fn announce(&mut self, command: Command<'_>) -> Result<u64, BenchFault> {
         let number = self.ask(command)?;
         self.await_continue(number)?;
         Ok(number)
     }
 
-    /// Sends what is to come of the command with this number, and waits until it is answered OK.
+    /// Sends the rest of the command with this number, and waits until it is answered OK.
     pub fn finish(&mut self, more: &[u8], number: u64) -> Result<(), BenchFault> {
         self.line.clear();
         self.line.extend_from_slice(more)?;
@@ -203,7 +204,7 @@ impl Client {
         self.await_end(number)
     }
 
-    /// Sends a command, and gives its number.
+    /// Sends a command, and returns its number.
     fn ask(&mut self, command: Command<'_>) -> Result<u64, BenchFault> {
         self.line.clear();
         let number = self.push(command)?;
@@ -211,7 +212,7 @@ impl Client {
         Ok(number)
     }
 
-    /// Puts a command behind what is to be sent, and gives its number.
+    /// Adds a command to the octets that are to be sent, and returns its number.
     fn push(&mut self, command: Command<'_>) -> Result<u64, BenchFault> {
         let number = self.sent;
         self.sent = self.sent.wrapping_add(1);
@@ -258,7 +259,8 @@ impl Client {
         Err(BenchFault::Endless)
     }
 
-    /// Reads the next answer, and says what it says to whom waits for the end of the command with this number.
+    /// Reads the next answer, and returns its meaning while the end of the command with this number
+    /// is awaited.
     fn hear(&mut self, number: u64) -> Result<Answer, BenchFault> {
         self.reading.begin();
         self.read_answer()?;
@@ -290,7 +292,7 @@ impl Client {
     }
 }
 
-/// Reads what has come, one octet at least, and gives how many octets did.
+/// Reads the octets that have arrived, at least one, and returns their number.
 fn fill(stream: &TcpStream, piece: &mut [u8]) -> Result<usize, BenchFault>
     ensures { IfOk result (λ count. count ≤ length piece.new) }
 {

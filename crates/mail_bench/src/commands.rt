@@ -7,14 +7,14 @@ ghost use Rattle.mail_bench.specs.Commands.{announced_text, append_text, asked_t
 use std::alloc::{AllocError, Global};
 use text_fields::push_number;
 
-/// The fields of each message, and the empty line behind them.
+/// The fields of each message, and the empty line after them.
 const FIELDS: &[u8] =
     b"From: bench@example.org\r\nTo: bench@example.org\r\nSubject: one of many\r\n\r\n";
 
-/// A line of its text.
+/// A line of a message's text.
 const TEXT: &[u8] = b"A line of sixty-four octets, which stands in a message of bench.\r\n";
 
-/// What is asked of the selected mailbox, or of none.
+/// A command with no argument of its own.
 #[derive(Clone, Copy)]
 pub enum Ask {
     /// NOOP.
@@ -31,20 +31,20 @@ pub enum Ask {
     Logout,
 }
 
-/// What is asked of one message, by its number in the selected mailbox.
+/// A command on one message, by its number in the selected mailbox.
 #[derive(Clone, Copy)]
 pub enum MessageAsk {
-    /// FETCH of its flags.
+    /// FETCH of the message's flags.
     FetchFlags,
-    /// FETCH of its whole text.
+    /// FETCH of the message's whole text.
     FetchBody,
-    /// STORE of `\Flagged`.
+    /// STORE that sets `\Flagged`.
     Flag,
-    /// STORE without it.
+    /// STORE that clears `\Flagged`.
     Unflag,
 }
 
-/// What is asked of a mailbox, by its name.
+/// A command on a mailbox, by its name.
 #[derive(Clone, Copy)]
 pub enum MailboxAsk {
     /// SELECT.
@@ -53,23 +53,23 @@ pub enum MailboxAsk {
     Create,
 }
 
-/// A command. Texts in it are of printable ASCII.
+/// A command. The texts in it are of printable ASCII.
 #[derive(Clone, Copy)]
 pub enum Command<'a> {
-    /// One with no argument of its own.
+    /// A command with no argument of its own.
     Plain(Ask),
-    /// One to a message.
+    /// A command on a message.
     Message {
-        /// What is asked.
+        /// Which command.
         ask: MessageAsk,
-        /// The message's number, from 1 on.
+        /// The message's number, from 1.
         number: u32,
     },
-    /// One to a mailbox.
+    /// A command on a mailbox.
     Mailbox {
-        /// What is asked.
+        /// Which command.
         ask: MailboxAsk,
-        /// Its name.
+        /// The mailbox's name.
         name: &'a str,
     },
     /// LOGIN.
@@ -79,16 +79,16 @@ pub enum Command<'a> {
         /// The password.
         pass: &'a str,
     },
-    /// APPEND, as far as the announcement of its message.
+    /// APPEND, up to the announcement of its message.
     Append {
         /// The mailbox.
         name: &'a str,
-        /// How many octets the message has.
+        /// The number of octets in the message.
         octets: usize,
     },
 }
 
-/// Appends a command's line, with this number in its tag. `Err` where there is no memory for it.
+/// Appends a command's line, with this number in its tag; `Err` if memory runs out.
 pub fn push_line(command: Command<'_>, number: u64, out: &mut Vec<u8>) -> Result<(), AllocError>
     ensures { OnOk result (out.new.items ≡ out.old.items ++ line_text command.entry number) }
 {
@@ -97,7 +97,7 @@ pub fn push_line(command: Command<'_>, number: u64, out: &mut Vec<u8>) -> Result
     out.extend_from_slice(b"\r\n")
 }
 
-/// Appends a command's tag and the space behind it.
+/// Appends a command's tag and the space after it.
 fn push_tag(number: u64, out: &mut Vec<u8>) -> Result<(), AllocError>
     ensures { OnOk result (out.new.items ≡ out.old.items ++ tag_text number) }
 {
@@ -140,7 +140,7 @@ fn push_message(ask: MessageAsk, number: u32, out: &mut Vec<u8>) -> Result<(), A
     out.extend_from_slice(message_verb_end(ask))
 }
 
-/// What stands in front of a message's number.
+/// The text before a message's number.
 fn verb(ask: MessageAsk) -> &'static [u8]
     ensures { result.now ≡ verb_text ask }
 {
@@ -150,7 +150,7 @@ fn verb(ask: MessageAsk) -> &'static [u8]
     }
 }
 
-/// What stands behind it.
+/// The text after a message's number.
 fn message_verb_end(ask: MessageAsk) -> &'static [u8]
     ensures { result.now ≡ asked_text ask }
 {
@@ -169,7 +169,7 @@ fn push_mailbox(ask: MailboxAsk, name: &str, out: &mut Vec<u8>) -> Result<(), Al
     push_quoted(name, out)
 }
 
-/// What stands in front of a mailbox's name.
+/// The text before a mailbox's name.
 fn mailbox_verb(ask: MailboxAsk) -> &'static [u8]
     ensures { result.now ≡ mailbox_verb_text ask }
 {
@@ -214,7 +214,7 @@ fn push_quoted(text: &str, out: &mut Vec<u8>) -> Result<(), AllocError>
     out.extend_from_slice(b"\"")
 }
 
-/// Appends octets with `\` in front of each `"` and `\`.
+/// Appends octets with `\` before each `"` and `\`.
 fn push_escaped(octets: &[u8], out: &mut Vec<u8>) -> Result<(), AllocError>
     ensures { OnOk result (out.new.items ≡ out.old.items ++ flat_map escaped octets.now) }
 {
@@ -233,7 +233,8 @@ fn push_octet(octet: u8, out: &mut Vec<u8>) -> Result<(), AllocError>
     out.extend_from_slice(&[octet])
 }
 
-/// A message of so many octets: fields, an empty line, and lines of text as far as there is room. `Err` where there is no memory for it.
+/// A message of `octets` octets: its fields, an empty line, and lines of text, cut at the end.
+/// `Err` if memory runs out.
 pub fn message(alloc: Global, octets: usize) -> Result<Vec<u8>, AllocError>
     ensures { IfOk result (λ message. vec_len message ≡ octets) }
 {

@@ -1,4 +1,4 @@
-//! Why a run ended before its time.
+//! Why a run ended early.
 
 use crate::answers::Status;
 use crate::replies::ReplyFault;
@@ -6,20 +6,20 @@ use std::alloc::{AllocError, AllocFailed};
 use std::io::ErrorKind;
 use std::{fmt, io};
 
-/// Why a run ended before its time; as a text, what the program prints of it.
+/// Why a run ended early; its text is what the program prints.
 #[derive(Clone, Copy)]
 pub enum BenchFault {
     /// No connection could be made.
     Connect,
     /// The server closed the connection.
     Closed,
-    /// The server took leave.
+    /// The server said BYE.
     Bye,
     /// A command was answered NO.
     No,
     /// A command was answered BAD.
     Bad,
-    /// An answer is no answer, or bears another tag.
+    /// An answer can't be read, or has another tag.
     Unreadable,
     /// An answer's line is too long.
     LongLine,
@@ -39,12 +39,12 @@ pub enum BenchFault {
     Clock,
     /// The line can't be printed.
     Print,
-    /// There is no memory.
+    /// Memory ran out.
     NoMemory,
 }
 
 impl BenchFault {
-    /// What the program prints of it.
+    /// The text that the program prints.
     fn text(self) -> &'static str {
         match self {
             BenchFault::Connect => "cannot connect",
@@ -103,7 +103,7 @@ pub fn read_fault(error: &io::Error) -> BenchFault {
     }
 }
 
-/// What a status makes of a command: `Err` where it isn't OK.
+/// The result of a command with this status: `Err` if it isn't OK.
 pub fn status_result(status: Status) -> Result<(), BenchFault> {
     match status {
         Status::Done => Ok(()),

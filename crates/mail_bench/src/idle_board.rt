@@ -1,4 +1,5 @@
-//! What connections that idle and one that appends tell each other, so that each message is heard by all before the next one is sent.
+//! The state that idling connections share with one that appends, so that all of them receive each
+//! message before the next one is sent.
 
 use crate::fault::BenchFault;
 use crate::report::Tally;
@@ -8,21 +9,22 @@ use std::rt::Clock;
 use std::sync::{Condvar, Mutex, Wait};
 use std::time::{Duration, Instant};
 
-/// So many seconds it is waited for those that idle.
+/// The longest wait for idling connections, in seconds.
 const PATIENCE: u64 = 60;
 
-/// What they tell each other.
+/// The shared state.
 #[derive(Drop)]
 struct BoardState {
-    /// When each heard of the last message, as far as they did; before the first message one moment for each that idles.
+    /// The moments at which idling connections received the last message, as far as they did;
+    /// before the first message, one moment for each that idles.
     heard: Vec<Instant>,
-    /// Whether the message that is sent is the last.
+    /// Whether the message that is being sent is the last.
     is_last: bool,
-    /// Why one of them went away.
+    /// Why one of the idling connections ended.
     fault: Option<BenchFault>,
 }
 
-/// Where they tell it.
+/// The shared state, and the signal that it changed.
 #[derive(Drop)]
 pub struct Board {
     news: Mutex<BoardState>,
@@ -31,7 +33,7 @@ pub struct Board {
 }
 
 impl Board {
-    /// For so many that idle.
+    /// The state for `idlers` idling connections.
     pub fn new(alloc: Global, idlers: usize) -> Board {
         Board {
             news: Mutex::new(BoardState {
@@ -44,7 +46,8 @@ impl Board {
         }
     }
 
-    /// One heard of the message now, or idles by now. Whether it was the last.
+    /// Notes that a connection received the message now, or idles now; `true` if the message was
+    /// the last.
     pub fn note_now<R: Wait + Clock>(&self, rt: &R) -> Result<bool, BenchFault> {
         let moment = now(rt)?;
         let mut news = self.news.lock(rt);
@@ -57,21 +60,22 @@ impl Board {
         Ok(news.is_last)
     }
 
-    /// One goes away for this reason.
+    /// Notes why a connection ended.
     pub fn fail<R: Wait>(&self, rt: &R, fault: BenchFault) {
         let mut news = self.news.lock(rt);
         news.fault = Some(fault);
         self.changed.notify_all();
     }
 
-    /// The next message is about to be sent.
+    /// Notes that the next message is about to be sent.
     pub fn begin<R: Wait>(&self, rt: &R, is_last: bool) {
         let mut news = self.news.lock(rt);
         news.heard.clear();
         news.is_last = is_last;
     }
 
-    /// Waits until all heard of the message, or idle.
+    /// Waits until all connections received the message, or idle. `Silent` if it takes longer than
+    /// 60 seconds; the fault of a connection, if one ended.
     pub fn await_all<R: Wait + Clock>(&self, rt: &R) -> Result<(), BenchFault> {
         let idlers = self.idlers;
         let (news, _) = self.changed.wait_timeout_while(
@@ -87,7 +91,7 @@ impl Board {
         }
     }
 
-    /// Notes how long each took from this moment to hear of the message.
+    /// Adds to a tally how long after this moment each connection received the message.
     pub fn tell<R: Wait>(
         &self,
         rt: &R,

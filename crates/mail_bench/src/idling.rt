@@ -1,4 +1,5 @@
-//! Connections that idle (RFC 2177): how long a message takes to all of them, and what they cost others.
+//! Idling connections (RFC 2177): how long a message takes to reach all of them, and what they cost
+//! others.
 
 use crate::client::{Client, Dial};
 use crate::fault::BenchFault;
@@ -16,16 +17,17 @@ use std::thread;
 use std::thread::Threads;
 use std::time::Duration;
 
-/// So many connections hear of each message.
+/// The number of connections that receive each message.
 pub const LISTENERS: u32 = 32;
 
-/// So many idle beside the one that is measured.
+/// The number of connections that idle beside the one that is measured.
 pub const BYSTANDERS: u32 = 400;
 
-/// So many messages are sent at most.
+/// The largest number of messages that are sent.
 const MAX_ROUNDS: u32 = 10_000_000;
 
-/// How long a message takes from its last octet until each of 32 connections was told of it: APPENDs one after another, each behind the answers to the last.
+/// Measures how long a message takes from its last octet until each of 32 connections was sent its
+/// EXISTS: APPENDs one after another, each once all connections received the last.
 pub fn fan_out<R: Threads + Wait + Clock + Sync + Dial>(
     rt: &R,
     alloc: Global,
@@ -38,7 +40,7 @@ pub fn fan_out<R: Threads + Wait + Clock + Sync + Dial>(
     Report::of(1, plan.messages, took, tally)
 }
 
-/// So many connections that have the mailbox selected, with so many messages.
+/// The 32 connections that have the mailbox selected, once it has `messages` messages.
 fn listeners<R: Clock + Dial>(
     rt: &R,
     alloc: Global,
@@ -54,7 +56,8 @@ fn listeners<R: Clock + Dial>(
     Ok(listeners)
 }
 
-/// Has one connection send for so long, and the others hear of it; what was sent, and how long it took.
+/// Has one connection send messages for `seconds` seconds while the others listen; returns the
+/// tally of the messages, and how long it took.
 fn send_and_hear<R: Threads + Wait + Clock + Sync>(
     rt: &R,
     alloc: Global,
@@ -77,7 +80,7 @@ fn send_and_hear<R: Threads + Wait + Clock + Sync>(
     sent
 }
 
-/// The first fault of those that idled, where there is one.
+/// `Err` with the first fault of the idling connections, if any.
 fn first_fault(ends: Vec<Result<(), BenchFault>>) -> Result<(), BenchFault> {
     for end in ends {
         end?;
@@ -85,7 +88,8 @@ fn first_fault(ends: Vec<Result<(), BenchFault>>) -> Result<(), BenchFault> {
     Ok(())
 }
 
-/// Sends messages for so long, and one at least, once all idle; what was sent, and how long it took.
+/// Sends messages for `seconds` seconds, but at least one, once all connections idle; returns the
+/// tally, and how long it took.
 fn send_all<R: Wait + Clock>(
     rt: &R,
     alloc: Global,
@@ -99,7 +103,7 @@ fn send_all<R: Wait + Clock>(
     Ok((tally, took))
 }
 
-/// The same, with what was sent in a tally; how long it took.
+/// Sends messages as `send_all` does, adds them to a tally, and returns how long it took.
 fn send_for<R: Wait + Clock>(
     rt: &R,
     seconds: u32,
@@ -121,7 +125,7 @@ fn send_for<R: Wait + Clock>(
     since(rt, begun)
 }
 
-/// Sends a message, and notes how long each took to hear of it.
+/// Sends a message, and notes how long each connection took to receive it.
 fn send_one<R: Wait + Clock>(
     rt: &R,
     plan: &WorkPlan<'_>,
@@ -137,7 +141,7 @@ fn send_one<R: Wait + Clock>(
     board.tell(rt, sent, tally)
 }
 
-/// Idles, and tells when it heard of each message behind so many, until the last.
+/// Idles, and notes when it receives each message after the first `messages`, until the last.
 fn listen<R: Wait + Clock>(
     rt: &R,
     board: &Board,
@@ -162,7 +166,7 @@ fn listen_to_all<R: Wait + Clock>(
     client.logout()
 }
 
-/// Hears of each message until the last, and ends the command with this number, by which it idles.
+/// Receives each message until the last, and ends the IDLE command with this number.
 fn hear_all<R: Wait + Clock>(
     rt: &R,
     board: &Board,
@@ -179,7 +183,8 @@ fn hear_all<R: Wait + Clock>(
     client.done(number)
 }
 
-/// What NOOPs of one connection come to alone, and then beside 400 connections that idle in the same mailbox.
+/// Measures the NOOPs of one connection by itself, and then beside 400 connections that idle in the
+/// same mailbox.
 pub fn beside_idle<R: Threads + Clock + Sync + Dial>(
     rt: &R,
     alloc: Global,

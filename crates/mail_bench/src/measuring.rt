@@ -11,7 +11,7 @@ use std::rt::Clock;
 use std::thread;
 use std::thread::Threads;
 
-/// The work of so many connections that have the mailbox selected.
+/// The work of `count` connections that have the mailbox selected.
 fn mailings<'a, R: Dial>(
     rt: &R,
     alloc: Global,
@@ -32,7 +32,8 @@ fn mailings<'a, R: Dial>(
     Ok(mailings)
 }
 
-/// Has so many connections work by a plan for as long as the settings say, and gives what they came to.
+/// Has `connections` connections work by a plan for as long as the settings say, and returns their
+/// report.
 pub fn measure<R: Threads + Clock + Sync + Dial>(
     rt: &R,
     alloc: Global,
@@ -53,7 +54,8 @@ pub fn measure<R: Threads + Clock + Sync + Dial>(
     )
 }
 
-/// Has so many come and go for so long, and gives what that came to.
+/// Has clients connect and log out over and over for as long as the settings say, and returns their
+/// report.
 pub fn measure_visits<'a, R: Threads + Clock + Sync + Dial>(
     rt: &'a R,
     alloc: Global,
@@ -79,7 +81,9 @@ pub fn measure_visits<'a, R: Threads + Clock + Sync + Dial>(
     )
 }
 
-/// Has each work for so many seconds in a thread of its own, by so many commands a turn, over so many messages, and gives what these connections came to.
+/// Has each piece of work repeated in a thread of its own, for `seconds` seconds and with
+/// `commands` commands a turn, over `messages` messages, and returns the report of these
+/// connections.
 fn side_by_side<R: Threads + Clock + Sync, W: Work + Send + Drop>(
     rt: &R,
     alloc: Global,
@@ -100,7 +104,7 @@ fn side_by_side<R: Threads + Clock + Sync, W: Work + Send + Drop>(
     Report::of(connections, messages, took, tally)
 }
 
-/// What all did together; the first fault where there is one.
+/// The sum of all tallies; `Err` with the first fault, if any.
 fn whole(alloc: Global, tallies: Vec<Result<Tally, BenchFault>>) -> Result<Tally, BenchFault> {
     let mut whole = Tally::new(alloc);
     for tally in tallies {

@@ -1,4 +1,5 @@
-//! What stands in front of each measurement: connections that are logged in, and a mailbox with messages enough.
+//! Preparation of a measurement: connections that are logged in, and a mailbox with enough
+//! messages.
 
 ghost use Rattle.std.specs.Prelude.{◌<◌, ◌≤◌, IfOk};
 
@@ -11,16 +12,16 @@ use std::rt::Clock;
 use std::thread;
 use std::time::Duration;
 
-/// A small message has so many octets.
+/// The octets of a small message.
 pub const SMALL: usize = 1_024;
 
-/// A large one has so many.
+/// The octets of a large message.
 pub const LARGE: usize = 65_536;
 
-/// So often a second server is asked whether it has what the first one has, ten times a second.
+/// The number of times that a second server is asked whether it has the messages of the first.
 const MAX_LOOKS: u32 = 600;
 
-/// So many milliseconds lie between two looks.
+/// The pause between two of these looks, in milliseconds.
 const PAUSE: u64 = 100;
 
 /// A connection to this address that is logged in.
@@ -35,7 +36,7 @@ pub fn connect_and_login<R: Dial>(
     Ok(client)
 }
 
-/// One that has the mailbox selected.
+/// A connection to the first server that has the mailbox selected.
 pub fn connect_and_select<R: Dial>(
     rt: &R,
     alloc: Global,
@@ -46,7 +47,8 @@ pub fn connect_and_select<R: Dial>(
     Ok(client)
 }
 
-/// Makes sure of the mailbox and of its messages, and gives how many it has: those that were asked for, or more.
+/// Creates the mailbox if it doesn't exist, appends the messages that it lacks, and returns the
+/// number that it has, which is at least the number asked for.
 pub fn prepare<R: Dial>(rt: &R, alloc: Global, settings: &Settings<'_>) -> Result<u32, BenchFault>
     ensures { IfOk result (λ messages. settings.now.messages ≤ messages) }
 {
@@ -59,7 +61,7 @@ pub fn prepare<R: Dial>(rt: &R, alloc: Global, settings: &Settings<'_>) -> Resul
     Ok(messages)
 }
 
-/// Appends to the mailbox what it lacks, and gives how many messages it has.
+/// Appends the messages that the mailbox lacks, and returns the number that it has.
 fn fill_mailbox(
     alloc: Global,
     settings: &Settings<'_>,
@@ -71,7 +73,7 @@ fn fill_mailbox(
     Ok(client.messages())
 }
 
-/// Appends a message as often as the mailbox lacks one.
+/// Appends one message for each that the mailbox lacks.
 fn append_all(
     alloc: Global,
     settings: &Settings<'_>,
@@ -84,7 +86,7 @@ fn append_all(
     Ok(())
 }
 
-/// Selects a mailbox, which is made where it isn't there.
+/// Selects a mailbox, which is created if it doesn't exist.
 fn open(client: &mut Client, name: &str) -> Result<(), BenchFault> {
     match client.select(name) {
         Err(BenchFault::No) => {}
@@ -97,7 +99,8 @@ fn open(client: &mut Client, name: &str) -> Result<(), BenchFault> {
     client.select(name)
 }
 
-/// A connection to this address that has the mailbox selected, once it has so many messages there.
+/// A connection to this address that has the mailbox selected, once the mailbox has `messages`
+/// messages there. `Missing` if it has fewer after 60 seconds.
 pub fn connect_and_select_when<R: Clock + Dial>(
     rt: &R,
     alloc: Global,

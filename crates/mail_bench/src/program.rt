@@ -1,4 +1,4 @@
-//! The program's way from its command line to its status.
+//! The program: what its command line asks for, and the status with which it ends.
 
 use crate::bench_output::{settings_or_status, tell_fault};
 use crate::client::Dial;
@@ -18,8 +18,9 @@ use std::sync::Wait;
 use std::thread::Threads;
 use std::{env, io};
 
-/// Reads the command line, measures what it asks for, prints a line for each measurement, and gives the program's status: 0 where all was measured or help was asked
-/// for, 1 where the run ended before its time, which is told on standard error, 2 where the words ask for nothing.
+/// Reads the command line, measures what it asks for, prints a line for each measurement, and
+/// returns the program's status: 0 if everything was measured or help was asked for; 1 if the run
+/// ended early, which is reported on standard error; 2 if the command line is wrong.
 pub fn run<R: Env + Print + Eprint + AllocGlobal + Threads + Wait + Clock + Sync + Dial>(
     rt: &R,
 ) -> u8 {
@@ -48,7 +49,7 @@ fn obey<R: Print + Eprint + AllocGlobal + Threads + Wait + Clock + Sync + Dial>(
     }
 }
 
-/// Makes sure of the mailbox, and measures.
+/// Prepares the mailbox, and measures.
 fn bench<R: Print + Threads + Wait + Clock + Sync + Dial>(
     rt: &R,
     alloc: Global,
@@ -65,7 +66,7 @@ fn bench<R: Print + Threads + Wait + Clock + Sync + Dial>(
     }
 }
 
-/// Measures what one line tells.
+/// Measures a workload that has one line of output.
 fn measure_one<R: Print + Threads + Wait + Clock + Sync + Dial>(
     rt: &R,
     alloc: Global,
@@ -81,7 +82,7 @@ fn measure_one<R: Print + Threads + Wait + Clock + Sync + Dial>(
     tell(rt, workload, idling, &measured?)
 }
 
-/// Measures NOOPs alone, and beside connections that idle.
+/// Measures NOOPs by themselves, and then beside idling connections.
 fn measure_beside<R: Print + Threads + Wait + Clock + Sync + Dial>(
     rt: &R,
     alloc: Global,
@@ -93,7 +94,7 @@ fn measure_beside<R: Print + Threads + Wait + Clock + Sync + Dial>(
     tell(rt, settings.workload, BYSTANDERS, &beside)
 }
 
-/// Prints the line of a measurement beside which so many connections idled.
+/// Prints the line of a measurement during which `idling` connections idled.
 fn tell<R: Print>(
     rt: &R,
     workload: Workload,

@@ -1,4 +1,5 @@
-//! The octets of a server, put together to answers. An answer is a line with literals in it (RFC 9051, sections 2.2.2 and 4.3); of a literal nothing is kept.
+//! Answers, put together from a server's octets. An answer is a line with literals in it (RFC 9051,
+//! sections 2.2.2 and 4.3); the octets of literals aren't stored.
 
 ghost use Rattle.std.specs.Prelude.{◌≡◌, ◌⊎◌, ◌≤◌, ◌<◌, ◌+◌, ◌++◌, [], IfErr, IfOk, None, OnOk, Some, drop, false, length, true};
 ghost use Rattle.mail_bench.specs.Replies.{at_literal, count_more, heard, in_line, is_ended, is_kept, kept, longest_line, next, refusal, refusal_at};
@@ -8,40 +9,40 @@ ghost use Rattle.mail_bench.specs.declared.replies.ReplyStage.TheVariants.{Line,
 use memchr::memchr2;
 use std::alloc::Global;
 
-/// An answer's line has at most so many octets, without its literals.
+/// The largest number of octets in an answer's line, without its literals.
 pub const MAX_LINE: usize = 4_194_304;
 
-/// A literal has at most so many octets.
+/// The largest number of octets in a literal.
 pub const MAX_LITERAL: u64 = 1_073_741_824;
 
-/// Where in an answer an octet stands.
+/// The part of an answer that the next octet belongs to.
 #[derive(Clone, Copy)]
 pub enum ReplyStage {
-    /// In a line.
+    /// A line.
     Line,
-    /// Behind `{`.
+    /// After `{`.
     Open,
-    /// Behind `{` and digits that spell this number.
+    /// After `{` and digits that spell this number.
     Count {
         /// The number.
         octets: u64,
     },
-    /// Behind the `}` that follows these.
+    /// After the `}` that follows the digits.
     Closed {
         /// The number.
         octets: u64,
     },
-    /// Behind the CR that follows it.
+    /// After the CR that follows the `}`.
     Announced {
         /// The number.
         octets: u64,
     },
-    /// In a literal of which so many octets are to come, one at least.
+    /// In a literal of which this number of octets, at least one, is still to come.
     Literal {
-        /// How many.
+        /// The number.
         left: u64,
     },
-    /// Behind the answer's end.
+    /// After the answer's end.
     Ended,
 }
 
@@ -52,16 +53,16 @@ pub enum ReplyFault {
     LongLine,
     /// It has a literal longer than `MAX_LITERAL`.
     LongLiteral,
-    /// There is no memory for its line.
+    /// Memory ran out for its line.
     NoMemory,
 }
 
-/// An answer as far as it was read.
+/// An answer, as far as it was read.
 #[derive(Drop)]
 pub struct Reading {
     /// Its line, without the octets of its literals.
     pub line: Vec<u8>,
-    /// Where the next octet stands.
+    /// The part that the next octet belongs to.
     pub stage: ReplyStage,
 }
 
@@ -78,7 +79,7 @@ impl Reading {
 }
 
 impl Reading {
-    /// Makes room for the next answer, of which nothing was read.
+    /// Clears the line for the next answer.
     pub fn begin(&mut self)
         ensures line { self.new.line.items ≡ [] }
         ensures stage { self.new.stage ≡ Line }
@@ -94,7 +95,8 @@ impl Reading {
         matches!(self.stage, ReplyStage::Ended)
     }
 
-    /// Reads on until the answer has ended or all octets were read, and gives how many were.
+    /// Reads until the answer has ended or all octets were read, and returns how many were read.
+    /// After an `Err` the answer can't be read further.
     #[tactic(auto, using(crate::proofs::ReplyLemmas::heard_ended, crate::proofs::ReplyLemmas::heard_whole))]
     pub fn read(&mut self, octets: &[u8]) -> Result<usize, ReplyFault>
         ensures within { IfOk result (λ count. count ≤ length octets.now) }
@@ -112,7 +114,8 @@ impl Reading {
         Ok(at)
     }
 
-    /// Reads one octet or more of an answer that hasn't ended, as far as they are of one kind, and gives how many.
+    /// Reads octets of one kind, at least one, of an answer that hasn't ended, and returns how many
+    /// were read.
     fn read_some(&mut self, octets: &[u8]) -> Result<usize, ReplyFault>
         requires some { 0 < length octets.now }
         requires goes_on { is_ended self.old.stage ≡ false }
@@ -127,7 +130,8 @@ impl Reading {
         }
     }
 
-    /// Reads octets of a line up to the first that may begin an announcement or that ends the answer, and that one, and gives how many these are.
+    /// Reads octets of a line up to and including the first that may begin an announcement or that
+    /// ends the answer, and returns how many were read.
     fn read_text(&mut self, octets: &[u8]) -> Result<usize, ReplyFault>
         requires some { 0 < length octets.now }
         requires text { self.old.stage ≡ Line }
@@ -147,7 +151,8 @@ impl Reading {
         }
     }
 
-    /// Puts octets behind the line, behind which the next one stands so. `LongLine` comes just where the line would be too long.
+    /// Adds octets to the line, and sets the stage after them. `LongLine` exactly if the line would
+    /// be too long.
     fn keep(&mut self, text: &[u8], behind: ReplyStage) -> Result<(), ReplyFault>
         ensures stage { OnOk result (self.new.stage ≡ behind) }
         ensures line { OnOk result (self.new.line.items ≡ self.old.line.items ++ text.now) }
@@ -164,7 +169,8 @@ impl Reading {
         Ok(())
     }
 
-    /// Passes what there is of the octets of a literal of which so many are to come, and gives how many these are.
+    /// Passes over the octets of a literal, of which `left` are still to come, and returns how many
+    /// were passed.
     fn pass(&mut self, left: u64, octets: &[u8]) -> usize
         requires some { 0 < length octets.now }
         requires literal { self.old.stage ≡ Literal left }
@@ -177,7 +183,7 @@ impl Reading {
         count as usize
     }
 
-    /// Reads the first of these octets, and gives that it was one.
+    /// Reads the first of these octets, and returns 1.
     #[tactic(auto, using(crate::proofs::ReplyLemmas::heard_next))]
     fn read_one(&mut self, octets: &[u8]) -> Result<usize, ReplyFault>
         requires some { 0 < length octets.now }
@@ -190,7 +196,8 @@ impl Reading {
         Ok(1)
     }
 
-    /// Reads one octet of an answer that hasn't ended. `LongLine` and `LongLiteral` come just where the answer is too long behind it.
+    /// Reads one octet of an answer that hasn't ended. `LongLine` and `LongLiteral` exactly if the
+    /// answer is too long with it.
     fn take(&mut self, octet: u8) -> Result<(), ReplyFault>
         ensures stage { OnOk result (self.new.stage ≡ next self.old.stage octet) }
         ensures line { OnOk result (self.new.line.items ≡ kept self.old.stage self.old.line.items octet) }
@@ -208,14 +215,14 @@ impl Reading {
     }
 }
 
-/// Whether the octet at this stage is one of the line.
+/// Whether the octet at this stage is part of the line.
 fn is_kept(stage: ReplyStage) -> bool
     ensures { result ≡ is_kept stage }
 {
     !matches!(stage, ReplyStage::Literal { .. } | ReplyStage::Ended)
 }
 
-/// Where the next octet stands behind this one.
+/// The stage after an octet.
 fn next(stage: ReplyStage, octet: u8) -> ReplyStage
     ensures { result ≡ next stage octet }
 {
@@ -235,7 +242,7 @@ fn next(stage: ReplyStage, octet: u8) -> ReplyStage
     }
 }
 
-/// Behind an octet that goes on with no announcement.
+/// The stage after an octet that continues no announcement.
 fn in_line(octet: u8) -> ReplyStage
     ensures { result ≡ in_line octet }
 {
@@ -246,7 +253,7 @@ fn in_line(octet: u8) -> ReplyStage
     }
 }
 
-/// A count with one digit more.
+/// The count with one further digit.
 fn count_more(octets: u64, digit: u8) -> u64
     ensures { result ≡ count_more octets digit }
 {
@@ -256,7 +263,7 @@ fn count_more(octets: u64, digit: u8) -> u64
         .min(MAX_LITERAL + 1)
 }
 
-/// Behind the announcement of a literal of so many octets, or within it, with so many to come.
+/// The stage in or after a literal of which this number of octets is still to come.
 fn at_literal(octets: u64) -> ReplyStage
     ensures { result ≡ at_literal octets }
 {
@@ -266,7 +273,7 @@ fn at_literal(octets: u64) -> ReplyStage
     }
 }
 
-/// Why an answer at this stage, with a line of this length, isn't read on.
+/// Why an answer can't be read further at this stage, with a line of this length.
 fn refusal(stage: ReplyStage, length: usize) -> Option<ReplyFault>
     ensures { result ≡ refusal stage length }
 {

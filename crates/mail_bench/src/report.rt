@@ -1,4 +1,4 @@
-//! What a run came to.
+//! The results of a run.
 
 ghost use Rattle.std.specs.Prelude.{◌≡◌};
 ghost use Rattle.mail_bench.specs.Times.{rate};
@@ -11,14 +11,15 @@ use std::time::Duration;
 /// What one connection did.
 #[derive(Drop)]
 pub struct Tally {
-    /// The commands that were answered.
+    /// The number of commands that were answered.
     pub commands: u64,
-    /// The times that they took, in microseconds; of commands that were sent together one for all.
+    /// The times that the commands took, in microseconds; commands that were sent together have one
+    /// time.
     pub times: Vec<u64>,
 }
 
 impl Tally {
-    /// Nothing.
+    /// An empty tally.
     pub fn new(alloc: Global) -> Tally {
         Tally {
             commands: 0,
@@ -26,7 +27,7 @@ impl Tally {
         }
     }
 
-    /// Notes so many commands that took this time together.
+    /// Adds a number of commands that took this time together.
     pub fn note(&mut self, commands: u64, took: Duration) -> Result<(), BenchFault> {
         self.commands = self.commands.saturating_add(commands);
         self.times.push(micros(took))?;
@@ -41,28 +42,28 @@ impl Tally {
     }
 }
 
-/// A time in microseconds, the greatest number of 64 bits where it is longer.
+/// A time in microseconds, at most the greatest number of 64 bits.
 pub fn micros(time: Duration) -> u64 {
     u64::try_from(time.as_micros()).unwrap_or(u64::MAX)
 }
 
-/// What a run came to, as one line of the output.
+/// The result of a run, which is one line of the output.
 #[derive(Clone, Copy)]
 pub struct Report {
-    /// The connections that worked.
+    /// The number of connections that worked.
     pub connections: u32,
-    /// The messages that the mailbox had when it began.
+    /// The number of messages that the mailbox had at the beginning.
     pub messages: u32,
-    /// The commands that were answered.
+    /// The number of commands that were answered.
     pub commands: u64,
-    /// How long it took, in microseconds.
+    /// The duration of the run, in microseconds.
     pub micros: u64,
-    /// What the times come to, in microseconds; `None` where there are none.
+    /// The summary of the times, in microseconds; `None` if there are none.
     pub summary: Option<Summary>,
 }
 
 impl Report {
-    /// What so many connections over so many messages came to.
+    /// The report of `connections` connections over `messages` messages.
     pub fn of(
         connections: u32,
         messages: u32,
@@ -82,7 +83,7 @@ impl Report {
         })
     }
 
-    /// The commands a second; 0 where no microsecond passed.
+    /// The number of commands per second; 0 if no microsecond passed.
     pub fn rate(&self) -> u64
         ensures { result ≡ rate self.now.commands self.now.micros }
     {

@@ -13,58 +13,59 @@ use clap::{Arg, ArgAction, ArgMatches, Command, Error};
 use std::alloc::{AllocError, Global};
 use std::convert::AsStr;
 
-/// At most so many messages are made sure of.
+/// The largest number of messages that can be asked for.
 pub const MAX_MESSAGES: u32 = 1_000_000;
 
-/// At most so many connections work side by side.
+/// The largest number of connections that work side by side.
 pub const MAX_CONNECTIONS: u32 = 1_000;
 
-/// At most so many seconds a workload takes.
+/// The longest time for a workload, in seconds.
 pub const MAX_SECONDS: u32 = 3_600;
 
 /// What the command line asks for.
 #[derive(Clone, Copy)]
 pub struct Settings<'a> {
-    /// The address of the server, as it was given.
+    /// The address of the server, as it was passed.
     pub address: &'a str,
-    /// That of a second one, at which connections idle in `idle-fan-out`.
+    /// The address of a second server, at which connections idle in `idle-fan-out`.
     pub second: Option<&'a str>,
-    /// The user, of printable ASCII.
+    /// The user, in printable ASCII.
     pub user: &'a str,
-    /// The password, of printable ASCII.
+    /// The password, in printable ASCII.
     pub pass: &'a str,
-    /// The mailbox in which all is done, of printable ASCII.
+    /// The mailbox in which everything is done, in printable ASCII.
     pub mailbox: &'a str,
     /// What is measured.
     pub workload: Workload,
-    /// So many messages the mailbox has at least, from 1 to `MAX_MESSAGES`.
+    /// The least number of messages that the mailbox must have, from 1 to `MAX_MESSAGES`.
     pub messages: u32,
-    /// So many connections work side by side, from 1 to `MAX_CONNECTIONS`.
+    /// The number of connections that work side by side, from 1 to `MAX_CONNECTIONS`.
     pub connections: u32,
-    /// So many seconds, from 1 to `MAX_SECONDS`.
+    /// The duration in seconds, from 1 to `MAX_SECONDS`.
     pub seconds: u32,
 }
 
-/// Why the command line asks for nothing.
+/// Why the command line asks for no measurement.
 #[derive(Drop)]
 pub enum SettingsFault<'a> {
-    /// Its words are wrong, or ask for help, or there was no memory for them.
+    /// Its words are wrong, or ask for help, or memory ran out for them.
     Words(Error),
-    /// What is given for one of them can't be used.
+    /// The value of a word can't be used.
     Usage(UsageFault<'a>),
 }
 
-/// What can't be used of what is given for a word.
+/// A value that can't be used.
 #[derive(Clone, Copy)]
 pub enum UsageFault<'a> {
     /// This word is no workload.
     BadWorkload(&'a str),
-    /// What is given for this word has an octet that is no printable ASCII.
+    /// The value of this word has an octet that is no printable ASCII.
     BadText(&'static str),
 }
 
-/// Reads the words of a command line, the program's name first. What it says of the server, the mailbox and the workload is what clap finds in the words; where there is
-/// no mailbox among them it is `bench`, and where one of the numbers is not there it is 1,000 messages, 4 connections and 2 seconds.
+/// Reads the words of a command line, which begin with the program's name. The server, the mailbox
+/// and the workload are what clap's matches hold; the mailbox defaults to `bench`, and the numbers
+/// to 1,000 messages, 4 connections and 2 seconds.
 pub fn read_settings<'a>(
     alloc: Global,
     words: &'a [String],
@@ -81,7 +82,7 @@ pub fn read_settings<'a>(
     }
 }
 
-/// What was found, where its texts are plain.
+/// The settings that the matches hold, if their texts are plain.
 fn plain_settings_in<'a>(matches: &ArgMatches<'a>) -> Result<Settings<'a>, UsageFault<'a>>
     ensures asked { IfOk result (λ settings. Asks (rows_of (found_of matches.now)) settings) }
     ensures plain { IfOk result (λ settings. IsPlainText settings.user.now × IsPlainText settings.pass.now × IsPlainText settings.mailbox.now) }
@@ -93,7 +94,7 @@ fn plain_settings_in<'a>(matches: &ArgMatches<'a>) -> Result<Settings<'a>, Usage
     }
 }
 
-/// The first word whose text isn't plain, where there is one.
+/// The first word whose text isn't plain, if any.
 fn bad_text(user: &str, pass: &str, mailbox: &str) -> Option<&'static str>
     ensures { IfNone result (IsPlainText user.now × IsPlainText pass.now × IsPlainText mailbox.now) }
 {
@@ -109,7 +110,8 @@ fn bad_text(user: &str, pass: &str, mailbox: &str) -> Option<&'static str>
     None
 }
 
-/// Whether all octets are of printable ASCII, so that a quoted string may hold them (RFC 9051, section 9).
+/// Whether all octets are of printable ASCII, so that a quoted string may hold them (RFC 9051,
+/// section 9).
 fn is_plain(text: &str) -> bool
     ensures { result ≡ true → IsPlainText text.now }
 {
@@ -117,7 +119,7 @@ fn is_plain(text: &str) -> bool
         .all(|octet| octet.is_ascii_graphic() || octet == b' ')
 }
 
-/// What was found.
+/// The settings that the matches hold.
 fn settings_in<'a>(matches: &ArgMatches<'a>) -> Result<Settings<'a>, UsageFault<'a>>
     ensures { IfOk result (λ settings. Asks (rows_of (found_of matches.now)) settings) }
 {
@@ -138,7 +140,7 @@ fn settings_in<'a>(matches: &ArgMatches<'a>) -> Result<Settings<'a>, UsageFault<
     })
 }
 
-/// The text that was found under this word, or the usual one.
+/// The text that the matches hold under this word, or the default.
 fn text_in<'a>(matches: &ArgMatches<'a>, word: &str, usual: &'a str) -> &'a str
     ensures { result.now ≡ text_in (rows_of (found_of matches.now)) word.now usual.entry.now }
 {
@@ -148,14 +150,14 @@ fn text_in<'a>(matches: &ArgMatches<'a>, word: &str, usual: &'a str) -> &'a str
     }
 }
 
-/// The text that was found under this word, if one was.
+/// The text that the matches hold under this word, if any.
 fn option_in<'a>(matches: &ArgMatches<'a>, word: &str) -> Option<&'a str>
     ensures { option_map (λ s. s.now) result ≡ first_of word.now (rows_of (found_of matches.now)) }
 {
     matches.get_str(word)
 }
 
-/// The number from 1 on that was found under this word, or the usual one.
+/// The number from 1 that the matches hold under this word, or the default.
 fn amount_in(matches: &ArgMatches<'_>, word: &str, usual: u32, most: u32) -> u32
     requires { (0 < usual) × (usual ≤ most) }
     ensures { IsAmount (rows_of (found_of matches.now)) word.now usual most result }
@@ -166,7 +168,7 @@ fn amount_in(matches: &ArgMatches<'_>, word: &str, usual: u32, most: u32) -> u32
     }
 }
 
-/// What is found in the words by those that the program knows.
+/// The matches of a command line with the words that the program knows.
 fn find_words<'a>(alloc: Global, words: &'a [String]) -> Result<ArgMatches<'a>, Error>
     ensures { IfOk result (λ matches. rows_of (found_of matches) ≡ matches_of bench_words (map ⟦<String as AsStr>⟧.text words.entry.now)) }
 {
@@ -187,7 +189,8 @@ fetch-flags fetches the flags of all messages, fetch-body the text of one, and s
 mixed goes round through one message's flags, one body, a store, a NOOP, a search for the unseen and an APPEND of 1 KiB. login connects, logs in, logs out and closes. \
 idle-fan-out has 32 connections idle and takes the time from an APPEND's last octet until each was told of it. noop-beside-idle measures NOOPs of one connection alone, and then beside 400 that idle.";
 
-/// The words that say which server is measured, and by what; then those that say how much is done, and where.
+/// The words that name the server and the workload, and then those that say how much is done, and
+/// where.
 fn known_words<'a>(alloc: Global) -> Result<Vec<Arg<'a>>, AllocError>
     ensures { IfOk result (λ words. Add words.items (λ app. with_amounts (with_server app))) }
 {
@@ -238,14 +241,14 @@ fn word_with_value<'a>(alloc: Global, name: &'a str, help: &'a str) -> Arg<'a>
         .help(help)
 }
 
-/// One that has to be there.
+/// A required word.
 fn required_word<'a>(alloc: Global, name: &'a str, help: &'a str) -> Arg<'a>
     ensures { IsWord result (required_word name.entry.now) }
 {
     word_with_value(alloc, name, help).required(true)
 }
 
-/// One whose value is a number from 1 on.
+/// A word whose value is a number from 1.
 fn number_word<'a>(alloc: Global, name: &'a str, help: &'a str, most: u64) -> Arg<'a>
     requires { 1 ≤ most }
     ensures { IsWord result (counted_word name.entry.now most) }
@@ -253,7 +256,7 @@ fn number_word<'a>(alloc: Global, name: &'a str, help: &'a str, most: u64) -> Ar
     word_with_value(alloc, name, help).value_parser(ValueParser::unsigned(1, most))
 }
 
-/// Whether the words ran out of memory.
+/// Whether memory ran out for the words.
 pub fn is_without_memory(error: &Error) -> bool {
     error.kind() == ErrorKind::OutOfMemory
 }

@@ -7,26 +7,26 @@ ghost use Rattle.mail_bench.specs.Times.{summary_of, time_at};
 
 use std::alloc::AllocError;
 
-/// At most so many times are summed up.
+/// The largest number of times that are summarized.
 pub const MAX_TIMES: usize = 1_000_000_000;
 
-/// What times come to, by the nearest rank; the unit is theirs.
+/// Ranks of times, by the nearest rank; the unit is that of the times.
 #[derive(Clone, Copy)]
 pub struct Summary {
-    /// The least.
+    /// The least time.
     pub least: u64,
-    /// The one that half of all don't pass.
+    /// The time that half of all don't exceed.
     pub median: u64,
-    /// The one that 90 of a hundred don't pass.
+    /// The time that 90 of a hundred don't exceed.
     pub ninetieth: u64,
-    /// The one that 99 of a hundred don't pass.
+    /// The time that 99 of a hundred don't exceed.
     pub ninety_ninth: u64,
-    /// The greatest.
+    /// The greatest time.
     pub greatest: u64,
 }
 
-/// Puts the times into ascending order, and gives what they come to; `None` where there are none. `Err` where there is no memory for it; the times are then as
-/// before.
+/// Sorts the times in ascending order, and returns their summary; `None` if there are none. `Err`
+/// if memory runs out, and then the times are unchanged.
 pub fn summarize(times: &mut Vec<u64>) -> Result<Option<Summary>, AllocError>
     requires { vec_len times.old ≤ 1_000_000_000 }
     ensures sorted { IfOk result (λ summary. IsSorted nat_cmp times.new.items) }
@@ -38,7 +38,7 @@ pub fn summarize(times: &mut Vec<u64>) -> Result<Option<Summary>, AllocError>
     Ok(summary_of(times))
 }
 
-/// What times in ascending order come to; `None` where there are none.
+/// The summary of times in ascending order; `None` if there are none.
 pub fn summary_of(times: &[u64]) -> Option<Summary>
     requires { length times.now ≤ 1_000_000_000 }
     ensures { result ≡ summary_of times.now }
@@ -55,7 +55,7 @@ pub fn summary_of(times: &[u64]) -> Option<Summary>
     })
 }
 
-/// The time at the rank of so many of a hundred, of times in ascending order.
+/// The time at the nearest rank of `percent` of a hundred, of times in ascending order.
 fn time_at(times: &[u64], percent: usize) -> u64
     requires some { 0 < length times.now }
     requires bound { length times.now ≤ 1_000_000_000 }

@@ -1,4 +1,4 @@
-//! What a connection does again and again, and how long each time takes.
+//! The work that a connection repeats, and its timing.
 
 ghost use Rattle.std.specs.Prelude.{◌+◌, ◌%◌, ◌≡◌, ◌≤◌, ◌<◌};
 
@@ -13,17 +13,17 @@ use std::alloc::Global;
 use std::rt::Clock;
 use std::time::{Duration, Instant};
 
-/// So many NOOPs are sent in one write.
+/// The number of NOOPs that are sent in one write.
 const PIPELINED: u64 = 64;
 
 /// What the connections of a run have in common.
 #[derive(Drop)]
 pub struct WorkPlan<'a> {
-    /// What they do.
+    /// The workload.
     pub workload: Workload,
-    /// In which mailbox.
+    /// The mailbox.
     pub mailbox: &'a str,
-    /// The messages that it has, one at least.
+    /// The number of messages that the mailbox has, at least 1.
     pub messages: u32,
     /// The message that is appended.
     pub message: Vec<u8>,
@@ -31,7 +31,7 @@ pub struct WorkPlan<'a> {
 }
 
 impl<'a> WorkPlan<'a> {
-    /// What the connections do by this workload, in a mailbox with so many messages.
+    /// The plan of a workload in a mailbox with `messages` messages.
     pub fn new(
         alloc: Global,
         workload: Workload,
@@ -54,12 +54,12 @@ impl<'a> WorkPlan<'a> {
     }
 }
 
-/// What is done again and again.
+/// Work that is repeated.
 pub trait Work {
-    /// Does it once more, for the time with this number.
+    /// Does the work once more; turns are numbered from 0.
     fn turn(&mut self, number: u64) -> Result<(), BenchFault>;
 
-    /// Ends it.
+    /// Ends the work.
     fn end(&mut self) -> Result<(), BenchFault>;
 }
 
@@ -71,7 +71,7 @@ pub fn now<R: Clock>(rt: &R) -> Result<Instant, BenchFault> {
     }
 }
 
-/// How long it is since this moment.
+/// The time that has passed since a moment.
 pub fn since<R: Clock>(rt: &R, begun: Instant) -> Result<Duration, BenchFault> {
     match Instant::now(rt) {
         Ok(now) => Ok(now.duration_since(begun)),
@@ -79,7 +79,8 @@ pub fn since<R: Clock>(rt: &R, begun: Instant) -> Result<Duration, BenchFault> {
     }
 }
 
-/// Works for so many seconds, and once at least, each time by so many commands, ends the work, and gives what was done.
+/// Repeats work for a number of seconds, but at least once, ends it, and returns the tally. Each
+/// turn counts as `commands` commands.
 pub fn work_for<R: Clock, W: Work + Drop>(
     rt: &R,
     alloc: Global,
@@ -92,7 +93,7 @@ pub fn work_for<R: Clock, W: Work + Drop>(
     Ok(tally)
 }
 
-/// The same, with what is done in a tally.
+/// Repeats work as `work_for` does, and adds each turn to a tally.
 fn drive<R: Clock, W: Work>(
     rt: &R,
     seconds: u32,
@@ -114,14 +115,14 @@ fn drive<R: Clock, W: Work>(
     work.end()
 }
 
-/// The work of a connection that is kept, with the mailbox selected.
+/// The work of a connection that stays open, with the mailbox selected.
 #[derive(Drop)]
 pub struct Mailing<'a> {
     /// The connection.
     pub client: Client,
-    /// What is done.
+    /// The plan of the run.
     pub plan: &'a WorkPlan<'a>,
-    /// The place among all messages at which it begins.
+    /// The place among all messages at which the connection begins.
     pub first: u32,
 }
 
@@ -139,7 +140,7 @@ impl Work for Mailing<'_> {
     }
 }
 
-/// So many commands are one turn of this workload.
+/// The number of commands in one turn of a workload.
 pub fn commands_of(workload: Workload) -> u64 {
     match workload {
         Workload::NoopPipelined => PIPELINED,
@@ -177,7 +178,7 @@ impl Mailing<'_> {
         }
     }
 
-    /// Asks something of a message, for the time with this number.
+    /// Runs a command on the message of the turn with this number.
     fn ask(&mut self, ask: MessageAsk, number: u64) -> Result<(), BenchFault> {
         let number = message_at(self.first, number, self.plan.messages);
         self.client.run(Command::Message { ask, number })
@@ -193,7 +194,8 @@ fn store_ask(number: u64) -> MessageAsk {
     }
 }
 
-/// The number of the message for this time, of so many: all come round, from a place on.
+/// The number of the message for a turn, from 1 to `messages`: turns go round all messages,
+/// beginning at a place.
 fn message_at(first: u32, number: u64, messages: u32) -> u32
     requires { 0 < messages }
     ensures { (0 < result) × (result ≤ messages) }
@@ -203,14 +205,14 @@ fn message_at(first: u32, number: u64, messages: u32) -> u32
     (place + 1) as u32
 }
 
-/// The work of whoever comes and goes.
+/// The work of a client that connects, logs in and logs out in each turn.
 #[derive(Drop)]
 pub struct Visiting<'a, R: Dial> {
     /// The network.
     pub rt: &'a R,
     /// The memory.
     pub alloc: Global,
-    /// Who comes, and where.
+    /// The login and the server's address.
     pub settings: &'a Settings<'a>,
 }
 

@@ -1,4 +1,4 @@
-//! What is measured.
+//! The workloads that can be measured.
 
 ghost use Rattle.std.specs.Prelude.{◌≡◌, IfNone, IfSome};
 ghost use Rattle.mail_bench.specs.Workloads.{NamesNone, word_of};
@@ -20,24 +20,25 @@ pub enum Workload {
     FetchFlags,
     /// FETCH of one message's body, one after another.
     FetchBody,
-    /// STORE of `\Flagged` at one message, then its removal, one message after another.
+    /// STORE of `\Flagged` on one message, then its removal, one message after another.
     Store,
     /// SEARCH UNSEEN.
     SearchUnseen,
-    /// SEARCH for a subject that no message has that the program appended.
+    /// SEARCH for a subject that no message of the program has.
     SearchSubject,
-    /// One message's flags, one body, one STORE, NOOP, SEARCH UNSEEN and APPEND of 1 KiB, in this order.
+    /// FETCH of one message's flags and one body, a STORE, NOOP, SEARCH UNSEEN and APPEND of 1 KiB,
+    /// in this order.
     Mixed,
     /// A connection, its greeting, LOGIN and LOGOUT.
     Login,
-    /// APPEND, until each of many connections that idle was told of it.
+    /// APPEND, timed until each of many idling connections received the news.
     IdleFanOut,
-    /// NOOP alone, then beside many connections that idle.
+    /// NOOP by itself, then beside many idling connections.
     NoopBesideIdle,
 }
 
 impl Workload {
-    /// All, in the order in which the help names them.
+    /// All workloads, in the order in which the help lists them.
     pub const ALL: [Workload; 13] = [
         Workload::Noop,
         Workload::NoopPipelined,
@@ -54,7 +55,7 @@ impl Workload {
         Workload::NoopBesideIdle,
     ];
 
-    /// Its word on the command line.
+    /// The workload's word on the command line.
     pub fn word(self) -> &'static str
         ensures { result.now ≡ word_of self }
     {
@@ -75,7 +76,7 @@ impl Workload {
         }
     }
 
-    /// The workload with this word; `None` just where there is none.
+    /// The workload with this word; `None` exactly if there is none.
     pub fn from_word(word: &str) -> Option<Workload>
         ensures some { IfSome result (λ workload. word_of workload ≡ word.now) }
         ensures none { IfNone result (NamesNone word.now) }

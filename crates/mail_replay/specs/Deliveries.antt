@@ -56,7 +56,7 @@ broken_rule_of Count = rules.OldIdCount
 
 -- ---- deliveries
 
--- A node's answer to an operation that is handed to it, and its state after that.
+-- A node's answer to an operation that is delivered to it, and its state after that.
 abbrev pub Answers : NodeState → Op → Result Answer DeliverFault → NodeState → Type 0
 Answers old op (Ok answer) new = Delivers old op answer.arrival new × (IsTrue answer.stalled ↔ HoldsRipe new)
 Answers old op (Err why) new = IsRefusedAt old op why × (new ≡ old)
@@ -69,7 +69,7 @@ StandsAt scene name at replica = (replica_place scene.replicas name ≡ Some at)
 abbrev pub with_node : ScriptContents → ℕ → ScriptReplica → NodeWithRoom → ScriptContents
 with_node scene at replica node = record scene { replicas = slice_set scene.replicas at (record replica { node = node }) }
 
--- An operation is handed to a replica, with this result.
+-- An operation is delivered to a replica, with this result.
 abbrev pub DeliversOp : ScriptContents → ℕ → Op → DeliveryResult → ScriptContents → Type 0
 DeliversOp old name op told new =
     (at : ℕ) × (replica : ScriptReplica) × (node : NodeWithRoom) × (answer : Result Answer DeliverFault)
@@ -84,7 +84,7 @@ abbrev pub outcome_line_of : Source → OpId → ℕ → DeliveryResult → Outc
 outcome_line_of sources.Issued id name told = Delivered id name told
 outcome_line_of sources.Forged id name told = Forged id name told
 
--- An operation is handed to a replica, and the result is printed.
+-- An operation is delivered to a replica, and the result is printed.
 abbrev pub DeliversAndPrints : ScriptContents → Source → ℕ → Op → List ℕ → ScriptContents → Type 0
 DeliversAndPrints old source name op more new = (told : DeliveryResult) × DeliversOp old name op told new × (more ≡ outcome_line (outcome_line_of source op.id name told))
 
@@ -92,7 +92,7 @@ DeliversAndPrints old source name op more new = (told : DeliveryResult) × Deliv
 abbrev pub DeliversTo : ScriptContents → OpId → ℕ → List ℕ → ScriptContents → Type 0
 DeliversTo old id name more new = (op : Op) × Issued old id op × DeliversAndPrints old sources.Issued name op more new
 
--- A forged operation is handed to a replica if it is sound; otherwise the rule that it breaks is
+-- A forged operation is delivered to a replica if it is sound; otherwise the rule that it breaks is
 -- reported.
 abbrev pub Forges : ScriptContents → ℕ → Op → List ℕ → ScriptContents → Type 0
 Forges old name op more new =

@@ -24,7 +24,7 @@ IsNew first replica =
     (replica.name ≡ first.replica)
     × (replica.node.state ≡ record { start = first; applied = []; held = []; sessions = [] }) × (replica.issued ≡ [])
 
--- The place of the first replica with this name, if the first of the list has place `at`.
+-- The place of the first replica with this name, if the first of the list has the given place.
 abbrev pub replica_from : ℕ → List ScriptReplica → ℕ → Option ℕ
 replica_from place [] name = None
 replica_from place (replica ∷ replicas) name = if replica.name == name then Some place else replica_from (place + 1) replicas name
@@ -33,7 +33,7 @@ replica_from place (replica ∷ replicas) name = if replica.name == name then So
 abbrev pub replica_place : List ScriptReplica → ℕ → Option ℕ
 replica_place replicas name = replica_from 0 replicas name
 
--- The place of the first session with this name, if the first of the list has place `at`.
+-- The place of the first session with this name, if the first of the list has the given place.
 abbrev pub session_from : ℕ → List ScriptSession → List ℕ → Option ℕ
 session_from place [] name = None
 session_from place (session ∷ sessions) name = if bytes_eq session.name name then Some place else session_from (place + 1) sessions name

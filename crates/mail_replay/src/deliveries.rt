@@ -1,4 +1,5 @@
-//! The service of the lines `deliver`, `forge` and `drain`, which hand operations to replicas.
+//! The service of the lines `deliver`, `forge` and `drain`, which deliver operations to
+//! replicas.
 
 ghost use Rattle.std.specs.Prelude.{◌≡◌, ◌⊎◌, ◌++◌, ℕ, List, Err, IfOk, IsNone, OnErr, OnOk};
 ghost use Rattle.crdt_ops.specs.Form.{IsSpelled};
@@ -16,7 +17,7 @@ use merge_laws::Caused;
 use std::alloc::Global;
 use tags_clocks::{OpId, ReplicaId};
 
-/// The source of an operation that is handed to a replica.
+/// The source of an operation that is delivered to a replica.
 #[derive(Clone, Copy, Debug, PartialEq, Eq)]
 enum Source {
     /// The replica that the operation's id names issued it.
@@ -115,7 +116,7 @@ fn spelled_op(alloc: Global, text: &[u8]) -> Result<Op, ServeFault>
     }
 }
 
-/// Hands a forged operation to a replica if it is sound, and prints the result, or why it isn't
+/// Delivers a forged operation to a replica if it is sound, and prints the result, or why it isn't
 /// sound.
 fn forge_if_sound(
     alloc: Global,
@@ -139,7 +140,7 @@ fn forge_if_sound(
     }
 }
 
-/// Hands an operation to a replica, and prints the result.
+/// Delivers an operation to a replica, and prints the result.
 fn deliver_and_print(
     alloc: Global,
     stage: &mut ScriptState,
@@ -182,7 +183,7 @@ fn outcome_line_of(
     }
 }
 
-/// Hands an operation to a replica, and returns the result.
+/// Delivers an operation to a replica, and returns the result.
 fn deliver_to(
     alloc: Global,
     stage: &mut ScriptState,

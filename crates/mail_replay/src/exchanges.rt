@@ -79,8 +79,8 @@ fn exchange_all(alloc: Global, replicas: &mut [ScriptReplica]) -> Result<SettleR
     Ok(exchange_with(alloc, replicas, &mut nodes))
 }
 
-/// Has replicas exchange the operations that they received, while the given nodes stand in for
-/// theirs.
+/// Has replicas exchange the operations that they received, while the given nodes take the
+/// place of theirs.
 fn exchange_with(alloc: Global, replicas: &mut [ScriptReplica], nodes: &mut [Node]) -> SettleResult
     requires { length nodes.old ≡ length replicas.old }
     ensures { Exchanges replicas.old result replicas.new }
@@ -91,7 +91,7 @@ fn exchange_with(alloc: Global, replicas: &mut [ScriptReplica], nodes: &mut [Nod
     settle_line(answer)
 }
 
-/// A blank node for each replica, to stand in for the replica's own during an exchange; `Err` if
+/// A blank node for each replica, which takes the place of its own during an exchange; `Err` if
 /// memory runs out.
 fn blank_nodes(alloc: Global, replicas: &[ScriptReplica]) -> Result<Vec<Node>, AllocError>
     ensures { IfOk result (λ nodes. length nodes.items ≡ length replicas.now) }

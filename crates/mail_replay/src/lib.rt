@@ -33,8 +33,8 @@
 //! - Output is written after each line and flushed after each piece of input.
 //!
 //! - A script stores each node beside its replica's name, and `settle` takes a slice of nodes:
-//!   blank nodes stand in while the real ones are passed to it. If memory runs out for the blank
-//!   ones, the replay ends with `no memory` and nothing changes; if it runs out within the
+//!   blank nodes take their place while the real ones are passed to it. If memory runs out for the
+//!   blank ones, the replay ends with `no memory` and nothing changes; if it runs out within the
 //!   exchange, `settle: NoMemory` is printed.
 #![tactic(auto)]
 

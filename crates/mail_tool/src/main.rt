@@ -1,7 +1,7 @@
 //! The program `mail_tool`, which runs replay scripts and audits their output.
 //!
 //! `mail_tool replay FILE` runs a script: replicas, sessions, and what clients send in them, line
-//! by line, and prints transcripts, outcomes and dumps. `mail_tool audit FILE` tells whether such
+//! by line, and prints transcripts, outcomes and dumps. `mail_tool audit FILE` says whether such
 //! output can be right. Without FILE, both read the standard input.
 //!
 //! The program makes a single call, of `mail_replay::run`, which also gives its status: 0 if a
