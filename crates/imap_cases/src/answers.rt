@@ -1,4 +1,4 @@
-//! Answers as text.
+//! Writes answers as text.
 
 use crate::numbers::put_numbers;
 use crate::parts::{put_flags, put_section};

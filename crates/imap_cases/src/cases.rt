@@ -1,32 +1,35 @@
-//! The lines of cases.
+//! Reads the lines of cases, and prints each with its answer.
 
 use crate::queries::{Stage, is_setting, put_query, put_view};
 use crate::texts::answer_to;
 use case_lines::{Words, parted};
 use std::alloc::{AllocError, Global};
 
-/// What cases are of.
+/// The kind of cases that a text has.
 #[derive(Clone, Copy)]
 enum Subject {
     /// IMAP texts.
     Texts,
-    /// Queries: some lines set what is asked of.
+    /// Queries: some lines set the mailbox and the text that later lines ask about.
     Queries,
     /// Views.
     Views,
 }
 
-/// Plays cases of texts, and tells each with what the code answers now. An error says that there is no memory.
+/// Plays cases of IMAP texts and returns them with the answers that the code gives now. `Err` if
+/// memory runs out.
 pub fn play(alloc: Global, text: &str) -> Result<Vec<u8>, AllocError> {
     played(alloc, Subject::Texts, text)
 }
 
-/// Plays cases of queries, and tells each with what the code answers now. An error says that there is no memory.
+/// Plays cases of queries and returns them with the answers that the code gives now. `Err` if
+/// memory runs out.
 pub fn play_queries(alloc: Global, text: &str) -> Result<Vec<u8>, AllocError> {
     played(alloc, Subject::Queries, text)
 }
 
-/// Plays cases of views, and tells each with what the code answers now. An error says that there is no memory.
+/// Plays cases of views and returns them with the answers that the code gives now. `Err` if memory
+/// runs out.
 pub fn play_views(alloc: Global, text: &str) -> Result<Vec<u8>, AllocError> {
     played(alloc, Subject::Views, text)
 }
@@ -41,8 +44,9 @@ fn played(alloc: Global, subject: Subject, text: &str) -> Result<Vec<u8>, AllocE
     page.finish()
 }
 
-/// The line with its LF. In a case, `KIND INPUT => ANSWER`, the answer is what the code answers now; comments, which begin with
-/// `#`, empty lines, and lines that set what is asked of are as they were.
+/// Puts the line with its LF. In a case, `KIND INPUT => ANSWER`, the answer is replaced by what the
+/// code answers now. Comments, which begin with `#`, empty lines and lines that set what is asked
+/// about are put unchanged.
 fn put_line(alloc: Global, page: &mut Words, stage: &mut Stage, subject: Subject, line: &str) {
     if line.is_empty() || line.starts_with('#') {
         page.put(line);

@@ -1,4 +1,4 @@
-//! Commands as text.
+//! Writes commands as text.
 
 use crate::keys::put_steps;
 use crate::parts::{put_flags, put_section, put_texts};
@@ -7,7 +7,7 @@ use imap_grammar::{Command, FetchItem, StoreAction, Tagged, Transfer};
 use imap_types::{DateTime, SequenceBound, SequenceSet};
 use std::fmt::Debug;
 
-/// The tag and the command.
+/// Puts the tag and the command.
 pub fn put_tagged(words: &mut Words, tagged: &Tagged) {
     words.put_octets(tagged.tag.as_bytes());
     words.put(" ");
@@ -86,7 +86,7 @@ fn put_of_messages(words: &mut Words, command: &Command) {
     }
 }
 
-/// COPY or MOVE.
+/// Puts a COPY or MOVE.
 fn put_transfer(words: &mut Words, word: &str, transfer: &Transfer) {
     put_messages(words, transfer.by_uid, word, &transfer.messages);
     words.put_text(" ", transfer.name.as_bytes());
@@ -115,7 +115,7 @@ fn put_of_more(words: &mut Words, command: &Command) {
     }
 }
 
-/// Each by its name in lower case, behind a space.
+/// Puts each value by its name in lower case, after a space.
 fn put_each<T: Debug>(words: &mut Words, values: &[T]) {
     for value in values {
         words.put_lowered(" ", value);
@@ -129,14 +129,14 @@ fn put_date(words: &mut Words, date: &Option<DateTime>) {
     }
 }
 
-/// A word, with `uid-` in front where the set has UIDs, and the set's ranges.
+/// Puts a word, after `uid-` if the set has UIDs, and the set's ranges.
 fn put_messages(words: &mut Words, by_uid: bool, word: &str, messages: &SequenceSet) {
     words.put_if(by_uid, "uid-");
     words.put(word);
     put_set(words, messages);
 }
 
-/// Each range behind a space.
+/// Puts each range after a space.
 pub fn put_set(words: &mut Words, set: &SequenceSet) {
     for range in set.ranges() {
         put_bound(words, " ", range.first);

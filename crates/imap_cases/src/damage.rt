@@ -1,4 +1,4 @@
-//! Texts that are damaged.
+//! Damages texts, and looks for the first place where that breaks a demand.
 
 use crate::frames::is_answered;
 use crate::round_trips::is_front_printed;
@@ -10,18 +10,19 @@ use std::alloc::{AllocError, Global};
 /// What must hold of a text wherever it is damaged.
 #[derive(Clone, Copy)]
 pub enum Demand {
-    /// It is a frame that is answered, and so is what stands in front of the place.
+    /// It is a frame that is answered, and so is the part of it before the damaged place.
     Answered,
     /// It is a stream that gives the same in one piece and octet by octet.
     SameInPieces(Limits),
-    /// Nothing is read of it, or an answer whose text is its front.
+    /// No answer is read from it, or one that is printed as its beginning.
     ReadAsPrinted,
 }
 
-/// Octets that damage a text.
+/// The octets that replace one octet of a text.
 const DAMAGES: [u8; 5] = [0, 10, 32, 126, 255];
 
-/// Puts a word and the first place where a text of at most so many octets can be damaged so that it isn't as is demanded, if there is one.
+/// If the text has at most `longest` octets, puts a word and the first place where it can be
+/// damaged so that the demand fails, if any.
 pub fn put_failing(
     alloc: Global,
     words: &mut Words,
@@ -36,7 +37,7 @@ pub fn put_failing(
     }
 }
 
-/// The first place where a text can be damaged so that it isn't as is demanded.
+/// The first place where a text can be damaged so that the demand fails, if any.
 pub fn first_failing(alloc: Global, words: &mut Words, demand: Demand, text: &[u8]) -> Option<u64> {
     for place in 0..text.len() {
         let (front, _) = text.split_at(place);
@@ -54,7 +55,7 @@ fn holds_cut(alloc: Global, demand: Demand, front: &[u8]) -> bool {
     }
 }
 
-/// Whether a text with each damage at this place is as is demanded.
+/// Whether the demand holds with each damage at this place.
 fn holds_at(alloc: Global, words: &mut Words, demand: Demand, text: &[u8], place: usize) -> bool {
     for octet in DAMAGES {
         match with_octet(alloc, text, place, octet) {

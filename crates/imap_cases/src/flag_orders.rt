@@ -1,4 +1,4 @@
-//! Flags that were set in any order, as answers show them.
+//! Flags set in any order, as answers show them.
 
 use crate::parts::flags_named;
 use crate::round_trips::put_printed;
@@ -8,19 +8,19 @@ use imap_types::Flags;
 use std::alloc::{AllocError, Global};
 use std::str;
 
-/// Where flags are shown.
+/// An answer that shows flags.
 #[derive(Clone, Copy)]
 enum Shown {
-    /// In the answer FLAGS.
+    /// The answer FLAGS.
     All,
-    /// In the code PERMANENTFLAGS.
+    /// The code PERMANENTFLAGS.
     Permanent,
-    /// In a FETCH.
+    /// The answer FETCH.
     Fetched,
 }
 
-/// The answers FLAGS, PERMANENTFLAGS and FETCH with flags that were set in the order of these names, which have single spaces
-/// between them.
+/// Puts the answers FLAGS, PERMANENTFLAGS and FETCH with flags that were set in the order of these
+/// names, which are separated by single spaces.
 pub fn put_shown(alloc: Global, words: &mut Words, names: &[u8]) {
     match str::from_utf8(names) {
         Ok(names) => put_all(alloc, words, names),

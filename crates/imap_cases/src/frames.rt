@@ -7,11 +7,11 @@ use case_lines::Words;
 use imap_grammar::{IdleLine, ParseFault, idle_line, parse, tag_of};
 use std::alloc::{AllocError, Global};
 
-/// Frames of so many octets are damaged at each of them.
+/// Frames of at most this many octets are damaged at each octet.
 const SHORT: usize = 400;
 
-/// The tag and the command that a line with its CRLF spells, or the fault. Where that frame is short, and isn't answered where it is cut
-/// or damaged, the place follows.
+/// Puts the tag and the command that a line with its CRLF spells, or the fault. If that frame is
+/// short and goes unanswered when it is cut or damaged at some place, the first such place follows.
 pub fn put_command(alloc: Global, words: &mut Words, line: &[u8]) {
     match joined(alloc, line, b"\r\n") {
         Ok(frame) => put_frame(alloc, words, &frame),
@@ -31,7 +31,7 @@ fn put_frame(alloc: Global, words: &mut Words, frame: &[u8]) {
     put_failing(alloc, words, Demand::Answered, SHORT, frame, word);
 }
 
-/// The tag with which a frame begins.
+/// Puts the tag with which a frame begins.
 pub fn put_tag(words: &mut Words, frame: &[u8]) {
     match tag_of(frame) {
         Some(tag) => words.put_text("", tag),
@@ -39,12 +39,13 @@ pub fn put_tag(words: &mut Words, frame: &[u8]) {
     }
 }
 
-/// Whether a frame ends IDLE.
+/// Puts whether a frame ends IDLE.
 pub fn put_idle(words: &mut Words, frame: &[u8]) {
     words.put_lowered("", &idle_line(frame));
 }
 
-/// Whether each front of a frame, and the frame with each octet damaged in each way, is answered.
+/// Puts whether each beginning of a frame, and the frame with each damage at each octet, is
+/// answered.
 pub fn put_damaged(alloc: Global, words: &mut Words, frame: &[u8]) {
     match first_failing(alloc, words, Demand::Answered, frame) {
         None => words.put("answered"),
@@ -52,7 +53,8 @@ pub fn put_damaged(alloc: Global, words: &mut Words, frame: &[u8]) {
     }
 }
 
-/// Whether a frame is answered by a command or by a fault of its own: that it has no tag exactly where it has none.
+/// Whether a frame is answered by a command or by a fault of its own. The fault that it has no tag
+/// is right exactly if it has none.
 pub fn is_answered(alloc: Global, frame: &[u8]) -> bool {
     let has_tag = tag_of(frame).is_some();
     match parse(alloc, frame) {

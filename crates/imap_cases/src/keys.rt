@@ -1,11 +1,11 @@
-//! Searches as text.
+//! Writes search keys as text.
 
 use crate::commands::put_set;
 use crate::parts::put_day;
 use case_lines::Words;
 use imap_grammar::{SearchStep, SearchTest};
 
-/// The steps in the order in which they are worked off, each behind a space.
+/// Puts the steps in the order in which they are executed, each after a space.
 pub fn put_steps(words: &mut Words, steps: &[SearchStep]) {
     words.put(":");
     for step in steps {

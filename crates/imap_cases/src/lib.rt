@@ -1,6 +1,14 @@
-//! Plays cases of IMAP texts, of queries and of views, and tells each with what the code answers: where all is right, what it was given.
+//! Plays cases of three kinds: IMAP texts (commands, answers, framing), queries of a mailbox, and
+//! views. The program `node_cases` plays them, and its stored output is what must be printed.
 //!
-//! A line is a case, `KIND INPUT => ANSWER`. The head of the cases says which kinds there are, and how inputs and answers are written.
+//! A case is a line, `KIND INPUT => ANSWER`. It is printed again with the answer that the code
+//! gives now, so a text is printed unchanged exactly if every answer is right. Comments and empty
+//! lines are printed as they are. The head of the cases in `crates/node_cases/stdin` lists the
+//! kinds and says how inputs and answers are written.
+//!
+//! Nothing is proved of the answers but what the called crates promise: this crate compares what no
+//! contract says, such as worked rows, and it damages short texts at each octet and cuts short
+//! streams at each place.
 #![tactic(auto)]
 
 mod answers;

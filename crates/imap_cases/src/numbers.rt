@@ -1,11 +1,11 @@
-//! Sets of numbers.
+//! Writes sets of numbers as text.
 
 use case_lines::Words;
 use imap_types::NumberSet;
 use std::alloc::{AllocError, Global};
 use std::str;
 
-/// A word, and each run of the set behind a space.
+/// Puts a word, and each run of the set after a space.
 pub fn put_numbers(words: &mut Words, word: &str, numbers: &NumberSet) {
     words.put(word);
     for run in numbers.runs() {
@@ -14,7 +14,7 @@ pub fn put_numbers(words: &mut Words, word: &str, numbers: &NumberSet) {
     }
 }
 
-/// The runs of the set of these numbers, which ascend and have single spaces between them.
+/// Puts the runs of the set of these numbers, which ascend and are separated by single spaces.
 pub fn put_set(alloc: Global, words: &mut Words, numbers: &[u8]) {
     match str::from_utf8(numbers) {
         Ok(numbers) => match set(alloc, numbers) {
@@ -25,7 +25,7 @@ pub fn put_set(alloc: Global, words: &mut Words, numbers: &[u8]) {
     }
 }
 
-/// The set of these numbers. What are no digits is 0, which is in no set.
+/// The set of these numbers. A word that isn't a number counts as 0, which is in no set.
 fn set(alloc: Global, numbers: &str) -> Result<NumberSet, AllocError> {
     let mut set = NumberSet::new(alloc);
     for digits in numbers.split(' ') {

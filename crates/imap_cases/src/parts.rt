@@ -1,17 +1,17 @@
-//! Parts that commands and answers have in common, as text.
+//! Writes as text what commands and answers have in common.
 
 use case_lines::Words;
 use imap_types::{Day, Flags, Octets, Section};
 use std::alloc::{AllocError, Global};
 
-/// Octets, and others behind them.
+/// The octets of `front`, then those of `back`.
 pub fn joined(alloc: Global, front: &[u8], back: &[u8]) -> Result<Vec<u8>, AllocError> {
     let mut whole = front.to_vec(alloc)?;
     whole.extend_from_slice(back)?;
     Ok(whole)
 }
 
-/// Each behind a space, between `<` and `>`.
+/// Puts each text between `<` and `>`, after a space.
 pub fn put_texts(words: &mut Words, texts: &[Octets]) {
     for octets in texts {
         words.put_text(" ", octets.as_bytes());
@@ -57,7 +57,7 @@ fn set_flag(alloc: Global, flags: &mut Flags, name: &str) -> Result<(), AllocErr
     Ok(())
 }
 
-/// Flags that were set in the order of these names, which have single spaces between them.
+/// The flags of these names, set in this order. The names are separated by single spaces.
 pub fn flags_named(alloc: Global, names: &str) -> Result<Flags, AllocError> {
     let mut flags = Flags::none(alloc);
     for name in names.split(' ') {
@@ -68,7 +68,7 @@ pub fn flags_named(alloc: Global, names: &str) -> Result<Flags, AllocError> {
     Ok(flags)
 }
 
-/// Year, month and day, each behind a word.
+/// Puts year, month and day, each after a word.
 pub fn put_day(words: &mut Words, year: &str, month: &str, day: &str, of: Day) {
     words.put_number(year, of.year.into());
     words.put_number(month, of.month.into());

@@ -1,16 +1,16 @@
-//! Texts that come many times one behind another, written short: `~<64 NOT ~>` is 64 times `NOT `.
+//! The short form of repeated texts: `~<64 NOT ~>` is 64 times `NOT `.
 
 ghost use Rattle.std.specs.Prelude.{◌<◌};
 
 use case_lines::{Words, parted};
 use std::alloc::{AllocError, Global};
 
-/// Texts that come at least so often are written short.
+/// A text repeated at least this often is written in the short form.
 const MANY: usize = 50;
-/// The longest text, in octets, that is looked for.
+/// The longest repeated text, in octets, that is looked for.
 const LONGEST: usize = 16;
 
-/// The text with all that is written short written out.
+/// The text with each short form expanded.
 pub fn written_out(alloc: Global, text: &str) -> Result<Vec<u8>, AllocError> {
     let mut words = Words::new(alloc);
     let (front, pieces) = parted(text, "~<");
@@ -21,7 +21,7 @@ pub fn written_out(alloc: Global, text: &str) -> Result<Vec<u8>, AllocError> {
     words.finish()
 }
 
-/// Puts what stands behind `~<`: of `COUNT TEXT~>REST` the text so often, and the rest.
+/// Puts what follows `~<`: for `COUNT TEXT~>REST` the text COUNT times, then the rest.
 fn put_piece(words: &mut Words, piece: &str) {
     let (group, rest) = parted(piece, "~>");
     put_group(words, group);
@@ -39,8 +39,8 @@ fn put_times(words: &mut Words, count: u32, text: &str) {
     }
 }
 
-/// The text, with what comes often in it written short. The first place from which a text comes often counts, and there
-/// the shortest text that does.
+/// The text, with repeated texts in the short form. The first place from which a text is repeated
+/// counts, and there the shortest such text.
 pub fn written_short(alloc: Global, text: &[u8]) -> Result<Vec<u8>, AllocError> {
     let mut words = Words::new(alloc);
     let mut rest = text;
@@ -51,7 +51,8 @@ pub fn written_short(alloc: Global, text: &[u8]) -> Result<Vec<u8>, AllocError> 
     words.finish()
 }
 
-/// Puts the first octet, or all that comes often from there on, and says how many octets these are.
+/// Puts the first octet, or all repetitions that begin there, and returns how many octets these
+/// are.
 fn put_front(words: &mut Words, rest: &[u8]) -> usize {
     for length in 1..=LONGEST {
         let (text, _) = rest.split_at(length.min(rest.len()));
@@ -72,7 +73,7 @@ fn put_short(words: &mut Words, text: &[u8], count: usize) {
     words.put("~>");
 }
 
-/// How often a text of this length comes at the front.
+/// How often a text of this length is repeated at the beginning of `rest`.
 fn times(rest: &[u8], text: &[u8], length: usize) -> usize
     requires { 0 < length }
 {

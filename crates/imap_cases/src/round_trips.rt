@@ -1,4 +1,4 @@
-//! Answers read and printed.
+//! Reads answers and prints them again.
 
 use crate::answers::put_answer;
 use crate::damage::{Demand, put_failing};
@@ -8,8 +8,9 @@ use imap_print::{Answer, MailboxState, print, read};
 use imap_types::Name;
 use std::alloc::{AllocError, Global};
 
-/// The answer that a text is. Where the text isn't the one text of that answer, what is amiss follows; and where a short text can be damaged
-/// so that it is read as an answer that is printed otherwise, the place.
+/// Puts the answer that a text spells. If the text isn't the one text of that answer, what is wrong
+/// follows. If a short text can be damaged so that it is read as an answer that is printed
+/// otherwise, the place follows.
 pub fn put_read(alloc: Global, words: &mut Words, text: &[u8]) {
     match read(alloc, text) {
         Ok(Some((answer, length))) => {
@@ -25,7 +26,7 @@ pub fn put_read(alloc: Global, words: &mut Words, text: &[u8]) {
     put_failing(alloc, words, Demand::ReadAsPrinted, FRONTS, text, word);
 }
 
-/// Whether of a text nothing is read, or an answer whose text is its front.
+/// Whether a text is read as no answer, or as one that is printed as the beginning of the text.
 pub fn is_front_printed(alloc: Global, words: &mut Words, text: &[u8]) -> bool {
     match read(alloc, text) {
         Ok(Some((answer, length))) => {
@@ -41,8 +42,9 @@ pub fn is_front_printed(alloc: Global, words: &mut Words, text: &[u8]) -> bool {
     }
 }
 
-/// What is amiss: the text is put behind what is there where the answer is printed, it is read as the answer whatever
-/// follows it, and no front of it is read. A copy is the same answer.
+/// What is wrong, if anything. Printing the answer must append the text, whatever precedes it.
+/// Reading must give the answer, whatever follows the text, and none from a shorter beginning of
+/// it. A copy of the answer must be the same answer.
 fn amiss(
     alloc: Global,
     words: &mut Words,
@@ -65,7 +67,7 @@ fn amiss(
     }
 }
 
-/// Whether this is what is put behind what is there where the answer is printed.
+/// Whether printing the answer after other octets appends this text.
 fn is_printed(alloc: Global, words: &mut Words, answer: &Answer, text: Option<&[u8]>) -> bool {
     match printed_behind(alloc, b"+ idling\r\n", answer) {
         Ok(out) => out.strip_prefix(b"+ idling\r\n") == text,
@@ -115,7 +117,7 @@ fn is_read_before(
     }
 }
 
-/// Whether the answer is read of so many octets of an input.
+/// Whether the answer is read from exactly the first `count` octets of an input.
 fn is_read_of(
     alloc: Global,
     words: &mut Words,
@@ -137,7 +139,7 @@ fn is_read_of(
     }
 }
 
-/// How many fronts of a text are read at most: the longest.
+/// How many beginnings of a text are read at most: the longest ones.
 const FRONTS: usize = 500;
 
 fn is_front_read(alloc: Global, words: &mut Words, text: &[u8]) -> bool {
@@ -164,7 +166,7 @@ fn is_read(alloc: Global, words: &mut Words, text: &[u8]) -> bool {
     }
 }
 
-/// A mailbox of this name in LIST, as it is printed.
+/// Puts a mailbox of this name in a LIST answer, as it is printed.
 pub fn put_mailbox(alloc: Global, words: &mut Words, name: &[u8]) {
     match Name::from_slice(alloc, name) {
         Ok(name) => {
@@ -184,13 +186,13 @@ pub fn put_mailbox(alloc: Global, words: &mut Words, name: &[u8]) {
     }
 }
 
-/// An answer, as it is printed.
+/// Puts an answer as it is printed.
 pub fn put_printed(alloc: Global, words: &mut Words, answer: Answer) {
     words.put_result(printed_behind(alloc, b"", &answer));
     drop(answer);
 }
 
-/// An answer, as it is printed behind these octets.
+/// The octets `front`, and after them the answer as it is printed.
 pub fn printed_behind(alloc: Global, front: &[u8], answer: &Answer) -> Result<Vec<u8>, AllocError> {
     let mut text = front.to_vec(alloc)?;
     print(answer, &mut text)?;

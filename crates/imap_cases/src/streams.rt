@@ -1,24 +1,25 @@
-//! How the framer cuts streams into commands.
+//! How the framer cuts streams into frames.
 
 use crate::damage::{Demand, put_failing};
 use case_lines::Words;
 use imap_lex::{FrameFault, Framer, Item, Limits};
 use std::alloc::{AllocError, Global};
 
-/// Limits at which short streams are too long.
+/// Limits that short streams exceed.
 pub const NARROW: Limits = Limits {
     line: 9,
     literals: 4,
 };
 
-/// In pieces of how many octets streams come, besides octet by octet.
+/// The sizes of pieces, in octets, that streams are cut into, besides single octets.
 const SIZES: [usize; 5] = [2, 3, 100, 1_000, 2_000_000];
 
-/// Streams of so many octets come also in two pieces, in every way.
+/// Streams of at most this many octets are also cut in two at each place.
 const SHORT: usize = 100;
 
-/// What a stream gives octet by octet: `(ready)`, `(frame OCTETS)`, `(refused OCTETS)`, and the first fault with what the
-/// framer answers to one octet more. Where another cutting gives something else that follows.
+/// Puts what the framer gives for a stream that comes octet by octet: `(ready)`, `(frame OCTETS)`,
+/// `(refused OCTETS)`, and the first fault with the framer's answer to one further octet. If the
+/// stream gives something else when it is cut otherwise, that follows.
 pub fn put_stream(alloc: Global, words: &mut Words, limits: Limits, stream: &[u8]) {
     match in_pieces(alloc, limits, b"", stream, 1) {
         Ok(given) => {
@@ -56,7 +57,7 @@ pub fn is_same_in_pieces(alloc: Global, words: &mut Words, limits: Limits, strea
     }
 }
 
-/// The first size of pieces in which the stream gives something else.
+/// The first size of pieces in which the stream gives something else, if any.
 fn other_size(
     alloc: Global,
     words: &mut Words,
@@ -72,7 +73,7 @@ fn other_size(
     None
 }
 
-/// The first place where the stream can be cut in two so that it gives something else.
+/// The first place where the stream can be cut in two so that it gives something else, if any.
 fn other_cut(
     alloc: Global,
     words: &mut Words,
@@ -89,7 +90,8 @@ fn other_cut(
     None
 }
 
-/// Whether a stream gives this, its front in one piece and the rest in pieces of this size.
+/// Whether a stream gives this if its first part comes in one piece and the rest in pieces of
+/// `size` octets.
 fn gives(
     alloc: Global,
     words: &mut Words,
@@ -108,7 +110,8 @@ fn gives(
     }
 }
 
-/// What a stream gives, its front in one piece and the rest in pieces of this size.
+/// What a stream gives if its first part comes in one piece and the rest in pieces of `size`
+/// octets.
 fn in_pieces(
     alloc: Global,
     limits: Limits,
@@ -124,7 +127,7 @@ fn in_pieces(
     framing.finish()
 }
 
-/// A framer and what it gave.
+/// A framer and what it gave so far, as text.
 #[derive(Drop)]
 struct Framing {
     alloc: Global,
@@ -147,7 +150,7 @@ impl Framing {
         self.words.finish()
     }
 
-    /// Feeds one piece, and one octet more behind a fault.
+    /// Feeds one piece, and after a fault one further octet.
     fn feed(&mut self, piece: &[u8]) {
         if self.has_failed {
             return;

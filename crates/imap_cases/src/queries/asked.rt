@@ -1,4 +1,4 @@
-//! What is answered by yes or no.
+//! Questions that are answered by yes or no.
 
 use crate::queries::fields::octets;
 use case_lines::{Words, parted};
@@ -7,7 +7,7 @@ use imap_types::Escape;
 use mail_text::{contains_nocase, date_ok, field_contains_nocase};
 use std::alloc::{AllocError, Global};
 
-/// What is asked of a text, or of octets alone.
+/// A question about the text, or only about the octets that the case gives.
 #[derive(Clone, Copy)]
 pub enum Asked {
     /// `WORD`: whether the text contains it.
@@ -20,7 +20,7 @@ pub enum Asked {
     Matches,
 }
 
-/// Whether it is so.
+/// Puts yes or no to the question.
 pub fn put_asked(alloc: Global, words: &mut Words, text: &[u8], asked: Asked, input: &str) {
     let (first, second) = match asked {
         Asked::FieldContains | Asked::Matches => parted(input, " "),

@@ -1,4 +1,4 @@
-//! What is asked of the stage.
+//! Chooses the code that answers a query.
 
 use crate::queries::asked::{Asked, put_asked};
 use crate::queries::commands::put_command;
@@ -7,7 +7,7 @@ use crate::queries::texts::put_of_text;
 use case_lines::Words;
 use std::alloc::Global;
 
-/// What the code answers to a query.
+/// Puts what the code answers to a query.
 pub fn put_query(alloc: Global, words: &mut Words, stage: &Stage, kind: &str, input: &str) {
     let text = stage.text.as_bytes();
     match kind {

@@ -15,7 +15,7 @@ use imap_types::{Escape, Name, Octets};
 use mailbox_rows::Rows;
 use std::alloc::{AllocError, Global};
 
-/// The answers to the command that a line spells, its tagged one left out.
+/// Puts the answers to the command that a line spells, without the tagged one.
 pub fn put_command(alloc: Global, words: &mut Words, stage: &Stage, line: &str) {
     match octets(alloc, Escape::Text, line) {
         Ok(line) => put_line(alloc, words, stage, line.as_bytes()),
@@ -169,7 +169,7 @@ fn put_fetch(
     }
 }
 
-/// What a FETCH of these messages tells, by how they stood before the command, and how they stand after it.
+/// Puts the answers of a FETCH of these messages, from their rows before and after the command.
 fn put_fetched(
     alloc: Global,
     words: &mut Words,
@@ -204,7 +204,7 @@ fn put_answers(alloc: Global, words: &mut Words, answers: Result<Vec<Answer>, Al
     }
 }
 
-/// Each answer without its line end, ` | ` between them, `nothing` where there are none.
+/// Puts each answer without its CRLF and with ` | ` between them, `nothing` if there are none.
 fn put_each(alloc: Global, words: &mut Words, answers: &[Answer]) {
     let mut mark = "";
     for answer in answers {

@@ -1,10 +1,10 @@
-//! The fields of a line: octets, names, and lists of what fields spell.
+//! Reads the fields of a line: octets, names, and lists of them.
 
 use case_lines::Trouble;
 use imap_types::{Escape, Name, Octets};
 use std::alloc::Global;
 
-/// The octets that a text in the escape stands for; `""` stands for none.
+/// The octets that a text in the escape spells; `""` spells none.
 pub fn octets(alloc: Global, escape: Escape, text: &str) -> Result<Octets, Trouble> {
     if text == "\"\"" {
         Ok(Octets::new(Vec::new(alloc)))
@@ -13,13 +13,13 @@ pub fn octets(alloc: Global, escape: Escape, text: &str) -> Result<Octets, Troub
     }
 }
 
-/// What is made of fields, one after another.
+/// A value that is built from fields, one after another.
 pub trait Gathers {
-    /// Takes one more field.
+    /// Takes the next field.
     fn take(&mut self, alloc: Global, field: &str) -> Result<(), Trouble>;
 }
 
-/// What takes each field between the marks, none where `-` stands alone.
+/// The value built from the fields between the separators; the empty one if the text is `-`.
 pub fn gathered<G: Gathers + Drop>(
     alloc: Global,
     empty: G,
@@ -33,7 +33,7 @@ pub fn gathered<G: Gathers + Drop>(
     Ok(gathered)
 }
 
-/// Takes each field between the marks.
+/// Takes each field between the separators.
 pub fn take_each<G: Gathers>(
     alloc: Global,
     gathered: &mut G,
@@ -46,13 +46,13 @@ pub fn take_each<G: Gathers>(
     Ok(())
 }
 
-/// Adds what there is to a list.
+/// Adds the item to a list, unless it is an error.
 pub fn add<T: Drop>(list: &mut Vec<T>, item: Result<T, Trouble>) -> Result<(), Trouble> {
     list.push(item?)?;
     Ok(())
 }
 
-/// Puts what there is in the place of another.
+/// Replaces a value by another, unless that is an error.
 pub fn set<T: Drop>(place: &mut T, value: Result<T, Trouble>) -> Result<(), Trouble> {
     *place = value?;
     Ok(())

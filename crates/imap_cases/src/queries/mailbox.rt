@@ -1,4 +1,4 @@
-//! The mailbox that commands look at.
+//! The mailbox that commands read.
 
 use crate::queries::fields::{Gathers, add, gathered, set};
 use crate::queries::messages::{Message, message_in};
@@ -6,20 +6,21 @@ use case_lines::{Trouble, long_number, meaning, number, parted};
 use imap_query::{MailboxCounters, ViewedMessage};
 use std::alloc::Global;
 
-/// The mailbox that commands look at, and how a session sees it.
+/// The mailbox that commands read, and how a session has selected it.
 #[derive(Drop)]
 pub struct Mailbox {
-    /// By ascending UIDs.
+    /// Its messages, by ascending UID.
     pub messages: Vec<Message>,
-    /// The messages that a session was told of.
+    /// The messages that the session was shown.
     pub view: Vec<ViewedMessage>,
     pub marks: MailboxCounters,
     pub is_writable: bool,
-    /// Whether mod-sequences are told with flags.
+    /// Whether mod-sequences are sent with flags.
     pub condstore: bool,
 }
 
-/// How mailboxes are selected: whether they can be written, and whether mod-sequences are told with flags.
+/// How mailboxes are selected: whether they are writable, and whether mod-sequences are sent with
+/// flags.
 const MODES: &[(&str, (bool, bool))] = &[
     ("read-write", (true, false)),
     ("read-write condstore", (true, true)),
@@ -28,7 +29,7 @@ const MODES: &[(&str, (bool, bool))] = &[
 ];
 
 impl Mailbox {
-    /// No messages, in a read-write mailbox.
+    /// A read-write mailbox without messages.
     pub fn new(alloc: Global) -> Mailbox {
         Mailbox {
             messages: Vec::new(alloc),
@@ -54,7 +55,7 @@ impl Mailbox {
         }
     }
 
-    /// `UID MODSEQ FLAGS`: how the message with this UID stands after a command.
+    /// `UID MODSEQ FLAGS`: sets the state of the message with this UID after a command.
     fn set_after(&mut self, alloc: Global, text: &str) -> Result<(), Trouble> {
         let (uid, standing) = parted(text, " ");
         let uid = number(uid)?;
@@ -66,7 +67,7 @@ impl Mailbox {
         Err(Trouble::NotACase)
     }
 
-    /// `read-write` or `read-only`, and behind it `condstore` or nothing.
+    /// `read-write` or `read-only`, then `condstore` or nothing.
     fn set_mode(&mut self, text: &str) -> Result<(), Trouble> {
         match meaning(MODES, text) {
             Some((is_writable, condstore)) => {
@@ -90,7 +91,7 @@ fn marks(text: &str) -> Result<MailboxCounters, Trouble> {
     })
 }
 
-/// The messages of UIDs, numbered from 1.
+/// UIDs of shown messages, which are numbered from 1.
 impl Gathers for Vec<ViewedMessage> {
     fn take(&mut self, _alloc: Global, uid: &str) -> Result<(), Trouble> {
         let shown = ViewedMessage {

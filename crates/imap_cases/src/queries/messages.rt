@@ -1,4 +1,4 @@
-//! Messages, and their rows before and after a command.
+//! Messages of a case, and their rows before and after a command.
 
 ghost use Rattle.std.specs.Prelude.{◌≡◌};
 ghost use Rattle.mailbox_rows.specs.RowViews.{owned_message};
@@ -15,7 +15,7 @@ use tags_clocks::{OpId, ReplicaId};
 #[derive(Drop)]
 pub struct Standing {
     modseq: u64,
-    /// Its one version, under some id.
+    /// Its one version, under an arbitrary id.
     versions: [Version; 1],
 }
 
@@ -24,7 +24,7 @@ pub struct Standing {
 pub struct Message {
     pub uid: u32,
     before: Standing,
-    /// How it stands after a command, where that changes it.
+    /// What it is after a command, if that changes it.
     after: Option<Standing>,
     date: DateTime,
     text: Option<Text>,
@@ -42,7 +42,7 @@ impl Message {
         }
     }
 
-    /// `MODSEQ FLAGS`: how it stands after a command.
+    /// `MODSEQ FLAGS`: sets what the message is after a command.
     pub fn set_after(&mut self, alloc: Global, text: &str) -> Result<(), Trouble> {
         match standing_in(alloc, text) {
             Ok(standing) => {
@@ -60,7 +60,7 @@ impl Message {
         }
     }
 
-    /// Its row, as it is after a command or before it.
+    /// Its row after the command, or before it.
     fn row(&self, is_after: bool) -> OwnedRow<'_>
         ensures { (owned_message result).uid ≡ self.now.uid }
     {
@@ -105,7 +105,7 @@ fn standing_in(alloc: Global, text: &str) -> Result<Standing, Trouble> {
     }
 }
 
-/// How a message with these flags stands.
+/// The changeable part of a message with these flags.
 pub fn standing_with(modseq: u64, flags: Flags) -> Result<Standing, Trouble> {
     match some_id() {
         Some(id) => Ok(Standing {
@@ -131,12 +131,12 @@ fn flags_in(alloc: Global, text: &str) -> Result<Flags, Trouble> {
     }
 }
 
-/// What stands between parentheses.
+/// The text between parentheses.
 fn within(text: &str) -> Option<&str> {
     text.strip_prefix('(')?.strip_suffix(')')
 }
 
-/// The date-time between whose quotes these octets stand.
+/// The date-time whose text between quotes these octets are.
 pub fn date_time(octets: &[u8]) -> Result<DateTime, Trouble> {
     if octets.len() != DATE_TIME_OCTETS - 2 {
         return Err(Trouble::NotACase);
@@ -146,7 +146,8 @@ pub fn date_time(octets: &[u8]) -> Result<DateTime, Trouble> {
     DateTime::new(quoted).ok_or(Trouble::NotACase)
 }
 
-/// The rows of these messages, whose UIDs ascend, as they are after a command or before it.
+/// The rows of these messages, after a command or before it. `Err` if the UIDs don't ascend, or if
+/// memory runs out.
 pub fn rows_of<'a>(
     alloc: Global,
     messages: &'a [Message],

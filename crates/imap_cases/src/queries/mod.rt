@@ -1,4 +1,4 @@
-//! Cases of texts of messages, of queries and of views.
+//! Cases of queries: texts of messages, commands that read a mailbox, and views.
 
 mod asked;
 mod cases;

@@ -1,4 +1,4 @@
-//! The messages that a set names.
+//! The messages of a view that a set names.
 
 ghost use Rattle.std.specs.Prelude.{◌≡◌, ◌↔◌, map, IsTrue};
 ghost use Rattle.imap_types.specs.Numbers.{AreRisingFrom};
@@ -8,7 +8,7 @@ use imap_query::ViewedMessage;
 use imap_types::{SequenceBound, SequenceRange};
 use std::alloc::{AllocError, Global};
 
-/// The greatest number, or UID, of a view; 0 where it shows nothing.
+/// The greatest number, or UID, of a view; 0 if the view is empty.
 fn top_of(view: &[ViewedMessage], by_uid: bool) -> u32 {
     match view.last() {
         Some(last) => name_of(by_uid, *last),
@@ -16,7 +16,8 @@ fn top_of(view: &[ViewedMessage], by_uid: bool) -> u32 {
     }
 }
 
-/// Whether each number of a set of numbers is that of a message of the view. UIDs may be those of none.
+/// Whether each number of a set of message numbers names a message of the view. A UID may name
+/// none.
 pub fn is_in_range(view: &[ViewedMessage], set: &[SequenceRange], by_uid: bool) -> bool {
     let top = top_of(view, by_uid);
     for range in set {
@@ -44,7 +45,7 @@ pub fn named(
     Ok(named)
 }
 
-/// Whether there is a message for both ends of a range, where this is the greatest number.
+/// Whether there is a message for both ends of a range, if `top` is the greatest number.
 fn is_within(top: u32, range: &SequenceRange) -> bool {
     let last = bound_of(top, range.first).max(bound_of(top, range.last));
     0 < top && last <= top
@@ -72,7 +73,7 @@ fn bound_of(top: u32, bound: SequenceBound) -> u32 {
     }
 }
 
-/// Whether the numbers, or the UIDs, of these messages ascend from 1 on.
+/// Whether the numbers, or the UIDs, of these messages ascend and begin at 1 or above.
 pub fn are_rising(by_uid: bool, shown: &[ViewedMessage]) -> bool
     ensures { IsTrue result ↔ AreRisingFrom 1 (map (number_or_uid by_uid) shown.now) }
 {
@@ -87,7 +88,7 @@ pub fn are_rising(by_uid: bool, shown: &[ViewedMessage]) -> bool
     true
 }
 
-/// The number by which a search names a message.
+/// The number, or the UID, by which a search names a message.
 fn name_of(by_uid: bool, shown: ViewedMessage) -> u32
     ensures { result ≡ number_or_uid by_uid shown }
 {

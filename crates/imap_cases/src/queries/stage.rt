@@ -1,4 +1,4 @@
-//! What is asked of.
+//! What queries ask about, and the lines that set it.
 
 use crate::queries::fields::{gathered, octets, set};
 use crate::queries::mailbox::Mailbox;
@@ -6,7 +6,7 @@ use case_lines::Trouble;
 use imap_types::{Escape, Name, Octets};
 use std::alloc::Global;
 
-/// What is asked of: a text, a mailbox, and the names of folders and subscriptions.
+/// What queries ask about: a text, a mailbox, and the names of folders and subscriptions.
 #[derive(Drop)]
 pub struct Stage {
     pub text: Octets,
@@ -15,7 +15,7 @@ pub struct Stage {
     pub subscriptions: Vec<Name>,
 }
 
-/// The first words of the lines that set what is asked of.
+/// The first words of the lines that set what is asked about.
 const SETTINGS: &[&str] = &[
     "text",
     "mailbox",
@@ -28,7 +28,7 @@ const SETTINGS: &[&str] = &[
     "mode",
 ];
 
-/// Whether a line with this first word sets what is asked of.
+/// Whether a line with this first word sets what is asked about.
 pub fn is_setting(kind: &str) -> bool {
     for setting in SETTINGS {
         if *setting == kind {
@@ -39,7 +39,7 @@ pub fn is_setting(kind: &str) -> bool {
 }
 
 impl Stage {
-    /// Nothing of each.
+    /// An empty text, an empty mailbox and no names.
     pub fn new(alloc: Global) -> Stage {
         Stage {
             text: Octets::new(Vec::new(alloc)),
@@ -49,7 +49,7 @@ impl Stage {
         }
     }
 
-    /// Sets what a line says.
+    /// Sets what a line says. `Err` leaves the rest unchanged.
     pub fn set(&mut self, alloc: Global, kind: &str, rest: &str) -> Result<(), Trouble> {
         match kind {
             "text" => set(&mut self.text, octets(alloc, Escape::Text, rest)),

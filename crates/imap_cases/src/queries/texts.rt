@@ -1,4 +1,4 @@
-//! What a text's parts are, and date-times.
+//! The parts of a text, and date-times.
 
 use crate::parts::put_day;
 use crate::queries::fields::take_each;
@@ -8,7 +8,7 @@ use imap_types::{Moment, Octets};
 use mail_text::{body, civil, fields, header, other_fields, partial, written_day};
 use std::alloc::{AllocError, Global};
 
-/// What is answered of a text, in the words that the case asks for.
+/// Puts the answer of this kind about a text or a date-time.
 pub fn put_of_text(alloc: Global, words: &mut Words, text: &[u8], kind: &str, input: &str) {
     match kind {
         "header" => put_between(words, header(text)),
@@ -22,13 +22,13 @@ pub fn put_of_text(alloc: Global, words: &mut Words, text: &[u8], kind: &str, in
     }
 }
 
-/// Octets in the escape, between `<` and `>`.
+/// Puts octets in the escape, between `<` and `>`.
 fn put_between(words: &mut Words, octets: &[u8]) {
     words.put_escaped("<", octets);
     words.put(">");
 }
 
-/// `START COUNT`.
+/// `START COUNT`: puts the part of the text that a partial FETCH asks for.
 fn put_partial(words: &mut Words, text: &[u8], input: &str) {
     match pair(" ", input) {
         Ok((start, count)) => put_between(words, partial(text, start, count)),
@@ -36,7 +36,7 @@ fn put_partial(words: &mut Words, text: &[u8], input: &str) {
     }
 }
 
-/// The fields of these names, or the others.
+/// Puts the fields of these names, or the others.
 fn put_fields(alloc: Global, words: &mut Words, text: &[u8], names: &str, others: bool) {
     let mut all: Vec<Octets> = Vec::new(alloc);
     match take_each(alloc, &mut all, ' ', names) {

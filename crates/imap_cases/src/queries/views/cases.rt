@@ -1,4 +1,4 @@
-//! What a view answers.
+//! What a view answers to a set or a sync.
 
 use crate::queries::messages::{Message, rows_of};
 use crate::queries::views::reading::{messages_in, set_in, view_in};
@@ -9,7 +9,7 @@ use mailbox_rows::Rows;
 use session_view::{BadSet, SyncForm, SyncKind, View, replay_reply};
 use std::alloc::{AllocError, Global};
 
-/// The words for syncs.
+/// The words for the forms of a sync.
 const FORMS: &[(&str, SyncForm)] = &[
     (
         "full",
@@ -41,7 +41,7 @@ const FORMS: &[(&str, SyncForm)] = &[
     ),
 ];
 
-/// `WHICH VIEW OTHER`: what the code answers.
+/// `WHICH VIEW OTHER`: puts what the code answers.
 pub fn put_view(alloc: Global, words: &mut Words, kind: &str, input: &str) {
     let (which, rest) = parted(input, " ");
     let (view, other) = parted(rest, " ");
@@ -114,7 +114,8 @@ fn put_of_messages(
     }
 }
 
-/// What a sync answers, the view behind it, and what a replay of the answers makes of the view before it.
+/// Puts the answers of a sync, the view after it, and the view that a replay of the answers makes
+/// from the view before it.
 fn put_synced(alloc: Global, words: &mut Words, view: &View, rows: &Rows<'_>, form: SyncForm) {
     match view.copy(alloc) {
         Ok(mut after) => {

@@ -1,4 +1,4 @@
-//! Cases of views: what a set names in one, and what a sync tells.
+//! Cases of views: the messages that a set names in a view, and the answers of a sync.
 
 mod cases;
 mod reading;

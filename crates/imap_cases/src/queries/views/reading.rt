@@ -1,4 +1,4 @@
-//! Views, listings and sets, from text.
+//! Reads views, listings and sets from text.
 
 use crate::queries::fields::{Gathers, add, gathered, take_each};
 use crate::queries::messages::{Message, standing_with};
@@ -35,7 +35,7 @@ impl Gathers for ViewEntries {
     }
 }
 
-/// `UID/FLAGS`, or `UID` alone where there are none.
+/// `UID/FLAGS`, or only `UID` if there are no flags.
 fn entry_in(alloc: Global, text: &str) -> Result<ViewEntry, Trouble> {
     let (uid, flags) = text.split_once('/').unwrap_or((text, "-"));
     Ok(ViewEntry {
@@ -44,7 +44,7 @@ fn entry_in(alloc: Global, text: &str) -> Result<ViewEntry, Trouble> {
     })
 }
 
-/// A letter for each flag, none where `-` stands.
+/// The flags that these letters spell, none for `-`.
 fn flags_in(alloc: Global, text: &str) -> Result<Flags, Trouble> {
     let mut flags = Flags::none(alloc);
     let letters = if text == "-" { "" } else { text };

@@ -1,11 +1,11 @@
-//! Views, answers and numbers, as text.
+//! Writes views, answers and numbers as text.
 
 use case_lines::Words;
 use imap_answers::{Answer, FetchItems};
 use imap_types::Flags;
 use session_view::ViewEntries;
 
-/// Numbers with commas between them, `none` where there are none.
+/// Puts the numbers with commas between them, `none` if there are none.
 pub fn put_numbers(words: &mut Words, numbers: &[u32]) {
     let mut comma = "";
     for number in numbers {
@@ -15,7 +15,7 @@ pub fn put_numbers(words: &mut Words, numbers: &[u32]) {
     words.put_if(numbers.is_empty(), "none");
 }
 
-/// The messages of a view, `-` where there are none.
+/// Puts the messages of a view, `-` if there are none.
 pub fn put_entries(words: &mut Words, entries: &ViewEntries) {
     let mut comma = "";
     for entry in entries.iter_from(0) {
@@ -44,7 +44,7 @@ fn is_without_flags(flags: &Flags) -> bool {
     !has_system && flags.keywords.is_empty()
 }
 
-/// Answers with `, ` between them, `nothing` where there are none.
+/// Puts the answers with `, ` between them, `nothing` if there are none.
 pub fn put_answers(words: &mut Words, answers: &[Answer]) {
     let mut comma = "";
     for answer in answers {
