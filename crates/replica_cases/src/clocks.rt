@@ -1,11 +1,11 @@
-//! Ids and clocks.
+//! Questions about ids and clocks.
 
 use crate::fields::{Gathers, entry, id, id_of, take_each};
 use case_lines::{Trouble, Words, pair, parted, replica};
 use std::alloc::{AllocError, Global};
 use tags_clocks::Clock;
 
-/// What is asked of ids and clocks.
+/// A question about ids or clocks.
 #[derive(Clone, Copy)]
 pub enum ClockWord {
     /// `id R N`: the id of these numbers.
@@ -14,17 +14,17 @@ pub enum ClockWord {
     Clock,
     /// `number R RAISES`: the replica's number.
     Number,
-    /// `covers ID RAISES`: whether the operation came before.
+    /// `covers ID RAISES`: whether the clock covers the operation.
     Covers,
-    /// `compare RAISES RAISES`: how the one stands to the other.
+    /// `compare RAISES RAISES`: how the two clocks compare.
     Compare,
     /// `join RAISES RAISES`: the join.
     Join,
-    /// `push ENTRIES`: which entries are taken, and the clock.
+    /// `push ENTRIES`: which entries are taken, and the clock after them.
     Push,
 }
 
-/// Answers what is asked of ids and clocks.
+/// Puts the answer to a question about ids or clocks.
 pub fn answer_clock(word: ClockWord, fields: &str, answer: &mut Words) {
     let (first, second) = parted(fields, " ");
     match word {
@@ -54,7 +54,7 @@ pub fn raised(alloc: Global, text: &str) -> Result<Clock, Trouble> {
     Ok(clock)
 }
 
-/// A clock takes raises.
+/// The fields of a clock are raises.
 impl Gathers for Clock {
     fn take(&mut self, _alloc: Global, field: &str) -> Result<(), Trouble> {
         let (replica, number) = entry(field)?;
@@ -63,7 +63,7 @@ impl Gathers for Clock {
     }
 }
 
-/// Answers what is asked of the clock after these raises, and of what is named first.
+/// Puts the answer about the clock after these raises, and about what the line names before it.
 fn tell_raised(word: ClockWord, first: &str, raises: &str, answer: &mut Words) {
     match raised(answer.alloc(), raises) {
         Ok(clock) => tell_clock(word, first, &clock, answer),
@@ -80,7 +80,7 @@ fn tell_clock(word: ClockWord, first: &str, clock: &Clock, answer: &mut Words) {
     }
 }
 
-/// A copy of the clock.
+/// Puts a copy of the clock.
 fn tell_copied(clock: &Clock, answer: &mut Words) {
     match clock.copy(answer.alloc()) {
         Ok(copied) => {
@@ -105,7 +105,7 @@ fn tell_covered(of: &str, clock: &Clock, answer: &mut Words) {
     }
 }
 
-/// How the clock after these raises stands to another, or their join.
+/// Puts how the clock after these raises compares with another, or their join.
 fn tell_two(word: ClockWord, raises: &str, other: &Clock, answer: &mut Words) {
     match raised(answer.alloc(), raises) {
         Ok(mut clock) => {

@@ -1,4 +1,4 @@
-//! What folders and subscriptions tell.
+//! Writes folders, messages and subscriptions as text.
 
 use crate::stage::Mailboxes;
 use case_lines::Words;
@@ -8,7 +8,7 @@ use imap_types::{Name, Text};
 use std::alloc::AllocError;
 use subs_state::Subs;
 
-/// The folders with their messages, and the subscriptions, as the lines of a dump.
+/// Puts the folders with their messages, and the subscriptions, as the lines of a dump.
 pub fn tell_state(state: &Mailboxes, answer: &mut Words) {
     match state.first.names(answer.alloc()) {
         Ok(names) => tell_folders(&state.first, &names, answer),
@@ -20,7 +20,7 @@ pub fn tell_state(state: &Mailboxes, answer: &mut Words) {
     }
 }
 
-/// Ids, where there was memory for them.
+/// Puts the ids, unless memory ran out.
 pub fn tell_ids(ids: Result<Ids, AllocError>, answer: &mut Words) {
     match ids {
         Ok(ids) => answer.put_ids(" ", &ids),
@@ -53,7 +53,7 @@ fn tell_message(folders: &Folders, name: &Name, message: &Message, answer: &mut 
     tell_versions(folders, name, message, answer);
 }
 
-/// Whether the folders lend the same message.
+/// Whether the folders return a reference to the same message.
 fn is_lent(folders: &Folders, name: &Name, message: &Message) -> bool {
     match folders.message(name, &message.origin) {
         Some(lent) => {
@@ -65,7 +65,7 @@ fn is_lent(folders: &Folders, name: &Name, message: &Message) -> bool {
     }
 }
 
-/// Whether the text that is lent is this one.
+/// Whether the referenced text is this one.
 fn is_text(lent: Option<&Text>, text: &Text) -> bool {
     match lent {
         Some(lent) => lent.same(text),
@@ -73,7 +73,7 @@ fn is_text(lent: Option<&Text>, text: &Text) -> bool {
     }
 }
 
-/// What the folders tell of the message's versions, where that is something else.
+/// Puts a remark if the folders report other versions of the message than it has.
 fn tell_versions(folders: &Folders, name: &Name, message: &Message, answer: &mut Words) {
     match folders.versions(answer.alloc(), name, &message.origin) {
         Ok(ids) => answer.put_if(!ids.same(&message.versions), " versions otherwise"),
@@ -81,7 +81,7 @@ fn tell_versions(folders: &Folders, name: &Name, message: &Message, answer: &mut
     }
 }
 
-/// A copy of the message.
+/// Puts a copy of the message.
 fn tell_copied(message: &Message, answer: &mut Words) {
     match message.copy(answer.alloc()) {
         Ok(copied) => tell_same(message, &copied, answer),

@@ -1,11 +1,11 @@
-//! Ids, entries of clocks, and what fields one after another make.
+//! Reads ids, entries of clocks, and values built from several fields.
 
 use case_lines::{Trouble, operation, pair};
 use crdt_ops::SoundOp;
 use std::alloc::Global;
 use tags_clocks::{OpId, ReplicaId};
 
-/// The id of these numbers; `None` where they name no operation.
+/// The id with these numbers; `None` if no operation can have it.
 pub fn id_of(replica: u32, number: u32) -> Option<OpId> {
     OpId::new(ReplicaId::new(replica)?, number)
 }
@@ -25,13 +25,13 @@ pub fn entry(text: &str) -> Result<(ReplicaId, u32), Trouble> {
     }
 }
 
-/// What is made of fields, one after another.
+/// A value that is built from fields, one after another.
 pub trait Gathers {
-    /// Takes one more field.
+    /// Takes the next field.
     fn take(&mut self, alloc: Global, field: &str) -> Result<(), Trouble>;
 }
 
-/// Takes each field between the marks.
+/// Takes each field between the separators.
 pub fn take_each<G: Gathers>(
     alloc: Global,
     gathered: &mut G,
@@ -44,7 +44,7 @@ pub fn take_each<G: Gathers>(
     Ok(())
 }
 
-/// Adds the sound operation that a line spells.
+/// Adds the sound operation that a line spells. `Err` leaves the list unchanged.
 pub fn add_op(alloc: Global, ops: &mut Vec<SoundOp>, line: &str) -> Result<(), Trouble> {
     ops.reserve(1)?;
     ops.push_reserved(operation(alloc, line)?);

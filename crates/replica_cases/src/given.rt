@@ -8,14 +8,14 @@ use crdt_ops::SoundOp;
 use merge_laws::{Caused, replay};
 use std::alloc::{AllocError, Global};
 
-/// Operations: some that come first, in this order, and others that come in each order.
+/// Operations that come first, in this order, and operations that come in each order.
 #[derive(Drop)]
 pub struct Given {
-    /// Those that come first.
+    /// The operations that come first.
     pub first: Vec<SoundOp>,
-    /// Those that come in each order.
+    /// The operations that come in each order.
     pub any: Vec<SoundOp>,
-    /// Which of these are causes of which: the place of the cause, and the place of what it caused.
+    /// Which of those are causes of which: the place of the cause, and the place of its effect.
     pub causes: Vec<(usize, usize)>,
 }
 
@@ -30,8 +30,8 @@ impl Given {
     }
 }
 
-/// `any CAUSES LINE`: adds an operation that comes in each order, and says which of those before it, counted from 1, are its
-/// causes.
+/// `any CAUSES LINE`: adds an operation that comes in each order. CAUSES says which of the earlier
+/// ones, counted from 1, are its causes.
 pub fn add_any(alloc: Global, given: &mut Given, fields: &str) -> Result<(), Trouble> {
     let (places, line) = cut(fields)?;
     match add_causes(&mut given.causes, places, given.any.len()) {
@@ -59,7 +59,7 @@ fn add_cause(causes: &mut Vec<(usize, usize)>, place: &str, at: usize) -> Result
     }
 }
 
-/// `replay`: what the operations that come first lead to, without an inbox.
+/// `replay`: puts what the operations that come first lead to, without an inbox.
 pub fn tell_replay(given: &Given, answer: &mut Words) {
     match replay(answer.alloc(), empty(answer.alloc()), &given.first) {
         Ok(state) => tell_state(&state, answer),
@@ -67,8 +67,8 @@ pub fn tell_replay(given: &Given, answer: &mut Words) {
     }
 }
 
-/// `pairs`: how many operations come first, and whether each is the same as itself and no other; else the places, counted from
-/// 1, of two where that isn't so.
+/// `pairs`: puts how many operations come first, and whether each is the same as itself and as no
+/// other; else the places, counted from 1, of the first two that break this.
 pub fn tell_pairs(given: &Given, answer: &mut Words) {
     answer.put_number(" ", given.first.len() as u64);
     match odd_pair(&given.first) {
@@ -80,7 +80,8 @@ pub fn tell_pairs(given: &Given, answer: &mut Words) {
     }
 }
 
-/// The first pair that is the same at two places, or not at one.
+/// The first two different places that hold the same operation, or a place whose operation differs
+/// from itself.
 fn odd_pair(ops: &[SoundOp]) -> Option<(usize, usize)> {
     for (at, op) in ops.iter().enumerate() {
         if let Some(other) = odd_one(ops, at, op) {

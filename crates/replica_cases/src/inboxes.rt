@@ -1,4 +1,4 @@
-//! What is asked of the case's inbox.
+//! Questions about the inbox of a case.
 
 use crate::clocks::raised;
 use crate::dump::{tell_ids, tell_state};
@@ -12,28 +12,29 @@ use imap_types::Name;
 use std::alloc::AllocError;
 use tags_clocks::Clock;
 
-/// What is asked of the inbox.
+/// A question about the inbox.
 #[derive(Clone, Copy)]
 pub enum InboxWord {
     /// `deliver LINE`: delivers an operation.
     Deliver,
-    /// `drain`: goes on with the held operations.
+    /// `drain`: continues with the held operations.
     Drain,
-    /// `issue R NAME`: issues an operation of its own.
+    /// `issue R NAME`: issues an operation of the inbox's replica.
     Issue,
-    /// `show`: the ids of the operations applied, in their order, and of those held.
+    /// `show`: the ids of the applied operations, in their order, and of the held ones.
     Show,
-    /// `list`: the operations applied, in their order.
+    /// `list`: the applied operations, in their order.
     List,
-    /// `since RAISES`: those that the clock doesn't cover.
+    /// `since RAISES`: the applied operations that the clock doesn't cover.
     Since,
     /// `told`: the folders, messages and subscriptions.
     Told,
-    /// `folder NAME`: whether it is there, and the ids of its tags, of its delete set and of the subscriptions to it.
+    /// `folder NAME`: whether it exists, and the ids of its tags, of its delete set and of the
+    /// subscriptions to it.
     Folder,
 }
 
-/// Answers what is asked of the inbox.
+/// Puts the answer to a question about the inbox.
 pub fn answer_inbox(inbox: &mut Node, word: InboxWord, fields: &str, answer: &mut Words) {
     match word {
         InboxWord::Deliver => tell_delivery(inbox, fields, answer),
@@ -114,14 +115,14 @@ fn tell_held_ids(held: &HeldOps<'_, SoundOp>, answer: &mut Words) {
     }
 }
 
-/// A line for each operation.
+/// Puts a line for each operation.
 fn tell_ops(ops: &[SoundOp], answer: &mut Words) {
     for op in ops {
         answer.put_op("\n  ", op);
     }
 }
 
-/// Copies of the operations.
+/// Puts copies of the operations, a line each.
 fn tell_applied(ops: &[SoundOp], answer: &mut Words) {
     match copy_ops(answer.alloc(), ops) {
         Ok(mut copies) => {

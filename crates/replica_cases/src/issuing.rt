@@ -1,4 +1,4 @@
-//! A replica's own operations.
+//! Issues a replica's own operations.
 
 ghost use Rattle.std.specs.Prelude.{◌≡◌, ◌∷◌, [], IfOk};
 ghost use Rattle.causal_inbox.specs.Inbox.{IsIssued};
@@ -12,8 +12,8 @@ use imap_types::Name;
 use std::alloc::{AllocError, Global};
 use tags_clocks::{OpId, ReplicaId};
 
-/// `issue R NAME`: the operation by which the replica, which the inbox is then taken to be of, creates the folder. It is
-/// issued behind all that was applied.
+/// `issue R NAME`: issues and puts the operation by which replica R creates the folder, after all
+/// applied operations. The inbox is taken to be that of replica R.
 pub fn tell_issue(inbox: &mut Node, fields: &str, answer: &mut Words) {
     match next_op(answer.alloc(), inbox, fields) {
         Ok(op) => issue(inbox, op, answer),
@@ -30,7 +30,7 @@ fn next_op(alloc: Global, inbox: &Node, fields: &str) -> Result<SoundOp, Trouble
     next_create(alloc, inbox, id, name(alloc, folder)?)
 }
 
-/// The id of this replica's next operation behind those that were applied.
+/// The id of this replica's next operation after the applied ones.
 fn next_id(inbox: &Node, replica: ReplicaId) -> Result<OpId, Trouble> {
     match inbox.clock().get(replica).checked_add(1) {
         Some(count) => OpId::new(replica, count).ok_or(Trouble::NotACase),
@@ -38,7 +38,7 @@ fn next_id(inbox: &Node, replica: ReplicaId) -> Result<OpId, Trouble> {
     }
 }
 
-/// The next operation of this replica, which creates this folder.
+/// The replica's next operation, which creates this folder.
 fn next_create(alloc: Global, inbox: &Node, id: OpId, folder: Name) -> Result<SoundOp, Trouble>
     ensures { IfOk result (λ op. IsIssued id_of clock_of inbox.now.seen.applied op) }
 {
@@ -47,7 +47,7 @@ fn next_create(alloc: Global, inbox: &Node, id: OpId, folder: Name) -> Result<So
     into_sound_op(Op { id, clock, kind }).ok_or(Trouble::NotACase)
 }
 
-/// Issues the operation, and tells it.
+/// Issues the operation, and puts it.
 fn issue(inbox: &mut Node, op: SoundOp, answer: &mut Words)
     requires { IsIssued id_of clock_of inbox.old.seen.applied op }
 {

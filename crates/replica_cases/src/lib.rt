@@ -1,4 +1,15 @@
-//! Plays cases of operations, clocks and inboxes, and cases of UIDs, UIDVALIDITY and mod-sequences, one a line, and tells each with what the code answers. What a case is stands in docs/formats.md.
+//! Plays two kinds of cases: operations, clocks and inboxes; and UIDs, UIDVALIDITY and
+//! mod-sequences. The program `node_cases` plays them, and its stored output is what must be
+//! printed.
+//!
+//! A case is a line, a question. It is printed again with the answer that the code gives now, so a
+//! text is printed unchanged exactly if every answer is right. docs/formats.md lists the questions
+//! of the first kind, the head of the cases in `crates/node_cases/stdin` those of the second.
+//!
+//! What no contract says is compared here: that a text is written as it was read, that a damaged
+//! one is, too, and that sets of operations have the same effect in every order of delivery. The
+//! contracts of this crate say only what an inbox needs, such as that an issued operation is the
+//! next one of its replica.
 #![tactic(auto)]
 
 mod clocks;

@@ -1,15 +1,16 @@
-//! Lines of the input, and where their answers go.
+//! Reads the lines of cases, and puts their answers.
 
 use case_lines::{Words, asked};
 use std::alloc::{AllocError, Global};
 
-/// What cases work on.
+/// The state that the lines of cases work on.
 pub trait Plays {
-    /// Does what a line asks, and tells what comes of it.
+    /// Executes a line, and puts its answer.
     fn obey(&mut self, asked: &str, answer: &mut Words);
 }
 
-/// Plays the lines of a text, and tells each with its answer in place of the one that stands there. An error says that there is no memory.
+/// Plays the lines of a text and returns them, each with its new answer in place of the old one.
+/// `Err` if memory runs out.
 pub fn played<P: Plays + Drop>(alloc: Global, stage: P, text: &str) -> Result<Vec<u8>, AllocError> {
     let mut stage = stage;
     let mut page = Words::new(alloc);
@@ -20,7 +21,8 @@ pub fn played<P: Plays + Drop>(alloc: Global, stage: P, text: &str) -> Result<Ve
     page.finish()
 }
 
-/// Tells the line with its answer in place of the one that stands there. Lines of an answer begin with two spaces, and are passed over.
+/// Puts the line with its new answer. Lines that begin with two spaces belong to an old answer and
+/// are passed over.
 fn serve<P: Plays>(stage: &mut P, line: &str, page: &mut Words) {
     if !line.starts_with("  ") {
         let asked = asked(line);

@@ -1,10 +1,10 @@
-//! Texts that are cut off or have another octet somewhere.
+//! Texts that are cut, or have one octet replaced.
 
 use crate::operations::{Finding, found};
 use case_lines::{Words, with_octet};
 use std::alloc::{AllocError, Global};
 
-/// How many texts were found to be what.
+/// How many texts were refused, sound, unsound or changed.
 #[derive(Clone, Copy)]
 pub struct Findings {
     refused: u64,
@@ -33,7 +33,7 @@ impl Findings {
     }
 }
 
-/// Tells how many texts were found to be what.
+/// Puts how many texts were refused, sound, unsound or changed.
 pub fn tell_findings(findings: Findings, answer: &mut Words) {
     answer.put_number(" ", findings.refused);
     answer.put_number(" refused, ", findings.sound);
@@ -42,11 +42,11 @@ pub fn tell_findings(findings: Findings, answer: &mut Words) {
     answer.put(" changed");
 }
 
-/// The octets that take the place of others where none are named.
+/// The octets that replace others if a line names none.
 const STRANGE: [u8; 5] = [0, 10, 32, 126, 255];
 
-/// Where some of a text's shorter fronts, or of what it is with each octet replaced by 0, 10, 32, 126 and 255, aren't given back as they
-/// were read, tells how many.
+/// Puts how many of the text's shorter beginnings, and of the texts with one octet replaced by 0,
+/// 10, 32, 126 or 255, are written otherwise than they were read; nothing if none is.
 pub fn tell_damage(text: &[u8], answer: &mut Words) {
     let cut = of_cuts(answer.alloc(), text).changed;
     let replaced = of_octets(answer.alloc(), text, &STRANGE).changed;
@@ -56,7 +56,7 @@ pub fn tell_damage(text: &[u8], answer: &mut Words) {
     }
 }
 
-/// What the fronts of a text are that are shorter.
+/// What the shorter beginnings of a text are.
 pub fn of_cuts(alloc: Global, text: &[u8]) -> Findings {
     let mut findings = Findings::none();
     for length in 0..text.len() {
@@ -65,7 +65,7 @@ pub fn of_cuts(alloc: Global, text: &[u8]) -> Findings {
     findings
 }
 
-/// What a text is with each of these octets in each place.
+/// What a text is with each of these octets at each place.
 pub fn of_octets(alloc: Global, text: &[u8], octets: &[u8]) -> Findings {
     let mut findings = Findings::none();
     for octet in octets {

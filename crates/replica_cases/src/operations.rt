@@ -1,24 +1,24 @@
-//! The texts of operations: what is read, which of it is sound, and how it is written again.
+//! Reads the texts of operations, checks whether they are sound, and writes and copies them again.
 
 use case_lines::Words;
 use crdt_ops::{Op, OpFault, SoundOp, Unsound, check, read_op};
 use merge_laws::Caused;
 use std::alloc::{AllocError, Global};
 
-/// What is found of a text.
+/// What a text is.
 #[derive(Clone, Copy)]
 pub enum Finding {
     /// It spells no operation.
     NotTheForm,
-    /// It spells one that isn't sound, and this is the first fault.
+    /// It spells an unsound operation, and this is its first fault.
     Unsound(Unsound),
-    /// It spells a sound one, which is written as this very text.
+    /// It spells a sound operation, which is written as this very text.
     Sound,
-    /// It spells one that isn't given back as it was read, or is written or copied as another, or there is no memory to see.
+    /// It spells an operation that is read, written or copied as another, or memory ran out.
     Changed,
 }
 
-/// Tells what is found of a text.
+/// Puts what a text is.
 pub fn tell_finding(finding: Finding, answer: &mut Words) {
     match finding {
         Finding::NotTheForm => answer.put(" no operation"),
@@ -28,7 +28,7 @@ pub fn tell_finding(finding: Finding, answer: &mut Words) {
     }
 }
 
-/// What is found of a text.
+/// What a text is.
 pub fn found(alloc: Global, text: &[u8]) -> Finding {
     match read_op(alloc, text) {
         Ok(op) => found_in(alloc, op, text),
@@ -64,7 +64,7 @@ fn found_sound(alloc: Global, op: &SoundOp, text: &[u8]) -> Finding {
     }
 }
 
-/// Whether the operation is what the text spells, read again.
+/// Whether the text, read again, gives this operation.
 fn is_spelled(alloc: Global, op: &Op, text: &[u8]) -> bool {
     match read_op(alloc, text) {
         Ok(again) => {
@@ -76,7 +76,7 @@ fn is_spelled(alloc: Global, op: &Op, text: &[u8]) -> bool {
     }
 }
 
-/// Whether the operation is written as this text, behind another one.
+/// Whether the operation is written as this text, after other octets.
 fn is_written(alloc: Global, op: &SoundOp, text: &[u8]) -> bool {
     let mut words = Words::new(alloc);
     words.put_op("front ", op);

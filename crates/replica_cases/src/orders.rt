@@ -1,4 +1,4 @@
-//! Operations that are delivered in each order.
+//! Delivers operations in each order.
 
 use crate::dump::tell_state;
 use crate::given::Given;
@@ -13,14 +13,14 @@ use std::alloc::{AllocError, Global};
 /// The most operations that are delivered in each order.
 const MOST: usize = 7;
 
-/// How the orders ended that were tried.
+/// The results of the orders that were tried.
 #[derive(Clone, Copy)]
 struct Tried {
-    /// So many were tried.
+    /// How many orders were tried.
     all: usize,
-    /// In so many of them each operation comes behind its causes.
+    /// How many of them deliver each operation after its causes.
     causal: usize,
-    /// The number of the first that went wrong.
+    /// The number of the first that went wrong, if any.
     wrong: Option<usize>,
 }
 
@@ -44,8 +44,9 @@ impl Tried {
     }
 }
 
-/// `orders`: delivers the operations in each order, each twice in a row, and all and then all again, and in the causal orders
-/// each once; tells how many orders there are, whether all answered and ended as they must, and what they lead to.
+/// `orders`: delivers the operations in each order, each twice in a row, and then all and all
+/// again, and in the causal orders also each once. Puts how many orders there are, whether every
+/// order had the right answers and the same result, and that result.
 pub fn tell_orders(given: &Given, answer: &mut Words) {
     if given.any.len() > MOST {
         answer.put_trouble(" ", Trouble::NotACase);
@@ -76,7 +77,7 @@ fn tell_wrong(wrong: Option<usize>, count: usize, answer: &mut Words) {
     }
 }
 
-/// The places of an order, counted from 1.
+/// Puts the places of an order, counted from 1.
 fn tell_order(number: usize, count: usize, answer: &mut Words) {
     match order(answer.alloc(), number, count) {
         Ok(order) => {
@@ -88,7 +89,8 @@ fn tell_order(number: usize, count: usize, answer: &mut Words) {
     }
 }
 
-/// What an inbox tells that got the operations as they are given; `None` where there is no memory.
+/// The contents of an inbox that received the operations in the order of the case, as text; `None`
+/// if memory ran out.
 fn end_of(alloc: Global, given: &Given) -> Option<Vec<u8>> {
     match replica(alloc, given) {
         Some(mut inbox) => {
@@ -99,14 +101,14 @@ fn end_of(alloc: Global, given: &Given) -> Option<Vec<u8>> {
     }
 }
 
-/// What an inbox tells; `None` where there is no memory for it.
+/// The contents of an inbox as text; `None` if memory ran out.
 fn told(alloc: Global, inbox: &Node) -> Option<Vec<u8>> {
     let mut answer = Words::new(alloc);
     tell_state(inbox.value(), &mut answer);
     answer.finish().ok()
 }
 
-/// An inbox that got the operations that come first; `None` where there is no memory.
+/// An inbox that received the operations that come first; `None` if memory ran out.
 fn replica(alloc: Global, given: &Given) -> Option<Node> {
     match node(alloc) {
         Ok(mut inbox) => {
@@ -123,7 +125,8 @@ fn deliver_all(alloc: Global, inbox: &mut Node, ops: &[SoundOp]) {
     }
 }
 
-/// Delivers a copy of the operation; `None` is a refusal, or an operation that stalls.
+/// Delivers a copy of the operation; `None` if it is refused, if the inbox stalls, or if memory
+/// runs out.
 fn delivered(alloc: Global, inbox: &mut Node, op: &SoundOp) -> Option<Arrival> {
     match op.copy(alloc) {
         Ok(copied) => match deliver(alloc, inbox, copied) {
@@ -165,7 +168,8 @@ fn try_one(alloc: Global, given: &Given, number: usize, end: &[u8], tried: &mut 
     }
 }
 
-/// Whether all goes as it must in this order.
+/// Whether deliveries in this order have the right answers and result, however often each operation
+/// is delivered.
 fn ends_alike(alloc: Global, given: &Given, order: &[usize], is_causal: bool, end: &[u8]) -> bool {
     if !is_so(alloc, given, order, Way::EachTwice, end) {
         return false;
@@ -183,11 +187,12 @@ enum Way {
     EachTwice,
     /// All, and then all again.
     AllTwice,
-    /// Each once, behind its causes.
+    /// Each once, after its causes.
     AsTheyCome,
 }
 
-/// Whether an inbox that got the operations that come first answers the others as it must, and ends so.
+/// Whether an inbox that received the operations that come first gives the right answers to the
+/// others, and has these contents at the end.
 fn is_so(alloc: Global, given: &Given, order: &[usize], way: Way, end: &[u8]) -> bool {
     match replica(alloc, given) {
         Some(mut inbox) => {
@@ -206,7 +211,8 @@ fn is_answered(alloc: Global, inbox: &mut Node, given: &Given, order: &[usize], 
     }
 }
 
-/// Each operation twice in a row: an early one is held, and the second is a repeat.
+/// Delivers each operation twice in a row. One that comes before a cause must be held, and the
+/// second delivery must be a repeat.
 fn each_twice(alloc: Global, inbox: &mut Node, given: &Given, order: &[usize]) -> bool {
     for at in order {
         if !is_repeated(alloc, inbox, given, order, *at) {
@@ -223,14 +229,15 @@ fn is_repeated(alloc: Global, inbox: &mut Node, given: &Given, order: &[usize], 
     is_held == comes_early(&given.causes, order, at) && again == Some(Arrival::Repeat)
 }
 
-/// All operations and then all again: the first time so many are applied as there are, and then none.
+/// Delivers all operations, and then all again. The first time all are applied, the second time
+/// none.
 fn all_twice(alloc: Global, inbox: &mut Node, given: &Given, order: &[usize]) -> bool {
     let once = applied_in_round(alloc, inbox, given, order);
     let again = applied_in_round(alloc, inbox, given, order);
     once == order.len() && again == 0
 }
 
-/// The number of operations applied as each of them is delivered.
+/// The number of operations applied by delivering each operation once.
 fn applied_in_round(alloc: Global, inbox: &mut Node, given: &Given, order: &[usize]) -> usize {
     let mut applied: usize = 0;
     for at in order {
@@ -241,7 +248,8 @@ fn applied_in_round(alloc: Global, inbox: &mut Node, given: &Given, order: &[usi
     applied
 }
 
-/// In a causal order each operation is applied as it comes, and they are listed so.
+/// Delivers operations in a causal order. Each must be applied at once, and they must be listed in
+/// this order.
 fn as_they_come(alloc: Global, inbox: &mut Node, given: &Given, order: &[usize]) -> bool {
     for at in order {
         if delivered_at(alloc, inbox, given, *at) != Some(Arrival::Applied(1)) {
@@ -251,7 +259,7 @@ fn as_they_come(alloc: Global, inbox: &mut Node, given: &Given, order: &[usize])
     are_listed(given, order, inbox.op_list())
 }
 
-/// Whether the list is of those that come first, and then of the others in this order.
+/// Whether the list has the operations that come first, and then the others in this order.
 fn are_listed(given: &Given, order: &[usize], list: &[SoundOp]) -> bool {
     for (at, op) in list.iter().enumerate() {
         match listed_at(given, order, at) {
@@ -262,7 +270,7 @@ fn are_listed(given: &Given, order: &[usize], list: &[SoundOp]) -> bool {
     true
 }
 
-/// The operation that must stand at this place of the list.
+/// The operation that must be at this place of the list.
 fn listed_at<'a>(given: &'a Given, order: &[usize], at: usize) -> Option<&'a SoundOp> {
     match at.checked_sub(given.first.len()) {
         None => given.first.get(at),
@@ -270,7 +278,7 @@ fn listed_at<'a>(given: &'a Given, order: &[usize], at: usize) -> Option<&'a Sou
     }
 }
 
-/// Whether all operations were applied, none is held, and the inbox tells this.
+/// Whether all operations were applied, none is held, and the inbox has these contents.
 fn all_applied(alloc: Global, given: &Given, inbox: &Node, end: &[u8]) -> bool {
     let count = inbox.op_list().len().checked_sub(given.first.len());
     if count != Some(given.any.len()) || !inbox.held().is_empty() {

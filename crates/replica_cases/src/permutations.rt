@@ -2,7 +2,7 @@
 
 use std::alloc::{AllocError, Global};
 
-/// The number of orders of so many.
+/// The number of orders of `count` operations.
 pub fn orders_of(count: usize) -> usize {
     let mut orders: usize = 1;
     for next in 0..count {
@@ -11,7 +11,8 @@ pub fn orders_of(count: usize) -> usize {
     orders
 }
 
-/// The order of this number: each of them is put into one of the places among those before it.
+/// The order with this number, of `count` operations: each of them is inserted at one of the places
+/// among those before it. `Err` if memory runs out.
 pub fn order(alloc: Global, number: usize, count: usize) -> Result<Vec<usize>, AllocError> {
     let mut order = Vec::new(alloc);
     let mut code = number;
@@ -24,7 +25,7 @@ pub fn order(alloc: Global, number: usize, count: usize) -> Result<Vec<usize>, A
     Ok(order)
 }
 
-/// Where an operation stands in an order.
+/// The place of an operation in an order; the length of the order if it isn't in it.
 fn place(order: &[usize], op: usize) -> usize {
     for (at, other) in order.iter().enumerate() {
         if *other == op {

@@ -1,4 +1,4 @@
-//! What is asked in each line.
+//! Executes the lines of cases of operations, clocks and inboxes.
 
 use crate::clocks::{ClockWord, answer_clock};
 use crate::fields::add_op;
@@ -15,20 +15,20 @@ use imap_types::Escape;
 use std::alloc::{AllocError, Global};
 use std::mem;
 
-/// What is asked of texts.
+/// A question about a text.
 #[derive(Clone, Copy)]
 enum TextWord {
     /// `op LINE`: what the line is.
     Op,
-    /// `octets TEXT`: what the line is that this spells in the escape.
+    /// `octets TEXT`: what the line is that TEXT spells in the escape.
     Octets,
-    /// `cuts LINE`: what its fronts are.
+    /// `cuts LINE`: what its shorter beginnings are.
     Cuts,
-    /// `replaced OCTETS LINE`: what it is with another octet somewhere.
+    /// `replaced OCTETS LINE`: what the line is with each octet at each place.
     Replaced,
 }
 
-/// What is asked of the operations that the case gave.
+/// A question about the operations that the case gave.
 #[derive(Clone, Copy)]
 enum GivenWord {
     /// `pairs`: which are the same.
@@ -39,7 +39,7 @@ enum GivenWord {
     Orders,
 }
 
-/// What the first word of a line asks.
+/// What the first word of a line asks for.
 #[derive(Clone, Copy)]
 enum Word {
     /// Nothing: the line is a comment.
@@ -50,11 +50,11 @@ enum Word {
     First,
     /// `any CAUSES LINE`: adds an operation that comes in each order.
     Any,
-    /// Has an answer.
+    /// A question, which has an answer.
     Asks(Asks),
 }
 
-/// What is asked.
+/// A question.
 #[derive(Clone, Copy)]
 enum Asks {
     Text(TextWord),
@@ -97,7 +97,8 @@ const WORDS: &[(&str, Word)] = &[
     ("orders", Word::Asks(Asks::Given(GivenWord::Orders))),
 ];
 
-/// Plays the lines of a text, and tells each with its answer in place of the one that stands there. An error says that there is no memory.
+/// Plays cases of operations, clocks and inboxes, and returns them with their new answers. `Err` if
+/// memory runs out.
 pub fn play(alloc: Global, text: &str) -> Result<Vec<u8>, AllocError> {
     match Stage::new(alloc) {
         Ok(stage) => played(alloc, stage, text),
@@ -105,7 +106,7 @@ pub fn play(alloc: Global, text: &str) -> Result<Vec<u8>, AllocError> {
     }
 }
 
-/// Passes over a comment, begins a case, takes an operation that is given, or answers what is asked.
+/// Passes over a comment, begins a case, takes an operation that the case gives, or puts an answer.
 impl Plays for Stage {
     fn obey(&mut self, asked: &str, answer: &mut Words) {
         let (word, fields) = parted(asked, " ");

@@ -1,4 +1,4 @@
-//! Sets of ids and ascending lists of names.
+//! Questions about sets of ids and ascending lists of names.
 
 use crate::fields::{Gathers, id, take_each};
 use case_lines::{Trouble, Words, name, parted};
@@ -6,18 +6,18 @@ use crdt_ops::{Ids, insert_name};
 use imap_types::Name;
 use std::alloc::{AllocError, Global};
 
-/// What is asked of sets.
+/// A question about a set.
 #[derive(Clone, Copy)]
 pub enum SetWord {
-    /// `ids IDS`: the set of them.
+    /// `ids IDS`: the set of these ids.
     Ids,
-    /// `contains ID IDS`: whether it is among them.
+    /// `contains ID IDS`: whether the id is among them.
     Contains,
     /// `names NAME NAME ..`: the names ascending, each once.
     Names,
 }
 
-/// Answers what is asked of sets.
+/// Puts the answer to a question about a set.
 pub fn answer_set(word: SetWord, fields: &str, answer: &mut Words) {
     let (of, ids) = parted(fields, " ");
     match word {
@@ -27,7 +27,7 @@ pub fn answer_set(word: SetWord, fields: &str, answer: &mut Words) {
     }
 }
 
-/// Ids are put in one after another.
+/// The fields of a set are its ids.
 impl Gathers for Ids {
     fn take(&mut self, _alloc: Global, field: &str) -> Result<(), Trouble> {
         self.insert(id(field)?)?;
@@ -35,7 +35,7 @@ impl Gathers for Ids {
     }
 }
 
-/// The ids, or whether this one is among them.
+/// Puts the ids, or whether `of` is among them.
 fn tell_ids(of: Option<&str>, text: &str, answer: &mut Words) {
     let mut ids = Ids::none(answer.alloc());
     match take_each(answer.alloc(), &mut ids, ',', text) {
@@ -47,7 +47,7 @@ fn tell_ids(of: Option<&str>, text: &str, answer: &mut Words) {
     }
 }
 
-/// A copy of the ids.
+/// Puts a copy of the ids.
 fn tell_copied(ids: &Ids, answer: &mut Words) {
     match ids.copy(answer.alloc()) {
         Ok(copied) => {
@@ -73,7 +73,7 @@ fn tell_placed(fields: &str, answer: &mut Words) {
     }
 }
 
-/// Names are put into their places.
+/// Each name is inserted at its place in the ascending list.
 impl Gathers for Vec<Name> {
     fn take(&mut self, alloc: Global, field: &str) -> Result<(), Trouble> {
         let name = name(alloc, field)?;

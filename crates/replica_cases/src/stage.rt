@@ -1,4 +1,4 @@
-//! What a case works on.
+//! The state that a case of operations works on.
 
 ghost use Rattle.std.specs.Prelude.{◌≡◌};
 ghost use Rattle.folder_state.specs.Contents.{no_contents};
@@ -20,7 +20,7 @@ pub type Mailboxes = Pair<Folders, Subs>;
 /// A replica's inbox.
 pub type Node = Inbox<Mailboxes, FirstFollower<Unfollowed>>;
 
-/// What a case works on: an inbox, and operations for it.
+/// The state that a case works on: an inbox, and operations for it.
 #[derive(Drop)]
 pub struct Stage {
     /// The inbox.
@@ -30,7 +30,7 @@ pub struct Stage {
 }
 
 impl Stage {
-    /// An inbox that received nothing, and no operations. An error says that there is no memory.
+    /// An inbox that received nothing, and no operations. `Err` if memory runs out.
     pub fn new(alloc: Global) -> Result<Stage, AllocError> {
         match node(alloc) {
             Ok(inbox) => Ok(Stage {
@@ -42,7 +42,7 @@ impl Stage {
     }
 }
 
-/// Folders and subscriptions, with nothing in them.
+/// No folders and no subscriptions.
 pub fn empty(alloc: Global) -> Mailboxes
     ensures folders { contents_of result.first ≡ no_contents }
     ensures subs { subscriptions_of result.second ≡ no_subscriptions }
@@ -53,7 +53,7 @@ pub fn empty(alloc: Global) -> Mailboxes
     }
 }
 
-/// An inbox that received nothing. An error says that there is no memory.
+/// An inbox that received nothing. `Err` if memory runs out.
 pub fn node(alloc: Global) -> Result<Node, AllocError> {
     let follower = FirstFollower {
         follower: Unfollowed,

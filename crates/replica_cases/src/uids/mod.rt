@@ -1,4 +1,5 @@
-//! Plays cases of UIDs, UIDVALIDITY and mod-sequences, one a line, and tells each with what the code answers. What a case is stands at the head of the cases.
+//! Cases of UIDs, UIDVALIDITY and mod-sequences. The head of these cases in
+//! `crates/node_cases/stdin` says what a case is.
 
 mod requests;
 mod stage;

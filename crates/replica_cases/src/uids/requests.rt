@@ -1,4 +1,4 @@
-//! What is asked in each line.
+//! Executes the lines of cases of UIDs.
 
 ghost use Rattle.std.specs.Prelude.{◌≤◌, IfOk};
 
@@ -13,7 +13,7 @@ use std::alloc::{AllocError, Global};
 use std::mem;
 use uid_projection::Counters;
 
-/// What the first word of a line asks.
+/// What the first word of a line asks for.
 #[derive(Clone, Copy)]
 enum Word {
     /// Nothing: the line is a comment or a title.
@@ -22,11 +22,11 @@ enum Word {
     Begin,
     /// `apply LINE`: delivers an operation.
     Apply,
-    /// `next LINE`: adds an operation that comes next, behind the others.
+    /// `next LINE`: adds an operation after the other ones that come next.
     Next,
     /// `ready`: whether each of the operations that come next has the numbers that it needs.
     Ready,
-    /// Asks of a folder.
+    /// A question about a folder.
     Of(Asked),
 }
 
@@ -44,7 +44,7 @@ const WORDS: &[(&str, Word)] = &[
     ("changed", Word::Of(Asked::Changed)),
 ];
 
-/// Plays the lines of a text, and tells each with its answer in place of the one that stands there. An error says that there is no memory.
+/// Plays cases of UIDs and returns them with their new answers. `Err` if memory runs out.
 pub fn play(alloc: Global, text: &str) -> Result<Vec<u8>, AllocError> {
     match start("1 1 1") {
         Ok(start) => play_from(alloc, start, text),
@@ -61,7 +61,7 @@ fn play_from(alloc: Global, start: Counters, text: &str) -> Result<Vec<u8>, Allo
     }
 }
 
-/// Passes over comments and titles, begins a case, takes an operation, or answers what is asked.
+/// Passes over comments and titles, begins a case, takes an operation, or puts an answer.
 impl Plays for Stage {
     fn obey(&mut self, asked: &str, answer: &mut Words) {
         let (word, fields) = parted(asked, " ");
@@ -77,7 +77,8 @@ impl Plays for Stage {
     }
 }
 
-/// `node R U K`: begins a case: replica R has received nothing, INBOX's first UID is U, and K the first k.
+/// `node R U K`: begins a case. Replica R has received nothing, its first UID in INBOX is U, and K
+/// is the first k of other folders.
 fn begin(stage: &mut Stage, fields: &str, answer: &mut Words) {
     match start(fields) {
         Ok(start) => restart(stage, start, answer),
@@ -105,7 +106,7 @@ fn start(fields: &str) -> Result<Counters, Trouble>
     }
 }
 
-/// `apply LINE`: delivers an operation; answers where that doesn't apply it alone.
+/// `apply LINE`: delivers an operation; puts an answer unless this applies exactly that operation.
 fn apply(inbox: &mut Node, line: &str, answer: &mut Words) {
     match operation(answer.alloc(), line) {
         Ok(op) => tell_delivery(inbox, op, answer),
@@ -136,14 +137,14 @@ fn tell_fault(fault: DeliverFault, answer: &mut Words) {
     }
 }
 
-/// `next LINE`: adds an operation that comes next, behind the others.
+/// `next LINE`: adds an operation after the other ones that come next.
 fn take_next(stage: &mut Stage, line: &str, answer: &mut Words) {
     if let Err(trouble) = add_op(answer.alloc(), &mut stage.next, line) {
         answer.put_trouble(" ", trouble);
     }
 }
 
-/// `ready`: whether each of the operations that come next has the numbers that it needs.
+/// `ready`: puts whether each of the operations that come next has the numbers that it needs.
 fn tell_ready(stage: &mut Stage, answer: &mut Words) {
     match make_ready(answer.alloc(), &mut stage.inbox, &stage.next) {
         Ok(()) => answer.put(" => yes"),

@@ -1,4 +1,4 @@
-//! What a case works on.
+//! The state that a case of UIDs works on.
 
 ghost use Rattle.std.specs.Prelude.{◌≡◌, ◌≤◌, IfOk};
 ghost use Rattle.folder_state.specs.Contents.{IsMadeBy};
@@ -19,7 +19,7 @@ use uid_projection::{Charts, Counters};
 /// A replica's inbox, whose charts follow its folders.
 pub type Node = Inbox<Mailboxes, FirstFollower<Charts>>;
 
-/// What a case works on: an inbox, and operations that come next.
+/// The state that a case works on: an inbox, and operations that come next.
 #[derive(Drop)]
 pub struct Stage {
     /// The inbox.
@@ -29,7 +29,8 @@ pub struct Stage {
 }
 
 impl Stage {
-    /// An inbox that received nothing, whose counters begin so, and no operations. An error says that there is no memory.
+    /// An inbox that received nothing, with these counters, and no operations. `Err` if memory runs
+    /// out.
     pub fn new(alloc: Global, start: Counters) -> Result<Stage, AllocError>
         requires { 1 ≤ start.uid }
     {
@@ -43,7 +44,7 @@ impl Stage {
     }
 }
 
-/// An inbox that received nothing. An error says that there is no memory.
+/// An inbox that received nothing, with these counters. `Err` if memory runs out.
 fn node(alloc: Global, start: Counters) -> Result<Node, AllocError>
     requires { 1 ≤ start.uid }
 {
@@ -77,7 +78,7 @@ pub fn folders(inbox: &Node) -> &Folders
     &inbox.value().first
 }
 
-/// The folder's listing, of the operations that the inbox applied; `Err` where there is no memory for it.
+/// The folder's listing after the operations that the inbox applied. `Err` if memory runs out.
 pub fn listing<'a>(alloc: Global, inbox: &'a Node, name: &Name) -> Result<Rows<'a>, AllocError>
     ensures { IfOk result (λ rows. rows ≡ listing inbox.now.seen.start name.now inbox.now.seen.applied) }
 {

@@ -1,4 +1,4 @@
-//! What the charts tell of a folder.
+//! Questions about the UIDs and mod-sequences of a folder.
 
 use crate::uids::stage::{Node, Stage, charts, folders, listing};
 use case_lines::{Words, long_number, name, number, parted};
@@ -7,12 +7,12 @@ use mailbox_rows::{Row, Rows};
 use modseq_index::{changed_since, highest};
 use std::alloc::AllocError;
 
-/// What is asked of a folder.
+/// A question about a folder.
 #[derive(Clone, Copy)]
 pub enum Asked {
     /// `folder NAME`: its UIDVALIDITY, UIDNEXT and HIGHESTMODSEQ, and its messages.
     Folder,
-    /// `after NAME`: the same, as the operations that come next would leave them.
+    /// `after NAME`: what `folder NAME` asks for, as the operations that come next would leave it.
     After,
     /// `row NAME UID`: the message with the UID, and when it was received.
     Row,
@@ -20,7 +20,7 @@ pub enum Asked {
     Changed,
 }
 
-/// Answers what is asked of the folder that is named.
+/// Puts the answer about the folder that the line names.
 pub fn tell_of(stage: &Stage, asked: Asked, fields: &str, answer: &mut Words) {
     answer.put(" =>");
     let (folder, number) = match asked {
@@ -144,7 +144,7 @@ fn tell_place(rows: &Rows<'_>, place: usize, answer: &mut Words) {
     }
 }
 
-/// UID, mod-sequence, the ids of its versions, origin, flags and text of a message.
+/// Puts a message's UID, mod-sequence, version ids, origin, flags and text.
 fn tell_row(row: &Row<'_>, answer: &mut Words) {
     answer.put_number(" ", u64::from(row.uid));
     answer.put_number(" ", row.modseq);
