@@ -1,4 +1,4 @@
-//! Lines that say what happens in a world.
+//! Reads the lines that say what happens in a world.
 
 use case_lines::{Trouble, number, replica};
 use imap_grammar::{Tagged, idle_line, parse};
@@ -10,12 +10,14 @@ use text_fields::id;
 use uid_projection::Counters;
 use world_core::Event;
 
-/// What stands before the first space and behind it; without one the whole text and nothing.
+/// The text before the first space, and the text after it; without a space the whole text and
+/// nothing.
 pub fn cut(text: &str) -> (&str, &str) {
     text.split_once(' ').unwrap_or((text, ""))
 }
 
-/// The event that a line says: `open R`, `command R S TEXT`, `line R S TEXT`, `poll R S`, `deliver R ID`, `drain R`, `close R S` or `join R S`.
+/// The event that a line says: `open R`, `command R S TEXT`, `line R S TEXT`, `poll R S`, `deliver
+/// R ID`, `drain R`, `close R S` or `join R S`.
 pub fn event(alloc: Global, line: &str) -> Result<Event, Trouble> {
     let (word, rest) = cut(line);
     match word {
@@ -46,7 +48,7 @@ fn delivery(text: &str) -> Result<Event, Trouble> {
     })
 }
 
-/// What comes of a session.
+/// The event of a session.
 fn said(alloc: Global, word: &str, text: &str) -> Result<Event, Trouble> {
     let (at, rest) = cut(text);
     let (session, text) = cut(rest);
@@ -78,7 +80,7 @@ fn command(alloc: Global, at: ReplicaId, session: SessionNo, text: &str) -> Resu
     })
 }
 
-/// The octets that a text in the escape stands for, and a line end.
+/// The octets that a text in the escape spells, and CRLF.
 fn frame(alloc: Global, text: &str) -> Result<Vec<u8>, Trouble> {
     let Ok(octets) = read_escaped(alloc, Escape::Text, text.as_bytes()) else {
         return Err(Trouble::NotACase);
@@ -104,7 +106,8 @@ fn session_in(text: &str) -> Result<SessionNo, Trouble> {
     SessionNo::new(number(text)? as usize).ok_or(Trouble::NotACase)
 }
 
-/// The replicas that a line declares: names with single spaces, each also as `R:U:K` with its first numbers.
+/// The replicas that a line declares: names separated by single spaces, each also as `R:U:K` with
+/// its first numbers.
 pub fn starts(alloc: Global, text: &str) -> Result<Vec<Counters>, Trouble> {
     let mut starts = Vec::new(alloc);
     for word in text.split(' ') {

@@ -2,14 +2,14 @@
 
 ghost use Rattle.std.specs.Prelude.{◌<◌};
 
-/// A row of numbers that look random, the same each time.
+/// A sequence of numbers that look random, the same each time.
 #[derive(Drop)]
 pub struct Chance {
     state: u64,
 }
 
 impl Chance {
-    /// The row with this number.
+    /// The sequence with this number.
     pub fn new(number: u64) -> Chance {
         Chance {
             state: number.wrapping_mul(0x9E37_79B9_7F4A_7C15),
@@ -28,7 +28,7 @@ impl Chance {
         (self.state >> 33) as u32 % limit
     }
 
-    /// Whether it comes out, in one of so many cases.
+    /// True for one number in `cases`, on average.
     pub fn is_one_in(&mut self, cases: u32) -> bool
         requires { 0 < cases }
     {

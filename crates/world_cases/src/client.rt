@@ -1,4 +1,4 @@
-//! A plain client: what it makes of what it is told.
+//! A plain client, which learns about a mailbox only from answers.
 
 use imap_answers::{Answer, FetchItems, Notice};
 use imap_types::Flags;
@@ -8,20 +8,20 @@ use std::alloc::{AllocError, Global};
 /// A message as the client knows it.
 #[derive(Drop)]
 struct Slot {
-    /// Its UID, where an answer told it.
+    /// Its UID, if an answer reported it.
     uid: Option<u32>,
-    /// Its flags, where an answer told them, or it set them in silence.
+    /// Its flags, if an answer reported them or the client set them silently.
     flags: Option<Flags>,
 }
 
 /// What a client knows of the mailbox that it selected.
 #[derive(Drop)]
 pub struct Client {
-    /// The messages by their numbers.
+    /// The messages, by message number.
     slots: Vec<Slot>,
-    /// The UIDVALIDITY, where an answer told it.
+    /// The UIDVALIDITY, if an answer reported it.
     validity: Option<u32>,
-    /// An answer spoke of a message that isn't there, or of fewer messages than there are.
+    /// Whether an answer named a missing message, or counted fewer messages than the client has.
     is_lost: bool,
 }
 
@@ -35,17 +35,17 @@ impl Client {
         }
     }
 
-    /// How many messages there are.
+    /// How many messages the client knows to exist.
     pub fn count(&self) -> usize {
         self.slots.len()
     }
 
-    /// The UIDVALIDITY, where it was told.
+    /// The UIDVALIDITY, if an answer reported it.
     pub fn validity(&self) -> Option<u32> {
         self.validity
     }
 
-    /// Takes answers, one after another. An error says that there is no memory.
+    /// Takes answers, one after another. `Err` if memory runs out.
     pub fn take_all(&mut self, alloc: Global, answers: &[Answer]) -> Result<(), AllocError> {
         for answer in answers {
             self.take(alloc, answer)?;
@@ -53,7 +53,7 @@ impl Client {
         Ok(())
     }
 
-    /// Takes an answer (RFC 9051, section 7). An error says that there is no memory.
+    /// Takes an answer (RFC 9051, section 7). `Err` if memory runs out.
     pub fn take(&mut self, alloc: Global, answer: &Answer) -> Result<(), AllocError> {
         match answer {
             Answer::Expunge { number } => {
@@ -70,8 +70,8 @@ impl Client {
         }
     }
 
-    /// Takes flags that it set in silence (RFC 9051, section 6.4.6), of one message after another. An error says that there is no
-    /// memory.
+    /// Takes flags that the client set silently (RFC 9051, section 6.4.6), of one message after
+    /// another. `Err` if memory runs out.
     pub fn set_all(&mut self, alloc: Global, silents: &[SilentFlags]) -> Result<(), AllocError> {
         for silent in silents {
             self.set(alloc, silent)?;
@@ -127,7 +127,8 @@ impl Client {
         }
     }
 
-    /// Whether all that the client knows of messages is as this other client, which knows all, has it.
+    /// Whether all that the client knows of messages is right by another client, which knows
+    /// everything.
     pub fn is_right_by(&self, other: &Client) -> bool {
         if self.is_lost || self.slots.len() != other.slots.len() {
             return false;
@@ -140,7 +141,7 @@ impl Client {
         true
     }
 
-    /// Whether all that the client knows of messages is as a session sees it.
+    /// Whether all that the client knows of messages is what a session sees.
     pub fn is_right_for(&self, entries: &ViewEntries) -> bool {
         if self.is_lost || self.slots.len() != entries.len() {
             return false;
@@ -165,7 +166,7 @@ impl Slot {
         Ok(())
     }
 
-    /// Whether what is known of the message is so.
+    /// Whether what is known of the message equals these values.
     fn is_right(&self, uid: Option<u32>, flags: Option<&Flags>) -> bool {
         let has_uid = self.uid.is_none() || self.uid == uid;
         has_uid && self.has_right_flags(flags)
@@ -180,7 +181,7 @@ impl Slot {
     }
 }
 
-/// The place of the message with this number, from 1 on; that of no message for 0.
+/// The place of the message with this number, counted from 1; that of no message for 0.
 fn place_of(number: u32) -> usize {
     match number.checked_sub(1) {
         Some(place) => place as usize,

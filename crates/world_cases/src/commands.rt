@@ -1,14 +1,14 @@
-//! Commands by chance.
+//! Random commands.
 
 use crate::chance::Chance;
 use std::alloc::{AllocError, Global};
 
-/// What a command makes of its session's mailbox.
+/// The effect of a command on its session's mailbox.
 #[derive(Clone, Copy)]
 pub enum Sort {
-    /// It selects one.
+    /// It selects a mailbox.
     Selecting,
-    /// It leaves the one that is selected.
+    /// It leaves the selected mailbox.
     Leaving,
     /// Neither.
     Other,
@@ -19,11 +19,11 @@ pub enum Sort {
 pub struct Said {
     /// The command, with its tag and line end.
     pub text: String,
-    /// What it makes of the session's mailbox.
+    /// Its effect on the session's mailbox.
     pub sort: Sort,
 }
 
-/// A command that the numbers choose: one that selects a mailbox in half of the cases where none is selected.
+/// A random command. If no mailbox is selected, every second one selects a mailbox.
 pub fn command(alloc: Global, chance: &mut Chance, is_selected: bool) -> Result<Said, AllocError> {
     if !is_selected && chance.is_one_in(2) {
         return selecting(alloc, chance);
@@ -73,7 +73,7 @@ fn leaving(alloc: Global, chance: &mut Chance) -> Result<Said, AllocError> {
     })
 }
 
-/// INBOX mostly, so that sessions and replicas meet there.
+/// Mostly INBOX, so that sessions and replicas meet there.
 fn name(chance: &mut Chance) -> &'static str {
     match chance.below(6) {
         0 => "work",

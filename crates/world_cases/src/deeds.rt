@@ -1,4 +1,4 @@
-//! Events by chance.
+//! Random events.
 
 ghost use Rattle.std.specs.Prelude.{◌<◌};
 
@@ -17,30 +17,30 @@ use world_core::Event;
 /// How many replicas a random world has.
 pub const REPLICAS: u32 = 5;
 
-/// How many sessions of a replica, from 1 on, say something.
+/// How many sessions of each replica, counted from 1, issue commands.
 pub const SESSIONS: u32 = 3;
 
-/// An event, and what a client has to know of it.
+/// An event, and what its client must know of it.
 #[derive(Drop)]
 pub struct Noted {
-    /// What happens.
+    /// The event.
     pub event: Event,
-    /// Where it happens.
+    /// Its session, and its effect on the selected mailbox.
     pub note: Note,
 }
 
-/// The session of an event, and what the event makes of its mailbox.
+/// The session of an event, and the event's effect on the session's mailbox.
 #[derive(Clone, Copy)]
 pub struct Note {
     /// The replica's number, from 1 on.
     pub at: u32,
     /// The session's number at its replica, from 1 on.
     pub session: u32,
-    /// What the event makes of the session's mailbox.
+    /// The effect on the session's mailbox.
     pub sort: Sort,
 }
 
-/// Something that happens at one of these nodes.
+/// A random event at one of these nodes. `Err` if memory runs out.
 pub fn deed(alloc: Global, chance: &mut Chance, nodes: &[Node]) -> Result<Noted, Trouble> {
     let note = Note {
         at: one_of(chance, REPLICAS),
@@ -58,7 +58,7 @@ pub fn deed(alloc: Global, chance: &mut Chance, nodes: &[Node]) -> Result<Noted,
     }
 }
 
-/// A number from 1 to this one.
+/// A number from 1 to `count`.
 fn one_of(chance: &mut Chance, count: u32) -> u32
     requires { 0 < count }
 {
@@ -103,7 +103,8 @@ fn leaving(chance: &mut Chance, at: ReplicaId, session: SessionNo) -> Event {
     }
 }
 
-/// What a replica issued, or may issue next, comes to this one: mostly one of those that it lacks.
+/// Delivers to this replica an operation that another one issued, or may issue next: mostly one
+/// that it lacks.
 fn delivery(chance: &mut Chance, at: ReplicaId, nodes: &[Node]) -> Result<Event, Trouble> {
     let source = replica(one_of(chance, REPLICAS))?;
     let issued = count(nodes, source, source);
@@ -123,7 +124,7 @@ fn delivery(chance: &mut Chance, at: ReplicaId, nodes: &[Node]) -> Result<Event,
     })
 }
 
-/// How many operations of a replica the node with this name applied.
+/// How many operations of the replica `source` the node with this name applied; at most 1,000,000.
 fn count(nodes: &[Node], name: ReplicaId, source: ReplicaId) -> u32 {
     for node in nodes {
         if node.replica().id() == name {
@@ -133,7 +134,7 @@ fn count(nodes: &[Node], name: ReplicaId, source: ReplicaId) -> u32 {
     0
 }
 
-/// A session says something, or is polled.
+/// A session issues a command or a line, or is polled.
 fn speaking(
     alloc: Global,
     chance: &mut Chance,

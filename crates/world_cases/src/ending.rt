@@ -1,4 +1,4 @@
-//! What is asked of replicas at the end.
+//! Settles and compares the replicas of a world.
 
 ghost use Rattle.std.specs.Prelude.{IsTrue};
 ghost use Rattle.world_core.specs.Worlds.{AreFromOne};
@@ -8,7 +8,7 @@ use std::alloc::Global;
 use uid_projection::Counters;
 use world_core::{Agreement, SettleFault, agree, settle};
 
-/// Whether their UIDs begin with 1 or more.
+/// Whether the first UID of each replica is at least 1.
 pub fn are_from_one(starts: &[Counters]) -> bool
     ensures { IsTrue result → AreFromOne starts.now }
 {
@@ -20,7 +20,7 @@ pub fn are_from_one(starts: &[Counters]) -> bool
     true
 }
 
-/// What settling the nodes comes to.
+/// The result of settling the nodes, as text.
 pub fn ended(alloc: Global, nodes: &mut [Node]) -> &'static str {
     match settle(alloc, nodes) {
         Ok(()) => "Ok",
@@ -30,7 +30,7 @@ pub fn ended(alloc: Global, nodes: &mut [Node]) -> &'static str {
     }
 }
 
-/// How two nodes stand to one another.
+/// Whether two nodes agree, as text.
 pub fn agreement(one: &Node, other: &Node) -> &'static str {
     match agree(one, other) {
         Agreement::Same => "Same",

@@ -18,10 +18,10 @@ use world_core::{Agreement, Event, Outcomes, World, agree, run, settle};
 /// How many events happen in a random world.
 const EVENTS: u32 = 300;
 
-/// The most events of one run: between two runs the next ones are made up.
+/// The most events of one run. The events of the next run are chosen after it.
 const MOST_IN_RUN: u32 = 10;
 
-/// A random world as it goes on.
+/// A random world and how it went so far.
 #[derive(Drop)]
 struct Game {
     world: World,
@@ -32,13 +32,13 @@ struct Game {
 #[derive(Drop)]
 struct Course {
     watch: Watch,
-    /// So many events were taken, and not passed over.
+    /// How many events were taken, and not passed over.
     taken: u32,
-    /// What went wrong, if something did.
+    /// What went wrong, if anything.
     wrong: Option<&'static str>,
 }
 
-/// Plays the worlds with the numbers from the first to the last, and tells what came of them.
+/// Plays the worlds with the numbers from the first to the last, and puts what occurred in them.
 pub fn tell_random(
     alloc: Global,
     asked: &str,
@@ -100,7 +100,7 @@ fn start(number: u32) -> Result<Counters, Trouble>
     }
 }
 
-/// Lets so many events happen in one run.
+/// Runs `count` random events in one run.
 fn go_on(
     alloc: Global,
     chance: &mut Chance,
@@ -115,7 +115,7 @@ fn go_on(
     judged(alloc, &notes, outcomes, course, tally)
 }
 
-/// Events at these nodes, and what clients have to know of them.
+/// Random events at these nodes; `notes` gets what clients must know of them.
 fn made_up(
     alloc: Global,
     chance: &mut Chance,
@@ -132,7 +132,7 @@ fn made_up(
     Ok(events)
 }
 
-/// The game behind a run.
+/// The game after a run, and whether its sessions see what their clients received.
 fn judged(
     alloc: Global,
     notes: &[Note],
@@ -193,7 +193,7 @@ fn end(alloc: Global, number: u64, game: Game, tally: &mut Tally) -> Result<(), 
     Ok(())
 }
 
-/// How many operations the nodes issued in all.
+/// How many operations the nodes issued in total.
 fn issued_by(nodes: &[Node]) -> u64 {
     let mut count = 0_u64;
     for node in nodes {
@@ -203,7 +203,7 @@ fn issued_by(nodes: &[Node]) -> u64 {
     count
 }
 
-/// Whether each node applied so many operations, and holds none.
+/// Whether each node applied `count` operations, and holds none.
 fn all_applied(nodes: &[Node], count: u64) -> bool {
     for node in nodes {
         if node.op_list().len() as u64 != count || node.held().len() != 0 {
@@ -231,7 +231,7 @@ fn agrees_with(node: &Node, others: &[Node]) -> bool {
     true
 }
 
-/// Whether the dumps of all nodes are the same, but for the name in their first lines.
+/// Whether the dumps of all nodes are the same except for the replica's name in the first line.
 fn hold_the_same(alloc: Global, nodes: &[Node]) -> Result<bool, AllocError> {
     let Some((first, others)) = nodes.split_first() else {
         return Ok(true);

@@ -1,5 +1,15 @@
-//! Plays worlds of replicas: worked ones, whose events stand line by line in a text, and random ones by their numbers. It tells the
-//! text again, with what comes of each event now, so that where all is right both texts are the same. And it plays generated runs in which a session idles.
+//! Plays worlds of replicas: worked ones, whose events a text lists line by line, and random ones,
+//! by their numbers. It also plays generated runs in which a session idles. The program
+//! `node_cases` plays them, and its stored output is what must be printed; docs/formats.md says
+//! what a case is.
+//!
+//! The text of a worked world is printed again with the outcomes that its events have now, so it is
+//! printed unchanged exactly if every outcome is right. After each run of a random world each
+//! session must see what a plain client makes of its replies. At the end the replicas settle, must
+//! have applied every operation that was issued, agree, and have equal dumps.
+//!
+//! Proved is only what `world_core` needs of its callers, such as that the UIDs of a world begin
+//! with 1 or more; the rest is compared.
 #![tactic(auto)]
 
 mod asked;

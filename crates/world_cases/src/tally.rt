@@ -1,4 +1,4 @@
-//! What came in random worlds.
+//! The outcomes and answers that occurred in random worlds.
 
 use case_lines::Words;
 use causal_inbox::{Arrival, Delivered};
@@ -6,12 +6,13 @@ use imap_answers::Answer;
 use imap_node::Reply;
 use world_core::Outcome;
 
-/// What came in random worlds: each kind of outcome and of answer that was met.
+/// The kinds of outcomes and answers that occurred in random worlds, and the first world that went
+/// wrong.
 #[derive(Drop)]
 pub struct Tally {
     /// The first world that went wrong, and how.
     pub first_wrong: Option<(u64, &'static str)>,
-    /// In some world no more than a quarter of the events were taken.
+    /// Whether in some world at most a quarter of the events were taken.
     pub has_idle_world: bool,
     has_opened: bool,
     has_done: bool,
@@ -25,14 +26,14 @@ pub struct Tally {
     has_exists: bool,
     has_expunge: bool,
     has_fetch: bool,
-    /// Flags were set in silence.
+    /// Whether flags were set silently.
     pub has_silent: bool,
-    /// An event was refused that none should be.
+    /// Whether something occurred that never should: an event refused, or a delivery that stalls.
     pub has_strange: bool,
 }
 
 impl Tally {
-    /// Nothing was met.
+    /// No world was played.
     pub fn new() -> Tally {
         Tally {
             first_wrong: None,
@@ -54,14 +55,14 @@ impl Tally {
         }
     }
 
-    /// A world went wrong.
+    /// Notes that a world went wrong.
     pub fn miss(&mut self, world: u64, how: &'static str) {
         if self.first_wrong.is_none() {
             self.first_wrong = Some((world, how));
         }
     }
 
-    /// Notes an outcome; whether its event was taken.
+    /// Notes an outcome; returns whether its event was taken.
     pub fn note(&mut self, outcome: &Outcome) -> bool {
         match outcome {
             Outcome::Opened { .. } => self.has_opened = true,
@@ -94,7 +95,7 @@ impl Tally {
         }
     }
 
-    /// Notes answers that a client hears.
+    /// Notes answers that a client received.
     pub fn hear_all(&mut self, answers: &[Answer]) {
         for answer in answers {
             self.hear(answer);
@@ -110,7 +111,7 @@ impl Tally {
         }
     }
 
-    /// Tells what was met.
+    /// Puts what occurred.
     pub fn tell(&self, page: &mut Words) {
         self.tell_wrong(page);
         self.tell_taken(page);

@@ -1,4 +1,4 @@
-//! What came of events, as text.
+//! Writes the outcomes of events as text.
 
 use crate::asked::cut;
 use case_lines::Words;
@@ -11,7 +11,7 @@ use merge_laws::Caused;
 use std::alloc::{AllocError, Global};
 use world_core::{JoinRefusal, Outcome};
 
-/// Tells the line of an event, and what came of it.
+/// Puts the line of an event, and its outcome.
 pub fn tell(alloc: Global, line: &str, outcome: &Outcome, page: &mut Words) {
     page.put(line);
     page.put(" =>");
@@ -71,7 +71,8 @@ fn tell_drained(drained: Drained, page: &mut Words) {
     page.put_if(drained.stalled, " stalled");
 }
 
-/// Tells the ids of what was issued, the numbers of the messages whose flags were set in silence, and the answers, a line each.
+/// Puts the ids of the issued operations, the numbers of the messages whose flags were set
+/// silently, and the answers, a line each.
 fn tell_reply(alloc: Global, line: &str, reply: &Reply, page: &mut Words) {
     match reply {
         Reply::Done {

@@ -1,4 +1,4 @@
-//! The clients of a random world.
+//! The clients of a random world, and whether they know what their sessions see.
 
 use crate::client::Client;
 use crate::commands::Sort;
@@ -10,14 +10,15 @@ use session_view::{SilentFlags, View};
 use std::alloc::{AllocError, Global};
 use world_core::Outcome;
 
-/// The clients of all sessions that say something: one for each that has selected a mailbox.
+/// The clients of all sessions that issue commands: one for each session that has selected a
+/// mailbox.
 #[derive(Drop)]
 pub struct Watch {
     clients: Vec<Option<Client>>,
 }
 
 impl Watch {
-    /// No session has selected anything.
+    /// No session has selected a mailbox. `Err` if memory runs out.
     pub fn new(alloc: Global) -> Result<Watch, AllocError> {
         let mut clients = Vec::new(alloc);
         for _ in 0..REPLICAS * SESSIONS {
@@ -26,7 +27,7 @@ impl Watch {
         Ok(Watch { clients })
     }
 
-    /// A session's client is told what came of its event.
+    /// Passes the outcome of an event to its session's client.
     pub fn hear(
         &mut self,
         alloc: Global,
@@ -44,7 +45,7 @@ impl Watch {
         }
     }
 
-    /// A session selects a mailbox, of which this client knows nothing, or leaves the one that it had selected.
+    /// A session selects a mailbox, and `fresh` is its new client, or leaves the selected one.
     fn begin(&mut self, note: Note, fresh: Option<Client>) {
         if let Some(client) = self.clients.get_mut(place_of(note)) {
             *client = fresh;
@@ -99,7 +100,7 @@ impl Watch {
         client.take_all(alloc, answers)
     }
 
-    /// Whether each session of these nodes sees what its client was told.
+    /// Whether each session of these nodes sees what its client received.
     pub fn is_right_by(&self, nodes: &[Node]) -> bool {
         for (place, node) in nodes.iter().enumerate() {
             if !self.is_right_at(place, node) {
@@ -120,7 +121,7 @@ impl Watch {
     }
 }
 
-/// The place of a session's client, whose replica and number are counted from 0 on.
+/// The place of a session's client. Replica and session are counted from 0.
 fn client_place(replica: usize, session: usize) -> usize {
     replica
         .saturating_mul(SESSIONS as usize)
@@ -138,7 +139,8 @@ fn session_of(node: &Node, number: usize) -> Option<&Session> {
     node.session(session)
 }
 
-/// Whether there is a client where a session has selected a mailbox, which knows what that sees, and else none.
+/// Whether there is a client exactly if the session has selected a mailbox, and the client is right
+/// about what the session sees.
 fn is_as(client: Option<&Option<Client>>, session: Option<&Session>) -> bool {
     match client {
         None => false,
@@ -150,7 +152,7 @@ fn is_as(client: Option<&Option<Client>>, session: Option<&Session>) -> bool {
     }
 }
 
-/// What a session sees of the mailbox that it selected.
+/// The view of the mailbox that a session has selected; `None` if it has selected none.
 fn selected(session: Option<&Session>) -> Option<&View> {
     match &session?.state {
         State::Selected { view, .. } => Some(view),

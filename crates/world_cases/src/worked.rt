@@ -1,4 +1,4 @@
-//! Worlds that are worked out line by line.
+//! Worlds whose events are listed line by line.
 
 use crate::asked::{cut, event, starts};
 use crate::ending::{agreement, are_from_one, ended};
@@ -11,14 +11,14 @@ use tags_clocks::ReplicaId;
 use uid_projection::Counters;
 use world_core::{Event, Outcomes, World, WorldFault, run};
 
-/// The replicas behind all that happened so far.
+/// The replicas after all runs so far.
 #[derive(Drop)]
 enum Behind {
     /// Nothing was run.
     Nothing,
-    /// A world, in which more can happen.
+    /// A world in which further events can happen.
     World(World),
-    /// What settling left.
+    /// The nodes that settling left.
     Settled(Vec<Node>),
 }
 
@@ -36,7 +36,7 @@ impl Behind {
 #[derive(Drop)]
 struct Worked<'a> {
     starts: Vec<Counters>,
-    /// What happens in the next run, and the lines that say so.
+    /// The lines of the events of the next run.
     lines: Vec<&'a str>,
     events: Vec<Event>,
     behind: Behind,
@@ -53,7 +53,8 @@ impl<'a> Worked<'a> {
     }
 }
 
-/// Plays the lines of a text, and tells each with what comes of it. An error says that there is no memory.
+/// Plays worked and random worlds, and returns their lines with the outcomes. `Err` if memory runs
+/// out.
 pub fn play(alloc: Global, text: &str) -> Result<Vec<u8>, AllocError> {
     let mut page = Words::new(alloc);
     let mut worked = Worked::new(alloc);
@@ -63,7 +64,8 @@ pub fn play(alloc: Global, text: &str) -> Result<Vec<u8>, AllocError> {
     page.finish()
 }
 
-/// Takes a line: an answer is left out, a title or a comment told as it is, and what is asked is done.
+/// Takes a line: skips an old answer, puts a title or a comment unchanged, and executes anything
+/// else.
 fn take_line<'a>(alloc: Global, line: &'a str, worked: &mut Worked<'a>, page: &mut Words) {
     if line.starts_with("  ") {
         return;
@@ -124,7 +126,7 @@ fn tell_answer(asked: &str, answer: &str, page: &mut Words) {
     page.put("\n");
 }
 
-/// Takes all events behind the last run in one run, and tells what came of each.
+/// Runs all events after the last run, and puts the outcome of each.
 fn run_lines(alloc: Global, worked: &mut Worked, page: &mut Words) -> Result<(), Trouble> {
     match std::mem::replace(&mut worked.behind, Behind::Nothing) {
         Behind::Nothing => begin(alloc, worked, page),
@@ -139,7 +141,7 @@ fn run_lines(alloc: Global, worked: &mut Worked, page: &mut Words) -> Result<(),
     }
 }
 
-/// Takes the events in a new world.
+/// Runs the events in a new world.
 fn begin(alloc: Global, worked: &mut Worked, page: &mut Words) -> Result<(), Trouble> {
     if !are_from_one(&worked.starts) {
         return Err(Trouble::NotACase);
@@ -159,7 +161,7 @@ fn run_world(alloc: Global, worked: &mut Worked, world: World, page: &mut Words)
     worked.behind = Behind::World(outcomes.world);
 }
 
-/// Has a replica join the world by a call of its own, and tells what it answered.
+/// Has a replica join the world by a separate call, and puts its result.
 fn add(
     alloc: Global,
     asked: &str,
@@ -180,7 +182,7 @@ fn add(
     Ok(())
 }
 
-/// Has the replicas exchange what they received. Nothing more happens in their world then.
+/// Has the replicas exchange what they received. Nothing further happens in their world.
 fn settle(alloc: Global, asked: &str, worked: &mut Worked, page: &mut Words) {
     let mut nodes = match std::mem::replace(&mut worked.behind, Behind::Nothing) {
         Behind::Nothing => Vec::new(alloc),
@@ -191,7 +193,7 @@ fn settle(alloc: Global, asked: &str, worked: &mut Worked, page: &mut Words) {
     worked.behind = Behind::Settled(nodes);
 }
 
-/// Tells why there is no such world, or no such replica in it.
+/// Puts why there is no such world, or no such replica in it.
 fn tell_no_world(asked: &str, fault: WorldFault, page: &mut Words) {
     match fault {
         WorldFault::TwoAlike { id } => tell_alike(asked, id, page),

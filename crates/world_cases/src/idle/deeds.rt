@@ -6,7 +6,8 @@ use case_lines::Trouble;
 use imap_node::{Node, SessionNo};
 use std::alloc::{AllocError, Global};
 
-/// A session does something that the numbers choose: it selects the mailbox, or makes it where it isn't there, and gives a command.
+/// A session creates the mailbox if it doesn't exist; otherwise it selects the mailbox and issues a
+/// random command there.
 pub fn deed(
     alloc: Global,
     chance: &mut Chance,
@@ -22,7 +23,7 @@ pub fn deed(
     give_text(alloc, node, session, text?)
 }
 
-/// How many messages the mailbox has; `None` where it isn't there.
+/// How many messages the mailbox has; `None` if it doesn't exist.
 fn count_in(
     alloc: Global,
     node: &mut Node,
@@ -39,7 +40,7 @@ fn count_in(
     }
 }
 
-/// A command in the mailbox with so many messages.
+/// A random command in the mailbox, which has `count` messages.
 fn work(alloc: Global, chance: &mut Chance, name: &str, count: u32) -> Result<String, AllocError> {
     let first = number(chance, count);
     match chance.below(14) {
@@ -55,7 +56,7 @@ fn work(alloc: Global, chance: &mut Chance, name: &str, count: u32) -> Result<St
     }
 }
 
-/// The number of one of so many messages, 1 where there are none.
+/// The number of one of `count` messages; 1 if there are none.
 fn number(chance: &mut Chance, count: u32) -> u32 {
     if count == 0 {
         return 1;
@@ -63,7 +64,7 @@ fn number(chance: &mut Chance, count: u32) -> u32 {
     chance.below(count).saturating_add(1)
 }
 
-/// An APPEND, also by itself.
+/// An APPEND of one octet with random flags.
 pub fn append(alloc: Global, chance: &mut Chance, name: &str) -> Result<String, AllocError> {
     let flags = flags(chance);
     format!(in alloc; "a APPEND {name} ({flags}) {{1+}}\r\nx\r\n")
@@ -93,7 +94,7 @@ fn flags(chance: &mut Chance) -> &'static str {
     }
 }
 
-/// Removes what is marked and closes, or deletes the mailbox.
+/// Closes the mailbox, which removes its deleted messages, or deletes the mailbox.
 fn leave(alloc: Global, chance: &mut Chance, name: &str) -> Result<String, AllocError> {
     if chance.is_one_in(2) {
         format!(in alloc; "a DELETE {name}\r\n")

@@ -1,6 +1,8 @@
-//! Plays generated runs of two replicas. In each a session idles at the first one through what another session there and a session of the
-//! other replica do; its view, which a plain client makes of its untagged answers alone, has to end as what a session sees that selects the
-//! mailbox then. Of each hundred runs it tells whether all do, and whether the answers that were heard mattered.
+//! Plays generated runs of two replicas. In each run a session idles at the first replica while
+//! another session there and one at the other replica work. At the end, the view that a plain
+//! client makes only of the idling session's untagged answers must be what a session sees that
+//! selects the mailbox then. For each hundred runs it reports whether all do so, and whether the
+//! received answers mattered.
 
 mod deeds;
 mod runs;

@@ -1,4 +1,4 @@
-//! One run, and how it ends.
+//! One run, and its result.
 
 use crate::chance::Chance;
 use crate::client::Client;
@@ -10,22 +10,22 @@ use crdt_ops::SoundOp;
 use imap_node::{Answers, Node, SessionNo};
 use std::alloc::Global;
 
-/// How a run ended.
+/// The result of a run.
 #[derive(Clone, Copy)]
 pub struct Ending {
-    /// The view of the answers is what a session sees that selects the mailbox now.
+    /// Whether the view made of the answers is what a session sees that selects the mailbox now.
     pub is_right: bool,
-    /// So is the view of a client that passes over EXPUNGE.
+    /// Whether this holds of the view of a client that ignores EXPUNGE.
     pub without_expunge: bool,
-    /// So is the view of a client that passes over EXISTS.
+    /// Whether this holds of the view of a client that ignores EXISTS.
     pub without_exists: bool,
-    /// So is the view of a client that passes over FETCH.
+    /// Whether this holds of the view of a client that ignores FETCH.
     pub without_fetch: bool,
-    /// The mailbox that was watched is gone.
+    /// Whether the selected mailbox no longer exists.
     pub has_ended: bool,
 }
 
-/// Plays the run with this number.
+/// Plays the run with this number. `Err` if it can't be played, or memory runs out.
 pub fn played(alloc: Global, number: u64) -> Result<Ending, Trouble> {
     let mut chance = Chance::new(number);
     let name = if chance.is_one_in(2) { "INBOX" } else { "work" };
@@ -54,7 +54,7 @@ fn play(
     judged(alloc, scene, name, watch)
 }
 
-/// Makes the mailboxes, and some messages, and lets some of it come to the other replica.
+/// Creates the mailboxes and some messages, and delivers some of that to the other replica.
 fn prepare(
     alloc: Global,
     chance: &mut Chance,
@@ -68,7 +68,7 @@ fn prepare(
     exchange(alloc, chance, &scene.near, &mut scene.far)
 }
 
-/// Up to five messages.
+/// Appends up to five messages.
 fn append_some(
     alloc: Global,
     chance: &mut Chance,
@@ -83,7 +83,7 @@ fn append_some(
     Ok(())
 }
 
-/// The watching session selects the mailbox, learns its messages, and idles.
+/// The watching session selects the mailbox, fetches its UIDs and flags, and idles.
 fn begin(alloc: Global, scene: &mut Scene, name: &str, watch: &mut Watch) -> Result<(), Trouble> {
     learn_by_select(alloc, scene, name, watch)?;
     learn(alloc, scene, watch, "b UID FETCH 1:* FLAGS\r\n")?;
@@ -102,7 +102,7 @@ fn learn_by_select(
     done
 }
 
-/// All clients hear what the watching session is answered.
+/// Issues a command of the watching session, whose answers all clients take.
 fn learn(alloc: Global, scene: &mut Scene, watch: &mut Watch, text: &str) -> Result<(), Trouble> {
     match command(alloc, &mut scene.near, scene.hands.watcher, text)? {
         Some(answers) => {
@@ -114,7 +114,7 @@ fn learn(alloc: Global, scene: &mut Scene, watch: &mut Watch, text: &str) -> Res
     }
 }
 
-/// Something that the numbers choose happens.
+/// Executes one random step.
 fn step(
     alloc: Global,
     chance: &mut Chance,
@@ -152,7 +152,7 @@ fn hear(alloc: Global, watch: &mut Watch, told: Option<Answers>) -> Result<(), T
     }
 }
 
-/// Some of what a replica applied, and the other didn't, comes to it.
+/// Delivers some of the operations that `from` applied and `to` didn't, in either order.
 fn exchange(alloc: Global, chance: &mut Chance, from: &Node, to: &mut Node) -> Result<(), Trouble> {
     let mut ops = from.ops_since(alloc, to.clock())?;
     if chance.is_one_in(3) {
@@ -175,7 +175,7 @@ fn deliver(alloc: Global, node: &mut Node, op: SoundOp) -> Result<(), Trouble> {
     }
 }
 
-/// How the clients' views stand beside what a new session sees.
+/// Compares the clients' views with what a new session sees.
 fn judged(alloc: Global, scene: &mut Scene, name: &str, watch: &Watch) -> Result<Ending, Trouble> {
     let fresh = fresh(alloc, &mut scene.near, name)?;
     let ending = beside(alloc, watch, &fresh);
@@ -183,7 +183,8 @@ fn judged(alloc: Global, scene: &mut Scene, name: &str, watch: &Watch) -> Result
     Ok(ending)
 }
 
-/// The same, where a new session sees this.
+/// Compares the clients' views with what a new session sees; with no messages, if the mailbox has
+/// another UIDVALIDITY now.
 fn beside(alloc: Global, watch: &Watch, fresh: &Client) -> Ending {
     if fresh.validity() == watch.whole.validity() {
         return compared(watch, fresh, false);
@@ -204,7 +205,8 @@ fn compared(watch: &Watch, there: &Client, has_ended: bool) -> Ending {
     }
 }
 
-/// What a new session sees of the mailbox, with the UIDs and flags of all its messages; nothing where it isn't there.
+/// What a new session sees of the mailbox, with the UIDs and flags of all its messages; nothing if
+/// it doesn't exist.
 fn fresh(alloc: Global, node: &mut Node, name: &str) -> Result<Client, Trouble> {
     let session = session(node)?;
     match selected(alloc, node, session, name)? {
@@ -213,7 +215,7 @@ fn fresh(alloc: Global, node: &mut Node, name: &str) -> Result<Client, Trouble> 
     }
 }
 
-/// What a client knows of the mailbox once it fetched the UIDs and flags of all its messages.
+/// What a client knows of the mailbox after it fetched the UIDs and flags of all its messages.
 fn told_all(
     alloc: Global,
     node: &mut Node,

@@ -1,4 +1,4 @@
-//! Two replicas and their sessions.
+//! Two replicas and their sessions, and the calls that a run makes of them.
 
 use crate::client::Client;
 use case_lines::Trouble;
@@ -12,7 +12,7 @@ use uid_projection::Counters;
 /// Two replicas, and their sessions.
 #[derive(Drop)]
 pub struct Scene {
-    /// Where the watching session is.
+    /// The replica of the watching session.
     pub near: Node,
     /// The other replica.
     pub far: Node,
@@ -88,7 +88,7 @@ fn made(node: Result<Node, AllocError>) -> Result<Node, Trouble> {
     }
 }
 
-/// Opens a session, whose user is known.
+/// Opens a session whose user is already authenticated.
 pub fn session(node: &mut Node) -> Result<SessionNo, Trouble> {
     match node.open(Auth::Preauth) {
         Ok(session) => Ok(session),
@@ -96,7 +96,7 @@ pub fn session(node: &mut Node) -> Result<SessionNo, Trouble> {
     }
 }
 
-/// What a session is answered; `None` where its command is refused.
+/// The answers to a command; `None` if it is refused.
 pub fn command(
     alloc: Global,
     node: &mut Node,
@@ -110,13 +110,13 @@ pub fn command(
     Ok(answers_in(node.command(alloc, session, Moment::epoch(), tagged)))
 }
 
-/// Gives a command, whatever it is answered.
+/// Issues a command, whatever the answers are.
 pub fn give(alloc: Global, node: &mut Node, session: SessionNo, text: &str) -> Result<(), Trouble> {
     drop(command(alloc, node, session, text)?);
     Ok(())
 }
 
-/// The same with a text of its own.
+/// Issues a command whose text it drops afterwards.
 pub fn give_text(
     alloc: Global,
     node: &mut Node,
@@ -142,7 +142,7 @@ fn answers_in(reply: Reply) -> Option<Answers> {
     }
 }
 
-/// What an idling session is told by a poll.
+/// The answers that a poll sends to an idling session.
 pub fn poll(
     alloc: Global,
     node: &mut Node,
@@ -154,7 +154,7 @@ pub fn poll(
     Ok(answers_in(node.poll(alloc, session)))
 }
 
-/// What an idling session is told at the end of its IDLE.
+/// The answers that an idling session is sent at the end of its IDLE.
 pub fn done(
     alloc: Global,
     node: &mut Node,
@@ -166,7 +166,7 @@ pub fn done(
     Ok(answers_in(node.done(alloc, session, IdleLine::Done)))
 }
 
-/// What a session sees that selects this mailbox; nothing where it isn't there.
+/// What a session sees that selects this mailbox; `None` if the mailbox doesn't exist.
 pub fn selected(
     alloc: Global,
     node: &mut Node,

@@ -1,4 +1,4 @@
-//! What is told of a hundred runs.
+//! The results of a hundred runs, as text.
 
 use crate::idle::runs::{Ending, played};
 use case_lines::Trouble;
@@ -7,23 +7,23 @@ use std::alloc::{AllocError, Global};
 /// How many hundreds of runs are played.
 const HUNDREDS: u64 = 5;
 
-/// What a hundred runs came to.
+/// The results of a hundred runs.
 #[derive(Drop)]
 struct Tally {
-    /// The first run that ended wrongly, or that can't be played.
+    /// The first run that ended wrong, or can't be played.
     first_wrong: Option<u64>,
-    /// A client that passes over EXPUNGE went wrong in some.
+    /// Whether a client that ignores EXPUNGE went wrong in some run.
     needs_expunge: bool,
-    /// A client that passes over EXISTS went wrong in some.
+    /// Whether a client that ignores EXISTS went wrong in some run.
     needs_exists: bool,
-    /// A client that passes over FETCH went wrong in some.
+    /// Whether a client that ignores FETCH went wrong in some run.
     needs_fetch: bool,
-    /// In some the mailbox was gone at the end, in others not.
+    /// Whether in some run the mailbox no longer existed at the end.
     has_ended: bool,
     has_stayed: bool,
 }
 
-/// Plays all runs, and tells what each hundred came to. An error says that there is no memory.
+/// Plays all runs, and returns the results of each hundred. `Err` if memory runs out.
 pub fn play(alloc: Global) -> Result<Vec<u8>, AllocError> {
     let mut page = Vec::new(alloc);
     for number in 0..HUNDREDS {
@@ -33,7 +33,8 @@ pub fn play(alloc: Global) -> Result<Vec<u8>, AllocError> {
     Ok(page)
 }
 
-/// Plays the runs of this hundred, from 0 on, and tells what they came to. An error says that there is no memory.
+/// Plays the runs of this hundred, counted from 0, and returns their results. `Err` if memory runs
+/// out.
 fn hundred(alloc: Global, hundred: u64) -> Result<String, AllocError> {
     let first = hundred.saturating_mul(100).saturating_add(1);
     let mut tally = Tally {

@@ -1,19 +1,20 @@
-//! Who listens to a session that idles.
+//! The clients that take the answers of an idling session.
 
 use crate::client::Client;
 use imap_answers::Answer;
 use std::alloc::{AllocError, Global};
 
-/// Clients that hear the same session: one hears all, the others pass over one kind of answers once it idles.
+/// Clients of the same session: one takes all answers, the others ignore one kind of answers while
+/// the session idles.
 #[derive(Drop)]
 pub struct Watch {
-    /// Hears all.
+    /// Takes all answers.
     pub whole: Client,
-    /// Passes over EXPUNGE.
+    /// Ignores EXPUNGE.
     pub without_expunge: Client,
-    /// Passes over EXISTS.
+    /// Ignores EXISTS.
     pub without_exists: Client,
-    /// Passes over FETCH.
+    /// Ignores FETCH.
     pub without_fetch: Client,
 }
 
@@ -28,7 +29,7 @@ impl Watch {
         }
     }
 
-    /// All hear these answers. An error says that there is no memory.
+    /// All clients take all these answers. `Err` if memory runs out.
     pub fn hear_all(&mut self, alloc: Global, answers: &[Answer]) -> Result<(), AllocError> {
         for answer in answers {
             self.whole.take(alloc, answer)?;
@@ -39,7 +40,7 @@ impl Watch {
         Ok(())
     }
 
-    /// Each hears of these answers what it hears. An error says that there is no memory.
+    /// Each client takes these answers, except the kind that it ignores. `Err` if memory runs out.
     pub fn hear(&mut self, alloc: Global, answers: &[Answer]) -> Result<(), AllocError> {
         for answer in answers {
             self.hear_one(alloc, answer)?;
@@ -56,7 +57,7 @@ impl Watch {
     }
 }
 
-/// Which client passes over an answer.
+/// Which of the ignored kinds an answer is.
 #[derive(Clone, Copy)]
 struct Kind {
     is_expunge: bool,
