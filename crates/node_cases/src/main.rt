@@ -1,5 +1,13 @@
-//! Plays cases. Those of a kind stand behind a line `=== KIND` on the standard input; it prints that line, and what the cases come to. The head
-//! of the crate's file `stdin` says which kinds there are, docs/formats.md what their cases are.
+//! Plays cases, and prints what the code answers to them now. The stored file `stdout` is what must
+//! be printed, so a change of any answer is noticed.
+//!
+//! On the standard input, a line `=== KIND` precedes the cases of each kind. The program prints
+//! that line, and then the result of the cases. The head of this crate's file `stdin` lists the
+//! kinds, and docs/formats.md says what their cases are.
+//!
+//! The cases themselves are played by the libraries `imap_cases`, `replica_cases` and
+//! `world_cases`, and by two modules of this program: `mail_rows` for scripts and inputs of the
+//! audit, and `node_costs` for the time that a node's calls take.
 #![tactic(auto)]
 
 mod mail_rows;
@@ -16,7 +24,7 @@ fn main(rt: HostRuntime) -> io::Result<()> {
     Ok(())
 }
 
-/// Prints the line of a kind, and what its cases come to.
+/// Prints the line of a kind, and the result of its cases.
 fn print_part(rt: &HostRuntime, part: &str) -> io::Result<()> {
     let (kind, cases) = part.split_once('\n').unwrap_or((part, ""));
     if kind == "costs" {
@@ -28,7 +36,7 @@ fn print_part(rt: &HostRuntime, part: &str) -> io::Result<()> {
     io::writer(rt).write_all(&told)
 }
 
-/// What the cases of a kind come to.
+/// The result of the cases of a kind. `Err` if memory runs out.
 fn told(alloc: Global, kind: &str, cases: &str) -> Result<Vec<u8>, AllocError> {
     match kind {
         "texts" => imap_cases::play(alloc, cases),

@@ -1,11 +1,11 @@
-//! Inputs of the audit, case by case.
+//! Plays inputs of the audit, case by case.
 
 use imap_types::{Escape, read_escaped};
 use mail_audit::audit;
 use std::alloc::{AllocError, Global};
 
-/// What is told of the cases of a text, each behind a line `== TITLE`; what stands before the first is left out. An error says that there is no
-/// memory.
+/// The results of the cases of a text, each after a line `== TITLE`. Anything before the first such
+/// line is left out. `Err` if memory runs out.
 pub fn play_audits(alloc: Global, text: &str) -> Result<Vec<u8>, AllocError> {
     let mut told = Vec::new(alloc);
     for case in text.split("\n== ").skip(1) {
@@ -14,7 +14,7 @@ pub fn play_audits(alloc: Global, text: &str) -> Result<Vec<u8>, AllocError> {
     Ok(told)
 }
 
-/// Tells a case's title, and behind it what the audit of its input says.
+/// Puts a case's title, and after it the audit's answer to its input.
 fn tell_case(alloc: Global, case: &str, told: &mut Vec<u8>) -> Result<(), AllocError> {
     let (title, lines) = case.split_once('\n').unwrap_or((case, ""));
     told.extend_from_slice(b"== ")?;
@@ -26,7 +26,7 @@ fn tell_case(alloc: Global, case: &str, told: &mut Vec<u8>) -> Result<(), AllocE
     Ok(())
 }
 
-/// The input that these lines stand for.
+/// The input that these lines spell.
 fn input_of(alloc: Global, lines: &str) -> Result<Vec<u8>, AllocError> {
     let mut input = Vec::new(alloc);
     for line in lines.split_terminator('\n') {
@@ -35,7 +35,7 @@ fn input_of(alloc: Global, lines: &str) -> Result<Vec<u8>, AllocError> {
     Ok(input)
 }
 
-/// Takes a line of a case: a comment, nothing, octets in the escape, or a line of the input.
+/// Takes a line of a case: an empty line, a comment, octets in the escape, or a line of the input.
 fn take_line(alloc: Global, line: &str, input: &mut Vec<u8>) -> Result<(), AllocError> {
     if line.is_empty() || line.starts_with('#') {
         return Ok(());

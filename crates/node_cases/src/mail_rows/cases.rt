@@ -1,12 +1,13 @@
-//! Lines that are tried one by one behind a script.
+//! Lines that are tried one by one at the end of a script.
 
 use crate::mail_rows::replays::{Replayed, play_script, put_shortened};
 use case_lines::Words;
 use mail_replay::ReplayEnd;
 use std::alloc::Global;
 
-/// Replays a script with this line behind it, and tells what the line prints and how it ends. Without its end it does the
-/// same; with another line behind it no less, and no more where it is bad.
+/// Replays a script with this line at its end, and puts what the line prints and how the replay
+/// ends. Without the line's LF the replay must do the same. With a further line after it, it must
+/// print at least as much, and exactly as much if the first line is bad.
 pub fn try_case(alloc: Global, script: &[u8], line: &[u8], then: &str, page: &mut Words) {
     let before = play_script(alloc, script);
     let open = with_line(alloc, script, line, "", "");
@@ -33,7 +34,7 @@ fn with_line(alloc: Global, script: &[u8], line: &[u8], end: &str, then: &str) -
     play_script(alloc, whole.so_far())
 }
 
-/// Tells what was printed beyond what is printed without the line.
+/// Puts what was printed beyond what the script prints without the line.
 fn tell_case(before: &[u8], ended: &Replayed, page: &mut Words) {
     match ended.printed.strip_prefix(before) {
         Some(printed) => put_shortened(printed, page),
@@ -41,7 +42,8 @@ fn tell_case(before: &[u8], ended: &Replayed, page: &mut Words) {
     }
 }
 
-/// Whether a replay with more lines prints more where the one without them served all, and else the same.
+/// Whether a replay with further lines begins with what the shorter one printed, if that served all
+/// its lines, and else does the same.
 fn goes_on(ended: &Replayed, more: &Replayed) -> bool {
     if ended.end == ReplayEnd::Done {
         more.printed.starts_with(&ended.printed)

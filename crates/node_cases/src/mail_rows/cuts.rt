@@ -1,4 +1,4 @@
-//! Octets that come to a session in pieces.
+//! Octets that are sent to a session in pieces.
 
 ghost use Rattle.std.specs.Prelude.{◌<◌};
 
@@ -7,8 +7,8 @@ use crate::mail_rows::replays::{Replayed, play_script};
 use case_lines::Words;
 use std::alloc::Global;
 
-/// Sends octets, given in the escape, to a session behind a script, tells what is printed, and whether it is the same where
-/// they come in two pieces, cut at each place, and one by one.
+/// Sends octets, given in the escape, to a session after a script. Puts what is printed, and
+/// whether it stays the same if they come one by one or in two pieces, cut at each place.
 pub fn tell_pieces(alloc: Global, script: &[u8], session: &str, text: &str, page: &mut Words) {
     let Some(octets) = octets_of(alloc, text) else {
         page.put("-- not in the escape\n");
@@ -35,7 +35,7 @@ pub fn tell_pieces(alloc: Global, script: &[u8], session: &str, text: &str, page
     }
 }
 
-/// The first place at which octets are cut with another outcome than this.
+/// The first place at which octets can be cut so that the replay differs, if any.
 fn first_cut(
     alloc: Global,
     script: &[u8],
@@ -55,7 +55,7 @@ fn first_cut(
     None
 }
 
-/// Replays a script with octets behind it that come to a session so many at a time.
+/// Replays a script, and after it octets that are sent to a session in pieces of `size` octets.
 fn in_pieces(alloc: Global, script: &[u8], session: &str, octets: &[u8], size: usize) -> Replayed
     requires { 0 < size }
 {
@@ -67,7 +67,7 @@ fn in_pieces(alloc: Global, script: &[u8], session: &str, octets: &[u8], size: u
     play_script(alloc, whole.so_far())
 }
 
-/// Adds a line that feeds octets to a session.
+/// Adds a line that sends octets to a session.
 fn put_send(session: &str, octets: &[u8], script: &mut Words) {
     script.put("send ");
     script.put(session);

@@ -1,4 +1,4 @@
-//! Scripts, and what they print, that end early or have octets replaced.
+//! Scripts and transcripts that are cut, or have one octet replaced.
 
 ghost use Rattle.std.specs.Prelude.{◌<◌, length};
 
@@ -8,16 +8,16 @@ use mail_audit::{AuditEnd, audit};
 use mail_replay::ReplayEnd;
 use std::alloc::Global;
 
-/// The octets that take the place of others.
+/// The octets that replace others.
 const STRANGE: [u8; 5] = [0, 10, 32, 126, 255];
 
-/// Texts of more octets are damaged in rows that ask for it alone.
+/// The most octets of a text that is damaged in rows that don't ask for it.
 const SHORT: usize = 2_000;
 
 /// Which places of texts are damaged, and how many damaged texts were replayed and audited.
 #[derive(Clone, Copy)]
 pub struct Tried {
-    /// Each place whose number this divides, over all texts.
+    /// Each place is damaged whose number this divides, counted over all texts; none if it is 0.
     every: u64,
     places: u64,
     replayed: u64,
@@ -25,7 +25,8 @@ pub struct Tried {
 }
 
 impl Tried {
-    /// None was. Each place whose number this divides is to be damaged; none where it is 0.
+    /// No text was damaged yet. Each place is to be damaged whose number `every` divides; none if
+    /// it is 0.
     pub fn none(every: u64) -> Tried {
         Tried {
             every,
@@ -35,23 +36,25 @@ impl Tried {
         }
     }
 
-    /// Whether the next place is one to be damaged.
+    /// Whether the next place is to be damaged.
     fn is_next(&mut self) -> bool {
         self.places = self.places.saturating_add(1);
         self.every != 0 && self.places % self.every == 0
     }
 
-    /// A script was damaged at a place: cut there, and five times with another octet there.
+    /// Notes that a script was damaged at a place: cut there, and five times with another octet
+    /// there.
     fn note_replays(&mut self) {
         self.replayed = self.replayed.saturating_add(6);
     }
 
-    /// So was a transcript.
+    /// Notes that a transcript was damaged at a place, in these six ways.
     fn note_audits(&mut self) {
         self.audited = self.audited.saturating_add(6);
     }
 
-    /// Tells whether so many were replayed and as many audited, and else how many.
+    /// Puts whether at least `least` damaged texts were replayed and as many audited; otherwise how
+    /// many.
     pub fn tell(&self, least: u64, page: &mut Words) {
         if self.replayed >= least && self.audited >= least {
             page.put_number("-- at least ", least);
@@ -64,8 +67,9 @@ impl Tried {
     }
 }
 
-/// Tells where a short script isn't replayed as it should be if it is cut or an octet is replaced, and where what it prints isn't audited
-/// then with an answer of the audit.
+/// Puts the first place where a short script isn't replayed as it should be if it is cut there or
+/// its octet is replaced, and the first place where its transcript, damaged so, gets no answer from
+/// the audit; nothing if there is none.
 pub fn tell_wrong(alloc: Global, script: &[u8], tried: &mut Tried, page: &mut Words) {
     if script.len() <= SHORT {
         if let Some(place) = first_wrong(alloc, script, tried) {
@@ -81,9 +85,9 @@ pub fn tell_wrong(alloc: Global, script: &[u8], tried: &mut Tried, page: &mut Wo
     }
 }
 
-/// Replays a script, tells what it prints, and whether each beginning of it, and the whole with each octet replaced by 0,
-/// 10, 32, 126 and 255, prints what the lines before that place print, and then whole lines of printed ASCII, and ends with
-/// Done or BadScript.
+/// Replays a script, and puts what it prints. Then puts whether the script, cut at each place or
+/// with its octet replaced by 0, 10, 32, 126 or 255, prints what the lines before that place print,
+/// and after that whole lines of printable ASCII, and ends with Done or BadScript.
 pub fn tell_damage(alloc: Global, script: &[u8], page: &mut Words) {
     play_script(alloc, script).tell(page);
     match first_wrong(alloc, script, &mut Tried::none(1)) {
@@ -139,7 +143,8 @@ fn with_octet(alloc: Global, front: &[u8], octet: u8, back: &[u8]) -> Words {
     text
 }
 
-/// Whether a replay ended with a name that a script can bring about, and printed whole lines of printed ASCII behind these.
+/// Whether a replay ended with Done or BadScript, the only ends that a script can cause, and
+/// printed the octets `before` and then whole lines of printable ASCII.
 fn is_lawful(replay: &Replayed, before: &[u8]) -> bool {
     let is_named = matches!(replay.end, ReplayEnd::Done | ReplayEnd::BadScript { .. });
     is_named
@@ -151,7 +156,8 @@ fn is_lawful(replay: &Replayed, before: &[u8]) -> bool {
             .all(|octet| *octet == b'\n' || (*octet >= 32 && *octet <= 126))
 }
 
-/// The first place at which a transcript can be cut, or have another octet, so that the audit gives none of its answers.
+/// The first place at which a transcript can be cut, or have another octet, so that the audit gives
+/// none of its answers.
 fn first_unaudited(alloc: Global, printed: &[u8], tried: &mut Tried) -> Option<usize> {
     for place in 0..printed.len() {
         if tried.is_next() {

@@ -1,4 +1,5 @@
-//! The lines of a row that say what is done with its script, and those that add to it what a line of text can't show.
+//! Directives: lines of a row that say what is done with its script, or that add to the script what
+//! a line of text can't show.
 
 use case_lines::Words;
 use imap_types::{Escape, Octets, read_escaped};
@@ -7,23 +8,26 @@ use std::alloc::Global;
 /// What is done with the script of a row.
 #[derive(Clone, Copy)]
 pub enum Way<'a> {
-    /// It is replayed, and all that is printed is told.
+    /// It is replayed, and everything that it prints is put.
     Whole,
-    /// It is replayed, and so many of the last lines are told.
+    /// It is replayed, and the last lines are put, this many.
     Last(usize),
-    /// It is replayed, and it is told how many lines are this one.
+    /// It is replayed, and the number of printed lines that equal this one is put.
     Count(&'a str),
-    /// It is replayed also where it ends early, and with octets replaced.
+    /// It is also replayed cut at each place, and with each octet replaced.
     Damage,
-    /// It is replayed with octets, given in the escape, sent to a session in all ways of cutting them.
+    /// It is replayed with octets, given in the escape, sent to a session in all ways of cutting
+    /// them.
     Pieces { session: &'a str, text: &'a str },
-    /// It is told whether so many damaged scripts were replayed so far, and as many damaged outputs audited.
+    /// Whether at least this many damaged scripts were replayed so far, and as many damaged
+    /// transcripts audited, is put.
     Tried(u64),
-    /// It is replayed with each of the lines that follow behind it, and also with this one behind that.
+    /// It is replayed with each of the following lines at its end, and again with this line after
+    /// that one.
     Each(&'a str),
 }
 
-/// The way that a directive names, if it names one.
+/// The way that a directive names; `None` if it names none.
 pub fn way_of<'a>(word: &str, rest: &'a str) -> Option<Way<'a>> {
     match word {
         "last" => last_of(rest),
@@ -55,12 +59,13 @@ fn pieces_of<'a>(rest: &'a str) -> Way<'a> {
     Way::Pieces { session, text }
 }
 
-/// What stands before the first of these marks and behind it; without one the whole text and nothing.
+/// The text before the first separator, and the text after it; without a separator the whole text
+/// and nothing.
 pub fn cut<'a>(text: &'a str, mark: char) -> (&'a str, &'a str) {
     text.split_once(mark).unwrap_or((text, ""))
 }
 
-/// Adds what a directive stands for to a script; whether it is one that does.
+/// Adds the lines of a `fill` or `repeat` directive to a script; returns whether it is one.
 pub fn build(word: &str, rest: &str, script: &mut Words) -> bool {
     let Some(pattern) = pattern_of(rest) else {
         return false;
@@ -72,12 +77,12 @@ pub fn build(word: &str, rest: &str, script: &mut Words) -> bool {
     }
 }
 
-/// The octets that a text in the escape stands for, if it is one.
+/// The octets that a text in the escape spells; `None` if it isn't in the escape.
 pub fn octets_of(alloc: Global, text: &str) -> Option<Octets> {
     read_escaped(alloc, Escape::Text, text.as_bytes()).ok()
 }
 
-/// Two words and a line with a gap in it.
+/// Two words, and a line with a gap in it.
 #[derive(Clone, Copy)]
 struct Pattern<'a> {
     first: &'a str,
@@ -98,7 +103,7 @@ fn pattern_of<'a>(rest: &'a str) -> Option<Pattern<'a>> {
     })
 }
 
-/// Adds the line, with so many of a text in its gap.
+/// Adds the line with its gap filled: by the second word, as often as the first word says.
 fn fill(pattern: &Pattern, script: &mut Words) -> bool {
     let Ok(count) = pattern.first.parse::<u32>() else {
         return false;
@@ -112,7 +117,8 @@ fn fill(pattern: &Pattern, script: &mut Words) -> bool {
     true
 }
 
-/// Adds the line once for each number, which stands in its gap.
+/// Adds the line once for each number from the first word to the second, with the number in its
+/// gap.
 fn repeat(pattern: &Pattern, script: &mut Words) -> bool {
     let (Ok(first), Ok(last)) = (pattern.first.parse::<u32>(), pattern.second.parse::<u32>()) else {
         return false;

@@ -1,5 +1,6 @@
-//! Plays rows, scripts with a title each, and tells of each what its replay prints and how it ended; and audits inputs, each a case with a
-//! title, and tells of each what the audit says. What a row and a case are stands in docs/formats.md.
+//! Plays rows, which are scripts with a title each, and puts what the replay of each prints and how
+//! it ends. Also plays inputs of the audit, each with a title, and puts the audit's answer.
+//! docs/formats.md says what a row and a case are.
 
 mod audits;
 mod cases;

@@ -1,11 +1,11 @@
-//! Replays of scripts, and what is told of them.
+//! Replays scripts, and puts the results.
 
 use case_lines::Words;
 use mail_audit::audit;
 use mail_replay::{ReplayEnd, replay};
 use std::alloc::Global;
 
-/// A run of more octets of one kind than these is printed as their number.
+/// A longer run of one octet is put as its length.
 const LONGEST_RUN: usize = 100;
 
 /// What a replay printed, and how it ended.
@@ -24,18 +24,18 @@ pub fn play_script(alloc: Global, script: &[u8]) -> Replayed {
 }
 
 impl Replayed {
-    /// Whether both printed the same and ended in the same way.
+    /// Whether both replays printed the same and ended in the same way.
     pub fn is_as(&self, other: &Replayed) -> bool {
         self.end == other.end && self.printed.as_slice() == other.printed.as_slice()
     }
 
-    /// Tells all that was printed, and the end.
+    /// Puts everything that was printed, and the end.
     pub fn tell(&self, page: &mut Words) {
         put_shortened(&self.printed, page);
         self.tell_end(page);
     }
 
-    /// Tells how many lines were printed, the last of them, and the end.
+    /// Puts how many lines were printed, the last `last` of them, and the end.
     pub fn tell_last(&self, last: usize, page: &mut Words) {
         let count = ends_of(&self.printed);
         page.put_number("-- ", count as u64);
@@ -48,7 +48,7 @@ impl Replayed {
         self.tell_end(page);
     }
 
-    /// Tells how many of the lines that were printed are this one, and the end.
+    /// Puts how many of the printed lines are this one, and the end.
     pub fn tell_count(&self, line: &str, page: &mut Words) {
         page.put_number("-- ", count_of(&self.printed, line.as_bytes()) as u64);
         page.put(" lines: ");
@@ -57,7 +57,8 @@ impl Replayed {
         self.tell_end(page);
     }
 
-    /// Tells the end, and of a script that was served to its end what the audit says of all that was printed.
+    /// Puts the end and, if the script was served to its end, the audit's answer to everything that
+    /// was printed.
     pub fn tell_end(&self, page: &mut Words) {
         put_end(self.end, page);
         if self.end == ReplayEnd::Done {
@@ -67,7 +68,7 @@ impl Replayed {
     }
 }
 
-/// Puts what the audit says of what was printed.
+/// Puts the audit's answer to what was printed.
 fn put_audited(printed: &[u8], page: &mut Words) {
     let mut reader = printed;
     let mut said = Vec::new(page.alloc());
@@ -75,7 +76,7 @@ fn put_audited(printed: &[u8], page: &mut Words) {
     page.put_octets(&said);
 }
 
-/// How many line ends there are.
+/// How many line ends a text has.
 fn ends_of(text: &[u8]) -> usize {
     text.iter().filter(|octet| **octet == b'\n').count()
 }
@@ -87,7 +88,7 @@ fn count_of(text: &[u8], wanted: &[u8]) -> usize {
         .count()
 }
 
-/// Puts what was printed, with each long run of one octet as its length and the octet in braces.
+/// Puts what was printed. Each long run of one octet is put as its length and the octet, in braces.
 pub fn put_shortened(printed: &[u8], page: &mut Words) {
     for run in printed.chunk_by(|one, next| *one == *next) {
         if run.len() <= LONGEST_RUN {
@@ -100,7 +101,7 @@ pub fn put_shortened(printed: &[u8], page: &mut Words) {
     }
 }
 
-/// Tells how a replay ended.
+/// Puts how a replay ended.
 fn put_end(end: ReplayEnd, page: &mut Words) {
     match end {
         ReplayEnd::Done => page.put("-- done\n"),

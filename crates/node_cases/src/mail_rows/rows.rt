@@ -1,4 +1,4 @@
-//! Rows, line by line.
+//! Plays rows, line by line.
 
 use crate::mail_rows::cases::try_case;
 use crate::mail_rows::cuts::tell_pieces;
@@ -8,7 +8,8 @@ use crate::mail_rows::replays::play_script;
 use case_lines::Words;
 use std::alloc::{AllocError, Global};
 
-/// Plays the rows of a text, each behind a line `== TITLE`; what stands before the first is left out. An error says that there is no memory.
+/// Plays the rows of a text, each after a line `== TITLE`, and returns the results. Anything before
+/// the first such line is left out. `Err` if memory runs out.
 pub fn play(alloc: Global, text: &str) -> Result<Vec<u8>, AllocError> {
     let mut page = Words::new(alloc);
     let mut tried = Tried::none(every_of(text));
@@ -18,7 +19,8 @@ pub fn play(alloc: Global, text: &str) -> Result<Vec<u8>, AllocError> {
     page.finish()
 }
 
-/// Which places of all scripts and of what they print are damaged: the number behind `% every ` in front of the first row; 0 where there is none.
+/// The number after `% every ` before the first row: of all scripts and transcripts, each place
+/// whose number it divides is damaged. 0, for no place, if there is no such line.
 fn every_of(text: &str) -> u64 {
     let (head, _) = text.split_once("\n== ").unwrap_or((text, ""));
     for line in head.lines() {
@@ -55,7 +57,7 @@ fn play_row(alloc: Global, text: &str, tried: &mut Tried, page: &mut Words) {
     }
 }
 
-/// Takes a line of a row: a directive, a comment in front of the script, or what belongs to the script.
+/// Takes a line of a row: a directive, a comment before the script, or a line of the script.
 fn take_line<'a>(alloc: Global, line: &'a str, row: &mut Row<'a>, page: &mut Words) {
     if let Some(directive) = line.strip_prefix("% ") {
         let (word, rest) = cut(directive, ' ');
@@ -69,7 +71,7 @@ fn take_line<'a>(alloc: Global, line: &'a str, row: &mut Row<'a>, page: &mut Wor
     }
 }
 
-/// Does what a directive says; whether it is one.
+/// Executes a directive; returns whether the line is one.
 fn obey<'a>(alloc: Global, word: &str, rest: &'a str, row: &mut Row<'a>, page: &mut Words) -> bool {
     if word == "octets" {
         let Some(octets) = octets_of(alloc, rest) else {
@@ -88,7 +90,7 @@ fn obey<'a>(alloc: Global, word: &str, rest: &'a str, row: &mut Row<'a>, page: &
     true
 }
 
-/// Takes a case, where the row is one of cases, else octets of the script, with their end.
+/// Takes a case, if the row is one of cases, else octets of the script and then `end`.
 fn take_octets(alloc: Global, octets: &[u8], end: &[u8], row: &mut Row, page: &mut Words) {
     if let Way::Each(then) = row.way {
         try_case(alloc, row.script.so_far(), octets, then, page);
@@ -98,7 +100,7 @@ fn take_octets(alloc: Global, octets: &[u8], end: &[u8], row: &mut Row, page: &m
     }
 }
 
-/// Does with a row's script what is to be done with it.
+/// Does with a row's script what the row asks for.
 fn end_row(alloc: Global, script: &[u8], way: Way, page: &mut Words) {
     match way {
         Way::Whole => play_script(alloc, script).tell(page),

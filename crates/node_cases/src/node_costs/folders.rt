@@ -1,12 +1,12 @@
-//! Many folders.
+//! Times CREATEs, as folders become many.
 
 use crate::node_costs::seat::{Seat, since};
 use std::alloc::Global;
 use std::io;
 use std::time::Instant;
 
-/// Gives so many CREATEs of different names, and tells how many folders they made, and how long one took in the mean. (A replica numbers 65,535
-/// incarnations at most, and refuses what comes behind them.)
+/// Issues `count` CREATEs of different names. Prints how many folders they created, and the mean
+/// time of one. (A replica numbers at most 65,535 incarnations, and refuses a CREATE after them.)
 pub fn times(rt: &HostRuntime, count: u32) -> io::Result<()> {
     let mut seat = Seat::new(rt.alloc(), 1)?;
     let told = tell_times(rt, &mut seat, count);
@@ -28,7 +28,7 @@ fn tell_times(rt: &HostRuntime, seat: &mut Seat, count: u32) -> io::Result<()> {
     Ok(())
 }
 
-/// Whether the folder of this number was made.
+/// Creates the folder with this number; whether the node did so.
 fn create(alloc: Global, seat: &mut Seat, number: u32) -> io::Result<bool> {
     let create = format!(in alloc; "a CREATE f{number}\r\n")?;
     seat.is_done(alloc, create.as_str())

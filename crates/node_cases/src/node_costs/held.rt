@@ -1,4 +1,4 @@
-//! Deliveries while many operations are held.
+//! Times deliveries while many operations are held.
 
 use crate::node_costs::seat::{Seat, since};
 use crdt_ops::SoundOp;
@@ -10,8 +10,8 @@ use std::time::Instant;
 /// How many deliveries are timed.
 const TIMED: u32 = 200;
 
-/// Has so many operations held, which all wait for one, and tells how long a delivery takes of one more that waits, and of one that waits for
-/// none.
+/// Has `count` operations held, which all wait for one. Prints how long the delivery of another
+/// waiting operation takes, and of one that waits for none.
 pub fn times(rt: &HostRuntime, count: u32) -> io::Result<()> {
     let mut near = Seat::new(rt.alloc(), 1)?;
     let told = times_at(rt, &mut near, count);
@@ -51,7 +51,7 @@ fn tell_times(
     release(rt, near, far.node.op_list())
 }
 
-/// Delivers all but the first of the operations, and tells the nanoseconds of one of the last ones.
+/// Delivers all but the first of the operations; the mean nanoseconds of one of the last ones.
 fn early_time(rt: &HostRuntime, near: &mut Seat, ops: &[SoundOp]) -> io::Result<u64> {
     let waiting = ops.get(1..).unwrap_or(&[]);
     let split = waiting.len().saturating_sub(TIMED as usize);
@@ -60,7 +60,7 @@ fn early_time(rt: &HostRuntime, near: &mut Seat, ops: &[SoundOp]) -> io::Result<
     time_of(rt, near, timed)
 }
 
-/// Subscribes and unsubscribes so many times.
+/// Subscribes and unsubscribes in turn, `count` operations in total.
 fn subscribe(alloc: Global, seat: &mut Seat, count: u32) -> io::Result<()> {
     for _ in 0..count / 2 {
         seat.give(alloc, "a SUBSCRIBE first\r\n")?;
@@ -78,7 +78,7 @@ pub fn deliver_all(alloc: Global, seat: &mut Seat, ops: &[SoundOp]) -> io::Resul
     Ok(())
 }
 
-/// The nanoseconds of a delivery of one of the operations, in the mean.
+/// The mean nanoseconds of the delivery of one of the operations.
 pub fn time_of(rt: &HostRuntime, seat: &mut Seat, ops: &[SoundOp]) -> io::Result<u64> {
     let start = Instant::now(rt)?;
     deliver_all(rt.alloc(), seat, ops)?;
@@ -86,7 +86,7 @@ pub fn time_of(rt: &HostRuntime, seat: &mut Seat, ops: &[SoundOp]) -> io::Result
     Ok(spent.checked_div(ops.len() as u64).unwrap_or(0))
 }
 
-/// Delivers what all wait for, and tells how long that takes.
+/// Delivers the operation that all others wait for, and prints how long that takes.
 fn release(rt: &HostRuntime, seat: &mut Seat, ops: &[SoundOp]) -> io::Result<()> {
     let start = Instant::now(rt)?;
     deliver_all(rt.alloc(), seat, ops.get(..1).unwrap_or(&[]))?;

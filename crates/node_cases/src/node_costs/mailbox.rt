@@ -1,4 +1,4 @@
-//! Commands in a mailbox of many messages.
+//! Times commands in a mailbox of many messages.
 
 use crate::node_costs::held::{deliver_all, time_of};
 use crate::node_costs::seat::{Seat, since};
@@ -13,11 +13,12 @@ const TURNS: u32 = 100;
 
 /// A command that is timed.
 struct Row {
-    /// What it is.
+    /// Its name in the output.
     name: &'static str,
-    /// The command in front of it, untimed.
+    /// The untimed command before it.
     before: &'static str,
-    /// The command. A `#` stands for the number of a message in the middle of the mailbox, the next one each time, which is its UID, too.
+    /// The timed command. Each `#` is replaced by the number of a message in the middle of the
+    /// mailbox, which is also its UID; the next one each time.
     timed: &'static str,
 }
 
@@ -31,7 +32,7 @@ const UNSELECTED: Row = Row {
     timed: APPEND,
 };
 
-/// The commands that are timed in the selected mailbox, each behind those above.
+/// The commands that are timed in the selected mailbox, in this order.
 const ROWS: [Row; 7] = [
     Row {
         name: "FETCH by number, first behind SELECT",
@@ -70,7 +71,8 @@ const ROWS: [Row; 7] = [
     },
 ];
 
-/// Fills INBOX with so many messages and tells how long commands about one of them take, and what comes from another replica.
+/// Fills INBOX with `count` messages. Prints how long commands about one of them take, and
+/// deliveries of another replica's operations.
 pub fn times(rt: &HostRuntime, count: u32) -> io::Result<()> {
     let mut near = Seat::new(rt.alloc(), 1)?;
     let told = times_at(rt, &mut near, count);
@@ -101,8 +103,8 @@ fn tell_times(rt: &HostRuntime, near: &mut Seat, far: &mut Seat, count: u32) -> 
     tell_idling(rt, near, far)
 }
 
-/// Tells of commands and of another replica's operations while no session has the mailbox selected. The other replica then has all operations, and its
-/// session the mailbox.
+/// Times commands and another replica's operations while no session has selected the mailbox.
+/// Afterwards the other replica has all operations, and its session has selected the mailbox.
 fn tell_unselected(
     rt: &HostRuntime,
     near: &mut Seat,
@@ -116,7 +118,7 @@ fn tell_unselected(
     tell_stores(rt, near, far, middle)
 }
 
-/// Tells how long it takes to make the mailbox's listing and look a message up in it.
+/// Prints how long it takes to compute the mailbox's listing and look a message up in it.
 fn tell_look(rt: &HostRuntime, seat: &Seat, uid: u32) -> io::Result<()> {
     let name = Name::inbox(rt.alloc())?;
     let mut spans = Spans::none();
@@ -141,7 +143,7 @@ fn is_listed(alloc: Global, seat: &Seat, name: &Name, uid: u32) -> io::Result<bo
     }
 }
 
-/// Tells how long deliveries of the other replica's STOREs take.
+/// Prints how long deliveries of the other replica's STOREs take.
 fn tell_stores(rt: &HostRuntime, near: &mut Seat, far: &mut Seat, middle: u32) -> io::Result<()> {
     let mut spans = Spans::none();
     for turn in 0..TURNS {
@@ -152,14 +154,14 @@ fn tell_stores(rt: &HostRuntime, near: &mut Seat, far: &mut Seat, middle: u32) -
     spans.tell(rt, "another replica's STORE delivered, none selected")
 }
 
-/// Delivers the last operation of the other replica, and tells how long that takes.
+/// Delivers the last operation of the other replica; the nanoseconds that this takes.
 fn delivery_time(rt: &HostRuntime, near: &mut Seat, far: &Seat) -> io::Result<u64> {
     let made = far.node.op_list();
     let last = made.get(made.len().saturating_sub(1)..).unwrap_or(&[]);
     time_of(rt, near, last)
 }
 
-/// Tells how long a command takes.
+/// Prints how long a command takes.
 fn tell_row(rt: &HostRuntime, seat: &mut Seat, row: &Row, middle: u32) -> io::Result<()> {
     let mut spans = Spans::none();
     for turn in 0..TURNS {
@@ -171,7 +173,8 @@ fn tell_row(rt: &HostRuntime, seat: &mut Seat, row: &Row, middle: u32) -> io::Re
     spans.tell(rt, row.name)
 }
 
-/// Tells how long deliveries of the other replica's APPENDs take while the session idles, and polls behind them.
+/// Prints how long deliveries of the other replica's APPENDs take while the session idles, and how
+/// long a poll after each takes.
 fn tell_idling(rt: &HostRuntime, near: &mut Seat, far: &mut Seat) -> io::Result<()> {
     give(rt.alloc(), near, "IDLE", 0)?;
     let mut deliveries = Spans::none();
@@ -188,13 +191,13 @@ fn tell_idling(rt: &HostRuntime, near: &mut Seat, far: &mut Seat) -> io::Result<
     polls.tell(rt, "poll behind that")
 }
 
-/// Gives the command.
+/// Issues the command.
 fn give(alloc: Global, seat: &mut Seat, text: &str, number: u32) -> io::Result<()> {
     let line = command(alloc, text, number)?;
     seat.give(alloc, line.as_str())
 }
 
-/// The command with a tag and the number.
+/// The command with a tag, and with the number in place of `#`.
 fn command(alloc: Global, text: &str, number: u32) -> Result<String, AllocError> {
     match text.split_once('#') {
         Some((head, tail)) => format!(in alloc; "a {head}{number}{tail}\r\n"),

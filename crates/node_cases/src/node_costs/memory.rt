@@ -1,11 +1,12 @@
-//! What two replicas keep. (The memory itself is what the system says of the process.)
+//! Fills two replicas with messages, so that their memory can be measured. (The system reports the
+//! memory of the process.)
 
 use crate::node_costs::held::deliver_all;
 use crate::node_costs::seat::Seat;
 use std::alloc::{AllocError, Global};
 use std::io;
 
-/// Has a replica take so many messages of so many octets, and another one have them delivered.
+/// Has a replica take `count` messages of `size` octets, and delivers them to another one.
 pub fn fill(rt: &HostRuntime, count: u32, size: u32) -> io::Result<()> {
     let append = append_of(rt.alloc(), size)?;
     let kept = kept_by_two(rt.alloc(), append.as_str(), count)?;
@@ -30,7 +31,8 @@ fn kept_beside(alloc: Global, near: &mut Seat, append: &str, count: u32) -> io::
     Ok(kept)
 }
 
-/// Gives the first one the command so many times, and hands each operation to the other.
+/// Issues the command `count` times at the first replica, and delivers each operation to the
+/// second.
 fn hand_on(
     alloc: Global,
     near: &mut Seat,
@@ -51,7 +53,7 @@ fn deliver_last(alloc: Global, near: &Seat, far: &mut Seat) -> io::Result<()> {
     deliver_all(alloc, far, last)
 }
 
-/// An APPEND of so many octets.
+/// An APPEND of `size` octets.
 fn append_of(alloc: Global, size: u32) -> Result<String, AllocError> {
     let mut text = format!(in alloc; "a APPEND INBOX {{{size}+}}\r\n")?;
     for _ in 0..size {

@@ -1,4 +1,4 @@
-//! Times what a node's calls cost, and how that grows.
+//! Times a node's calls, and how their times grow.
 
 mod folders;
 mod held;
@@ -9,10 +9,13 @@ mod spans;
 
 use std::io;
 
-/// Does what the lines say, each a kind and a number: `mailbox 500` gives commands in a mailbox of so many messages, `folders 1000` makes so many
-/// folders, `held 1000` delivers operations while so many are held, `memory 10000 1024` has two replicas keep so many messages of so many octets.
-/// What was done goes to the standard output, and how long calls took, in nanoseconds, to the standard error. An error ends it behind what was
-/// printed: one of the output or the clock, want of memory, and a line of no known kind.
+/// Executes lines, each a kind and numbers: `mailbox 500` issues commands in a mailbox of 500
+/// messages, `folders 1000` creates 1,000 folders, `held 1000` delivers operations while 1,000 are
+/// held, `memory 10000 1024` has two replicas store 10,000 messages of 1,024 octets. What was done
+/// goes to the standard output, and how long calls took, in nanoseconds, to the standard error.
+///
+/// An error ends it after what was printed: a fault of the output or the clock, memory that runs
+/// out, or a line of no known kind.
 pub fn play(rt: &HostRuntime, lines: &str) -> io::Result<()> {
     for line in lines.lines() {
         play_line(rt, line)?;

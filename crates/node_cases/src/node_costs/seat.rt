@@ -1,4 +1,4 @@
-//! A node, a session of it, and how long its calls take.
+//! A node, one of its sessions, and how long its calls take.
 
 use crdt_ops::SoundOp;
 use imap_grammar::{Tagged, parse};
@@ -10,7 +10,7 @@ use std::time::Instant;
 use tags_clocks::ReplicaId;
 use uid_projection::Counters;
 
-/// A node and a session of it.
+/// A node and one of its sessions.
 #[derive(Drop)]
 pub struct Seat {
     pub node: Node,
@@ -18,7 +18,8 @@ pub struct Seat {
 }
 
 impl Seat {
-    /// A replica of this number that received nothing, and a session of a known user.
+    /// A replica with this number that received nothing, and a session that is already
+    /// authenticated.
     pub fn new(alloc: Global, replica: u32) -> io::Result<Seat> {
         let Some(replica) = ReplicaId::new(replica) else {
             return Err(io::Error::other("not a line"));
@@ -34,7 +35,7 @@ impl Seat {
         }
     }
 
-    /// Gives the command; an error where the node refuses it.
+    /// Issues the command; an error if the node refuses it.
     pub fn give(&mut self, alloc: Global, text: &str) -> io::Result<()> {
         match self.is_done(alloc, text) {
             Ok(true) => Ok(()),
@@ -43,7 +44,7 @@ impl Seat {
         }
     }
 
-    /// Gives the command, and tells whether the node did what it asks.
+    /// Issues the command; returns whether the node executed it.
     pub fn is_done(&mut self, alloc: Global, text: &str) -> io::Result<bool> {
         if !self.node.is_open(self.session) {
             return Err(io::Error::other("not taken"));
@@ -55,7 +56,7 @@ impl Seat {
         Ok(did(reply))
     }
 
-    /// The nanoseconds that the command takes.
+    /// Issues the command; the nanoseconds that it takes.
     pub fn time_of(&mut self, rt: &HostRuntime, text: &str) -> io::Result<u64> {
         if !self.node.is_open(self.session) {
             return Err(io::Error::other("not taken"));
@@ -76,7 +77,7 @@ impl Seat {
         }
     }
 
-    /// The nanoseconds that a poll takes of the session, which idles.
+    /// Polls the session, which idles; the nanoseconds that this takes.
     pub fn poll_time(&mut self, rt: &HostRuntime) -> io::Result<u64> {
         let start = Instant::now(rt)?;
         self.poll(rt.alloc())?;
@@ -99,7 +100,7 @@ impl Seat {
     }
 }
 
-/// The node with a session of a known user.
+/// The node with a session that is already authenticated.
 fn seated(node: Node) -> io::Result<Seat> {
     let mut node = node;
     match node.open(Auth::Preauth) {
@@ -111,7 +112,7 @@ fn seated(node: Node) -> io::Result<Seat> {
     }
 }
 
-/// An error where a node refused it.
+/// An error if a node refused a command or poll.
 fn taken(reply: Reply) -> io::Result<()> {
     if did(reply) {
         Ok(())
@@ -120,7 +121,7 @@ fn taken(reply: Reply) -> io::Result<()> {
     }
 }
 
-/// Whether a node did what was asked.
+/// Whether a node did what it was asked.
 fn did(reply: Reply) -> bool {
     match reply {
         Reply::Done { .. } => true,

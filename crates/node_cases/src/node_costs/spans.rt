@@ -1,4 +1,4 @@
-//! How long calls took.
+//! Adds up how long calls took.
 
 use std::io;
 
@@ -11,7 +11,7 @@ pub struct Spans {
 }
 
 impl Spans {
-    /// Of no call.
+    /// The times of no calls.
     pub fn none() -> Spans {
         Spans {
             least: u64::MAX,
@@ -20,14 +20,14 @@ impl Spans {
         }
     }
 
-    /// Of one call more.
+    /// Adds the time of a further call.
     pub fn note(&mut self, spent: u64) {
         self.least = self.least.min(spent);
         self.sum = self.sum.saturating_add(spent);
         self.count = self.count.saturating_add(1);
     }
 
-    /// Tells what the fastest took, and the mean.
+    /// Prints the least time and the mean.
     pub fn tell(&self, rt: &HostRuntime, name: &str) -> io::Result<()> {
         let least = self.least;
         let mean = self.sum.checked_div(self.count).unwrap_or(0);
