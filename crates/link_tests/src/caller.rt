@@ -1,4 +1,4 @@
-//! One caller of a replica, and what it does.
+//! A caller of a replica, and its actions.
 
 use crate::deeds::{Deed, HOUR, Sign, Step};
 use crate::fixtures::{copies, open_one, say};
@@ -17,7 +17,7 @@ use std::sync::ledger::Ledger;
 use std::thread;
 use std::time::Duration;
 
-/// How often it is looked whether a replica applied what it should.
+/// How many times a caller checks whether a replica applied what it should.
 const TURNS: u32 = 1_000_000;
 
 /// A replica as its callers see it.
@@ -25,19 +25,19 @@ const TURNS: u32 = 1_000_000;
 pub struct Station<'a, L: Ledger, R: Wait> {
     /// The replica.
     pub shared: &'a Shared<L>,
-    /// The ways from it and to it.
+    /// The links from it and to it.
     pub mail: Mail<'a, R>,
 }
 
-/// What a caller saw.
+/// The outcomes that a caller saw.
 pub struct Seen {
     /// Its number.
     pub number: usize,
-    /// Each place that it saw, with the outcome that came.
+    /// Each place that it saw, with the outcome of its call.
     pub places: Vec<(u64, Outcome)>,
 }
 
-// By hand, so that what holds it lets it go as a whole.
+// By hand, so that its owners drop it whole.
 impl Drop for Seen {
     fn drop(self) {
         let Self {
@@ -53,12 +53,12 @@ pub struct Caller<L: Ledger> {
     pub pass: Pass<L>,
     /// A pass that made no call, for its link.
     spare: Option<Pass<L>>,
-    /// The passes of its link, one for each time that it took messages.
+    /// The passes of its link, one for each time that it received messages.
     links: Vec<Pass<L>>,
     seen: Seen,
 }
 
-// By hand, so that functions with several exits let it go as a whole.
+// By hand, so that functions with several exits drop it whole.
 impl<L: Ledger> Drop for Caller<L> {
     fn drop(self) {
         let Self {
@@ -70,7 +70,7 @@ impl<L: Ledger> Drop for Caller<L> {
     }
 }
 
-/// A gate that tells the sign that it was reached, and looks whether it is over.
+/// A gate that sets `Begun` when it is reached, and waits for `Over`, for `turns` turns at most.
 #[derive(Drop)]
 struct Until<'a, R: Wait> {
     mail: &'a Mail<'a, R>,
@@ -91,7 +91,7 @@ impl<'a, R: Wait> Gate for Until<'a, R> {
     }
 }
 
-/// What the last call issued.
+/// The operations that the last call issued.
 fn issued<L: Ledger>(pass: &Pass<L>) -> &[SoundOp] {
     match pass.last() {
         Some(
@@ -115,7 +115,7 @@ impl<L: Ledger> Caller<L> {
         }
     }
 
-    /// Puts its passes behind others; what it saw.
+    /// Appends its passes to others, and returns what it saw.
     pub fn into_seen(self, passes: &mut Vec<Pass<L>>) -> Seen {
         let Self {
             pass,
@@ -133,7 +133,7 @@ impl<L: Ledger> Caller<L> {
         seen
     }
 
-    /// Does what is to be done in its thread.
+    /// Does the actions of its thread.
     pub fn run<R: Wait + Clock>(self, station: &Station<'_, L, R>) -> Caller<L> {
         let mut caller = self;
         if let Some(deeds) = station.mail.threads.get(caller.seen.number) {
@@ -142,14 +142,14 @@ impl<L: Ledger> Caller<L> {
         caller
     }
 
-    /// Does one thing after another.
+    /// Does one action after another.
     pub fn act_all<R: Wait + Clock>(&mut self, station: &Station<'_, L, R>, deeds: &[Deed]) {
         for deed in deeds {
             self.act(station, *deed);
         }
     }
 
-    /// Does one thing, and tells so where it couldn't be done.
+    /// Does one action, and reports if it couldn't be done.
     pub fn act<R: Wait + Clock>(&mut self, station: &Station<'_, L, R>, deed: Deed) {
         let done = self.do_one(station, deed).unwrap_or(false);
         if !done {
@@ -159,7 +159,7 @@ impl<L: Ledger> Caller<L> {
         }
     }
 
-    /// Does one thing, at its session or otherwise.
+    /// Does one action, at its session or otherwise; false if it couldn't be done.
     fn do_one<R: Wait + Clock>(
         &mut self,
         station: &Station<'_, L, R>,
@@ -185,7 +185,7 @@ impl<L: Ledger> Caller<L> {
         }
     }
 
-    /// Does one thing that is not done at its own session.
+    /// Does one action that isn't done at its own session; false if it couldn't be done.
     fn do_other<R: Wait + Clock>(
         &mut self,
         station: &Station<'_, L, R>,
@@ -207,7 +207,7 @@ impl<L: Ledger> Caller<L> {
         }
     }
 
-    /// Notes the outcome of the last call, if it was made, and where its entry stands.
+    /// Notes the outcome of the last call, if it was made, with the place of its entry.
     fn note(&mut self, called: bool) -> bool {
         let Some(last) = self.pass.last() else {
             return false;
@@ -218,7 +218,7 @@ impl<L: Ledger> Caller<L> {
         }
     }
 
-    /// Gives a command; where there is no session it opens one before.
+    /// Gives a command, and opens a session before it if there is none.
     fn say<R: Wait>(
         &mut self,
         station: &Station<'_, L, R>,
@@ -240,7 +240,7 @@ impl<L: Ledger> Caller<L> {
         )
     }
 
-    /// Gives a command and sends what it issued; how many operations these are.
+    /// Gives a command and sends the operations that it issued, and returns their number.
     fn say_and_send<R: Wait>(
         &mut self,
         station: &Station<'_, L, R>,
@@ -269,7 +269,8 @@ impl<L: Ledger> Caller<L> {
         Ok(whole)
     }
 
-    /// Makes a mailbox or a message a thousand times, sends what is issued, and tells how many operations these are.
+    /// Creates a mailbox or a message a thousand times, sends the operations, and reports their
+    /// number.
     fn make<R: Wait>(&mut self, station: &Station<'_, L, R>) -> Result<bool, AllocError> {
         let mail = &station.mail;
         let own = mail.own;
@@ -285,7 +286,7 @@ impl<L: Ledger> Caller<L> {
         mail.tell_number("sent", sent)
     }
 
-    /// Polls its session behind each change that may have to be told, until all is over.
+    /// Polls its session after each change that may have to be sent, until the scene is over.
     fn feed<R: Wait>(&mut self, station: &Station<'_, L, R>) -> bool {
         let (shared, mail) = (station.shared, &station.mail);
         let mut seen = self.pass.seen();
@@ -307,7 +308,7 @@ impl<L: Ledger> Caller<L> {
         false
     }
 
-    /// Cuts a pass off that is lost then, and that opens a session before where this is asked.
+    /// Cuts off a pass and drops it; first opens a session with it if `opens` is true.
     fn lose_pass<R: Wait>(&mut self, station: &Station<'_, L, R>, opens: bool) -> bool {
         let mail = &station.mail;
         match self.pass.cut() {
@@ -321,7 +322,7 @@ impl<L: Ledger> Caller<L> {
         }
     }
 
-    /// Takes steps of the link to its replica, and then what came, and no more.
+    /// Takes steps of the link to its replica, and then receives only what these deliver.
     fn take<R: Wait + Clock>(
         &mut self,
         station: &Station<'_, L, R>,
@@ -334,7 +335,7 @@ impl<L: Ledger> Caller<L> {
         Ok(taken? && self.hear(station, &come, asks_first, HOUR))
     }
 
-    /// Has the link's worker take what comes.
+    /// Has the link's worker receive messages.
     fn hear<R: Wait + Clock>(
         &mut self,
         station: &Station<'_, L, R>,
@@ -374,7 +375,7 @@ impl<L: Ledger> Caller<L> {
     }
 }
 
-/// So many callers, one for each thread at a replica, whose passes are cut from this one.
+/// `count` callers, one for each thread at a replica, whose passes are cut from this one.
 pub fn cut_callers<L: Ledger>(alloc: Global, count: usize, first: &mut Pass<L>) -> Vec<Caller<L>> {
     let mut callers = Vec::new(alloc);
     for number in 0..count {
@@ -385,7 +386,7 @@ pub fn cut_callers<L: Ledger>(alloc: Global, count: usize, first: &mut Pass<L>) 
     callers
 }
 
-/// Holds the lock for so many turns, unless it is over before, and tells whether it was.
+/// Holds the lock for this number of turns, or until the scene is over, and reports whether it was.
 fn hold<L: Ledger, R: Wait>(station: &Station<'_, L, R>, turns: u64) -> Result<bool, AllocError> {
     let mail = &station.mail;
     let mut gate = Until {
@@ -397,7 +398,7 @@ fn hold<L: Ledger, R: Wait>(station: &Station<'_, L, R>, turns: u64) -> Result<b
     mail.tell_number("over meanwhile", u64::from(gate.saw))
 }
 
-/// Looks many times whether the replica has applied what this clock counts, and no more.
+/// Checks many times whether the clock of the replica is this one.
 fn comes_to<L: Ledger, R: Wait>(station: &Station<'_, L, R>, wanted: &str) -> bool {
     let mail = &station.mail;
     for _ in 0..TURNS {

@@ -1,16 +1,16 @@
-//! What happens at two replicas, as data.
+//! Scenes at two replicas, as data.
 
 /// An hour, in milliseconds.
 pub const HOUR: u64 = 3_600_000;
 
-/// What becomes of a message, by its place among those on the link; the first place is 0.
+/// What happens to a message, given by its place among those on the link; the first place is 0.
 #[derive(Clone, Copy)]
 pub enum Step {
-    /// It comes.
+    /// It is delivered.
     Pass(usize),
     /// It is lost.
     Lose(usize),
-    /// It comes twice.
+    /// It is delivered twice.
     Twice(usize),
 }
 
@@ -25,97 +25,105 @@ impl Step {
     }
 }
 
-/// A count by which threads tell one another how far they are, 0 at first.
+/// A counter by which threads show one another how far they are, 0 at first.
 #[derive(Clone, Copy)]
 pub enum Sign {
-    /// How many have begun, or are through with their commands.
+    /// The number of threads that have begun, or that have finished their commands.
     Begun,
-    /// Not 0 once it is over, or was answered.
+    /// Not 0 once the scene is over, or a call was answered.
     Over,
 }
 
-/// What a caller of one of two replicas does.
+/// An action of a caller of one of two replicas.
 #[derive(Clone, Copy)]
 pub enum Deed {
     /// It opens a session.
     Opens,
     /// It closes its session.
     Closes,
-    /// It gives a command, of which nothing is sent. Where it has no session it opens one.
+    /// It gives a command, whose operations aren't sent. If it has no session it first opens one.
     Does(&'static str),
-    /// It gives a command, and what that issues is sent to the other replica in one message. Where it has no session it opens one.
+    /// It gives a command, whose operations are sent to the other replica in one message. If it has
+    /// no session it first opens one.
     Says(&'static str),
     /// It gives a hundred NOOPs with tags of its own.
     Noops,
-    /// It gives a thousand commands, sends what they issue, and tells how many operations these are.
+    /// It gives a thousand commands, sends their operations, and reports how many these are.
     Makes,
-    /// It has the replica go on with what is held.
+    /// It has the replica drain its held operations.
     Drains,
-    /// It idles: it polls its session behind each change that may have to be told, until all is over.
+    /// It idles: it polls its session after each change that may have to be sent, until the scene
+    /// is over.
     Feeds,
-    /// It holds the replica's lock for so many turns, unless it is over before, and tells whether it was.
+    /// It holds the replica's lock for this number of turns, or until the scene is over, and
+    /// reports whether it was.
     Holds(u64),
-    /// It waits until the journal's length isn't this one, and tells it.
+    /// It waits until the journal's length differs from this one, and reports it.
     AwaitsChange(u64),
-    /// It looks many times whether the replica has applied what this clock counts, and no more.
+    /// It checks many times whether the clock of the replica is this one.
     AwaitsClock(&'static str),
-    /// It cuts a pass off that is lost then, and that opens a session before where this is so.
+    /// It cuts off a pass and drops it. If this is true, it first opens a session with it.
     LosesPass(bool),
-    /// It asks the other replica for all that this one lacks.
+    /// It asks the other replica for all operations that this one lacks.
     Asks,
-    /// Steps of the link to its replica are taken, and then it takes what came, message by message.
+    /// Steps of the link to its replica are taken, and then it receives what was delivered, message
+    /// by message.
     Takes(&'static [Step]),
-    /// It takes what comes until it is stopped, and asks the other replica each time that so many milliseconds have passed.
+    /// It receives messages until it is stopped, and asks the other replica each time that this
+    /// number of milliseconds has passed.
     Serves(u64),
     /// It sends an operation that no replica need have issued.
     Forges(&'static str),
-    /// It stops the link to the replica at a place.
+    /// It stops the link to the replica at this place.
     Stops(usize),
-    /// It counts a sign up.
+    /// It adds 1 to a counter.
     Raises(Sign),
-    /// It waits until a sign counts so many.
+    /// It waits until a counter has this value.
     Awaits(Sign, u64),
-    /// It tells what a sign counts.
+    /// It reports the value of a counter.
     Looks(Sign),
-    /// It lets other threads go on for a while.
+    /// It lets other threads run for a while.
     GivesWay,
 }
 
-/// What is told of both replicas at the end.
+/// The final report on both replicas.
 #[derive(Clone, Copy)]
 pub enum Ending {
-    /// What each made of what came, and whether they agree.
+    /// The outcomes of all deliveries at each replica, and whether their clocks agree.
     Answers,
-    /// Whether they agree, and what the second made of what came; the end of which isn't compared.
+    /// Whether their clocks agree, and the outcomes of deliveries at the second replica, of which
+    /// only the first ones are compared.
     FirstAnswers,
-    /// How many operations the first applied, and how many of these the second did.
+    /// The number of operations that the first applied, and how many of these the second applied.
     Common,
-    /// Of the first, how many entries its journal has, how many outcomes stand where they were seen, and how many entries are commands of those who saw them there.
+    /// Of the first replica: the number of entries of its journal, how many of the seen outcomes
+    /// are at their places, and how many entries are commands of the callers that saw them there.
     History,
-    /// How many entries the journal of each has, or why it isn't handed out.
+    /// The number of entries of each replica's journal, or why it isn't returned.
     Entries,
 }
 
-/// What happens at two replicas, and what is told of it.
+/// A scene at two replicas, and its expected text.
 pub struct Scene {
-    /// What it shows.
+    /// What the scene shows.
     pub name: &'static str,
-    /// The first UID of INBOX at the second replica; 0 where it joined with two operations of the first one's.
+    /// The first UID of INBOX at the second replica; 0 if it joins with two operations of the
+    /// first.
     pub uid: u32,
-    /// What happens first, one after another, each at the replica at a place.
+    /// The first actions, one after another, each at the replica at a place.
     pub deeds: &'static [(usize, Deed)],
-    /// What callers of the first do then, each in a thread.
+    /// The actions of the first replica's callers after that, each caller in a thread.
     pub first: &'static [&'static [Deed]],
-    /// What callers of the second do meanwhile.
+    /// The actions of the second replica's callers at the same time.
     pub second: &'static [&'static [Deed]],
-    /// What is told at the end.
+    /// The final report.
     pub ending: Ending,
-    /// All that is told.
+    /// The expected text.
     pub wanted: &'static str,
 }
 
 impl Scene {
-    /// Whether that is told which is wanted.
+    /// Whether this is the expected text.
     pub fn is_wanted(&self, told: &str) -> bool {
         match self.ending {
             Ending::FirstAnswers => told.starts_with(self.wanted),

@@ -1,4 +1,4 @@
-//! What is left of two replicas at the end of a scene, as text.
+//! The final state of two replicas after a scene, as text.
 
 use crate::caller::Seen;
 use crate::deeds::Ending;
@@ -8,15 +8,15 @@ use merge_laws::Caused;
 use replica_lock::{Book, BookEvent, EntryRef, FinishFault, Outcome};
 use std::alloc::{AllocError, Global};
 
-/// What is left of a replica: its book, or why it isn't handed out, and what its callers saw.
+/// A replica after a scene: its book, or why it isn't returned, and what its callers saw.
 pub struct Ended {
-    /// The book that was handed out, or why there is none.
+    /// The book that was returned, or why there is none.
     pub book: Result<Book, FinishFault>,
     /// What its callers saw.
     pub seen: Vec<Seen>,
 }
 
-// By hand, so that what holds it lets it go as a whole.
+// By hand, so that its owners drop it whole.
 impl Drop for Ended {
     fn drop(self) {
         let Self { book: _, seen: _ } = self;
@@ -24,7 +24,7 @@ impl Drop for Ended {
 }
 
 impl Ended {
-    /// Tells how many entries the journal has, or why it isn't handed out.
+    /// Appends the number of entries of the journal, or why it isn't returned.
     fn tell_entries(&self, text: &mut String) -> Result<(), AllocError> {
         match &self.book {
             Ok(book) => {
@@ -39,7 +39,7 @@ impl Ended {
     }
 }
 
-/// What was told so far, and behind it what is to be told at the end.
+/// The text so far, followed by the final report on two replicas.
 pub fn tell_ending(
     alloc: Global,
     told: Result<String, AllocError>,
@@ -113,7 +113,7 @@ fn tell_books(
     }
 }
 
-/// Whether an operation stands in a list.
+/// Whether an operation is in a list.
 fn has(ops: &[SoundOp], op: &SoundOp) -> bool {
     for other in ops {
         if other.same(op) {
@@ -123,7 +123,7 @@ fn has(ops: &[SoundOp], op: &SoundOp) -> bool {
     false
 }
 
-/// How many operations of a list stand in another.
+/// The number of operations of a list that are in another.
 fn common(ops: &[SoundOp], others: &[SoundOp]) -> usize {
     let mut common = 0usize;
     for op in ops {
@@ -134,7 +134,8 @@ fn common(ops: &[SoundOp], others: &[SoundOp]) -> usize {
     common
 }
 
-/// Tells how many entries a journal has, how many outcomes stand where they were seen, and how many entries are commands of those who saw them there.
+/// Appends the number of entries of a journal, how many of the seen outcomes are at their places,
+/// and how many entries are commands of the callers that saw them there.
 fn tell_history(
     alloc: Global,
     text: &mut String,
@@ -154,7 +155,7 @@ fn tell_history(
     )
 }
 
-/// How many outcomes stand where they were seen.
+/// The number of outcomes that are at the places where they were seen.
 fn count_standing(book: &Book, places: &[(u64, Outcome)]) -> usize {
     let mut standing = 0usize;
     for (place, outcome) in places {
@@ -167,7 +168,8 @@ fn count_standing(book: &Book, places: &[(u64, Outcome)]) -> usize {
     standing
 }
 
-/// How many entries that a caller saw behind its first are its own commands, each in its place and above the one before it.
+/// The number of entries that a caller saw after its first and that are its own commands, each in
+/// its order and above the one before it.
 fn own_commands(alloc: Global, book: &Book, seen: &Seen) -> Result<usize, AllocError> {
     let client = seen.number;
     let mut own = 0usize;
@@ -184,7 +186,7 @@ fn own_commands(alloc: Global, book: &Book, seen: &Seen) -> Result<usize, AllocE
     Ok(own)
 }
 
-/// Whether the entry there is the command with this tag.
+/// Whether the entry at this place is the command with this tag.
 fn has_tag(book: &Book, place: u64, tag: &str) -> bool {
     let Some(kept) = book.entry(place) else {
         return false;

@@ -12,7 +12,7 @@ use std::sync::ledger::Ledger;
 use tags_clocks::ReplicaId;
 use uid_projection::Counters;
 
-/// The replica with this number, new, and with this as the first UID of INBOX; `None` for 0.
+/// A new replica with this number and with this first UID of INBOX; `None` for 0.
 pub fn book_from(alloc: Global, number: u32, uid: u32) -> Option<Book> {
     if uid == 0 {
         return None;
@@ -25,7 +25,7 @@ pub fn book_from(alloc: Global, number: u32, uid: u32) -> Option<Book> {
     }
 }
 
-/// Opens a session of a known user.
+/// Opens a session of a known user; false if the pass has one, or it can't be opened.
 pub fn open_one<L: Ledger, R: Wait>(
     rt: &R,
     alloc: Global,
@@ -38,7 +38,8 @@ pub fn open_one<L: Ledger, R: Wait>(
     shared.open(rt, alloc, pass, Auth::Preauth).is_ok() && pass.session().is_some()
 }
 
-/// Gives the pass's session the command that a line spells.
+/// Gives the pass's session the command that a line spells; false if there is no session or no such
+/// command.
 pub fn say<L: Ledger, R: Wait>(
     rt: &R,
     alloc: Global,
@@ -57,7 +58,7 @@ pub fn say<L: Ledger, R: Wait>(
     }
 }
 
-/// The operations that lines spell, in their order; `None` where one spells none that is sound.
+/// The operations that lines spell, in their order; `None` if a line spells no sound operation.
 pub fn operations(alloc: Global, lines: &[&str]) -> Option<Vec<SoundOp>> {
     let mut ops = Vec::new(alloc);
     if push_operations(alloc, lines, &mut ops) {

@@ -1,4 +1,4 @@
-//! Replicas that join with another one's operations, and journals that are handed out.
+//! Replicas that join with another one's operations, and journals that are returned.
 
 ghost use Rattle.std.specs.Prelude.{◌≡◌};
 
@@ -19,7 +19,7 @@ use std::test::*;
 use std::thread::Threads;
 use tags_clocks::ReplicaId;
 
-/// What comes of it where a replica joins with these operations: its journal, or why it doesn't join.
+/// Appends the journal of a replica that joins with these operations, or why it doesn't join.
 fn tell_joined(
     alloc: Global,
     text: &mut String,
@@ -35,7 +35,8 @@ fn tell_joined(
     }
 }
 
-/// Tells what became of each delivery, how many entries there are, and how many operations were applied.
+/// Appends the outcome of each delivery, the number of entries, and the number of applied
+/// operations.
 fn tell_book(text: &mut String, book: &Book) -> Result<(), AllocError> {
     tell_answers(text, book)?;
     let entries = book.len();
@@ -61,11 +62,11 @@ fn tell_fault(text: &mut String, fault: JoinFault) -> Result<(), AllocError> {
 
 /// A replica that is to join.
 struct Case {
-    /// Its name.
+    /// Its number.
     name: u32,
-    /// The operations.
+    /// The operations with which it joins.
     lines: &'static [&'static str],
-    /// What comes of it.
+    /// The expected text.
     wanted: &'static str,
 }
 
@@ -122,7 +123,7 @@ const CASES: &[Case] = &[
     },
 ];
 
-/// What a case comes to.
+/// The text of a case.
 fn case_text(alloc: Global, name: u32, lines: &[&str]) -> Result<String, AllocError> {
     let mut text = String::new(alloc);
     let told = match operations(alloc, lines) {
@@ -133,7 +134,8 @@ fn case_text(alloc: Global, name: u32, lines: &[&str]) -> Result<String, AllocEr
     Ok(text)
 }
 
-/// The place of the first case that comes to something else, what it should come to, and what it comes to; nothing where there is none.
+/// The place of the first case with another text than the expected one, with both texts; empty if
+/// there is none.
 fn wrong_case(alloc: Global) -> Result<String, AllocError> {
     for (place, case) in CASES.iter().enumerate() {
         let text = case_text(alloc, case.name, case.lines)?;
@@ -152,7 +154,7 @@ fn who_joins_with_which_operations(rt: HostRuntime) -> Result<(), Fail> {
     Ok(())
 }
 
-/// What the first replica does before the second joins.
+/// The actions at the first replica before the second joins.
 const WORK: &[Deed] = &[
     Deed::Does("CREATE a"),
     Deed::Does("DELETE a"),
@@ -160,7 +162,7 @@ const WORK: &[Deed] = &[
     Deed::Does("APPEND a {1}\r\nx"),
 ];
 
-/// A replica that did the work, and one that joined with copies of its operations.
+/// A replica at which these actions were done, and one that joined with copies of its operations.
 fn worked<L: Ledger, R: Wait + Clock>(
     rt: &R,
     alloc: Global,
@@ -197,7 +199,8 @@ fn worked<L: Ledger, R: Wait + Clock>(
     shared.finish(passes).ok().zip(other)
 }
 
-/// The same at a new replica.
+/// A new replica at which the work was done, and one that joined with copies of its operations;
+/// `None` if one of them can't be made.
 fn worked_two<R: Wait + Clock>(rt: &R, alloc: Global) -> Result<Option<(Book, Book)>, AllocError> {
     let lines = Lines::new(alloc, false)?;
     match book_from(alloc, 1, 1) {
@@ -206,7 +209,8 @@ fn worked_two<R: Wait + Clock>(rt: &R, alloc: Global) -> Result<Option<(Book, Bo
     }
 }
 
-/// A message that comes before the one that joined begins to listen is lost; it asks, and then issues one of its own.
+/// A message that comes before the joined replica receives messages is lost; it asks, and then
+/// issues an operation of its own.
 const JOINED: Scene = Scene {
     name: "one joins and asks",
     uid: 1,
@@ -225,7 +229,8 @@ const JOINED: Scene = Scene {
     wanted: "1 to 2: 1:5\n2 to 1: have 1=4\n1 to 2: 1:5\n2 to 1: 2:1\nat 1\n2:1 Applied 1\nat 2\n1:1 Applied 1\n1:2 Applied 1\n1:3 Applied 1\n1:4 Applied 1\n1:5 Applied 1\nagreed\n",
 };
 
-/// What a replica is that joins with the copies of another one's operations, and what becomes of what the other issues meanwhile.
+/// The text of a replica that joined with copies of another one's operations, and of the scene in
+/// which it asks for what the other issued meanwhile.
 fn joined<R: Threads + Wait + Clock + Sync>(rt: &R, alloc: Global) -> Result<String, AllocError> {
     let mut text = String::new(alloc);
     match worked_two(rt, alloc)? {
@@ -249,7 +254,8 @@ fn one_joins_and_asks(rt: HostRuntime) -> Result<(), Fail> {
     Ok(())
 }
 
-/// A journal isn't handed out without the pass that opened a session, but without one that made no call; the second replica joined with two operations.
+/// A journal isn't returned without the pass that opened a session, but is returned without one
+/// that made no call; the second replica joined with two operations.
 const LACKING: &[Scene] = &[Scene {
     name: "passes that are lost",
     uid: 0,

@@ -1,4 +1,12 @@
-//! Tests of replicas behind locks, and of the links between them: threads, gates, messages.
+//! Tests of replicas under locks, and of the links between them.
+//!
+//! Scenes are data: what callers of two replicas do, one after another and then in threads, which
+//! messages of the link are lost, doubled or reordered, and what is reported at the end. They show
+//! that locks are independent, that a change ends a wait and wakes only the idling sessions that
+//! have something to be sent, that four threads make one history, that lost messages are requested
+//! again, and that linked replicas end with the same operations. Replicas join with another one's
+//! operations, and a journal is returned only with the passes of all its calls. A table gives the
+//! order of the calls that a link's worker makes.
 #![tactic(auto)]
 
 #[cfg(test)]

@@ -4,7 +4,7 @@ use crate::deeds::{Deed, Ending, Scene, Step};
 use crate::scene::wrong_scene;
 use std::test::*;
 
-/// As many messages, the last first, each of them twice.
+/// Two messages, the last first, each of them twice; below, three, four and five.
 const TWO: &[Step] = &[Step::Twice(1), Step::Twice(0)];
 
 const THREE: &[Step] = &[Step::Twice(2), Step::Twice(1), Step::Twice(0)];

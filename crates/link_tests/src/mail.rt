@@ -1,4 +1,4 @@
-//! Letters between two replicas, over channels, and what threads tell one another.
+//! Channels between two replicas and between their callers.
 
 use crate::deeds::{Deed, Sign, Step};
 use crate::fixtures::{copies, operations};
@@ -12,10 +12,10 @@ use std::sync::atomic::{AtomicU64, Ordering};
 use std::thread;
 use tags_clocks::Clock;
 
-/// For so many turns other threads are let go on.
+/// The number of turns for which other threads may run.
 const WHILE: u32 = 100_000;
 
-/// A gate that is open.
+/// A gate that is always open.
 #[derive(Drop)]
 pub struct Open;
 
@@ -23,25 +23,25 @@ impl Gate for Open {
     fn pass(&mut self, _n: u64) {}
 }
 
-/// Channels to two replicas, and what their callers tell.
+/// The channels to two replicas, and the reports of their callers.
 pub struct Lines {
-    /// The way to each, by place.
+    /// The sender to each replica, by place.
     links: Vec<Sender<PeerMsg>>,
-    /// Where the letters of the first come.
+    /// The messages to the first replica.
     first: Receiver<PeerMsg>,
-    /// Where the letters of the second come.
+    /// The messages to the second replica.
     second: Receiver<PeerMsg>,
-    /// Where callers tell what they saw.
+    /// The sender of the callers' reports.
     said: Sender<String>,
-    /// What was told, line by line.
+    /// The reports, a line each.
     lines: Receiver<String>,
     begun: AtomicU64,
     over: AtomicU64,
-    /// Whether each message is told.
+    /// Whether each message is reported.
     tells: bool,
 }
 
-// By hand, so that functions with several exits let it go as a whole.
+// By hand, so that functions with several exits drop it whole.
 impl Drop for Lines {
     fn drop(self) {
         let Self {
@@ -58,7 +58,8 @@ impl Drop for Lines {
 }
 
 impl Lines {
-    /// New channels, and whether each message is told.
+    /// New channels; `reports_messages` says whether each message is reported. `Err` if memory runs
+    /// out.
     pub fn new(alloc: Global, tells: bool) -> Result<Lines, AllocError> {
         let mut links = Vec::new(alloc);
         let (to, first) = unbounded(alloc)?;
@@ -78,13 +79,13 @@ impl Lines {
         })
     }
 
-    /// What was told so far, line by line.
+    /// The reports so far, a line each.
     pub fn told<R: Wait>(&self, rt: &R, alloc: Global) -> Result<String, AllocError> {
         all_lines(rt, alloc, &self.lines)
     }
 }
 
-/// The way from the replica at one place of two to both, and to the other callers.
+/// The links from the replica at one of two places to both, and to the other callers.
 #[derive(Drop)]
 pub struct Mail<'a, R: Wait> {
     /// The handle that waits.
@@ -95,7 +96,7 @@ pub struct Mail<'a, R: Wait> {
     pub own: usize,
     /// The channels.
     pub lines: &'a Lines,
-    /// What each caller of this replica does in a thread of its own.
+    /// The actions of each caller of this replica, in a thread of its own.
     pub threads: &'static [&'static [Deed]],
 }
 
@@ -105,7 +106,7 @@ impl<'a, R: Wait> Mail<'a, R> {
         if self.own == 0 { 1 } else { 0 }
     }
 
-    /// Where the sender's own letters come.
+    /// The messages to the sender's own replica.
     pub fn letters(&self) -> &'a Receiver<PeerMsg> {
         if self.own == 0 {
             &self.lines.first
@@ -114,13 +115,14 @@ impl<'a, R: Wait> Mail<'a, R> {
         }
     }
 
-    /// Tells a number, on a line that says what it is.
+    /// Reports a number, on a line that names it; false if the line can't be sent.
     pub fn tell_number(&self, what: &str, number: u64) -> Result<bool, AllocError> {
         let line = format!(in self.alloc; "{what} {number}\n")?;
         Ok(self.lines.said.send(self.rt, line).is_ok())
     }
 
-    /// Sends a message to the replica at a place, and tells it where each is told; whether there is one that takes it.
+    /// Sends a message to the replica at a place, and reports it if messages are reported; false if
+    /// no replica takes it.
     pub fn send(&self, to: usize, message: LinkMsg) -> Result<bool, AllocError> {
         let told = if self.lines.tells {
             tell_message(self.alloc, self.own, to, &message)
@@ -135,7 +137,7 @@ impl<'a, R: Wait> Mail<'a, R> {
         Ok(self.lines.said.send(self.rt, told?).is_ok() && sent)
     }
 
-    /// Puts a letter on the way to the replica at a place.
+    /// Puts a message into the channel to the replica at a place; false if there is none.
     fn put(&self, to: usize, letter: PeerMsg) -> bool {
         match self.lines.links.get(to) {
             Some(link) => link.send(self.rt, letter).is_ok(),
@@ -146,7 +148,7 @@ impl<'a, R: Wait> Mail<'a, R> {
         }
     }
 
-    /// Does what is no call of a replica.
+    /// Does an action that calls no replica; false if it can't be done.
     pub fn signal(&self, deed: Deed) -> Result<bool, AllocError> {
         match deed {
             Deed::Forges(line) => match operations(self.alloc, &[line]) {
@@ -175,7 +177,7 @@ impl<'a, R: Wait> Mail<'a, R> {
         }
     }
 
-    /// What a sign counts.
+    /// The counter of a sign.
     pub fn sign(&self, sign: Sign) -> &'a AtomicU64 {
         match sign {
             Sign::Begun => &self.lines.begun,
@@ -183,7 +185,7 @@ impl<'a, R: Wait> Mail<'a, R> {
         }
     }
 
-    /// Waits until a sign counts so many.
+    /// Waits until a counter has this value.
     fn await_sign(&self, sign: Sign, count: u64) {
         for _ in self.rt.forever() {
             if self.sign(sign).load(Ordering::SeqCst) == count {
@@ -193,8 +195,8 @@ impl<'a, R: Wait> Mail<'a, R> {
         }
     }
 
-    /// Takes steps of the link to this replica, one after another, and sends what comes into a channel; what no step takes stays. False where there is no
-    /// such message.
+    /// Takes steps of the link to this replica, one after another, and sends what is delivered into
+    /// a channel; other messages stay on the link. False if a step names no message.
     pub fn sift(&self, steps: &[Step], to: &Sender<PeerMsg>) -> Result<bool, AllocError> {
         let mut letters = Vec::new(self.alloc);
         for _ in 0..self.letters().len() {

@@ -1,4 +1,4 @@
-//! Scenes at two replicas, and what is told of them.
+//! Runs of scenes at two replicas, and their texts.
 
 ghost use Rattle.std.specs.Prelude.{◌≡◌};
 
@@ -16,10 +16,10 @@ use std::sync::ledger::{Blank, Ledger};
 use std::thread;
 use std::thread::Threads;
 
-/// Callers of a replica, each of them in a thread.
+/// The callers of a replica, each of them in a thread.
 pub type Callers<L> = Result<Vec<Caller<L>>, AllocError>;
 
-/// What callers of one replica do, each in a thread.
+/// Has the callers of one replica act, each in a thread.
 fn run_all<L: Ledger + Send + Sync, R: Threads + Wait + Clock + Sync>(
     station: &Station<'_, L, R>,
     first: &mut Pass<L>,
@@ -32,7 +32,7 @@ fn run_all<L: Ledger + Send + Sync, R: Threads + Wait + Clock + Sync>(
     )
 }
 
-/// What callers of both replicas do, each in a thread.
+/// Has the callers of both replicas act, each in a thread.
 fn run_both<L: Ledger + Send + Sync, M: Ledger + Send + Sync, R: Threads + Wait + Clock + Sync>(
     one: &Station<'_, L, R>,
     other: &Station<'_, M, R>,
@@ -46,7 +46,7 @@ fn run_both<L: Ledger + Send + Sync, M: Ledger + Send + Sync, R: Threads + Wait 
     )
 }
 
-/// Does what happens first, and then what is done in threads.
+/// Does the first actions of a scene, and then those of its threads.
 fn perform<'a, L: Ledger + Send + Sync, M: Ledger + Send + Sync, R: Threads + Wait + Clock + Sync>(
     rt: &'a R,
     alloc: Global,
@@ -87,7 +87,7 @@ fn perform<'a, L: Ledger + Send + Sync, M: Ledger + Send + Sync, R: Threads + Wa
     run_both(&one, &other, &mut first.pass, &mut far_first.pass)
 }
 
-/// Hands a book out for all passes, with what the callers saw.
+/// Takes the book out with all passes, and what the callers saw.
 fn finished<L: Ledger>(
     alloc: Global,
     shared: Shared<L>,
@@ -110,7 +110,7 @@ fn finished<L: Ledger>(
     }
 }
 
-/// What is told of a scene at these replicas.
+/// The text of a scene at new replicas with these books.
 fn played<L: Ledger + Send + Sync, M: Ledger + Send + Sync, R: Threads + Wait + Clock + Sync>(
     rt: &R,
     alloc: Global,
@@ -135,7 +135,7 @@ fn played<L: Ledger + Send + Sync, M: Ledger + Send + Sync, R: Threads + Wait + 
     tell_ending(alloc, lines.told(rt, alloc), scene.ending, one, other)
 }
 
-/// What is told of a scene at these two replicas.
+/// The text of a scene at two replicas with these books. `Err` if memory runs out.
 pub fn told_of<R: Threads + Wait + Clock + Sync>(
     rt: &R,
     alloc: Global,
@@ -161,7 +161,7 @@ pub fn told_of<R: Threads + Wait + Clock + Sync>(
     }
 }
 
-/// The replicas of a scene, new ones but where the second joined.
+/// The replicas of a scene: new ones, but the second may have joined.
 fn books(alloc: Global, uid: u32) -> Option<(Book, Book)> {
     let second = if uid == 0 {
         let ops = operations(alloc, &["1:1 - create a", "1:2 1=1 create b"])?;
@@ -174,7 +174,7 @@ fn books(alloc: Global, uid: u32) -> Option<(Book, Book)> {
     book_from(alloc, 1, 1).zip(second)
 }
 
-/// The first scene of which something else is told than is wanted, with what is told; nothing where there is none.
+/// The first scene with another text than the expected one, with this text; empty if there is none.
 pub fn wrong_scene<R: Threads + Wait + Clock + Sync>(
     rt: &R,
     alloc: Global,

@@ -1,4 +1,4 @@
-//! In which order the worker of a link makes its calls.
+//! The order in which the worker of a link makes its calls.
 
 use crate::deeds::HOUR;
 use crate::fixtures::{operation, operations};
@@ -17,49 +17,52 @@ use std::time::Duration;
 use std::{rt, thread};
 use tags_clocks::{Clock, ReplicaId};
 
-/// How often it is looked whether enough was asked.
+/// How many times the test checks whether enough calls were made.
 const TURNS: u32 = 1_000_000;
 
-/// What a letter says.
+/// The content of a message.
 #[derive(Clone, Copy)]
 enum Said {
     /// These operations.
     Ops(&'static [&'static str]),
-    /// A clock of this operation's causes: it asks.
+    /// The clock of this operation's causes, as a request for what it lacks.
     Have(&'static str),
-    /// No more comes.
+    /// No further message comes.
     Stop,
 }
 
-/// A replica that answers deliveries as it is told, what its link's worker hears, and which calls that makes.
+/// A replica with scripted answers, the messages that its link's worker receives, and the calls
+/// that the worker makes.
 struct Case {
-    /// What it shows.
+    /// What the case shows.
     name: &'static str,
-    /// What it answers, one delivery after another; behind them nothing lacks.
+    /// The replica's answers, one delivery after another; after them every delivery is complete.
     answers: &'static [Took],
-    /// The name of the one replica that its clock counts; 0 where it has no memory.
+    /// The number of the one replica that its clock counts; 0 if memory runs out for its clock and
+    /// operations.
     clock: u32,
-    /// What it gives to each one who asks, where it has memory.
+    /// The operations that it gives to each replica that asks, if its memory suffices.
     gives: &'static [&'static str],
-    /// The places of those whom it asks.
+    /// The places of the replicas that it asks.
     peers: &'static [usize],
-    /// Whether it asks the others before it hears.
+    /// Whether the worker asks the others before it receives messages.
     asks_first: bool,
-    /// Whether it asks the others once, and hears nothing.
+    /// Whether the others are asked once, and no message is received.
     only_asks: bool,
-    /// How many milliseconds the others are left alone.
+    /// The time between two rounds of requests, in milliseconds.
     rest: u64,
-    /// How many milliseconds each letter takes.
+    /// The time that each message takes, in milliseconds.
     takes: u64,
-    /// The letters that come, with the places of their senders.
+    /// The messages that come, with the places of their senders.
     letters: &'static [(usize, Said)],
-    /// Behind so many calls one more letter stops it, where this isn't 0.
+    /// The number of calls after which one more message stops the worker; 0 for no such message.
     stops: usize,
-    /// What is told of the calls begins with the first of these, has the others behind it in their order, and ends with the last.
+    /// The text of the calls begins with the first of these parts, has the others after it in their
+    /// order, and ends with the last.
     wanted: &'static [&'static str],
 }
 
-/// A replica that notes each call, with its gate and its way to the others.
+/// A scripted replica that notes each call; also a gate and the links to the others that do so.
 #[derive(Drop)]
 struct Scripted<'a, R: Wait + rt::Clock> {
     rt: &'a R,
@@ -168,13 +171,13 @@ fn letter(alloc: Global, from: usize, said: Said) -> Result<PeerMsg, AllocError>
     Ok(PeerMsg { from, message })
 }
 
-/// What a worker hears, in a case.
+/// The messages that a worker receives in a case.
 struct Heard<'a> {
     letters: Receiver<PeerMsg>,
     case: &'a Case,
 }
 
-// By hand, so that functions with several exits let it go as a whole.
+// By hand, so that functions with several exits drop it whole.
 impl Drop for Heard<'_> {
     fn drop(self) {
         let Self {
@@ -184,7 +187,7 @@ impl Drop for Heard<'_> {
     }
 }
 
-/// Has a worker hear and ask, and notes its calls, until it ends.
+/// Runs a worker until it ends; its calls are noted.
 fn work<R: Wait + rt::Clock>(rt: &R, alloc: Global, sender: Sender<String>, heard: &Heard) {
     let calls = &sender;
     let case = heard.case;
@@ -223,7 +226,8 @@ fn work<R: Wait + rt::Clock>(rt: &R, alloc: Global, sender: Sender<String>, hear
     }
 }
 
-/// Looks many times whether so many calls were made, and then stops the worker; nothing comes where it is 0.
+/// Waits until `count` calls were made, for `TURNS` checks at most, and then stops the worker;
+/// sends nothing if `count` is 0.
 fn stop_behind<R: Wait>(rt: &R, calls: &Receiver<String>, count: usize, to: Sender<PeerMsg>) {
     if count > 0 {
         for _ in 0..TURNS {
@@ -261,7 +265,8 @@ fn calls_of<R: Threads + Wait + rt::Clock + Sync>(
     all_lines(rt, alloc, &calls)
 }
 
-/// Whether a text begins with the first part, has the others behind it in their order, and ends with the last.
+/// Whether a text begins with the first part, has the others after it in their order, and ends with
+/// the last.
 fn fits(text: &str, parts: &[&str]) -> bool {
     let mut rest = text;
     for (place, part) in parts.iter().enumerate() {
@@ -276,7 +281,8 @@ fn fits(text: &str, parts: &[&str]) -> bool {
     rest.is_empty()
 }
 
-/// The first case in which other calls are made than are wanted, with these; nothing where there is none.
+/// The first case with other calls than the expected ones, with these calls; empty if there is
+/// none.
 fn wrong_case<R: Threads + Wait + rt::Clock + Sync>(
     rt: &R,
     alloc: Global,
@@ -315,10 +321,10 @@ const ONE: &[&str] = &["1:1 - create a"];
 
 const THREE: &[&str] = &["1:1 - create a", "1:2 1=1 create b", "2:1 - create c"];
 
-/// Each of the others is asked.
+/// The calls by which each of the others is asked.
 const ROUND: &str = "clock\nask 3 9=7\nclock\nask 1 9=7\nclock\nask 2 9=7\n";
 
-/// Each of the others is asked, and again.
+/// The calls by which each of the others is asked twice.
 const ROUNDS: &str =
     "clock\nask 3 9=7\nclock\nask 1 9=7\nclock\nask 2 9=7\nclock\nask 3 9=7\nclock\nask 1 9=7\nclock\nask 2 9=7\n";
 

@@ -1,10 +1,10 @@
-//! What threads do to one another at a replica, and over a link.
+//! Threads at a replica, and over a link.
 
 use crate::deeds::{Deed, Ending, HOUR, Scene, Sign};
 use crate::scene::wrong_scene;
 use std::test::*;
 
-/// It opens a session once another caller has begun, and tells by a sign that this was answered.
+/// It opens a session once another caller has begun, and counts up `Over` when this was answered.
 const OPENS: &[Deed] = &[
     Deed::Awaits(Sign::Begun, 1),
     Deed::Opens,
@@ -15,7 +15,8 @@ const OPENS: &[Deed] = &[
 const NOOPS: &[Deed] = &[Deed::Opens, Deed::Noops, Deed::Closes];
 
 const SCENES: &[Scene] = &[
-    // A call at the other replica is answered while a lock is held, and one at the same replica isn't; both are answered in the end.
+    // A call at the other replica is answered while a lock is held, and one at the same replica
+    // isn't; both are answered in the end.
     Scene {
         name: "locks are apart: the other replica",
         uid: 1,
@@ -34,7 +35,7 @@ const SCENES: &[Scene] = &[
         ending: Ending::Entries,
         wanted: "over meanwhile 0\n1 entries\n0 entries\n",
     },
-    // One waits for the first entry, which another makes behind many turns.
+    // One caller waits for the first entry, which another makes after many turns.
     Scene {
         name: "a change ends the wait",
         uid: 1,
@@ -57,8 +58,9 @@ const SCENES: &[Scene] = &[
         ending: Ending::History,
         wanted: "408 entries, 408 as seen, 400 own commands\n",
     },
-    // Two sessions idle in mailboxes of their own, of which they were told since they selected them. A third does what is no news to either, then what is news to one
-    // of them, and tells the journal's length many turns behind each; it ends it all by what is news to both.
+    // Two sessions idle in different mailboxes, in which nothing has changed since they selected
+    // them. A third does what changes neither mailbox, then what changes one of them, and reports
+    // the journal's length many turns after each; it ends the scene by changing both.
     Scene {
         name: "only an idling session with something to be told wakes",
         uid: 1,
@@ -102,7 +104,8 @@ const SCENES: &[Scene] = &[
         ending: Ending::Entries,
         wanted: "length 13\nlength 15\nlength 15\n17 entries\n0 entries\n",
     },
-    // Each client gives a thousand commands. Once both did, it looks whether its replica has what both issued, and then stops its own link.
+    // Each client gives a thousand commands. Once both have, it checks whether its replica has
+    // applied what both issued, and then stops its own link.
     Scene {
         name: "linked replicas end agreeing",
         uid: 1,
@@ -130,7 +133,8 @@ const SCENES: &[Scene] = &[
         ending: Ending::Common,
         wanted: "sent 1000\nsent 1000\n2000 applied, 2000 by both\n",
     },
-    // The first makes three folders, and the message with the third is lost. The link of the second asks after each five milliseconds.
+    // The first replica creates three folders, and the message with the third is lost. The link of
+    // the second asks every five milliseconds.
     Scene {
         name: "a last message that is lost is asked for",
         uid: 1,

@@ -1,4 +1,4 @@
-//! Messages between replicas, and what a replica made of them, as text.
+//! Messages between replicas, and the answers to them in a journal, as text.
 
 use causal_inbox::{Arrival, DeliverFault, Delivered};
 use crdt_ops::SoundOp;
@@ -10,7 +10,8 @@ use std::alloc::{AllocError, Global};
 use std::sync::Wait;
 use tags_clocks::{Clock, OpId};
 
-/// Who sends a message to whom, by the names of the replicas at these places, and what it says.
+/// A line with the sender and the receiver of a message, by the names of the replicas at these
+/// places, and its content.
 pub fn tell_message(
     alloc: Global,
     from: usize,
@@ -36,7 +37,7 @@ fn tell_said(text: &mut String, message: &LinkMsg) -> Result<(), AllocError> {
     }
 }
 
-/// Tells the ids of operations, with a space in front of each.
+/// Appends the ids of operations, each after a space.
 fn tell_ops(text: &mut String, ops: &[SoundOp]) -> Result<(), AllocError> {
     for op in ops {
         text.push_str(" ")?;
@@ -45,14 +46,14 @@ fn tell_ops(text: &mut String, ops: &[SoundOp]) -> Result<(), AllocError> {
     Ok(())
 }
 
-/// Tells an id.
+/// Appends an id.
 pub fn tell_id(text: &mut String, id: OpId) -> Result<(), AllocError> {
     let replica = id.replica.get();
     let number = id.number.get();
     write!(text, "{replica}:{number}")
 }
 
-/// Tells a clock; one that counts nothing is `-`.
+/// Appends a clock; an empty one is `-`.
 pub fn tell_clock(text: &mut String, clock: &Clock) -> Result<(), AllocError> {
     if clock.entries().is_empty() {
         return text.push_str("-");
@@ -67,13 +68,13 @@ pub fn tell_clock(text: &mut String, clock: &Clock) -> Result<(), AllocError> {
     Ok(())
 }
 
-/// Whether a clock is told so.
+/// Whether this is the text of a clock.
 pub fn is_clock(alloc: Global, clock: &Clock, wanted: &str) -> bool {
     let mut text = String::new(alloc);
     tell_clock(&mut text, clock).is_ok() && text.as_str() == wanted
 }
 
-/// A line that tells a clock behind other words.
+/// A line of this text and a clock.
 pub fn with_clock(text: Result<String, AllocError>, clock: &Clock) -> Result<String, AllocError> {
     let mut text = text?;
     tell_clock(&mut text, clock)?;
@@ -96,7 +97,7 @@ pub fn all_lines<R: Wait>(
     Ok(text)
 }
 
-/// Tells what became of all deliveries and drains in a journal, a line each.
+/// Appends the outcomes of all deliveries and drains in a journal, a line each.
 pub fn tell_answers(text: &mut String, book: &Book) -> Result<(), AllocError> {
     for place in 0..book.len() {
         if let Some(kept) = book.entry(place.saturating_add(1)) {

@@ -1,4 +1,4 @@
-//! Each read and each write failing in turn.
+//! Conversations in which each read and each write fails in turn.
 
 use crate::made_up::MadeUp;
 use imap_connection::{Ended, MemorySink, MemorySource, converse};
@@ -7,15 +7,16 @@ use std::alloc::Global;
 use std::sync::Wait;
 use std::test::*;
 
-/// What the client sends: a line without a tag, commands in and out of the profile, a literal, an IDLE, and what comes behind a LOGOUT.
+/// The client's input: a line without a tag, commands in and out of the profile, a literal, an
+/// IDLE, and a command after a LOGOUT.
 pub const SAID: &[u8] =
     b"a NOOP\r\n\r\nb XYZ\r\nc LOGIN {1}\r\nu p\r\nd IDLE\r\nDONE\r\ne IDLE\r\nx\r\nf LOGOUT\r\ng NOOP\r\n";
 
-/// What it is told.
+/// The output that answers it.
 pub const TOLD: &[u8] =
     b"* PREAUTH [CAPABILITY IMAP4rev2 IDLE CONDSTORE] ready\r\na OK NOOP completed\r\n* BAD no tag\r\nb BAD unknown command\r\n+ ready\r\nc OK NOOP completed\r\n+ idling\r\nd OK IDLE completed\r\n+ idling\r\ne BAD DONE expected\r\nf OK LOGOUT completed\r\n";
 
-/// How a conversation ended, and what came of its devices.
+/// How a conversation ended, with its output and the counts of its devices and its port.
 #[derive(Drop)]
 struct Course {
     ended: Ended,
@@ -26,7 +27,8 @@ struct Course {
     commands: u32,
 }
 
-/// A conversation over what is said, in pieces of so many octets, with so many reads that are answered, and room for so many octets.
+/// A conversation over this input, in pieces of at most `most` octets, in which `reads` reads
+/// succeed and the sink takes `room` octets.
 fn held<R: Wait>(rt: &R, alloc: Global, said: &[u8], most: usize, reads: u64, room: u64) -> Course {
     let mut source = MemorySource::new(said, most, reads);
     let mut sink = MemorySink::new(Vec::new(alloc), room);
@@ -44,8 +46,8 @@ fn held<R: Wait>(rt: &R, alloc: Global, said: &[u8], most: usize, reads: u64, ro
     }
 }
 
-/// Whether a conversation is as it should be: a beginning of the text was told, a failed device alone ends it as such, and the session was
-/// closed.
+/// Whether a conversation is lawful: a prefix of the whole output was sent, it ended with a failed
+/// read or write exactly if one failed, and the session was closed once.
 fn is_lawful(course: &Course, whole: &[u8]) -> bool {
     whole.starts_with(&course.told)
         && (course.ended == Ended::ReadFailed) == (course.reads_failed > 0)
@@ -53,17 +55,17 @@ fn is_lawful(course: &Course, whole: &[u8]) -> bool {
         && course.closed == 1
 }
 
-/// The first number of reads with which a conversation isn't as it should be.
+/// The first number of successful reads with which a conversation isn't lawful.
 fn first_unlawful_read<R: Wait>(rt: &R, alloc: Global, most: usize) -> Option<u64> {
     (0..200u64).find(|reads| !is_lawful(&held(rt, alloc, SAID, most, *reads, u64::MAX), TOLD))
 }
 
-/// The first room with which a conversation isn't as it should be.
+/// The first size of the sink, in octets, with which a conversation isn't lawful.
 fn first_unlawful_room<R: Wait>(rt: &R, alloc: Global, most: usize) -> Option<u64> {
     (0..400u64).find(|room| !is_lawful(&held(rt, alloc, SAID, most, u64::MAX, *room), TOLD))
 }
 
-/// Whether a conversation ends so and tells this text.
+/// Whether a conversation over this input ends so with this output.
 fn ends_with<R: Wait>(rt: &R, alloc: Global, said: &[u8], ended: Ended, told: &[u8]) -> bool {
     let course = held(rt, alloc, said, 4_096, u64::MAX, u64::MAX);
     course.ended == ended && course.told.as_slice() == told && course.closed == 1

@@ -1,4 +1,4 @@
-//! What a feed keeps, and that a session is told of more changes than its feed keeps.
+//! The notes that a feed holds, and sessions that learn of more changes than their feed holds.
 
 use crate::talks::{Talk, answers, begin, begin_at, deliver_last, may_be_behind};
 use idle_feed::{Feed, TakenNotes};
@@ -78,8 +78,9 @@ fn a_session_is_not_behind_what_select_shows(rt: HostRuntime) {
     assert!(rt; is_behind_after(rt.alloc(), &selected, b"--!-----") == Some(true));
 }
 
-/// Whether a session that has selected INBOX, with one message, may be behind after each of these steps as the marks say. A step `elsewhere ..` is another
-/// replica's, which hands its last operation on.
+/// Whether, after each of these steps, something may have to be sent to a session that has selected
+/// INBOX with one message: `!` in `expected` for yes, `-` for no. A step `elsewhere ..` is another
+/// replica's, which delivers its last operation.
 fn is_behind_after(alloc: Global, steps: &[&str], marks: &[u8]) -> Option<bool> {
     let mut other = begin(alloc, "joe", "secret")?;
     let mut reader = begin_at(alloc, 2, "joe", "secret")?;
@@ -116,7 +117,8 @@ fn take_step(alloc: Global, other: &mut Talk, reader: &mut Talk, step: &str) -> 
     }
 }
 
-/// How many notes are taken behind so many, and how many then; `None` for a resync.
+/// How many notes are taken after `count` were noted, and how many by a second call; `None` for a
+/// resync.
 fn takes(alloc: Global, count: u32) -> Option<(Option<usize>, Option<usize>)> {
     let mut feed = Feed::new(alloc);
     for uid in 0..count {
@@ -133,7 +135,8 @@ fn taken(feed: &mut Feed) -> Option<usize> {
     }
 }
 
-/// Whether a session at one replica is told once of so many changes, an odd number, that another replica makes to the flags of its one message.
+/// Whether a session at one replica is sent one answer for `changes` changes, an odd number, that
+/// another replica makes to the flags of its only message.
 fn is_told_behind(alloc: Global, changes: u32) -> Option<bool> {
     let mut writer = begin(alloc, "joe", "secret")?;
     let mut reader = begin_at(alloc, 2, "joe", "secret")?;

@@ -1,9 +1,9 @@
-//! What a frame hands over.
+//! The octets of a frame.
 
 use imap_lex::{Framer, Item, Limits};
 use std::alloc::Global;
 
-/// Whether a line alone is one frame, which hands over the line with its memory.
+/// Whether a line is one frame, which yields the octets of the line.
 fn is_handed_over(alloc: Global, line: &[u8]) -> bool {
     let mut framer = Framer::new(alloc, Limits::STANDARD);
     match framer.feed(alloc, line) {

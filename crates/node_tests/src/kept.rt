@@ -1,4 +1,4 @@
-//! What a node lends of its folders and subscriptions.
+//! The names of a node's folders and subscriptions.
 
 use crate::talks::{answers, begin, kept_names};
 use std::alloc::Global;
@@ -8,7 +8,7 @@ fn a_node_lends_folders_and_subscriptions(rt: HostRuntime) {
     assert!(rt; lends_both(rt.alloc()) == Some(true));
 }
 
-/// Whether the names of folders, and then those of subscriptions, are those that a session made.
+/// Whether the names of folders, and then those of subscriptions, are those that a session created.
 fn lends_both(alloc: Global) -> Option<bool> {
     let mut talk = begin(alloc, "joe", "secret")?;
     let told = answers(

@@ -1,9 +1,11 @@
-//! LOGIN, refused and then taken, and what a session may do before it (RFC 9051, sections 3 and 6.2.3).
+//! LOGIN, refused and then taken, and what a session may do before it (RFC 9051, sections 3 and
+//! 6.2.3).
 
 use crate::talks::{answers, begin, goes_on};
 use std::alloc::Global;
 
-/// Before LOGIN these are answered so: any session may send the first ones, and all others want a user or a mailbox.
+/// Commands before LOGIN and their answers: any session may send the first ones; all others need a
+/// user or a mailbox.
 const BEFORE: [(&str, &str); 29] = [
     ("a NOOP\r\n", "a OK NOOP completed|"),
     (
@@ -39,7 +41,7 @@ const BEFORE: [(&str, &str); 29] = [
     ("a STARTTLS\r\n", "a NO [CANNOT] not in this profile|"),
 ];
 
-/// LOGIN is refused, then taken; then the user is known, and LOGIN is no longer for now.
+/// LOGIN is refused, then taken; after that the user is known, and LOGIN isn't allowed any more.
 const LOGIN: [(&str, &str); 12] = [
     (
         "a LOGIN joe wrong\r\n",
@@ -76,7 +78,8 @@ const LOGIN: [(&str, &str); 12] = [
 /// LOGOUT may come before LOGIN.
 const AT_ONCE: [(&str, &str); 1] = [("a LOGOUT\r\n", "* BYE logging out|a OK LOGOUT completed|")];
 
-/// The place of the first line, in a new session of joe's, that is answered otherwise.
+/// The place of the first line, in a new session of joe's, with another answer than the expected
+/// one.
 fn first_wrong(alloc: Global, lines: &[(&str, &str)]) -> Option<usize> {
     let Some(mut talk) = begin(alloc, "joe", "secret") else {
         return Some(lines.len());
@@ -87,7 +90,7 @@ fn first_wrong(alloc: Global, lines: &[(&str, &str)]) -> Option<usize> {
     })
 }
 
-/// Whether the session goes on behind these lines.
+/// Whether a session is open after these lines.
 fn goes_on_behind(alloc: Global, lines: &[(&str, &str)]) -> bool {
     let Some(mut talk) = begin(alloc, "joe", "secret") else {
         return false;

@@ -1,4 +1,4 @@
-//! A port without a replica.
+//! A port without a replica, which counts its calls.
 
 use imap_answers::{Answer, CompletedWord, Continuation, Login, Notice, Refusal};
 use imap_connection::{Port, PortFault};
@@ -7,14 +7,14 @@ use imap_syntax::{Command, IdleLine, Tagged};
 use imap_types::Octets;
 use std::alloc::{AllocError, Global};
 
-/// A port that answers every command OK and counts its calls. It can't be opened twice.
+/// A port that answers every command with OK and counts its calls. It can't be opened twice.
 #[derive(Drop)]
 pub struct MadeUp {
     /// How often it was opened.
     pub opened: u32,
-    /// How many commands it was given.
+    /// How many commands it received.
     pub commands: u32,
-    /// How many lines it was given.
+    /// How many lines it received during IDLE.
     pub lines: u32,
     /// How often it was closed.
     pub closed: u32,
@@ -22,7 +22,7 @@ pub struct MadeUp {
 }
 
 impl MadeUp {
-    /// A port that wasn't called.
+    /// A port to which no call was made.
     pub fn new() -> MadeUp {
         MadeUp {
             opened: 0,

@@ -13,34 +13,35 @@ use std::test::*;
 use tags_clocks::{Clock, ReplicaId};
 use uid_projection::Counters;
 
-/// What a known user of a new replica says.
+/// The commands of a known user of a new replica.
 const KNOWN: &[u8] =
     b"a APPEND INBOX {3+}\r\nabc\r\nb STATUS INBOX (MESSAGES UIDNEXT)\r\nc IDLE\r\nDONE\r\nz LOGOUT\r\n";
 
-/// What that user is told.
+/// The answers to that user.
 const TOLD: &[u8] =
     b"* PREAUTH [CAPABILITY IMAP4rev2 IDLE CONDSTORE] ready\r\na OK [APPENDUID 1 1] APPEND completed\r\n* STATUS INBOX (MESSAGES 1 UIDNEXT 2)\r\nb OK STATUS completed\r\n+ idling\r\nc OK IDLE completed\r\n* BYE logging out\r\nz OK LOGOUT completed\r\n";
 
-/// What a user says who has to log in.
+/// The commands of a user who must log in.
 const UNKNOWN: &[u8] =
     b"a LIST \"\" *\r\nb LOGIN secret me\r\nc LOGIN me secret\r\nd CREATE work\r\n";
 
-/// What that user is told.
+/// The answers to that user.
 const LET_IN: &[u8] =
     b"* OK [CAPABILITY IMAP4rev2 IDLE CONDSTORE] ready\r\na BAD not now\r\nb NO [AUTHENTICATIONFAILED] login failed\r\nc OK LOGIN completed\r\nd OK CREATE completed\r\n";
 
-/// What a user of another replica says.
+/// The commands of a user of another replica.
 const ELSEWHERE: &[u8] = b"a APPEND INBOX {3+}\r\nabc\r\nb APPEND INBOX {3+}\r\ndef\r\n";
 
-/// What that user is told.
+/// The answers to that user.
 const MADE: &[u8] =
     b"* PREAUTH [CAPABILITY IMAP4rev2 IDLE CONDSTORE] ready\r\na OK [APPENDUID 2 1] APPEND completed\r\nb OK [APPENDUID 2 2] APPEND completed\r\n";
 
-/// What a user says to whose replica the other one's operations come, one before each command.
+/// The commands of a user to whose replica the other one's operations come, one before each
+/// command.
 const ASKED: &[u8] =
     b"a STATUS INBOX (MESSAGES UIDNEXT)\r\nb STATUS INBOX (MESSAGES UIDNEXT)\r\nc STATUS INBOX (MESSAGES UIDNEXT)\r\n";
 
-/// What that user is told.
+/// The answers to that user.
 const GROWN: &[u8] =
     b"* PREAUTH [CAPABILITY IMAP4rev2 IDLE CONDSTORE] ready\r\n* STATUS INBOX (MESSAGES 1 UIDNEXT 2)\r\na OK STATUS completed\r\n* STATUS INBOX (MESSAGES 2 UIDNEXT 3)\r\nb OK STATUS completed\r\n* STATUS INBOX (MESSAGES 2 UIDNEXT 3)\r\nc OK STATUS completed\r\n";
 
@@ -54,12 +55,12 @@ fn node(alloc: Global, number: u32) -> Option<Node> {
     Node::new(alloc, start).ok()
 }
 
-/// A port of a new replica to which nobody else comes, for a user who becomes known so.
+/// A port of a new replica that receives nothing from others, for a user with this access.
 fn port(alloc: Global, number: u32, auth: Auth) -> Option<NodePort<NoOthers>> {
     Some(NodePort::new(node(alloc, number)?, auth, NoOthers::new(Moment::epoch())))
 }
 
-/// What another replica issues in a conversation, the last first.
+/// The operations that another replica issues in a conversation, the last first.
 fn issued<R: Wait>(rt: &R, alloc: Global, most: usize) -> Option<Vec<SoundOp>> {
     let mut port = port(alloc, 2, Auth::Preauth)?;
     if !is_told(
@@ -77,7 +78,7 @@ fn issued<R: Wait>(rt: &R, alloc: Global, most: usize) -> Option<Vec<SoundOp>> {
     Some(ops)
 }
 
-/// A user who has to log in with this name and this password.
+/// The access of a user who must log in with this name and this password.
 fn user(alloc: Global, name: &[u8], password: &[u8]) -> Option<Auth> {
     Some(Auth::Password {
         credentials: Credentials {
@@ -87,7 +88,8 @@ fn user(alloc: Global, name: &[u8], password: &[u8]) -> Option<Auth> {
     })
 }
 
-/// Whether a conversation over what is said, in pieces of so many octets, ends so and tells this text.
+/// Whether a conversation over this input, which comes in pieces of at most this many octets, ends so
+/// with this output.
 fn is_told<R: Wait, O: Others>(
     rt: &R,
     alloc: Global,
@@ -102,7 +104,7 @@ fn is_told<R: Wait, O: Others>(
     end == ended && sink.octets() == told
 }
 
-/// Whether a known user is served to the LOGOUT, and nobody behind it.
+/// Whether a known user is served up to the LOGOUT, and no other user after it.
 fn is_known_served<R: Wait>(rt: &R, alloc: Global, most: usize) -> Option<bool> {
     let mut port = port(alloc, 1, Auth::Preauth)?;
     let served = is_told(rt, alloc, &mut port, (KNOWN, most), Ended::Logout, TOLD);
@@ -117,14 +119,14 @@ fn is_known_served<R: Wait>(rt: &R, alloc: Global, most: usize) -> Option<bool> 
     Some(served && again && port.node().replica().id() == ReplicaId::new(1)?)
 }
 
-/// Whether a user who has to log in is let in with both, name and password, alone.
+/// Whether a user who must log in is let in with both name and password, and with nothing else.
 fn is_unknown_served<R: Wait>(rt: &R, alloc: Global, most: usize) -> Option<bool> {
     let mut port = port(alloc, 1, user(alloc, b"me", b"secret")?)?;
     let ended = Ended::PeerClosed;
     Some(is_told(rt, alloc, &mut port, (UNKNOWN, most), ended, LET_IN))
 }
 
-/// Whether a user is told before each command what another replica did, as it came.
+/// Whether each command of a user is answered with what came from another replica before it.
 fn is_told_of_others<R: Wait>(rt: &R, alloc: Global, most: usize) -> Option<bool> {
     let others = Deliveries::new(Moment::epoch(), issued(rt, alloc, most)?);
     let mut port = NodePort::new(node(alloc, 1)?, Auth::Preauth, others);

@@ -1,4 +1,4 @@
-//! A session of a new node, whose user has to log in, and what it is answered.
+//! A session of a new node, whose user must log in, and its answers.
 
 ghost use Rattle.std.specs.Prelude.{IsTrue, ◌↔◌};
 ghost use Rattle.imap_node.specs.Nodes.{IsGoing};
@@ -11,7 +11,7 @@ use std::alloc::Global;
 use tags_clocks::ReplicaId;
 use uid_projection::Counters;
 
-/// A session of a node of its own.
+/// A node with one session.
 #[derive(Drop)]
 pub struct Talk {
     node: Node,
@@ -19,12 +19,12 @@ pub struct Talk {
     session: SessionNo,
 }
 
-/// A new node with a session whose user is to log in with these.
+/// A new node with the number 1, and a session whose user must log in with this name and password.
 pub fn begin(alloc: Global, user: &str, password: &str) -> Option<Talk> {
     begin_at(alloc, 1, user, password)
 }
 
-/// The same, of the replica with this name.
+/// A new node with this number, and a session whose user must log in with this name and password.
 pub fn begin_at(alloc: Global, replica: u32, user: &str, password: &str) -> Option<Talk> {
     let start = Counters {
         replica: ReplicaId::new(replica)?,
@@ -44,7 +44,8 @@ pub fn begin_at(alloc: Global, replica: u32, user: &str, password: &str) -> Opti
     })
 }
 
-/// What the session is answered to these octets, with a `|` behind each answer in place of its CRLF; none where it has ended.
+/// The session's answers to these octets, each followed by a `|` in place of its CRLF; `None` if
+/// the session has ended.
 pub fn answers(alloc: Global, talk: &mut Talk, octets: &str) -> Option<Vec<u8>> {
     let Talk {
         node,
@@ -76,19 +77,19 @@ fn turns_of(
     talk(alloc, node, framer, session, Moment::epoch(), octets).ok()
 }
 
-/// Delivers to one node what another has applied last.
+/// Delivers to `to` the operation that `from` applied last.
 pub fn deliver_last(alloc: Global, from: &Talk, to: &mut Talk) -> Option<()> {
     let op = from.node.op_list().last()?.copy(alloc).ok()?;
     to.node.deliver(alloc, op).ok()?;
     Some(())
 }
 
-/// Whether the session may have something to be told.
+/// Whether something may still have to be sent to the session.
 pub fn may_be_behind(talk: &Talk) -> bool {
     talk.node.may_be_behind(talk.session)
 }
 
-/// Whether the session is open, and goes on.
+/// Whether the session is open, and hasn't logged out.
 pub fn goes_on(talk: &Talk) -> bool {
     is_going(&talk.node, talk.session)
 }
@@ -102,7 +103,8 @@ fn is_going(node: &Node, session: SessionNo) -> bool
     }
 }
 
-/// The names of the node's folders, and then of what is subscribed to, each with a `|` behind it, and one between the two.
+/// The names of the node's folders and then those of its subscriptions, each followed by a `|`,
+/// with one between the two.
 pub fn kept_names(alloc: Global, talk: &Talk) -> Option<Vec<u8>> {
     let mut told = Vec::new(alloc);
     push_names(&mut told, &talk.node.folders().names(alloc).ok()?)?;

@@ -9,7 +9,8 @@ use std::io::{ErrorKind, Read, Write};
 use std::sync::Wait;
 use std::test::*;
 
-/// A device that moves one octet a call, is interrupted at each third call, and behind so many calls fails so, or moves nothing any more.
+/// A device that moves one octet per call and is interrupted at each third call. After `most` calls
+/// it fails with `fault`, or moves nothing if that is `None`.
 #[derive(Drop)]
 struct Trickle<T> {
     inner: T,
@@ -19,7 +20,7 @@ struct Trickle<T> {
 }
 
 impl<T> Trickle<T> {
-    /// How much is moved of so much.
+    /// The number of octets that this call moves, of `count`.
     fn turn(&mut self, count: usize) -> io::Result<usize> {
         self.calls = self.calls.saturating_add(1);
         if self.calls > self.most {
@@ -53,7 +54,8 @@ impl<T: Write> Write for Trickle<T> {
     }
 }
 
-/// How a conversation ended, what was told, how many reads and writes failed, and how often the session was closed.
+/// How a conversation ended, its output, how many reads and writes failed, and how often the
+/// session was closed.
 #[derive(Drop)]
 struct Course {
     ended: Ended,
@@ -62,7 +64,8 @@ struct Course {
     closed: u32,
 }
 
-/// A conversation over devices of std, which fail so behind so many reads and so many writes, or move nothing any more.
+/// A conversation over devices of std, which fail with `fault` after `reads` reads and `writes`
+/// writes, or move nothing if it is `None`.
 fn trickled<R: Wait>(
     rt: &R,
     alloc: Global,
@@ -95,7 +98,7 @@ fn trickled<R: Wait>(
     }
 }
 
-/// How devices fail in turn: `None` where they move nothing any more.
+/// The faults of devices; `None` for one that moves nothing any more.
 const FAULTS: [Option<ErrorKind>; 4] = [
     Some(ErrorKind::WouldBlock),
     Some(ErrorKind::ConnectionReset),
@@ -103,7 +106,8 @@ const FAULTS: [Option<ErrorKind>; 4] = [
     None,
 ];
 
-/// Whether a conversation whose reads fail told a beginning, ended as its device did, and closed the session. It has all said where the device held out.
+/// Whether a conversation whose reads fail sent a prefix of the output, ended as its device did,
+/// and closed the session. The output is whole if the device lasted.
 fn is_lawful_reading(course: &Course, fault: Option<ErrorKind>) -> bool {
     let ended = match fault {
         Some(_) => Ended::ReadFailed,
@@ -118,7 +122,8 @@ fn is_lawful_reading(course: &Course, fault: Option<ErrorKind>) -> bool {
         && course.closed == 1
 }
 
-/// Whether one whose writes fail did.
+/// Whether a conversation whose writes fail sent a prefix of the output, ended as its device did,
+/// and closed the session.
 fn is_lawful_writing(course: &Course) -> bool {
     let is_whole = course.ended == Ended::Logout && course.told.as_slice() == TOLD;
     let is_cut = course.ended == Ended::WriteFailed && course.told.len() < TOLD.len();
@@ -129,17 +134,18 @@ fn is_lawful_writing(course: &Course) -> bool {
         && course.closed == 1
 }
 
-/// Whether a conversation goes as it should whose reads fail behind so many.
+/// Whether a conversation whose reads fail after `reads` is lawful.
 fn bears_reads<R: Wait>(rt: &R, alloc: Global, reads: u64, fault: Option<ErrorKind>) -> bool {
     is_lawful_reading(&trickled(rt, alloc, reads, u64::MAX, fault), fault)
 }
 
-/// The first number of reads behind which a conversation goes otherwise than it should; the last ones are more than it makes.
+/// The first number of reads after which a failure makes the conversation unlawful; the last
+/// numbers are more than it makes.
 fn first_unlawful_read<R: Wait>(rt: &R, alloc: Global, fault: Option<ErrorKind>) -> Option<u64> {
     (0..200u64).find(|reads| !bears_reads(rt, alloc, *reads, fault))
 }
 
-/// The first number of writes behind which it does.
+/// The first number of writes after which a failure makes the conversation unlawful.
 fn first_unlawful_write<R: Wait>(rt: &R, alloc: Global, fault: Option<ErrorKind>) -> Option<u64> {
     (0..500u64).find(|writes| !is_lawful_writing(&trickled(rt, alloc, u64::MAX, *writes, fault)))
 }

@@ -1,7 +1,10 @@
+-- A counter with a limit that has room for a list of operations has room for the first:
+-- what `Follower::first` owes of the counting follower of `refusals`.
+
 use Rattle.std.specs.Prelude.{ℕ, ◌+◌, ◌≤◌, suc}
 use Rattle.std.proofs.Common.{suc-le-suc, zero-le}
 use Rattle.std.proofs.Math.Nat.{add-le-add, le_refl, le_trans}
 
--- Where there is room for some, there is room for one.
+-- If there is room for `suc rest` operations, there is room for one.
 pub first_fits : (noted rest limit : ℕ) → noted + suc rest ≤ limit → noted + 1 ≤ limit
 first_fits noted rest limit h = le_trans (add-le-add (le_refl noted) (suc-le-suc zero-le)) h

@@ -1,4 +1,4 @@
-//! Calls that may answer that there is no memory, once with ample memory.
+//! Calls that may answer that memory ran out, made once with ample memory.
 
 use crate::fixtures::{Mailboxes, Trouble, empty, operations};
 use crate::telling::tell_mailboxes;
@@ -15,7 +15,8 @@ const LINES: &[&str] = &[
     "2:1 1=1 create a~20b",
 ];
 
-/// What is told of folders and subscriptions that were made ready for the operations: room for them changes nothing.
+/// The dump of folders and subscriptions that were prepared for the operations: reserving memory
+/// changes nothing.
 fn prepared(alloc: Global) -> Result<Vec<u8>, Trouble> {
     let mut pair = empty(alloc);
     prepare_each(alloc, &mut pair)?;
@@ -45,7 +46,7 @@ fn follower() -> FirstFollower<Unfollowed> {
     }
 }
 
-/// What a follower that notes nothing answers before the operations.
+/// The answer of a follower that notes nothing, before the operations.
 fn readied(alloc: Global) -> Result<Result<(), NotReady>, Trouble> {
     let ops = operations(alloc, LINES)?;
     let mut follower = follower();
@@ -65,7 +66,7 @@ fn node(alloc: Global) -> Result<Node, AllocError> {
     Inbox::new(alloc, empty(alloc), follower())
 }
 
-/// Whether an inbox is ready to issue two operations, and applies none of them then.
+/// Whether an inbox is ready to issue two operations, and has applied neither.
 fn is_ready_to_issue(alloc: Global) -> Result<bool, Trouble> {
     let mut inbox = node(alloc)?;
     let is_ready = is_ready_in(alloc, &mut inbox);

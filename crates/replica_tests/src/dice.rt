@@ -1,20 +1,20 @@
-//! Numbers in no order.
+//! Pseudo-random numbers.
 
-/// Numbers in no order: a linear congruential generator with Knuth's factor for 64 bits.
+/// A linear congruential generator with Knuth's factor for 64 bits.
 #[derive(Drop)]
 pub struct Dice {
     state: u64,
 }
 
 impl Dice {
-    /// The numbers of this seed.
+    /// The generator with this seed.
     pub fn new(seed: u32) -> Dice {
         Dice {
             state: u64::from(seed),
         }
     }
 
-    /// A number below this bound; 0 where it is 0.
+    /// A number below `bound`; 0 if the bound is 0.
     pub fn below(&mut self, bound: usize) -> usize {
         self.state = self
             .state

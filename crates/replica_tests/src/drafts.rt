@@ -1,4 +1,4 @@
-//! What a replica might do, that has seen some operations.
+//! Kinds that a replica might issue, given the operations that it knows.
 
 use crate::dice::Dice;
 use crate::fixtures::Trouble;
@@ -7,10 +7,11 @@ use imap_types::{DateTime, Flags, Name, Text};
 use std::alloc::{AllocError, Global};
 use tags_clocks::{Clock, OpId};
 
-/// One of the names that operations are about.
+/// The names that operations are about.
 pub const NAMES: [&[u8]; 3] = [b"INBOX", b"a", b"b"];
 
-/// What an operation does: about one of the names, or about a message that the clock covers, where there is one.
+/// The kind of an operation: about one of the names, or about a message that the clock covers, if
+/// there is one.
 pub fn draft(
     alloc: Global,
     dice: &mut Dice,
@@ -38,7 +39,7 @@ fn some_name(alloc: Global, dice: &mut Dice) -> Result<Name, AllocError> {
     }
 }
 
-/// A Delete of another folder than INBOX, which lists most of its tags.
+/// A Delete of a folder other than INBOX, which lists most of its tags.
 fn delete(alloc: Global, dice: &mut Dice, clock: &Clock, ops: &[SoundOp]) -> Result<Kind, Trouble> {
     let octets: &[u8] = if dice.below(2) == 0 { b"a" } else { b"b" };
     let folder = Name::from_slice(alloc, octets)?;
@@ -103,7 +104,7 @@ fn some_flags(alloc: Global, dice: &mut Dice) -> Result<Flags, AllocError> {
     Ok(flags)
 }
 
-/// A Store or an Expunge of a message that the clock covers; an Append where there is none.
+/// A Store or an Expunge of a message that the clock covers; an Append if there is none.
 fn change(alloc: Global, dice: &mut Dice, clock: &Clock, ops: &[SoundOp]) -> Result<Kind, Trouble> {
     match some_message(dice, clock, ops) {
         None => append(alloc, dice),
@@ -136,7 +137,8 @@ fn change_of(
     })
 }
 
-/// An operation that the clock covers and that adds a version of a message, by its place, with the message's origin.
+/// The place of an operation that the clock covers and that adds a version of a message, with the
+/// message's origin.
 fn some_message(dice: &mut Dice, clock: &Clock, ops: &[SoundOp]) -> Option<(usize, OpId)> {
     let from = dice.below(ops.len());
     for (at, op) in ops.iter().enumerate() {
@@ -158,7 +160,7 @@ pub fn added_origin(op: &Op) -> Option<OpId> {
     }
 }
 
-/// The ids of the versions of a message that the clock covers, 60 at most.
+/// The ids of a message's versions that the clock covers, 60 at most.
 fn versions_seen(
     alloc: Global,
     clock: &Clock,

@@ -1,4 +1,4 @@
-//! The inbox answers as one in plain lists does.
+//! The inbox gives the same answers as one in plain lists.
 
 use crate::fixtures::Trouble;
 use crate::generated::{LISTS, generated};
@@ -65,7 +65,7 @@ fn is_held_alike(filing: &Filing, others: &[SoundOp]) -> bool {
     held.len() == others.len()
 }
 
-/// Whether both answer the delivery alike, and a drain where one stalls.
+/// Whether both give the same answer to the delivery, and to a drain if it stalled.
 fn is_answered_alike(
     alloc: Global,
     filing: &mut Filing,
@@ -83,7 +83,7 @@ fn is_answered_alike(
     }
 }
 
-/// Whether both have the same, and drain alike where one stalls.
+/// Whether both drain alike if the delivery stalled, and have equally many operations then.
 fn is_drained_alike(
     alloc: Global,
     filing: &mut Filing,
@@ -96,7 +96,7 @@ fn is_drained_alike(
     Ok(filing.held().len() == plain.held.len() && filing.op_list().len() == plain.applied.len())
 }
 
-/// Whether both tell the same operations since the clocks of some.
+/// Whether both give the same operations since the clocks of some.
 fn are_since_alike(alloc: Global, filing: &Filing, plain: &PlainInbox) -> Result<bool, Trouble> {
     for (at, op) in plain.applied.iter().enumerate() {
         if at % 16 == 0 && !is_since_alike(alloc, filing, plain, op.clock())? {
@@ -106,7 +106,7 @@ fn are_since_alike(alloc: Global, filing: &Filing, plain: &PlainInbox) -> Result
     Ok(true)
 }
 
-/// Whether both tell the same operations since a clock.
+/// Whether both give the same operations since a clock.
 fn is_since_alike(
     alloc: Global,
     filing: &Filing,
@@ -117,7 +117,7 @@ fn is_since_alike(
     Ok(plain.are_since(clock, &since))
 }
 
-/// Whether both answer each delivery alike, and end alike.
+/// Whether both give the same answer to each delivery, and end alike.
 fn are_answered_alike(
     alloc: Global,
     filing: &mut Filing,
@@ -132,7 +132,8 @@ fn are_answered_alike(
     Ok(are_alike(filing, plain) && are_since_alike(alloc, filing, plain)?)
 }
 
-/// Whether both answer this list alike, an application of which is refused where it has as many as its number says.
+/// Whether both give the same answers to this list. The application after `number` others is
+/// refused, if there are that many.
 fn is_list_alike(alloc: Global, number: u32) -> Result<bool, Trouble> {
     let ops = generated(alloc, number)?;
     let before = Some(number);
@@ -145,7 +146,7 @@ fn is_list_alike(alloc: Global, number: u32) -> Result<bool, Trouble> {
     alike
 }
 
-/// The first of the lists that both answer differently.
+/// The first list to which they give different answers.
 fn first_unlike(alloc: Global) -> Result<Option<u32>, Trouble> {
     for number in 0..LISTS {
         if !is_list_alike(alloc, number)? {

@@ -1,4 +1,4 @@
-//! Operations out of their lines, and what an inbox answers them.
+//! Operations that lines spell, and an inbox's answers to them.
 
 ghost use Rattle.std.specs.Prelude.{◌≡◌};
 ghost use Rattle.folder_state.specs.Contents.{no_contents};
@@ -17,12 +17,12 @@ use subs_state::Subs;
 /// Folders and subscriptions.
 pub type Mailboxes = Pair<Folders, Subs>;
 
-/// Why a fixture isn't there.
+/// Why a fixture can't be made.
 #[derive(Debug, Drop)]
 pub enum Trouble {
-    /// No memory.
+    /// Memory ran out.
     NoMemory,
-    /// What was spelled, or made up, is no sound operation.
+    /// A line or a generated value is no sound operation.
     NotTheForm,
 }
 
@@ -38,7 +38,7 @@ impl<T: Drop> From<AllocFailed<T>> for Trouble {
     }
 }
 
-/// The operation of a line.
+/// The operation that a line spells.
 pub fn operation(alloc: Global, line: &str) -> Result<SoundOp, Trouble> {
     match read_op(alloc, line.as_bytes()) {
         Ok(op) => sound(op),
@@ -52,7 +52,7 @@ pub fn sound(op: Op) -> Result<SoundOp, Trouble> {
     into_sound_op(op).ok_or(Trouble::NotTheForm)
 }
 
-/// The operations of these lines.
+/// The operations that these lines spell.
 pub fn operations(alloc: Global, lines: &[&str]) -> Result<Vec<SoundOp>, Trouble> {
     let mut ops = Vec::new(alloc);
     for line in lines {
@@ -61,7 +61,7 @@ pub fn operations(alloc: Global, lines: &[&str]) -> Result<Vec<SoundOp>, Trouble
     Ok(ops)
 }
 
-/// Folders and subscriptions, with nothing in them.
+/// Empty folders and subscriptions.
 pub fn empty(alloc: Global) -> Mailboxes
     ensures folders { contents_of result.first ≡ no_contents }
     ensures subs { subscriptions_of result.second ≡ no_subscriptions }
@@ -72,15 +72,16 @@ pub fn empty(alloc: Global) -> Mailboxes
     }
 }
 
-/// An inbox over folders and subscriptions, that nobody follows.
+/// An inbox over folders and subscriptions, without a follower.
 pub type Node = Inbox<Mailboxes, Unfollowed>;
 
-/// One that has received nothing.
+/// An inbox that has received nothing.
 pub fn node(alloc: Global) -> Result<Node, AllocError> {
     Inbox::new(alloc, empty(alloc), Unfollowed)
 }
 
-/// Delivers the operation of each line, or drains, asks why one stalls or shows the ids, and tells what comes of it, a line each.
+/// For each line, delivers its operation, or drains the inbox, asks why it stalls or shows its ids,
+/// and appends the answer, a line each.
 pub fn play_all<R: Replicated<Op = SoundOp>, F: Follower<R>>(
     alloc: Global,
     inbox: &mut Inbox<R, F>,
@@ -93,7 +94,8 @@ pub fn play_all<R: Replicated<Op = SoundOp>, F: Follower<R>>(
     Ok(())
 }
 
-/// Delivers the operation of a line, or drains, asks why one stalls or shows the ids, and tells what comes of it in a line.
+/// Delivers the operation of a line, or drains the inbox, asks why it stalls or shows its ids, and
+/// appends the answer as a line.
 pub fn play<R: Replicated<Op = SoundOp>, F: Follower<R>>(
     alloc: Global,
     inbox: &mut Inbox<R, F>,

@@ -1,4 +1,4 @@
-//! Lists of operations as replicas might have issued them, shuffled, repeated and forged.
+//! Lists of operations as replicas might issue them, shuffled, repeated and forged.
 
 use crate::dice::Dice;
 use crate::drafts::draft;
@@ -9,17 +9,17 @@ use merge_laws::Caused;
 use std::alloc::Global;
 use tags_clocks::{Clock, OpId, ReplicaId};
 
-/// How many lists there are.
+/// The number of lists.
 pub const LISTS: u32 = 200;
 
-/// A replica that issues operations, with the clock of those that it has seen.
+/// A replica that issues operations, with the clock of those that it knows.
 #[derive(Drop)]
 struct Peer {
     replica: ReplicaId,
     clock: Clock,
 }
 
-/// One to six replicas that have seen nothing.
+/// One to six replicas that know no operations.
 fn peers(alloc: Global, dice: &mut Dice) -> Result<Vec<Peer>, Trouble> {
     let mut peers = Vec::new(alloc);
     for number in 1..7u32 {
@@ -32,7 +32,7 @@ fn peers(alloc: Global, dice: &mut Dice) -> Result<Vec<Peer>, Trouble> {
     Ok(peers)
 }
 
-/// One replica hears of all that another has seen.
+/// The replica at `at` learns all that the one at `of` knows.
 fn hear(alloc: Global, peers: &mut [Peer], at: usize, of: usize) -> Result<(), Trouble> {
     let Some(other) = peers.get(of) else {
         return Ok(());
@@ -44,7 +44,7 @@ fn hear(alloc: Global, peers: &mut [Peer], at: usize, of: usize) -> Result<(), T
     Ok(())
 }
 
-/// Adds an operation with this id behind this clock.
+/// Adds an operation with this id and this clock of its causes.
 fn add(ops: &mut Vec<SoundOp>, id: &OpId, clock: Clock, kind: Kind) -> Result<(), Trouble> {
     let op = Op {
         id: *id,
@@ -55,7 +55,7 @@ fn add(ops: &mut Vec<SoundOp>, id: &OpId, clock: Clock, kind: Kind) -> Result<()
     Ok(())
 }
 
-/// Issues a replica's next operation, and forges one with its id where that is asked for.
+/// Issues a replica's next operation, and in one of sixteen cases forges another with its id.
 fn issue(
     alloc: Global,
     dice: &mut Dice,
@@ -76,14 +76,15 @@ fn issue(
     Ok(())
 }
 
-/// Another operation with this id.
+/// Adds another operation with this id.
 fn forge(alloc: Global, id: &OpId, clock: &Clock, ops: &mut Vec<SoundOp>) -> Result<(), Trouble> {
     let clock = clock.copy(alloc)?;
     let folder = Name::from_slice(alloc, b"forged")?;
     add(ops, id, clock, Kind::Create { folder })
 }
 
-/// Lets one of the replicas issue, which has heard of another's before as often as not.
+/// Lets one of the replicas issue an operation; in half of the cases it first learns what another
+/// knows.
 fn step(
     alloc: Global,
     dice: &mut Dice,
@@ -113,7 +114,7 @@ fn repeat(alloc: Global, dice: &mut Dice, ops: &mut Vec<SoundOp>) -> Result<(), 
     Ok(())
 }
 
-/// Exchanges each operation with one behind it, none further than a reach that differs from list to list.
+/// Exchanges each operation with a later one, within a reach that differs from list to list.
 fn shuffle(dice: &mut Dice, ops: &mut [SoundOp]) {
     let reach = dice.below(ops.len()).saturating_add(1);
     for at in 0..ops.len() {
@@ -124,7 +125,8 @@ fn shuffle(dice: &mut Dice, ops: &mut [SoundOp]) {
     }
 }
 
-/// The list of this number, of at most 300 operations, as they are delivered. Few lists are long.
+/// The list with this number, of at most 300 operations in the order of their delivery. Few lists
+/// are long.
 pub fn generated(alloc: Global, number: u32) -> Result<Vec<SoundOp>, Trouble> {
     let mut dice = Dice::new(number);
     let mut peers = peers(alloc, &mut dice)?;

@@ -1,4 +1,4 @@
-//! What an inbox lends of the operations that it holds.
+//! The held operations of an inbox, counted and found by id.
 
 use crate::fixtures::{Node, Trouble, node, play_all};
 use causal_inbox::HeldOps;
@@ -10,7 +10,7 @@ use tags_clocks::{OpId, ReplicaId};
 /// Two early operations, and one that is applied.
 const LINES: &[&str] = &["1:3 1=2 create c", "1:2 1=1 create b", "2:1 - create d"];
 
-/// Whether the two early ones are counted and found, and no other is.
+/// Whether the two early operations are counted and found, and no other is.
 fn holds_two(alloc: Global) -> Result<bool, Trouble> {
     let mut inbox = node(alloc)?;
     let are_held = are_held_in(alloc, &mut inbox);

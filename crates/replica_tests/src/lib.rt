@@ -1,6 +1,14 @@
-//! Tests of operations, folders, subscriptions and the causal inbox that are no cases of texts: values and followers that refuse, and laws that are called.
-//! And tests of tables against plain lists: 200 generated lists of operations are delivered to an inbox in plain lists too, and told by folders, subscriptions, UIDs
-//! and mod-sequences in plain lists.
+//! Tests of what no clause says of operations, folders, subscriptions and the causal inbox.
+//!
+//! Values and followers that are refused memory, or whose counter is used up, show that a refusal
+//! leaves an inbox as it was, that a stalled one continues when it is drained, and that the end is
+//! the same as with ample memory. Each call that may answer that memory ran out is made once with
+//! ample memory, and each law is called once.
+//!
+//! Tables are compared with plain lists: 200 generated lists of operations, shuffled, repeated and
+//! forged, are delivered to `Inbox` and to an inbox in plain lists, which must answer alike. The
+//! operations that were applied are then replayed, and folders, subscriptions, UIDs and
+//! mod-sequences are compared with those that plain lists compute.
 #![tactic(auto)]
 
 #[cfg(test)]

@@ -1,4 +1,5 @@
-//! UIDs, UIDVALIDITY and mod-sequences in plain lists: each operation goes over all messages of its folder.
+//! UIDs, UIDVALIDITY and mod-sequences in plain lists: each operation goes through all messages of
+//! its folder.
 
 use crate::drafts::added_origin;
 use crate::fixtures::Trouble;
@@ -30,7 +31,7 @@ struct PlainChart {
     lines: Vec<PlainLine>,
 }
 
-/// What a replica whose counters begin at 1 keeps, in plain lists.
+/// The state in plain lists of a replica whose counters begin at 1.
 #[derive(Drop)]
 pub struct PlainReplica {
     /// Its number.
@@ -42,7 +43,7 @@ pub struct PlainReplica {
 }
 
 impl PlainReplica {
-    /// The replica of this number, that has applied nothing.
+    /// The replica with this number, to which no operation was applied.
     pub fn new(alloc: Global, number: u32) -> Result<PlainReplica, AllocError> {
         let mut charts = Vec::new(alloc);
         charts.push(chart_of(alloc, Name::inbox(alloc)?, true))?;
@@ -65,7 +66,8 @@ impl PlainReplica {
         }
     }
 
-    /// Brings the folder's chart up to an operation that was applied, by which these origins lost a version.
+    /// Brings the folder's chart up to an operation that was applied, by which the origins in
+    /// `lost` lost a version.
     fn note(&mut self, alloc: Global, op: &Op, lost: &[OpId]) -> Result<(), Trouble> {
         let folder = op.kind.name();
         let there = self.mailboxes.exists(folder);
@@ -89,7 +91,7 @@ impl PlainReplica {
         }
     }
 
-    /// The UIDVALIDITY of a folder that is there.
+    /// The UIDVALIDITY of an existing folder; `None` if it doesn't exist.
     pub fn uidvalidity(&self, folder: &Name) -> Option<u32> {
         if folder.as_bytes() == b"INBOX".as_slice() {
             return Some(self.number);
@@ -118,7 +120,7 @@ impl PlainReplica {
         }
     }
 
-    /// The folder's chart, once an operation was about the folder.
+    /// The folder's chart, if an operation was about the folder.
     fn chart(&self, folder: &Name) -> Option<&PlainChart> {
         for chart in &self.charts {
             if chart.folder.same(folder) {
@@ -149,7 +151,7 @@ fn place_of(charts: &[PlainChart], folder: &Name) -> Option<usize> {
     None
 }
 
-/// An operation about the chart's folder, which is there behind it or not.
+/// Brings the chart up to an operation about its folder, which exists afterwards or doesn't.
 fn step(
     chart: &mut PlainChart,
     mailboxes: &PlainMailboxes,
@@ -177,7 +179,7 @@ fn step(
     }
 }
 
-/// The messages that lose a version and the one that gets one have this mod-sequence.
+/// Gives this mod-sequence to the messages that lost a version and to the one that got one.
 fn renew(lines: &mut [PlainLine], lost: &[OpId], added: &Option<OpId>, modseq: u64) {
     for line in lines.iter_mut() {
         if *added == Some(line.origin) || lost.contains(&line.origin) {
@@ -186,7 +188,7 @@ fn renew(lines: &mut [PlainLine], lost: &[OpId], added: &Option<OpId>, modseq: u
     }
 }
 
-/// Whether the message of this origin is there.
+/// Whether a message of this origin is listed.
 fn has_line(lines: &[PlainLine], origin: &OpId) -> bool {
     for line in lines {
         if line.origin == *origin {
@@ -196,7 +198,7 @@ fn has_line(lines: &[PlainLine], origin: &OpId) -> bool {
     false
 }
 
-/// A message that isn't there yet gets the next UID.
+/// Gives the next UID to the message of this origin if it isn't listed yet.
 fn begin(chart: &mut PlainChart, origin: &OpId) -> Result<(), Trouble> {
     if has_line(&chart.lines, origin) {
         return Ok(());

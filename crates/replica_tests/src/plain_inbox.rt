@@ -1,4 +1,5 @@
-//! An inbox in plain lists: it looks through all that it holds for what is ripe, and through all that it received for an id.
+//! An inbox in plain lists: it goes through all held operations to find a ripe one, and through all
+//! received ones to find an id.
 
 ghost use Rattle.std.specs.Prelude.{◌<◌, ◌≤◌, length, IfSome};
 
@@ -10,7 +11,7 @@ use merge_laws::Caused;
 use std::alloc::Global;
 use tags_clocks::{Clock, OpId};
 
-/// What an inbox answers to a delivery.
+/// An inbox's answer to a delivery.
 pub type Answer = Result<Delivered, DeliverFault>;
 
 /// Operations in plain lists.
@@ -18,16 +19,16 @@ pub type Answer = Result<Delivered, DeliverFault>;
 pub struct PlainInbox {
     /// The applied operations, in their order.
     pub applied: Vec<SoundOp>,
-    /// The held ones, by ascending ids.
+    /// The held operations, by ascending ids.
     pub held: Vec<SoundOp>,
-    /// The clock of those applied.
+    /// The clock of the applied operations.
     clock: Clock,
-    /// The applications before the one for which there is no memory; there is, where it is `None`.
+    /// The number of applications before the one that is refused memory; `None` if none is refused.
     before: Option<u32>,
 }
 
 impl PlainInbox {
-    /// Nothing received; one application behind so many is refused.
+    /// An empty inbox; the application after `before` others is refused memory.
     pub fn new(alloc: Global, before: Option<u32>) -> PlainInbox {
         PlainInbox {
             applied: Vec::new(alloc),
@@ -57,7 +58,8 @@ impl PlainInbox {
         }
     }
 
-    /// Whether the operation that was received with this one's id is the same, if one was.
+    /// Whether the operation that was received with this id is the same; `None` if none was
+    /// received.
     fn is_known(&self, op: &SoundOp) -> Option<bool> {
         match find_in(&self.applied, op.id()) {
             Some(known) => Some(known.same(op)),
@@ -123,7 +125,8 @@ impl PlainInbox {
         Ok(())
     }
 
-    /// Applies held operations that are ripe, the least id first, until none is ripe or one is refused.
+    /// Applies ripe operations, the one with the least id first, until none is ripe or one is
+    /// refused.
     pub fn drain(&mut self) -> Result<Drained, Trouble> {
         let count = self.held.len();
         for applied in 0..count {
@@ -157,12 +160,12 @@ pub fn is_at(ops: &[SoundOp], at: usize, op: &SoundOp) -> bool {
     }
 }
 
-/// Whether the operation may come next, behind those that the clock covers.
+/// Whether the operation may be applied next, after those that the clock covers.
 fn is_ripe(clock: &Clock, op: &SoundOp) -> bool {
     op.clock().is_covered_by(clock) && !clock.covers(op.id())
 }
 
-/// The place of the first operation that may come next.
+/// The place of the first operation that may be applied next.
 fn first_ripe(clock: &Clock, ops: &[SoundOp]) -> Option<usize>
     ensures { IfSome result (λ at. at < length ops.now) }
 {
@@ -174,7 +177,7 @@ fn first_ripe(clock: &Clock, ops: &[SoundOp]) -> Option<usize>
     None
 }
 
-/// The number of operations in front whose ids are less.
+/// The number of leading operations whose ids are less.
 fn place_for(ops: &[SoundOp], id: OpId) -> usize
     ensures { result ≤ length ops.now }
 {

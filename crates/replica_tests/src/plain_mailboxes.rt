@@ -1,4 +1,4 @@
-//! Folders and subscriptions in plain lists: each answer looks through all tags.
+//! Folders and subscriptions in plain lists: each answer goes through all tags.
 
 use crate::fixtures::Trouble;
 use crdt_ops::{Ids, Kind, Message, Op, insert_name};
@@ -6,7 +6,7 @@ use imap_types::{DateTime, Flags, Name, Text, add_flags};
 use std::alloc::{AllocError, Global};
 use tags_clocks::OpId;
 
-/// A present folder tag, or subscription tag.
+/// A present folder tag or subscription tag.
 #[derive(Drop)]
 pub struct PlainTag {
     name: Name,
@@ -52,7 +52,8 @@ impl PlainMailboxes {
         }
     }
 
-    /// Applies an operation: the tags that it removes go, and then the one that it adds comes.
+    /// Applies an operation: first removes the tags that it removes, then adds the one that it
+    /// adds.
     pub fn apply(&mut self, alloc: Global, op: &Op) -> Result<(), Trouble> {
         self.forget(op);
         self.add(alloc, op)
@@ -93,7 +94,7 @@ impl PlainMailboxes {
         }
     }
 
-    /// Whether the folder is there: INBOX, or one with a tag.
+    /// Whether the folder exists: it is INBOX, or has a tag.
     pub fn exists(&self, folder: &Name) -> bool {
         folder.as_bytes() == b"INBOX".as_slice()
             || has_tag(&self.folder_tags, folder)
@@ -139,7 +140,7 @@ impl PlainMailboxes {
         Ok(ids)
     }
 
-    /// The origins that lose a version by an operation, ascending.
+    /// The origins that lose a version by this operation, ascending.
     pub fn losing(&self, alloc: Global, op: &Op) -> Result<Ids, AllocError> {
         let mut origins = Ids::none(alloc);
         for version in &self.versions {
@@ -150,7 +151,7 @@ impl PlainMailboxes {
         Ok(origins)
     }
 
-    /// The folder's messages, ascending by their origins.
+    /// The folder's messages, by ascending origins.
     pub fn messages(&self, alloc: Global, folder: &Name) -> Result<Vec<Message>, AllocError> {
         let origins = self.origins(alloc, folder)?;
         let mut messages = Vec::new(alloc);

@@ -1,4 +1,5 @@
-//! What an inbox does where memory or a counter is refused once: what isn't taken leaves it as it was, and what stalls goes on.
+//! An inbox that is refused memory or a counter once: a refused operation leaves it as it was, and
+//! a stalled one continues later.
 
 ghost use Rattle.std.specs.Prelude.{◌≡◌, ◌+◌, ◌<◌, ◌≤◌, length};
 ghost use Rattle.replica_tests.specs.Counting.{first_fits};
@@ -13,7 +14,7 @@ use merge_laws::{Follower, NotReady, Replicated, Unfollowed};
 use std::alloc::{AllocError, Global};
 use std::test::Fail;
 
-/// A follower that notes so many operations and no more.
+/// A follower that notes `limit` operations at most.
 #[derive(Drop)]
 struct Counted {
     limit: usize,
@@ -51,7 +52,7 @@ impl<R: Replicated> Follower<R> for Counted {
     }
 }
 
-/// Whether the inbox answers the lines so.
+/// Whether the inbox gives these answers to the lines.
 fn answers_so<R: Replicated<Op = SoundOp>, F: Follower<R>>(
     alloc: Global,
     inbox: &mut Inbox<R, F>,
@@ -63,14 +64,15 @@ fn answers_so<R: Replicated<Op = SoundOp>, F: Follower<R>>(
     Ok(text.as_str() == answers)
 }
 
-/// Whether the folders tell these lines.
+/// Whether the dump of the folders is these lines.
 fn tells(alloc: Global, folders: &Folders, lines: &[u8]) -> Result<bool, AllocError> {
     let mut text = Vec::new(alloc);
     tell_folders(alloc, folders, &mut text)?;
     Ok(text.as_slice() == lines)
 }
 
-/// Three operations in a chain, the last first; then the first again, and what is left.
+/// Three operations in a chain, the last first; then the first is repeated, and the rest is
+/// drained.
 const CHAIN: &[&str] = &[
     "1:3 1=2 create c",
     "1:2 1=1 create b",
@@ -83,7 +85,7 @@ const CHAIN: &[&str] = &[
     "show",
 ];
 
-/// The calls before the one that is refused memory, and the answers.
+/// The number of calls before the one that is refused memory, and the answers.
 const REFUSED: &[(u32, &str)] = &[
     (
         0,
@@ -103,12 +105,13 @@ const REFUSED: &[(u32, &str)] = &[
     ),
 ];
 
-/// What the chain ends in.
+/// The dump of the folders after the chain.
 const CHAIN_TOLD: &[u8] = b"folder INBOX -\nfolder a 1:1\nfolder b 1:2\nfolder c 1:3\n";
 
 type Refused = Inbox<Reluctant<Folders>, Unfollowed>;
 
-/// Whether an inbox that is refused memory behind so many calls answers so, and ends as with memory.
+/// Whether an inbox that is refused memory after `before` calls gives these answers, and ends as
+/// with ample memory.
 fn is_refused_so(alloc: Global, before: u32, answers: &str) -> Result<bool, Trouble> {
     let value = Reluctant {
         value: Folders::new(alloc),
@@ -133,15 +136,15 @@ fn first_wrong_refusal(alloc: Global) -> Result<Option<usize>, Trouble> {
     Ok(None)
 }
 
-/// The folders are refused room once: for the operation that is delivered, for the first that it releases, or for the second. A
-/// fourth time they are not asked.
+/// The folders are refused memory once: for the delivered operation, for the first that it
+/// releases, or for the second. A fourth call isn't made.
 #[test]
 fn memory_is_refused_once(rt: HostRuntime) -> Result<(), Fail> {
     assert_eq!(rt; first_wrong_refusal(rt.alloc())?, None);
     Ok(())
 }
 
-/// The chain; then an early operation, and another one with an id that was received.
+/// The chain, then an early operation, and another one whose id was received before.
 const USED_UP: &[&str] = &[
     "1:3 1=2 create c",
     "1:2 1=1 create b",
@@ -153,7 +156,7 @@ const USED_UP: &[&str] = &[
     "1:3 1=2 create x",
 ];
 
-/// The limit of a counter, and the answers.
+/// The limit of a counter, and the inbox's answers.
 const COUNTED: &[(usize, &str)] = &[
     (
         0,
@@ -178,7 +181,7 @@ fn with_counter(alloc: Global, limit: usize) -> Result<Inbox<Folders, Counted>, 
     Inbox::new(alloc, Folders::new(alloc), follower)
 }
 
-/// Whether an inbox with this limit answers so, and noted up to the limit.
+/// Whether an inbox with this limit gives these answers, and its follower noted `limit` operations.
 fn is_counted_so(alloc: Global, limit: usize, answers: &str) -> Result<bool, Trouble> {
     let mut inbox = with_counter(alloc, limit)?;
     let is_answered = answers_so(alloc, &mut inbox, USED_UP, answers);
@@ -205,7 +208,7 @@ fn a_counter_is_used_up(rt: HostRuntime) -> Result<(), Fail> {
     Ok(())
 }
 
-/// What an inbox with this limit answers that is to issue two operations.
+/// The answer of an inbox with this limit that is to issue two operations.
 fn ready_for_two(alloc: Global, limit: usize) -> Result<Result<(), IssueFault>, Trouble> {
     let mut inbox = with_counter(alloc, limit)?;
     let answer = ready_in(alloc, &mut inbox);
@@ -223,7 +226,7 @@ fn ready_in(
     Ok(answer)
 }
 
-/// Whether room for two is found where the limit is 2, and nowhere below.
+/// Whether the inbox is ready for two operations with a limit of 2, and with no lower one.
 fn finds_used_up(alloc: Global) -> Result<bool, Trouble> {
     if ready_for_two(alloc, 0)? != Err(IssueFault::Exhausted) {
         return Ok(false);

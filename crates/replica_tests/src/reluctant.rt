@@ -4,12 +4,12 @@ use crate::refusing::is_refused;
 use merge_laws::{Follower, NotReady, Replicated};
 use std::alloc::{AllocError, Global};
 
-/// A value that is refused memory at one call: the first where there are 0 before it.
+/// A value that is refused memory at one call: the first if `before` is 0.
 #[derive(Drop)]
 pub struct Reluctant<R> {
     /// The value.
     pub value: R,
-    /// The calls before the one that is refused; none is, where it is `None`.
+    /// The number of calls before the refused one; `None` if no call is refused.
     pub before: Option<u32>,
 }
 
@@ -42,10 +42,10 @@ impl<R: Replicated> Replicated for Reluctant<R> {
     }
 }
 
-/// A follower that is refused memory at one call: the first where there are 0 before it.
+/// A follower that is refused memory at one call: the first if `before` is 0.
 #[derive(Drop)]
 pub struct Hesitant {
-    /// The calls before the one that is refused; none is, where it is `None`.
+    /// The number of calls before the refused one; `None` if no call is refused.
     pub before: Option<u32>,
 }
 

@@ -1,4 +1,5 @@
-//! What is refused once is taken the second time, and all ends as with memory.
+//! Operations that are refused memory once are taken the second time, and the end is the same as
+//! with ample memory.
 
 use crate::fixtures::{Node, Trouble, node, operation, play};
 use crate::reluctant::{Hesitant, Reluctant};
@@ -11,7 +12,8 @@ use std::alloc::{AllocError, Global};
 use std::test::Fail;
 use subs_state::Subs;
 
-/// The operations of an inbox, applied and held, and what they led to.
+/// The operations of an inbox, applied and held, and the dump of its folders and subscriptions, as
+/// text.
 fn shown_of(
     alloc: Global,
     applied: &[SoundOp],
@@ -27,7 +29,7 @@ fn shown_of(
     Ok(text)
 }
 
-/// Three operations early, then what they wait for, and others.
+/// Three early operations, then their causes, and others.
 const MIXED: &[&str] = &[
     "1:3 1=2,2=1 store a (\\Seen zed) 1:2 1:2",
     "2:1 1=2 expunge a 1:2",
@@ -40,12 +42,12 @@ const MIXED: &[&str] = &[
     "7:1 5=1 subscribe b",
 ];
 
-/// What they end in, whatever was refused on the way.
+/// The text of an inbox after these operations, whichever of them was refused.
 const MIXED_END: &str =
     "5:1 - subscribe b\n1:1 - create a\n1:2 1=1 append a () \"17-Jul-1996 02:44:25 -0700\" =hello\n2:1 1=2 expunge a 1:2\n1:3 1=2,2=1 store a (\\Seen zed) 1:2 1:2\n5:2 5=1 unsubscribe b 5:1\n6:1 1=1 delete a 1:1\n7:1 5=1 subscribe b\nheld\nfolder INBOX -\nfolder a 2:1\nmessage 1:2 1:3 (\\Seen zed) \"17-Jul-1996 02:44:25 -0700\" =hello\nsubscribed b 7:1\n";
 
-/// The number of applications before the one for which memory is refused, and the answers: a delivery that is refused is made
-/// again, and one that stalls is followed by a drain.
+/// The number of applications before the one that is refused memory, and the answers: a refused
+/// delivery is repeated, and a stalled one is followed by a drain.
 const REFUSED_MIXED: &[(u32, &str)] = &[
     (
         0,
@@ -85,7 +87,7 @@ const REFUSED_MIXED: &[(u32, &str)] = &[
     ),
 ];
 
-/// What is asked for room before an operation is applied.
+/// The part of an inbox that needs memory before an operation is applied.
 #[derive(Clone, Copy, PartialEq, Eq)]
 enum Part {
     Follower,
@@ -93,14 +95,14 @@ enum Part {
     Subs,
 }
 
-/// The calls before the one that this part is refused, where it is the part that is refused one.
+/// The number of this part's calls before the refused one, if this is the part that is refused one.
 fn calls_before(part: Part, refused: Part, before: u32) -> Option<u32> {
     if part == refused { Some(before) } else { None }
 }
 
 type Wary = Inbox<Pair<Reluctant<Folders>, Reluctant<Subs>>, Hesitant>;
 
-/// An inbox of which this part is refused memory once, behind so many calls.
+/// An inbox in which this part is refused memory once, after `before` calls.
 fn refused_at(alloc: Global, refused: Part, before: u32) -> Result<Wary, AllocError> {
     let folders = Reluctant {
         value: Folders::new(alloc),
@@ -131,8 +133,8 @@ fn shown_wary(alloc: Global, inbox: &Wary) -> Result<Vec<u8>, AllocError> {
     )
 }
 
-/// Delivers the line's operation, again where it was refused memory, and drains where one stalls; tells the answers, and gives
-/// whether a refusal changed nothing.
+/// Delivers the line's operation, and repeats the delivery if it is refused memory or drains the
+/// inbox if it stalls. Appends the answers, and returns whether a refusal changed nothing.
 fn retried(
     alloc: Global,
     inbox: &mut Wary,
@@ -148,7 +150,7 @@ fn retried(
     }
 }
 
-/// Delivers again behind a refusal; whether all was as before it.
+/// Delivers again after a refusal, and returns whether the refusal had changed nothing.
 fn retried_after(
     alloc: Global,
     inbox: &mut Wary,
@@ -161,7 +163,7 @@ fn retried_after(
     Ok(unchanged)
 }
 
-/// Drains behind a delivery that stalls; nothing was refused that could have changed anything.
+/// Drains if the delivery stalled. Always true, since nothing was refused.
 fn drained_after(alloc: Global, inbox: &mut Wary, text: &mut String) -> Result<bool, Trouble> {
     if text.ends_with("stalled\n") {
         play(alloc, inbox, "drain", text)?;
@@ -169,7 +171,8 @@ fn drained_after(alloc: Global, inbox: &mut Wary, text: &mut String) -> Result<b
     Ok(true)
 }
 
-/// Whether this part is refused so behind so many calls, and all ends as with memory.
+/// Whether the inbox gives these answers if this part is refused memory after `before` calls, and
+/// ends as with ample memory.
 fn is_refused_so(
     alloc: Global,
     refused: Part,
@@ -182,7 +185,8 @@ fn is_refused_so(
     is_so
 }
 
-/// Whether the inbox answers the mixed lines so, no refusal changes anything, and all ends as with memory.
+/// Whether the inbox gives these answers to the mixed lines, no refusal changes anything, and it
+/// ends as with ample memory.
 fn ends_so(alloc: Global, inbox: &mut Wary, answers: &str) -> Result<bool, Trouble> {
     let mut text = String::new(alloc);
     let unchanged = retry_all(alloc, inbox, &mut text)?;
@@ -208,7 +212,7 @@ fn first_wrong(alloc: Global, refused: Part) -> Result<Option<usize>, Trouble> {
     Ok(None)
 }
 
-/// Whether each part is refused so.
+/// Whether the answers are right for each part that is refused memory.
 fn is_each_refused_so(alloc: Global) -> Result<bool, Trouble> {
     for refused in [Part::Follower, Part::Folders, Part::Subs] {
         if first_wrong(alloc, refused)?.is_some() {
@@ -218,9 +222,9 @@ fn is_each_refused_so(alloc: Global) -> Result<bool, Trouble> {
     Ok(true)
 }
 
-/// The room that the follower, the folders and the subscriptions are asked for before each of the eight operations is applied is
-/// refused in turn. The room in the inbox's own lists and for its next clock comes from the allocator itself, which no test can
-/// make refuse.
+/// The memory that the follower, the folders and the subscriptions need before each of the eight
+/// operations is applied is refused in turn. The memory of the inbox's own lists and of its next
+/// clock comes from the allocator itself, which no test can make refuse.
 #[test]
 fn each_part_is_refused_once(rt: HostRuntime) -> Result<(), Fail> {
     assert!(rt; is_each_refused_so(rt.alloc())?);
@@ -247,8 +251,9 @@ fn deliver(
     Ok(inbox.deliver(alloc, op))
 }
 
-/// Delivers the line's operation, and once more where there was no memory for it, or drains where one stalled; whether the first
-/// refusal changed nothing, and the second call was refused nothing. An error comes of the memory that this takes for itself.
+/// Delivers the line's operation, and repeats the delivery if memory ran out or drains the inbox if
+/// it stalled. Whether the refusal changed nothing, and the second call was refused nothing. `Err`
+/// if memory for the test's own values runs out.
 fn is_delivered_in_the_end(alloc: Global, inbox: &mut Node, line: &str) -> Result<bool, Trouble> {
     let before = shown(alloc, inbox)?;
     match deliver(alloc, inbox, line)? {
@@ -273,7 +278,7 @@ fn is_delivered_again(
     Ok(unchanged && answer.is_ok())
 }
 
-/// Whether each of the mixed lines is delivered in the end, and all end as they must.
+/// Whether each of the mixed lines is delivered in the end, and the inbox ends as it must.
 fn are_all_delivered(alloc: Global) -> Result<bool, Trouble> {
     let mut inbox = node(alloc)?;
     let is_so = is_each_delivered(alloc, &mut inbox);
@@ -290,9 +295,11 @@ fn is_each_delivered(alloc: Global, inbox: &mut Node) -> Result<bool, Trouble> {
     Ok(is_text(shown(alloc, inbox), MIXED_END.as_bytes())?)
 }
 
-/// The gate runs this with memory: each delivery is made once, and none is refused. By hand it was run with each of its
-/// allocations refused in turn, by a `malloc` that fails once. 73 of them are a delivery's, and each of these runs ended as with
-/// memory. The others are the test's own, and end it with an error; a wrong answer would have stopped it at the assertion.
+/// The test runs with ample memory: each delivery is made once, and none is refused. It was also
+/// run by hand with each of its allocations refused in turn, by a `malloc` that fails once. 73 of
+/// them are made by deliveries, and each of these runs ended as with ample memory. The others are
+/// made by the test itself and end it with an error; a wrong answer would have failed its
+/// assertion.
 #[test]
 fn deliveries_are_tried_again(rt: HostRuntime) -> Result<(), Fail> {
     assert!(rt; are_all_delivered(rt.alloc())?);

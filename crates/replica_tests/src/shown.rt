@@ -1,4 +1,4 @@
-//! Whether two lists of what is told are alike.
+//! Comparisons of names, ids, messages and rows in tables with those in plain lists.
 
 use crate::plain_charts::{PlainLine, PlainReplica};
 use crdt_ops::{Ids, Message};
@@ -58,7 +58,8 @@ fn have_same_messages(messages: &[Message], others: &[Message]) -> bool {
     messages.len() == others.len()
 }
 
-/// Whether the rows are those of the folder's messages with greater mod-sequences than this.
+/// Whether the rows are those of the folder's messages whose mod-sequences are greater than
+/// `since`.
 pub fn are_rows_alike(
     alloc: Global,
     rows: &Rows<'_>,
@@ -78,7 +79,7 @@ pub fn are_rows_alike(
     Ok(rows.count() as usize == place)
 }
 
-/// Whether the row at this place is that of the folder's message.
+/// Whether the row at this place is the row of the folder's message.
 fn is_row_alike(
     alloc: Global,
     rows: &Rows<'_>,

@@ -1,4 +1,4 @@
-//! Folders, subscriptions, UIDs and mod-sequences are told as plain lists tell them.
+//! Folders, subscriptions, UIDs and mod-sequences in tables equal those in plain lists.
 
 ghost use Rattle.std.specs.Prelude.{IfOk, []};
 ghost use Rattle.uid_projection.specs.Following.{Follows};
@@ -24,7 +24,7 @@ use uid_projection::{Charts, Counters};
 
 type Replica = Inbox<Mailboxes, FirstFollower<Charts>>;
 
-/// A replica whose counters begin at 1, that has received nothing.
+/// A replica whose counters begin at 1, which has received nothing.
 fn replica(alloc: Global, number: u32) -> Result<Replica, Trouble> {
     let Some(replica) = ReplicaId::new(number) else {
         return Err(Trouble::NotTheForm);
@@ -44,7 +44,7 @@ fn charts(alloc: Global, replica: ReplicaId) -> Result<Charts, AllocError>
     Charts::new(alloc, start)
 }
 
-/// What a replica tells of.
+/// The tables of a replica.
 #[derive(Clone, Copy)]
 struct Told<'a> {
     folders: &'a Folders,
@@ -61,7 +61,7 @@ fn told_by(replica: &Replica) -> Told<'_> {
     }
 }
 
-/// The operations of a generated list in an order in which they are applied.
+/// The operations of a generated list, in an order in which they are applied.
 fn applied(alloc: Global, number: u32) -> Result<Vec<SoundOp>, Trouble> {
     let mut inbox = PlainInbox::new(alloc, None);
     for op in generated(alloc, number)? {
@@ -71,7 +71,7 @@ fn applied(alloc: Global, number: u32) -> Result<Vec<SoundOp>, Trouble> {
     Ok(inbox.applied)
 }
 
-/// What plain lists tell of these operations, applied in this order.
+/// The state in plain lists after these operations, applied in this order.
 fn recounted(alloc: Global, number: u32, ops: &[SoundOp]) -> Result<PlainReplica, Trouble> {
     let mut plain = PlainReplica::new(alloc, number)?;
     for op in ops {
@@ -80,7 +80,7 @@ fn recounted(alloc: Global, number: u32, ops: &[SoundOp]) -> Result<PlainReplica
     Ok(plain)
 }
 
-/// Whether the names of folders and of subscriptions are alike.
+/// Whether the names of folders and of subscriptions are equal in tables and in plain lists.
 fn are_all_names_alike(
     alloc: Global,
     told: &Told<'_>,
@@ -92,7 +92,7 @@ fn are_all_names_alike(
     )
 }
 
-/// Whether the ids of a name's tags are alike.
+/// Whether the ids of a name's tags are equal in tables and in plain lists.
 fn are_tags_alike(
     alloc: Global,
     told: &Told<'_>,
@@ -114,7 +114,7 @@ fn are_tags_alike(
     )
 }
 
-/// Whether a folder's messages are alike.
+/// Whether a folder's messages are equal in tables and in plain lists.
 fn are_folders_alike(
     alloc: Global,
     folders: &Folders,
@@ -127,7 +127,8 @@ fn are_folders_alike(
     )
 }
 
-/// Whether a folder's numbers are alike.
+/// Whether a folder's UIDVALIDITY, UIDNEXT and HIGHESTMODSEQ are equal in tables and in plain
+/// lists.
 fn are_numbers_alike(charts: &Charts, plain: &PlainReplica, name: &Name) -> bool {
     let (uidnext, highest) = plain.counters(name);
     charts.uidvalidity(name) == plain.uidvalidity(name)
@@ -135,7 +136,7 @@ fn are_numbers_alike(charts: &Charts, plain: &PlainReplica, name: &Name) -> bool
         && charts.highest(name) == highest
 }
 
-/// Whether a folder's listing is alike.
+/// Whether a folder's listing is equal in tables and in plain lists.
 fn is_listing_alike(
     alloc: Global,
     told: &Told<'_>,
@@ -146,7 +147,8 @@ fn is_listing_alike(
     are_rows_alike(alloc, &rows, plain, name, 0)
 }
 
-/// Whether what changed in a folder since a mod-sequence is alike.
+/// Whether the rows of a folder that changed since a mod-sequence are equal in tables and in plain
+/// lists.
 fn are_changes_alike(
     alloc: Global,
     told: &Told<'_>,
@@ -159,7 +161,7 @@ fn are_changes_alike(
     are_rows_alike(alloc, &rows, plain, name, since)
 }
 
-/// Whether all that is told of a name is alike.
+/// Whether all that concerns a name is equal in tables and in plain lists.
 fn is_name_alike(
     alloc: Global,
     told: &Told<'_>,
@@ -175,7 +177,7 @@ fn is_name_alike(
     )
 }
 
-/// Whether a folder's numbers after these operations are alike.
+/// Whether a folder's numbers after these operations are those of the later plain lists.
 fn are_later_numbers_alike(
     told: &Told<'_>,
     later: &PlainReplica,
@@ -190,7 +192,7 @@ fn are_later_numbers_alike(
         && charts.highest_after(folders, name, ops) == highest
 }
 
-/// Whether a folder's listing after these operations is alike.
+/// Whether a folder's listing after these operations is that of the later plain lists.
 fn is_later_listing_alike(
     alloc: Global,
     told: &Told<'_>,
@@ -202,7 +204,7 @@ fn is_later_listing_alike(
     are_rows_alike(alloc, &rows, later, name, 0)
 }
 
-/// Whether all that is told of the operations in front, and of those behind them, is alike.
+/// Whether the tables equal the plain lists now, and the later ones after these operations.
 fn is_moment_alike(
     alloc: Global,
     told: &Told<'_>,
@@ -218,7 +220,7 @@ fn is_moment_alike(
     are_all_names_alike(alloc, told, &plain.mailboxes)
 }
 
-/// Whether all that is told of the name with these octets is alike, and so behind these operations.
+/// Whether all that concerns the name with these octets is equal now, and after these operations.
 fn is_name_alike_now_and_later(
     alloc: Global,
     told: &Told<'_>,
@@ -235,7 +237,8 @@ fn is_name_alike_now_and_later(
     )
 }
 
-/// Whether what is told once so many operations are applied, and of some behind them, is alike.
+/// Whether the tables equal the plain lists after the first `at` operations, and after some further
+/// ones.
 fn is_cut_alike(
     alloc: Global,
     told: &Told<'_>,
@@ -251,7 +254,7 @@ fn is_cut_alike(
     is_moment_alike(alloc, told, &plain, &later, next)
 }
 
-/// The first place of a list at which something is told differently.
+/// The first place of a list at which tables and plain lists differ.
 fn first_unlike_place(alloc: Global, list: u32) -> Result<Option<usize>, Trouble> {
     let ops = applied(alloc, list)?;
     let number = 1 + list % 9;
@@ -264,8 +267,8 @@ fn first_unlike_place(alloc: Global, list: u32) -> Result<Option<usize>, Trouble
     Ok(None)
 }
 
-/// Applies the operation at this place, and tells whether what is told behind it is alike, where that is looked at: at one place
-/// in 25, and at the end.
+/// Applies the operation at this place, and returns whether tables and plain lists are equal after
+/// it. They are compared at one place in 25, and at the end.
 fn is_place_alike(
     alloc: Global,
     replica: &mut Replica,
@@ -287,7 +290,7 @@ fn is_place_alike(
     is_cut_alike(alloc, &told_by(replica), number, ops, count)
 }
 
-/// The first list of which something is told differently, and where.
+/// The first list for which tables and plain lists differ, and the place.
 fn first_unlike(alloc: Global) -> Result<Option<(u32, usize)>, Trouble> {
     for number in 0..LISTS {
         if let Some(at) = first_unlike_place(alloc, number)? {

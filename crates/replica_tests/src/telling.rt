@@ -1,4 +1,4 @@
-//! Answers and states as lines.
+//! Answers and states of an inbox as lines of text.
 
 use causal_inbox::{Arrival, DeliverFault, Delivered, Drained, HeldOps, Stall};
 use crdt_ops::{Ids, Message, SoundOp, write_flags, write_id, write_ids, write_op};
@@ -8,12 +8,12 @@ use std::alloc::{AllocError, Global};
 use std::fmt::Write;
 use subs_state::Subs;
 
-/// Whether the text is there and these lines.
+/// Whether the text is these lines; `Err` if there is no text.
 pub fn is_text(text: Result<Vec<u8>, AllocError>, lines: &[u8]) -> Result<bool, AllocError> {
     Ok(text?.as_slice() == lines)
 }
 
-/// The lines of operations.
+/// Appends the operations, a line each.
 pub fn tell_ops(alloc: Global, ops: &[SoundOp], text: &mut Vec<u8>) -> Result<(), AllocError> {
     for op in ops {
         write_line(alloc, op, text)?;
@@ -21,7 +21,7 @@ pub fn tell_ops(alloc: Global, ops: &[SoundOp], text: &mut Vec<u8>) -> Result<()
     Ok(())
 }
 
-/// The lines of held operations.
+/// Appends the held operations, a line each.
 pub fn tell_held_ops(
     alloc: Global,
     held: &HeldOps<'_, SoundOp>,
@@ -38,7 +38,7 @@ fn write_line(alloc: Global, op: &SoundOp, text: &mut Vec<u8>) -> Result<(), All
     text.extend_from_slice(b"\n")
 }
 
-/// What these folders and these subscriptions tell, as the lines of a dump.
+/// Appends the folders and the subscriptions, as lines of a dump.
 pub fn tell_mailboxes(
     alloc: Global,
     folders: &Folders,
@@ -49,7 +49,7 @@ pub fn tell_mailboxes(
     tell_subscriptions(alloc, subs, text)
 }
 
-/// What the folders tell, as the lines of a dump.
+/// Appends the folders, as lines of a dump.
 pub fn tell_folders(
     alloc: Global,
     folders: &Folders,
@@ -73,7 +73,7 @@ fn tell_folder(
     tell_messages(alloc, folders, name, text)
 }
 
-/// A name and the ids of its tags behind a word, as a line.
+/// Appends a word, a name and the ids of its tags, as a line.
 fn tell_tags(
     alloc: Global,
     word: &[u8],
@@ -137,13 +137,13 @@ fn tell_subscription(
     tell_tags(alloc, b"subscribed ", name, &ids, text)
 }
 
-/// The answer to a drain, as a line.
+/// Appends the answer to a drain, as a line.
 pub fn tell_drained(text: &mut String, drained: Drained) -> Result<(), AllocError> {
     write!(text, "drained {}", drained.applied)?;
     tell_stalled(text, drained.stalled)
 }
 
-/// Why a ripe operation is held, as a line.
+/// Appends the reason why a ripe operation is held, as a line.
 pub fn tell_stall(text: &mut String, stall: Option<Stall>) -> Result<(), AllocError> {
     text.push_str(match stall {
         None => "none\n",
@@ -152,7 +152,7 @@ pub fn tell_stall(text: &mut String, stall: Option<Stall>) -> Result<(), AllocEr
     })
 }
 
-/// The answer to a delivery, as a line.
+/// Appends the answer to a delivery, as a line.
 pub fn tell_delivered(
     text: &mut String,
     answer: Result<Delivered, DeliverFault>,
@@ -189,7 +189,7 @@ fn tell_fault(text: &mut String, fault: DeliverFault) -> Result<(), AllocError> 
     })
 }
 
-/// The ids of applied operations and of held ones, a line each.
+/// Appends the ids of the applied operations and of the held ones, a line each.
 pub fn tell_received(
     applied: &[SoundOp],
     held: &HeldOps<'_, SoundOp>,
@@ -199,7 +199,7 @@ pub fn tell_received(
     tell_held_ids(held, text)
 }
 
-/// The ids of applied operations, as a line.
+/// Appends the ids of applied operations, as a line.
 fn tell_applied_ids(ops: &[SoundOp], text: &mut String) -> Result<(), AllocError> {
     text.push_str("applied")?;
     for op in ops {
@@ -208,7 +208,7 @@ fn tell_applied_ids(ops: &[SoundOp], text: &mut String) -> Result<(), AllocError
     text.push_str("\n")
 }
 
-/// The ids of held operations, as a line.
+/// Appends the ids of held operations, as a line.
 fn tell_held_ids(held: &HeldOps<'_, SoundOp>, text: &mut String) -> Result<(), AllocError> {
     text.push_str("held")?;
     for op in held.iter() {

@@ -8,25 +8,27 @@ use std::net::{Shutdown, TcpStream};
 use std::sync::Wait;
 use std::sync::atomic::Ordering;
 
-/// How a client behaves behind what it says.
+/// How a client behaves after its commands.
 #[derive(Clone, Copy)]
 pub enum Manner {
-    /// It tells that no more comes, and hears all.
+    /// It closes its side for writing, and reads everything.
     Hears,
-    /// It waits until so many others heard all, and then does so too.
+    /// It waits until this number of other clients read everything, and then closes its side for
+    /// writing and reads everything.
     Waits(u64),
-    /// It waits until so many others heard all, and then goes without having read anything.
+    /// It waits until this number of other clients read everything, and then leaves without having
+    /// read anything.
     Deaf(u64),
 }
 
-/// A client that is to come.
+/// A client that is to connect.
 #[derive(Drop)]
 pub struct Caller {
-    /// What it says.
+    /// The octets that it sends.
     pub said: Vec<u8>,
     /// How it behaves.
     pub manner: Manner,
-    /// What is passed before each of its commands.
+    /// The gate that is passed before each of its commands.
     pub way: Way,
 }
 
@@ -39,7 +41,7 @@ pub struct Line {
     pub caller: Caller,
 }
 
-/// What a client hears; nothing where it reads nothing or fails.
+/// What a client reads; empty if it reads nothing or fails.
 pub fn hear<R: Wait>(rt: &R, alloc: Global, signs: &Signs, line: Line) -> Vec<u8> {
     let Line { stream, caller } = line;
     let Caller {
@@ -66,7 +68,7 @@ pub fn hear<R: Wait>(rt: &R, alloc: Global, signs: &Signs, line: Line) -> Vec<u8
     }
 }
 
-/// Tells that no more comes, and reads until the connection ends; nothing where that fails.
+/// Closes the client's side for writing, and reads until the connection ends; empty if that fails.
 fn hear_all(alloc: Global, stream: &TcpStream) -> Vec<u8> {
     let mut told = Vec::new(alloc);
     let _ = stream.shutdown(Shutdown::Write);
@@ -89,7 +91,7 @@ fn read_all(stream: &TcpStream, told: &mut Vec<u8>) -> io::Result<()> {
     Ok(())
 }
 
-/// What a client says, as octets of its own.
+/// A copy of the octets that a client sends.
 pub fn said(alloc: Global, text: &[u8]) -> Result<Vec<u8>, AllocError> {
     let mut said = Vec::new(alloc);
     said.extend_from_slice(text)?;

@@ -1,4 +1,4 @@
-//! Clients over sockets that say a thing and wait for what they are told.
+//! Clients over sockets that send a command and wait for its answer.
 
 use std::alloc::Global;
 use std::io;
@@ -6,7 +6,7 @@ use std::io::{Read, Write};
 use std::net::{Net, SocketAddr, TcpListener, TcpStream};
 use std::time::Duration;
 
-/// A client's side of a connection, with all that it was told.
+/// A client's side of a connection, with all that it read.
 #[derive(Drop)]
 pub struct Client {
     stream: TcpStream,
@@ -15,7 +15,8 @@ pub struct Client {
 }
 
 impl Client {
-    /// Connects, and waits for the greeting. A client that is told nothing for twenty seconds fails.
+    /// Connects, and waits for the greeting. A client that receives nothing for twenty seconds
+    /// fails.
     pub fn connect<R: Net<Listener = TcpListener, Stream = TcpStream>>(
         rt: &R,
         alloc: Global,
@@ -32,26 +33,26 @@ impl Client {
         Ok(client)
     }
 
-    /// Whether it was told all that it waited for so far.
+    /// Whether it received all that it waited for so far.
     pub fn is_served(&self) -> bool {
         self.is_served
     }
 
-    /// Whether a text was told.
+    /// Whether it received a text.
     pub fn was_told(&self, text: &[u8]) -> bool {
         self.told
             .windows(text.len().max(1))
             .any(|part| part == text)
     }
 
-    /// Waits until a text was told. One that wasn't told something before waits no more.
+    /// Waits until it received a text. After a failed wait it does nothing.
     pub fn await_text(&mut self, text: &[u8]) {
         if self.is_served {
             self.is_served = matches!(self.hear(text), Ok(true));
         }
     }
 
-    /// Says something, and waits for a text. One that wasn't told something before says no more.
+    /// Sends commands, and waits for a text. After a failed wait it does nothing.
     pub fn say(&mut self, said: &[u8], told: &[u8]) {
         if self.is_served {
             self.is_served = self.send(said).is_ok();
@@ -59,26 +60,26 @@ impl Client {
         }
     }
 
-    /// Says something, and waits for nothing. One that wasn't told something before says no more.
+    /// Sends commands, and waits for nothing. After a failed wait it does nothing.
     pub fn ask(&mut self, said: &[u8]) {
         if self.is_served {
             self.is_served = self.send(said).is_ok();
         }
     }
 
-    /// Forgets all that it was told.
+    /// Forgets all that it received.
     pub fn forget(&mut self) {
         self.told.clear();
     }
 
-    /// Waits until it was told so many octets more, and forgets them. One that wasn't told something before waits no more.
+    /// Waits for `count` further octets, and forgets them. After a failed wait it does nothing.
     pub fn skip(&mut self, count: usize) {
         if self.is_served {
             self.is_served = matches!(self.pass_over(count), Ok(true));
         }
     }
 
-    /// Reads so many octets, at most 4,096 at once; false where the connection ends first.
+    /// Reads `count` octets, at most 4,096 at once; false if the connection ends first.
     fn pass_over(&self, count: usize) -> io::Result<bool> {
         let mut piece = [0u8; 4_096];
         let mut reader = &self.stream;
@@ -102,7 +103,7 @@ impl Client {
         writer.write_all(said)
     }
 
-    /// Reads until a text was told; false where the connection ends first.
+    /// Reads until it received a text; false if the connection ends first.
     fn hear(&mut self, text: &[u8]) -> io::Result<bool> {
         for _ in 0..100_000u32 {
             if self.was_told(text) {
@@ -115,7 +116,7 @@ impl Client {
         Ok(false)
     }
 
-    /// Reads once; false where the connection has ended.
+    /// Reads once; false if the connection has ended.
     fn read(&mut self) -> io::Result<bool> {
         let mut piece = [0u8; 512];
         let mut reader = &self.stream;

@@ -11,11 +11,11 @@ use std::sync::Wait;
 use std::test::*;
 use std::thread::Threads;
 
-/// What one NOOP and a LOGOUT are answered.
+/// The answers to one NOOP and a LOGOUT.
 const ONE: &[u8] =
     b"* PREAUTH [CAPABILITY IMAP4rev2 IDLE CONDSTORE] ready\r\na OK NOOP completed\r\n* BYE logging out\r\nb OK LOGOUT completed\r\n";
 
-/// What two are.
+/// The answers to two NOOPs and a LOGOUT.
 const TWO: &[u8] =
     b"* PREAUTH [CAPABILITY IMAP4rev2 IDLE CONDSTORE] ready\r\na OK NOOP completed\r\nb OK NOOP completed\r\n* BYE logging out\r\nc OK LOGOUT completed\r\n";
 
@@ -23,7 +23,8 @@ const TWO: &[u8] =
 const MAILING: &[u8] =
     b"a SELECT INBOX\r\nb APPEND INBOX {3+}\r\nabc\r\nc FETCH 1:* FLAGS\r\nd STORE 1 +FLAGS (\\Seen)\r\ne LOGOUT\r\n";
 
-/// What each such client is told, whatever the others do; between these are numbers and the others' messages.
+/// The answers to each such client, whatever the others do; between these are numbers and the
+/// others' messages.
 const MAILED: [&[u8]; 6] = [
     b"a OK [READ-WRITE] SELECT completed\r\n",
     b"b OK [APPENDUID ",
@@ -33,7 +34,7 @@ const MAILED: [&[u8]; 6] = [
     b"e OK LOGOUT completed\r\n",
 ];
 
-/// A client that says this behind such a door, and hears all.
+/// A client that sends this text after such a gate, and reads everything.
 fn caller(alloc: Global, way: Way, text: &[u8]) -> Result<Caller, AllocError> {
     Ok(Caller {
         said: said(alloc, text)?,
@@ -42,7 +43,7 @@ fn caller(alloc: Global, way: Way, text: &[u8]) -> Result<Caller, AllocError> {
     })
 }
 
-/// So many of these.
+/// `count` clients that send this text after such a gate, and read everything.
 fn callers(alloc: Global, count: u64, way: Way, text: &[u8]) -> Result<Vec<Caller>, AllocError> {
     let mut callers = Vec::new(alloc);
     for _ in 0..count {
@@ -51,7 +52,8 @@ fn callers(alloc: Global, count: u64, way: Way, text: &[u8]) -> Result<Vec<Calle
     Ok(callers)
 }
 
-/// Two clients of one replica; the first waits before its first command until the second has passed its second.
+/// Two clients of one replica; the first waits before its first command until the second has
+/// passed the gate of its second.
 fn one_behind_another(alloc: Global) -> Result<Plan, AllocError> {
     let mut first = callers(alloc, 1, Way::Behind(2), b"a NOOP\r\nb LOGOUT\r\n")?;
     first.push(caller(alloc, Way::Telling, b"a NOOP\r\nb NOOP\r\nc LOGOUT\r\n")?)?;
@@ -64,8 +66,8 @@ fn one_behind_another(alloc: Global) -> Result<Plan, AllocError> {
     })
 }
 
-/// Clients of both replicas that wait before their first command until the first replica's lock is held; it is, once all of them wait, until so many
-/// heard all.
+/// Clients of both replicas that wait before their first command until the first replica's lock is
+/// held. It is taken once all of them wait, and held until `until` clients have read everything.
 fn while_held(
     alloc: Global,
     first: u64,
@@ -94,7 +96,7 @@ fn course<R: Threads + Wait + Clock + Log + Sync + Net<Listener = TcpListener, S
     }
 }
 
-/// Whether these were heard, by these clients in their order.
+/// Whether the clients, in their order, read these texts.
 fn are(heard: &[Vec<u8>], wanted: &[&[u8]]) -> bool {
     if heard.len() != wanted.len() {
         return false;
@@ -107,7 +109,7 @@ fn are(heard: &[Vec<u8>], wanted: &[&[u8]]) -> bool {
     true
 }
 
-/// Whether the second client went on while the first waited, and both were answered.
+/// Whether the second client was answered while the first waited, and the first afterwards.
 fn second_goes_on(course: &Option<Course>) -> bool {
     match course {
         Some(course) => {
@@ -161,7 +163,7 @@ fn a_connection_waits_for_its_replica(rt: HostRuntime) {
     assert!(rt; own_waits(&course));
 }
 
-/// Whether a text stands in another.
+/// Whether a text is part of another.
 fn has(told: &[u8], text: &[u8]) -> bool {
     told.windows(text.len().max(1)).any(|part| part == text)
 }
@@ -173,7 +175,8 @@ fn all_mailed(heard: &[Vec<u8>]) -> bool {
         .all(|told| MAILED.iter().all(|text| has(told, text)))
 }
 
-/// The UID of the message that a client appended, behind the front of its answer; 0 where there is none.
+/// The UID of the message that a client appended, after this prefix of its answer; 0 if there is
+/// none.
 fn uid_of(told: &[u8], front: &[u8]) -> u32 {
     let mut uid = 0u32;
     if let Some(at) = told
@@ -191,7 +194,7 @@ fn uid_of(told: &[u8], front: &[u8]) -> u32 {
     uid
 }
 
-/// Whether the UIDs from 1 to 50 came once each, behind this front.
+/// Whether each UID from 1 to 50 was reported once, after this prefix.
 fn each_uid_once(alloc: Global, front: &[u8], heard: &[Vec<u8>]) -> bool {
     let mut uids = Vec::new(alloc);
     for told in heard {
@@ -218,8 +221,9 @@ fn times_of(uids: &[u32], uid: u32) -> u32 {
     times
 }
 
-/// What came of fifty clients of each replica: how many doors saw the lock held, how many clients heard all while it was, how many calls there were at
-/// each replica, and whether at both all mailed and each UID came once; the UIDVALIDITY of INBOX is the replica's number.
+/// The result of fifty clients of each replica: how many gates saw the lock held, how many clients
+/// read everything while it was, how many calls each replica counted, and whether at both all
+/// mailed and each UID was given once; the UIDVALIDITY of INBOX is the replica's number.
 fn crowds_mailed(alloc: Global, course: &Option<Course>) -> Option<(u64, u64, u64, u64, bool)> {
     let course = course.as_ref()?;
     let first = all_mailed(&course.first)

@@ -5,29 +5,30 @@ use std::sync::Wait;
 use std::sync::atomic::{AtomicU64, Ordering};
 use std::thread;
 
-/// How often one looks, and lets others run, for what shouldn't come.
+/// How many times a thread checks, and lets others run, for what shouldn't come.
 pub const TURNS: u64 = 1_000_000;
 
-/// How often one looks, and lets others run, for what should come: so many that a machine with other work has time.
+/// How many times a thread checks, and lets others run, for what should come: enough for a machine
+/// with other work.
 pub const PATIENCE: u64 = 100_000_000;
 
-/// What the threads of a scene tell one another.
+/// The counters by which the threads of a scene signal one another.
 #[derive(Drop)]
 pub struct Signs {
-    /// How many doors were reached before their first command.
+    /// How many gates were reached before their first command.
     pub called: AtomicU64,
-    /// The first replica's lock is held.
+    /// Whether the first replica's lock is held: 1 if it is.
     pub held: AtomicU64,
-    /// How often a door that tells it was passed.
+    /// How often a counting gate was passed.
     pub passed: AtomicU64,
-    /// How many doors saw what they waited for.
+    /// How many gates saw what they waited for.
     pub seen: AtomicU64,
-    /// How many clients heard all.
+    /// How many clients read everything.
     pub heard: AtomicU64,
 }
 
 impl Signs {
-    /// Nothing was told.
+    /// All counters at 0.
     pub fn new() -> Signs {
         Signs {
             called: AtomicU64::new(0),
@@ -39,7 +40,8 @@ impl Signs {
     }
 }
 
-/// Looks for so many turns, and lets others run, until a count is so great; whether it was.
+/// Checks for `turns` turns, and lets others run, until a count is at least `least`; false if it
+/// never was.
 pub fn await_count(count: &AtomicU64, least: u64, turns: u64) -> bool {
     for _ in 0..turns {
         if count.load(Ordering::SeqCst) >= least {
@@ -50,7 +52,7 @@ pub fn await_count(count: &AtomicU64, least: u64, turns: u64) -> bool {
     false
 }
 
-/// Waits until a count is so great.
+/// Waits until a count is at least `least`.
 pub fn wait_for<R: Wait>(rt: &R, count: &AtomicU64, least: u64) {
     for _ in rt.forever() {
         if count.load(Ordering::SeqCst) >= least {
@@ -60,16 +62,17 @@ pub fn wait_for<R: Wait>(rt: &R, count: &AtomicU64, least: u64) {
     }
 }
 
-/// What a door does.
+/// What a gate does.
 #[derive(Clone, Copy)]
 pub enum Way {
     /// It is open.
     Open,
-    /// It tells how often it was passed.
+    /// It counts how often it was passed.
     Telling,
-    /// Before the first command it waits until a door that tells it was passed so often.
+    /// Before the first command it waits until a counting gate was passed this many times.
     Behind(u64),
-    /// Before the first command it tells so, and waits until the first replica's lock is held.
+    /// Before the first command it counts up `called`, and waits until the first replica's lock is
+    /// held.
     Held,
 }
 
@@ -78,12 +81,12 @@ pub enum Way {
 pub struct Door<'a> {
     /// What it does.
     pub way: Way,
-    /// What it looks at.
+    /// The counters that it reads and writes.
     pub signs: &'a Signs,
 }
 
 impl<'a> Door<'a> {
-    /// Waits for a count, and tells whether it saw it.
+    /// Waits for a count, and counts up `seen` if it saw it.
     fn look(&self, count: &AtomicU64, least: u64) {
         if await_count(count, least, PATIENCE) {
             let _ = self.signs.seen.fetch_add(1, Ordering::SeqCst);
@@ -111,16 +114,16 @@ impl<'a> Gate for Door<'a> {
     }
 }
 
-/// Keeps a replica's lock until so many clients heard all, or for so many turns.
+/// Holds a replica's lock until `least` clients read everything, or for `turns` turns.
 #[derive(Drop)]
 pub struct Keeper<'a> {
-    /// What it looks at.
+    /// The counters that it reads and writes.
     pub signs: &'a Signs,
     /// How many clients it waits for.
     pub least: u64,
-    /// How often it looks.
+    /// How many times it checks.
     pub turns: u64,
-    /// How many clients had heard all at the end.
+    /// How many clients had read everything when the lock was released.
     pub heard: u64,
 }
 

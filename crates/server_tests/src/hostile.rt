@@ -11,26 +11,26 @@ use std::sync::Wait;
 use std::test::*;
 use std::thread::Threads;
 
-/// A line that is too long.
+/// The answer to a line that is too long.
 const LONG: &[u8] =
     b"* PREAUTH [CAPABILITY IMAP4rev2 IDLE CONDSTORE] ready\r\n* BYE line too long\r\n";
 
-/// A literal that doesn't come.
+/// The answer to a literal that doesn't come.
 const READY: &[u8] = b"* PREAUTH [CAPABILITY IMAP4rev2 IDLE CONDSTORE] ready\r\n+ ready\r\n";
 
-/// A NUL behind a NOOP.
+/// The answers to a NOOP and a NUL after it.
 const NUL: &[u8] =
     b"* PREAUTH [CAPABILITY IMAP4rev2 IDLE CONDSTORE] ready\r\na OK NOOP completed\r\n* BYE NUL in text\r\n";
 
-/// A literal that is too long and comes unasked.
+/// The answer to a non-synchronizing literal that is too long.
 const UNASKED: &[u8] =
     b"* PREAUTH [CAPABILITY IMAP4rev2 IDLE CONDSTORE] ready\r\n* BYE literal too long\r\n";
 
-/// A NOOP and a LOGOUT.
+/// The answers to a NOOP and a LOGOUT.
 const GOOD: &[u8] =
     b"* PREAUTH [CAPABILITY IMAP4rev2 IDLE CONDSTORE] ready\r\na OK NOOP completed\r\n* BYE logging out\r\nb OK LOGOUT completed\r\n";
 
-/// How many clients hear all, whatever the others do.
+/// How many clients read everything, whatever the others do.
 const GOING: u64 = 4;
 
 fn caller(alloc: Global, manner: Manner, way: Way, text: &[u8]) -> Result<Caller, AllocError> {
@@ -41,7 +41,7 @@ fn caller(alloc: Global, manner: Manner, way: Way, text: &[u8]) -> Result<Caller
     })
 }
 
-/// A client that says something, and then octets without an end of line, up to so many in all.
+/// A client that sends a text, and then octets without an end of line, up to `count` octets in all.
 fn endless(alloc: Global, text: &[u8], count: usize) -> Result<Caller, AllocError> {
     let mut caller = caller(alloc, Manner::Hears, Way::Open, text)?;
     caller.said.resize(count, 120)?;
@@ -61,7 +61,7 @@ fn deaf(alloc: Global) -> Result<Caller, AllocError> {
     Ok(caller)
 }
 
-/// Adds one that doesn't read, one whose literal doesn't come, and one whose line doesn't end.
+/// Adds a client that doesn't read, one whose literal doesn't come, and one whose line doesn't end.
 fn add_endless(alloc: Global, clients: &mut Vec<Caller>) -> Result<(), AllocError> {
     clients.push(deaf(alloc)?)?;
     let begun = b"a APPEND INBOX {10}\r\nabc";
@@ -70,7 +70,7 @@ fn add_endless(alloc: Global, clients: &mut Vec<Caller>) -> Result<(), AllocErro
     Ok(())
 }
 
-/// Adds one that sends a NUL, one whose literal is too long, and one that does as it should.
+/// Adds a client that sends a NUL, one whose literal is too long, and one that behaves well.
 fn add_others(alloc: Global, clients: &mut Vec<Caller>) -> Result<(), AllocError> {
     let nul = b"a NOOP\r\n\0b NOOP\r\n";
     clients.push(caller(alloc, Manner::Hears, Way::Behind(4), nul)?)?;
@@ -80,7 +80,7 @@ fn add_others(alloc: Global, clients: &mut Vec<Caller>) -> Result<(), AllocError
     Ok(())
 }
 
-/// All of them.
+/// All six clients.
 fn clients(alloc: Global) -> Result<Vec<Caller>, AllocError> {
     let mut clients = Vec::new(alloc);
     add_endless(alloc, &mut clients)?;
@@ -88,7 +88,8 @@ fn clients(alloc: Global) -> Result<Vec<Caller>, AllocError> {
     Ok(clients)
 }
 
-/// All of them at one replica. Those with commands wait until the one that doesn't read has asked for the message twice.
+/// All six clients at one replica. Those with commands wait until the one that doesn't read has
+/// asked for the message twice.
 fn plan(alloc: Global) -> Result<Plan, AllocError> {
     Ok(Plan {
         first: clients(alloc)?,
@@ -109,8 +110,9 @@ fn course<R: Threads + Wait + Clock + Log + Sync + Net<Listener = TcpListener, S
     }
 }
 
-/// Whether each was told what it should be. The client that doesn't read carried out four commands at least, and stopped before its fortieth FETCH, behind
-/// what its connection holds; the others made 15 calls.
+/// Whether each client received the expected answers. The client that doesn't read gave four
+/// commands at least, and stopped before its fortieth FETCH, after what its connection holds; the
+/// others made 15 calls.
 fn are_told(course: &Option<Course>) -> bool {
     let wanted: [&[u8]; 6] = [b"", READY, LONG, NUL, UNASKED, GOOD];
     match course {

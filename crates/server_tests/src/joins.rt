@@ -1,10 +1,10 @@
-//! What is printed of replicas that join.
+//! The lines that are printed of joining replicas.
 
 use server_runtime::{Join, JoinEnd, Place};
 use std::alloc::Global;
 use std::test::*;
 
-/// Whether what is printed of a replica that was to join is this.
+/// Whether this is printed of a replica that was to join.
 fn is_printed(alloc: Global, end: JoinEnd<'_>, wanted: &str) -> bool {
     match format!(in alloc; "{end}") {
         Ok(text) => text.as_str() == wanted,

@@ -1,4 +1,4 @@
-//! Letters between the replicas of a house.
+//! Messages between the replicas of a server.
 
 use crdt_ops::{SoundOp, into_sound_op, read_op};
 use crossbeam_channel::{Receiver, unbounded};
@@ -26,20 +26,20 @@ fn clock_of_one(alloc: Global) -> Option<Clock> {
     Some(clock)
 }
 
-/// What a letter brings, and from which place.
+/// The content of a message, and the place of its sender.
 #[derive(Clone, Copy, Debug, PartialEq, Eq)]
 enum Parcel {
     /// One operation, with this id.
     One(usize, OpId),
     /// Other operations.
     Others,
-    /// A clock, and whether it covers the first replica's first operation.
+    /// A clock, and whether it is the one that covers the first replica's first operation.
     Asked(usize, bool),
-    /// No letter, or another one.
+    /// No message, or one of another kind.
     Nothing,
 }
 
-/// What a letter brings.
+/// The content of a message.
 fn parcel_of(alloc: Global, letter: &PeerMsg) -> Parcel {
     match &letter.message {
         LinkMsg::Ops(ops) => match ops.as_slice() {
@@ -59,7 +59,7 @@ fn is_clock_of_one(alloc: Global, clock: &Clock) -> bool {
     }
 }
 
-/// What the next letter brings.
+/// The content of the next message.
 fn next_letter<R: Wait>(rt: &R, alloc: Global, letters: &Receiver<PeerMsg>) -> Parcel {
     match letters.try_recv(rt) {
         Ok(letter) => parcel_of(alloc, &letter),
@@ -67,7 +67,7 @@ fn next_letter<R: Wait>(rt: &R, alloc: Global, letters: &Receiver<PeerMsg>) -> P
     }
 }
 
-/// What the next letter to the replica at a place brings.
+/// The content of the next message to the replica at a place.
 fn letter_at<R: Wait>(
     rt: &R,
     alloc: Global,
@@ -80,14 +80,15 @@ fn letter_at<R: Wait>(
     }
 }
 
-/// The stations of a house of three, of which the last isn't there yet, and what comes to each.
+/// The handles of a server's three replicas, of which the last hasn't joined yet, and the messages
+/// to each.
 #[derive(Drop)]
 struct Stations {
     replicas: Vec<ReplicaHandle>,
     letters: Vec<Receiver<PeerMsg>>,
 }
 
-/// Adds a replica that listens at this address, or isn't there yet.
+/// Adds a replica that listens at this address, or that hasn't joined yet if there is none.
 fn add_station(alloc: Global, address: Option<SocketAddr>, three: &mut Stations) -> Option<()> {
     let (link, letters) = unbounded(alloc).ok()?;
     let (orders, _) = unbounded(alloc).ok()?;
@@ -120,7 +121,8 @@ fn one_operation(alloc: Global, line: &str) -> Option<Vec<SoundOp>> {
     Some(ops)
 }
 
-/// The first replica of three hands an operation to the second, asks it, hands one to the third, which isn't there, and tells all of one.
+/// The first replica of three sends an operation to the second, asks it, sends one to the third,
+/// which hasn't joined, and sends one to all.
 fn send_all<R: Wait>(rt: &R, alloc: Global, house: &ServerState<'_>) -> Option<()> {
     let mut mail = PeerSender::new(rt, house, 0);
     mail.send_ops(1, one_operation(alloc, "1:1 - create a")?);
@@ -131,7 +133,8 @@ fn send_all<R: Wait>(rt: &R, alloc: Global, house: &ServerState<'_>) -> Option<(
     Some(())
 }
 
-/// What the first replica of three sends. What comes to the first, the second and the third, in that order, until nothing does.
+/// What the first replica of three sends: the messages to the first, the second and the third, in
+/// that order, up to the first missing one of each.
 fn sent<R: Wait>(rt: &R, alloc: Global) -> Option<[Parcel; 6]> {
     let Stations {
         replicas: stations,
@@ -160,7 +163,8 @@ fn came<R: Wait>(rt: &R, alloc: Global, letters: &[Receiver<PeerMsg>]) -> [Parce
     ]
 }
 
-/// What is wanted of it: one operation handed, one question and one operation told to the second replica, and nothing to the others.
+/// The expected messages: one operation, one question and one operation sent to all, to the second
+/// replica, and nothing to the others.
 fn wanted() -> Option<[Parcel; 6]> {
     let replica = ReplicaId::new(1)?;
     let first = OpId::new(replica, 1)?;

@@ -1,5 +1,17 @@
-//! Tests of the server over sockets of the loopback interface, of the letters between its replicas, and of what it prints of those that join;
-//! and of its connections side by side: while a replica's lock is held, and beside clients that send what none should.
+//! Tests of the server over sockets of the loopback interface.
+//!
+//! Servers run as their command lines ask: what one client does at one replica another sees at
+//! another, a replica joins when the first connection has ended, a run continues if a replica can't
+//! join, nobody logs in without both user and password, messages are dated by the clock, and a
+//! client that reads late receives everything. Connections are served side by side: one continues
+//! while another waits, while a replica's lock is held and beside clients that send what no client
+//! should. Messages reach the replicas that have joined, and the lines printed of joining replicas
+//! are compared.
+//!
+//! # Decided
+//!
+//! - A client gives up when it receives nothing for twenty seconds, so that a server that stays
+//!   silent fails a test and doesn't hang it.
 #![tactic(auto)]
 
 #[cfg(test)]

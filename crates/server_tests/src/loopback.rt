@@ -1,4 +1,5 @@
-//! Servers over sockets: what one client does at one replica, another sees at another; replicas that join; who is let in; the server's clock; and a client that reads late.
+//! Servers over sockets: what one client does at one replica, another sees at another; replicas
+//! that join; logins; the server's clock; and a client that reads late.
 
 use crate::visits::Visit;
 use log::Log;
@@ -11,7 +12,8 @@ use std::test::*;
 use std::thread;
 use std::thread::Threads;
 
-/// Serves as these settings ask for, while clients visit; whether the server ended well and they were told what they should be.
+/// Serves as these settings ask while clients connect; true if the server ended well and the
+/// clients received the expected answers.
 fn visited<
     R: Threads
         + Wait
@@ -39,7 +41,8 @@ fn words_of(alloc: Global, line: &str) -> Result<Vec<String>, AllocError> {
     Ok(words)
 }
 
-/// Serves as this command line asks for, while clients visit; whether the server ended well and they were told what they should be.
+/// Serves as this command line asks while clients connect; true if the server ended well and the
+/// clients received the expected answers.
 fn served<
     R: Threads
         + Wait
@@ -69,7 +72,8 @@ fn a_replica_joins_when_the_first_connection_has_ended(rt: HostRuntime) {
     assert_eq!(rt; served(&rt, rt.alloc(), line, Visit::Three), Some(true));
 }
 
-/// Serves one replica, where another is to join at an address that is taken; whether the server ended well and the clients were told what they should be.
+/// Serves one replica while another can't join, since its address is taken; true if the server
+/// ended well and the clients received the expected answers.
 fn served_alone<
     R: Threads
         + Wait

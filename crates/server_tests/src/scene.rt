@@ -22,33 +22,33 @@ use std::{io, thread};
 use tags_clocks::ReplicaId;
 use uid_projection::Counters;
 
-/// Who calls, and how long the first replica's lock is held.
+/// The clients that call, and how long the first replica's lock is held.
 #[derive(Drop)]
 pub struct Plan {
     /// The clients of the first replica.
     pub first: Vec<Caller>,
-    /// Those of the second.
+    /// The clients of the second replica.
     pub second: Vec<Caller>,
-    /// How many doors are reached before the lock is taken.
+    /// How many gates are reached before the lock is taken.
     pub called: u64,
-    /// Until so many clients heard all; 0 where it isn't held.
+    /// The number of clients that read everything before the lock is released; 0 if it isn't taken.
     pub until: u64,
-    /// Or for so many turns.
+    /// The number of turns after which the lock is released anyway.
     pub turns: u64,
 }
 
-/// What came of it.
+/// The result of a plan.
 #[derive(Drop)]
 pub struct Course {
-    /// What the clients of the first replica heard, in their order.
+    /// What the clients of the first replica read, in their order.
     pub first: Vec<Vec<u8>>,
-    /// Those of the second.
+    /// What the clients of the second replica read, in their order.
     pub second: Vec<Vec<u8>>,
-    /// How many clients had heard all when the lock was released.
+    /// How many clients had read everything when the lock was released.
     pub heard: u64,
-    /// How many doors saw what they waited for.
+    /// How many gates saw what they waited for.
     pub seen: u64,
-    /// How many calls each replica's journal tells of.
+    /// How many calls each replica's journal counts.
     pub entries: (u64, u64),
 }
 
@@ -77,7 +77,7 @@ fn fresh_books(alloc: Global) -> Option<(Book, Book)> {
     }
 }
 
-/// The server's sides of connections, with what their doors do, and the clients'.
+/// The server's sides of connections, with their gates, and the clients' sides.
 #[derive(Drop)]
 struct Side {
     streams: Vec<TcpStream>,
@@ -180,7 +180,7 @@ fn both_connected<R: Net<Listener = TcpListener, Stream = TcpStream>>(
     Some((side, other_side))
 }
 
-/// The doors that do this.
+/// Gates of these kinds.
 fn doors_of<'a>(
     alloc: Global,
     ways: &[Way],
@@ -196,15 +196,16 @@ fn doors_of<'a>(
 /// How long a lock is held.
 #[derive(Drop)]
 struct Hold {
-    /// How many doors are reached before it is taken.
+    /// How many gates are reached before it is taken.
     called: u64,
-    /// Until so many clients heard all; 0 where it isn't taken.
+    /// The number of clients that read everything before it is released; 0 if it isn't taken.
     until: u64,
-    /// Or for so many turns.
+    /// The number of turns after which the lock is released anyway.
     turns: u64,
 }
 
-/// Holds a lock once so many doors were reached, until so many clients heard all, and tells how many had.
+/// Holds a lock once `called` gates were reached, until `until` clients read everything, and
+/// returns how many had.
 fn keep<L: Ledger, R: Wait>(rt: &R, shared: &Shared<L>, signs: &Signs, hold: &Hold) -> u64 {
     if hold.until == 0 {
         return 0;
@@ -220,7 +221,7 @@ fn keep<L: Ledger, R: Wait>(rt: &R, shared: &Shared<L>, signs: &Signs, hold: &Ho
     keeper.heard
 }
 
-/// The passes of one replica's connections, and what its clients heard.
+/// The passes of one replica's connections, and what its clients read.
 type Served<L> = Result<(Vec<Pass<L>>, Vec<Vec<u8>>), AllocError>;
 
 /// Serves one replica's connections, while its clients call.
@@ -241,14 +242,14 @@ fn side_served<L: Ledger + Send + Sync, R: Threads + Wait + Clock + Log + Sync>(
     }
 }
 
-/// A side, and the doors behind which its clients are served.
+/// Connections, and the gates that they pass.
 #[derive(Drop)]
 struct Entrance<'a> {
     side: Side,
     doors: Vec<Door<'a>>,
 }
 
-/// The same behind its doors.
+/// Serves one replica's connections through their gates, while its clients call.
 fn served_behind<L: Ledger + Send + Sync, R: Threads + Wait + Clock + Log + Sync>(
     rt: &R,
     alloc: Global,
@@ -271,7 +272,7 @@ fn served_behind<L: Ledger + Send + Sync, R: Threads + Wait + Clock + Log + Sync
     both_given(passes, heard)
 }
 
-/// Both, where neither lacked memory.
+/// Both results; `Err` if memory ran out for one.
 fn both_given<L: Ledger>(
     passes: Result<Vec<Pass<L>>, AllocError>,
     heard: Result<Vec<Vec<u8>>, AllocError>,
@@ -367,7 +368,7 @@ fn served_beside<
     )
 }
 
-/// The same of replicas that are lent for as long.
+/// Serves both replicas' connections as `served_beside`, and owns the context meanwhile.
 fn served_on<
     L: Ledger + Send + Sync,
     M: Ledger + Send + Sync,
@@ -383,7 +384,7 @@ fn served_on<
     served_beside(rt, alloc, &stage, near, far, sides)
 }
 
-/// How many calls the journal tells of; 0 where a pass is lacking.
+/// How many calls the journal counts; 0 if a pass is missing.
 fn entries_of<L: Ledger>(
     shared: Shared<L>,
     first: Pass<L>,
@@ -403,16 +404,16 @@ fn entries_of<L: Ledger>(
     }
 }
 
-/// What came of one replica.
+/// The result of one replica.
 #[derive(Drop)]
 struct Ending {
-    /// What its clients heard, in their order.
+    /// What its clients read, in their order.
     heard: Vec<Vec<u8>>,
-    /// How many calls its journal tells of.
+    /// How many calls its journal counts.
     entries: u64,
 }
 
-/// What came of a replica that was served so.
+/// The result of a replica that was served.
 fn ending_of<L: Ledger>(shared: Shared<L>, first: Pass<L>, served: Served<L>) -> Option<Ending>
     requires { L.parts ≡ 4294967295 }
 {
@@ -430,7 +431,7 @@ fn ending_of<L: Ledger>(shared: Shared<L>, first: Pass<L>, served: Served<L>) ->
     }
 }
 
-/// What came of both replicas.
+/// The result of both replicas; `None` if one has none.
 fn course_of(
     heard: u64,
     seen: u64,
@@ -487,7 +488,7 @@ fn played<L: Ledger + Send + Sync, M: Ledger + Send + Sync, R: Threads + Wait + 
     course_of(heard, signs.seen.load(Ordering::SeqCst), first, second)
 }
 
-/// Serves the clients of a plan at two new replicas; `None` where that fails.
+/// Serves the clients of a plan at two new replicas; `None` if that fails.
 pub fn play<
     R: Threads + Wait + Clock + Log + Sync + Net<Listener = TcpListener, Stream = TcpStream>,
 >(rt: &R, alloc: Global, plan: Plan) -> Option<Course> {

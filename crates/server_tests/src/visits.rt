@@ -1,4 +1,4 @@
-//! What clients do who visit a server, and whether they are told what they should be.
+//! Scenarios of clients that connect to a server, and the answers that they wait for.
 
 use crate::clients::Client;
 use imap_types::Moment;
@@ -11,16 +11,16 @@ use std::sync::Wait;
 use std::thread;
 use std::time::{Duration, SystemTime, UNIX_EPOCH};
 
-/// Who visits a server.
+/// The clients of a server.
 #[derive(Clone, Copy)]
 pub enum Visit {
     /// A client of one replica, and two of another.
     Two,
     /// Clients of two replicas, and one of a third that joins.
     Three,
-    /// Clients of a replica, where another can't join.
+    /// Clients of a replica, while another can't join.
     Alone,
-    /// A client that has to log in.
+    /// A client that must log in.
     Password,
     /// A client that asks when its message came.
     Clock,
@@ -28,17 +28,17 @@ pub enum Visit {
     Late,
 }
 
-/// How long the message is for which a client asks that reads late, in octets.
+/// The length of the message for which a late reader asks, in octets.
 const LONG: usize = 200_000;
 
-/// What it is told each time: the message, with the lines around it.
+/// The length of each answer in octets: the message, with the lines around it.
 const LONG_ANSWER: usize = LONG + 53;
 
-/// So often it asks, for more than its connection holds.
+/// How many times it asks, for more than its connection holds.
 const LATE_TIMES: usize = 60;
 
 impl Visit {
-    /// Whether the clients were told what they should be; `None` where one can't connect.
+    /// Whether the clients received the expected answers; `None` if one can't connect.
     pub fn pay<R: Wait + Clock + Net<Listener = TcpListener, Stream = TcpStream>>(
         self,
         rt: &R,
@@ -111,12 +111,12 @@ fn idle(client: &mut Client) {
     client.say(b"i IDLE\r\n", b"+ idling\r\n")
 }
 
-/// Idles no more.
+/// Ends an IDLE.
 fn stir(client: &mut Client) {
     client.say(b"DONE\r\n", b"i OK IDLE completed\r\n")
 }
 
-/// What a client of one replica and two of another do; whether each was told what it should be.
+/// Runs a client of one replica and two of another; true if each received the expected answers.
 fn visit_two<R: Wait + Clock + Net<Listener = TcpListener, Stream = TcpStream>>(
     rt: &R,
     alloc: Global,
@@ -145,7 +145,8 @@ fn visit_two<R: Wait + Clock + Net<Listener = TcpListener, Stream = TcpStream>>(
     Some(first.is_served() && second.is_served() && third.is_served())
 }
 
-/// Appends a message where the second client doesn't idle, which is told of it as soon as it idles again.
+/// Appends a message while the second client doesn't idle, which learns of it as soon as it idles
+/// again.
 fn idle_again(third: &mut Client, second: &mut Client) {
     third.say(
         b"a APPEND INBOX {3+}\r\nghi\r\n",
@@ -156,7 +157,8 @@ fn idle_again(third: &mut Client, second: &mut Client) {
     second.say(b"DONE\r\n", b"k OK IDLE completed\r\n")
 }
 
-/// Stores a flag of two messages by one command of the first client; the second, which idles at another replica, is told of both.
+/// Stores a flag of two messages by one command of the first client; the second, which idles at
+/// another replica, learns of both.
 fn store_two(first: &mut Client, second: &mut Client) {
     first.say(
         b"d APPEND INBOX {3+}\r\ndef\r\n",
@@ -172,7 +174,8 @@ fn store_two(first: &mut Client, second: &mut Client) {
     second.await_text(b"* 2 FETCH (UID 2 FLAGS (\\Seen))\r\n")
 }
 
-/// What the clients of two replicas do, and then one of a third, which has joined when the first client is gone; whether each was told what it should be.
+/// Runs clients of two replicas, and then one of a third, which joins when the first client has
+/// left; true if each received the expected answers.
 fn visit_three<R: Wait + Clock + Net<Listener = TcpListener, Stream = TcpStream>>(
     rt: &R,
     alloc: Global,
@@ -198,7 +201,8 @@ fn visit_three<R: Wait + Clock + Net<Listener = TcpListener, Stream = TcpStream>
     Some(was_awaited && first.is_served() && second.is_served() && third.is_served())
 }
 
-/// Appends a message at the third replica, of which the client of the second is told while it idles, and then one the other way round.
+/// Appends a message at the third replica, of which the idling client of the second learns, and
+/// then one the other way round.
 fn append_in_turn(second: &mut Client, third: &mut Client) {
     idle(second);
     third.say(
@@ -216,7 +220,8 @@ fn append_in_turn(second: &mut Client, third: &mut Client) {
     stir(third)
 }
 
-/// What two clients of one replica do, one behind the other, where another replica was to join between them and can't; whether each was told what it should be.
+/// Runs two clients of one replica, one after the other, while another replica was to join between
+/// them and can't; true if each received the expected answers.
 fn visit_alone<R: Wait + Clock + Net<Listener = TcpListener, Stream = TcpStream>>(
     rt: &R,
     alloc: Global,
@@ -234,7 +239,8 @@ fn visit_alone<R: Wait + Clock + Net<Listener = TcpListener, Stream = TcpStream>
     Some(first.is_served() && second.is_served() && is_awaited(rt, house, 1))
 }
 
-/// What a client does that has to log in; whether it was told what it should be. User and password don't stand for each other, and nothing but both lets it in.
+/// Runs a client that must log in; true if it received the expected answers. User and password
+/// can't be exchanged, and only both of them are accepted.
 fn visit_password<R: Wait + Clock + Net<Listener = TcpListener, Stream = TcpStream>>(
     rt: &R,
     alloc: Global,
@@ -262,7 +268,8 @@ fn visit_password<R: Wait + Clock + Net<Listener = TcpListener, Stream = TcpStre
     Some(is_greeted && client.is_served())
 }
 
-/// What a client does who appends a message without a date; whether it is told that the message came while it waited.
+/// Runs a client that appends a message without a date; true if the reported date lies within the
+/// time of the command.
 fn visit_clock<R: Wait + Clock + Net<Listener = TcpListener, Stream = TcpStream>>(
     rt: &R,
     alloc: Global,
@@ -281,7 +288,8 @@ fn visit_clock<R: Wait + Clock + Net<Listener = TcpListener, Stream = TcpStream>
     Some(client.is_served() && is_dated(alloc, &client, before?, after?))
 }
 
-/// What a client does that sends one command behind another, then asks for more than its connection holds and reads late; whether it was told all of it.
+/// Runs a client that sends one command after another, then asks for more than its connection holds
+/// and reads late; true if it received everything.
 fn visit_late<R: Wait + Clock + Net<Listener = TcpListener, Stream = TcpStream>>(
     rt: &R,
     alloc: Global,
@@ -312,7 +320,7 @@ fn long_append(alloc: Global) -> Option<Vec<u8>> {
     Some(said)
 }
 
-/// Sends one NOOP behind another.
+/// Sends one NOOP after another.
 fn hurry(client: &mut Client) {
     for _ in 0..200u32 {
         client.forget();
@@ -320,18 +328,18 @@ fn hurry(client: &mut Client) {
     }
 }
 
-/// The seconds of the clock, from 1970 on.
+/// The seconds of the clock, since 1970.
 fn seconds<R: Clock>(rt: &R) -> Option<u64> {
     let since = SystemTime::now(rt).ok()?.duration_since(UNIX_EPOCH).ok()?;
     Some(since.as_secs())
 }
 
-/// Whether the client was told that its message came at one of these moments.
+/// Whether the client received a date of its message between these two seconds.
 fn is_dated(alloc: Global, client: &Client, first: u64, last: u64) -> bool {
     (first..=last).any(|moment| dates(alloc, client, moment))
 }
 
-/// Whether the client was told that its message came at this moment.
+/// Whether the client received this date of its message.
 fn dates(alloc: Global, client: &Client, seconds: u64) -> bool {
     match dated(alloc, seconds) {
         Some(text) => client.was_told(&text),
@@ -339,7 +347,7 @@ fn dates(alloc: Global, client: &Client, seconds: u64) -> bool {
     }
 }
 
-/// What is told of a message that came at this moment.
+/// The answer with the date of a message that came at this second.
 fn dated(alloc: Global, seconds: u64) -> Option<Vec<u8>> {
     let date = civil(Moment::new(seconds)?);
     let mut text = Vec::new(alloc);

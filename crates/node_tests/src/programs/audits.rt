@@ -1,4 +1,5 @@
-//! Audits: inputs that come in pieces, readers and writers that fail, and the status with which an audit ends.
+//! Audits: inputs that come in pieces, readers and writers that fail, and the status with which an
+//! audit ends.
 
 use mail_audit::{AuditEnd, MAX_READS, audit};
 use mail_replay::{audit_file, audit_from};
@@ -8,7 +9,8 @@ use std::fmt::Display;
 use std::io;
 use std::io::{ErrorKind, Read, Write};
 
-/// A session, in which a message goes while FETCH is in progress and NOOP tells it (RFC 9051, 7.5.1), and a dump.
+/// A session in which a message is expunged while FETCH is in progress and NOOP reports it (RFC
+/// 9051, 7.5.1), and a dump.
 const RIGHT: &str = r#"x S: * PREAUTH [CAPABILITY IMAP4rev2 IDLE CONDSTORE] ready
 x C: a1 SELECT INBOX
 x S: * 3 EXISTS
@@ -27,7 +29,7 @@ folder work 1:1
 end
 "#;
 
-/// FETCH tells that a message went, which it mustn't (RFC 9051, 7.5.1).
+/// FETCH reports that a message was expunged, which it mustn't (RFC 9051, 7.5.1).
 const WRONG: &str = r#"x C: a1 SELECT INBOX
 x S: * 3 EXISTS
 x S: a1 OK [READ-WRITE] SELECT completed
@@ -36,10 +38,10 @@ x S: * 2 EXPUNGE
 x S: a2 OK FETCH completed
 "#;
 
-/// A dump without the folder that its operation makes.
+/// A dump without the folder that its operation creates.
 const WRONG_DUMP: &str = "dump 1\nop 1:1 - create work\nfolder INBOX -\nend\n";
 
-/// An input, how its audit ends, and the line that is written of it.
+/// An input, how its audit ends, and the line that it prints.
 #[derive(Clone, Copy)]
 struct Case {
     input: &'static str,
@@ -51,7 +53,7 @@ const fn row(input: &'static str, end: AuditEnd, line: &'static str) -> Case {
     Case { input, end, line }
 }
 
-/// Right inputs, wrong ones and unreadable ones, with a last line that ends and with one that doesn't.
+/// Right, wrong and unreadable inputs, whose last lines end with a line feed or without one.
 fn cases() -> [Case; 8] {
     [
         row("", AuditEnd::Yes, "yes\n"),
@@ -77,8 +79,8 @@ fn cases() -> [Case; 8] {
     ]
 }
 
-/// Gives at most so many octets a read, and `Interrupted` in place of each read whose number can be divided by `every`;
-/// by 0 none can.
+/// A reader that gives at most `piece` octets per read, and `Interrupted` instead at each read
+/// whose number is divisible by `every`; at none if that is 0.
 #[derive(Drop)]
 struct Stutters<'a> {
     octets: &'a [u8],
@@ -101,7 +103,7 @@ impl Read for Stutters<'_> {
     }
 }
 
-/// Gives one octet a read, fails once behind so many, and goes on.
+/// A reader that gives one octet per read and fails once, after `before` reads.
 #[derive(Drop)]
 struct Breaks {
     octets: &'static [u8],
@@ -122,7 +124,7 @@ impl Read for Breaks {
     }
 }
 
-/// Is interrupted so many times, and then gives its octets at once.
+/// A reader that is interrupted `interruptions` times, and then gives its octets at once.
 #[derive(Drop)]
 struct Waits {
     octets: &'static [u8],
@@ -140,7 +142,8 @@ impl Read for Waits {
     }
 }
 
-/// Takes at most so many octets a write, fails once behind so many writes, and goes on. It may fail to flush.
+/// A writer that takes at most `piece` octets per write and fails once, after `before` writes. It
+/// may fail to flush.
 #[derive(Drop)]
 struct Pen {
     taken: Vec<u8>,
@@ -172,7 +175,7 @@ impl Write for Pen {
     }
 }
 
-/// Keeps what is printed, or fails to print.
+/// A screen that stores what is printed, or fails to print.
 #[derive(Drop)]
 struct Screen {
     shown: RefCell<Vec<u8>>,
@@ -199,13 +202,15 @@ impl Print for Screen {
     }
 }
 
-/// Whether the audit of what this reader gives ends so, and writes this line.
+/// Whether the audit of this reader's input ends so and writes this line.
 fn ends<R: Read>(alloc: Global, reader: &mut R, end: AuditEnd, line: &str) -> bool {
     let mut written = Vec::new(alloc);
     audit(alloc, reader, &mut written) == end && written.as_slice() == line.as_bytes()
 }
 
-/// Whether an input is audited as it should be, which comes by so many octets, with so many reads from one interruption to the next.
+/// Whether the audit of an input ends as the case says. The input comes in pieces of at most as
+/// many octets as the first part of `how`, and each read whose number is divisible by the second is
+/// interrupted.
 fn comes(alloc: Global, input: &[u8], how: (usize, u64), case: Case) -> bool {
     let mut reader = Stutters {
         octets: input,
@@ -216,7 +221,7 @@ fn comes(alloc: Global, input: &[u8], how: (usize, u64), case: Case) -> bool {
     ends(alloc, &mut reader, case.end, case.line)
 }
 
-/// Whether a case is audited as it should be, however it comes.
+/// Whether the audit of a case ends as it should, whatever the pieces.
 fn comes_in_pieces(alloc: Global, case: Case) -> bool {
     [(65_536, 0), (100_000, 2), (1, 0), (1, 2), (7, 3)]
         .iter()
@@ -234,7 +239,7 @@ fn audits_what_comes_in_pieces(rt: HostRuntime) {
     assert_eq!(rt; first_wrong_case(rt.alloc()), None);
 }
 
-/// Lines of a session, 6,000 commands and their answers, and a last line.
+/// The lines of a session, 6,000 commands with their answers, and a last line.
 fn long_input(alloc: Global, last: &str) -> Result<Vec<u8>, AllocError> {
     let mut input = Vec::new(alloc);
     for _ in 0..6_000 {
@@ -281,7 +286,8 @@ fn audits_a_long_input_to_its_end(rt: HostRuntime) {
     assert!(rt; reads_to_the_end(rt.alloc()));
 }
 
-/// Whether an audit ends with this read, of the right input one octet a read, where it fails.
+/// Whether an audit of the right input, at one octet per read, ends with the read that fails, the
+/// one after `before` others.
 fn breaks_off(alloc: Global, before: usize, fault: ErrorKind) -> bool {
     let mut reader = Breaks {
         octets: RIGHT.as_bytes(),
@@ -291,7 +297,8 @@ fn breaks_off(alloc: Global, before: usize, fault: ErrorKind) -> bool {
     ends(alloc, &mut reader, AuditEnd::ReadFailed, "cannot read\n")
 }
 
-/// The first read, of the right input one octet a read, at whose failure an audit ends otherwise than it should.
+/// The number of reads before the first failure at which an audit of the right input, at one octet
+/// per read, ends otherwise than it should.
 fn first_wrong_read(alloc: Global) -> Option<usize> {
     (0..=RIGHT.len()).find(|before| !breaks_off(alloc, *before, ErrorKind::Other))
 }
@@ -308,7 +315,8 @@ fn tells_of_reads_that_fail(rt: HostRuntime) {
     assert!(rt; tells_of_each_fault(rt.alloc()));
 }
 
-/// Whether the audit of an input behind so many interruptions ends so, writes this line, and makes as many reads as it may.
+/// Whether the audit of an input after `interruptions` interruptions ends so, writes this line, and
+/// makes as many reads as it may.
 fn ends_behind(alloc: Global, interruptions: u64, end: AuditEnd, line: &str) -> bool {
     let mut reader = Waits {
         octets: b"settle: Ok\n",
@@ -328,7 +336,8 @@ fn reads_no_more_than_its_limit(rt: HostRuntime) {
     assert!(rt; reads_up_to_the_limit(rt.alloc()) && MAX_READS == 16_777_216);
 }
 
-/// How the audit of a case ends at a writer, and how many octets of its line that took; `None` where it took others.
+/// How the audit of a case ends at a writer, and how many octets of its line that took; `None` if
+/// it took others.
 fn written(alloc: Global, case: Case, pen: &mut Pen) -> (AuditEnd, Option<usize>) {
     let mut reader = case.input.as_bytes();
     let end = audit(alloc, &mut reader, pen);
@@ -339,8 +348,8 @@ fn written(alloc: Global, case: Case, pen: &mut Pen) -> (AuditEnd, Option<usize>
     }
 }
 
-/// Whether the audit of a case at a writer that fails behind so many writes ends with `WriteFailed` and a part of the line, and, where
-/// it makes no more writes, as at any other.
+/// Whether the audit of a case at a writer that fails after `before` writes ends with `WriteFailed`
+/// and a part of the line, or, if it makes no further writes, as at any other writer.
 fn fails_behind(alloc: Global, case: Case, piece: usize, before: usize) -> bool {
     let mut pen = Pen {
         taken: Vec::new(alloc),
@@ -357,7 +366,7 @@ fn fails_behind(alloc: Global, case: Case, piece: usize, before: usize) -> bool 
     }
 }
 
-/// Whether that is so behind any number of writes.
+/// Whether `fails_after` is true of any number of writes.
 fn fails_anywhere(alloc: Global, case: Case, piece: usize) -> bool {
     (0..=case.line.len()).all(|before| fails_behind(alloc, case, piece, before))
 }
@@ -375,7 +384,8 @@ fn tells_of_writes_that_fail(rt: HostRuntime) {
     assert_eq!(rt; first_wrong_write(rt.alloc()), None);
 }
 
-/// How the audit of a wrong input ends at a writer that takes so many octets a write, has this fault at its third write, and may fail to flush.
+/// How the audit of a wrong input ends at a writer that takes at most `piece` octets per write, has
+/// this fault at its third write, and may fail to flush; and how many octets of the line it took.
 fn written_wrong(
     alloc: Global,
     piece: usize,
@@ -415,7 +425,7 @@ fn writes_the_whole_line(rt: HostRuntime) {
     );
 }
 
-/// Whether the program ends with this status and prints this line where it audits what this reader gives.
+/// Whether the program that audits this reader's input ends with this status and prints this line.
 fn shows<S: Read + Drop>(alloc: Global, input: S, status: u8, line: &str) -> bool {
     let screen = Screen {
         shown: RefCell::new(Vec::new(alloc)),
@@ -428,7 +438,7 @@ fn shows<S: Read + Drop>(alloc: Global, input: S, status: u8, line: &str) -> boo
             .is_ok_and(|shown| shown.as_slice() == line.as_bytes())
 }
 
-/// Whether the program ends with status 3 where it can't print.
+/// Whether the program ends with status 3 if it can't print.
 fn fails_without_a_screen(alloc: Global) -> bool {
     let screen = Screen {
         shown: RefCell::new(Vec::new(alloc)),

@@ -1,4 +1,4 @@
-//! Replays from readers and to writers that fail, and what is said of how a replay ended.
+//! Replays from readers and to writers that fail, and the line and the status that end a replay.
 
 use mail_replay::{MAX_READS, ReplayEnd, replay, tell};
 use std::alloc::Global;
@@ -26,7 +26,8 @@ folder work 1:1
 end
 "#;
 
-/// Gives one octet a read, and an error of this kind in place of one.
+/// A reader that gives one octet per read, and once, after `before` reads, an error of this kind
+/// instead.
 #[derive(Drop)]
 struct Drips {
     octets: &'static [u8],
@@ -51,7 +52,7 @@ impl Read for Drips {
     }
 }
 
-/// Gives empty lines without end, and counts its reads.
+/// A reader that gives empty lines without end, and counts its reads.
 #[derive(Drop)]
 struct Endless {
     reads: u64,
@@ -68,7 +69,7 @@ impl Read for Endless {
     }
 }
 
-/// Takes one octet a write and so many in all, and may fail to flush.
+/// A writer that takes one octet per write and `room` octets in all, and may fail to flush.
 #[derive(Drop)]
 struct Narrow {
     taken: Vec<u8>,
@@ -98,7 +99,8 @@ impl Write for Narrow {
     }
 }
 
-/// A reader that fails behind so many octets of the first run, and how many lines are then printed.
+/// A reader that fails after `before` octets of the first run, how the replay ends, and how many
+/// lines are printed by then.
 #[derive(Clone, Copy)]
 struct Failing {
     before: usize,
@@ -161,7 +163,8 @@ fn reads_no_more_than_its_limit(rt: HostRuntime) {
     assert!(rt; ends_at_the_limit(rt.alloc()) && MAX_READS == 16_777_216);
 }
 
-/// How the first run ends at a writer, whether what it took is a beginning of what the run prints, and how long that is.
+/// How the first run ends at a writer of this size, whether the octets that it took are a prefix of
+/// the run's output, and their number.
 fn written(alloc: Global, room: usize, flushes: bool) -> (ReplayEnd, bool, usize) {
     let mut reader = FIRST_RUN.as_bytes();
     let mut writer = Narrow {
@@ -174,7 +177,8 @@ fn written(alloc: Global, room: usize, flushes: bool) -> (ReplayEnd, bool, usize
     (end, begins, writer.taken.len())
 }
 
-/// The first number of octets for which the first run ends otherwise than it should at a writer that takes no more.
+/// The first size of a writer, less than the output, at which the first run doesn't end with a
+/// failed write and that many octets.
 fn first_wrong_room(alloc: Global) -> Option<usize> {
     (0..FIRST_RUN_PRINTS.len()).find(|room| written(alloc, *room, true)
         != (ReplayEnd::WriteFailed, true, *room))

@@ -1,4 +1,4 @@
-//! A long script, whose deliveries come late, twice and out of order.
+//! A long script whose deliveries come late, twice and out of order.
 
 ghost use Rattle.std.specs.Prelude.{◌<◌};
 
@@ -7,20 +7,22 @@ use mail_replay::{ReplayEnd, replay};
 use std::alloc::{AllocError, Global};
 use std::str;
 
-/// Five replicas issue operations.
+/// The number of replicas that issue operations.
 const REPLICAS: u32 = 5;
 
-/// Operations that bear this replica's name are forged.
+/// The replica under whose name operations are forged.
 const FORGER: u32 = 9;
 
-/// Turns of the script: in each, every replica issues an operation, 2,000 in all, and one that no session issued is forged.
+/// The number of turns of the script. In each turn every replica issues an operation, 2,000 in all,
+/// and one that no session issued is forged.
 const TURNS: u32 = 400;
 
-/// So many deliveries are yet to come at most, when a turn ends.
+/// The number of deliveries that are still to come, at most, when a turn ends.
 const LATE: usize = 2_000;
 
-/// The lines, in which `#` stands for a turn, `@` for the one before it, `^` for the one behind it, which is the number of
-/// the operation that the turn issues, `!` for the replica and `?` for the one that issued what is delivered.
+/// The lines of the script. `#` is replaced by a turn, `@` by the turn before it, and `^` by the
+/// turn after it, which is the number of the operation that the turn issues; `!` by the replica,
+/// and `?` by the one that issued the delivered operation.
 const OPEN: &str = "node !\nopen ! s!\n";
 
 const CREATE: &str = "line s! a CREATE f!x#\n";
@@ -43,7 +45,7 @@ const FORGED: [&str; 7] = [
     "forge ! 9:^ 9=# subscribe m#\n",
 ];
 
-/// The operation that a replica issued in a turn comes to another.
+/// The delivery to `replica` of the operation that `source` issued in a turn.
 #[derive(Clone, Copy)]
 struct Delivery {
     source: u32,
@@ -61,8 +63,8 @@ fn line_of(delivery: Delivery) -> &'static str {
     }
 }
 
-/// A script in the making, with the deliveries that are yet to come, and the state of a fixed rule of numbers that look
-/// random.
+/// A script in the making, with the deliveries that are still to come and the state of a linear
+/// congruential generator.
 #[derive(Drop)]
 struct Storm {
     script: Vec<u8>,
@@ -71,7 +73,7 @@ struct Storm {
 }
 
 impl Storm {
-    /// The next number below this limit.
+    /// The next pseudo-random number below this limit.
     fn below(&mut self, limit: usize) -> usize
         requires { 0 < limit }
         ensures { result < limit }
@@ -107,7 +109,7 @@ impl Storm {
         Ok(())
     }
 
-    /// Puts a line for each replica.
+    /// Appends a line for each replica.
     fn put_for_each(&mut self, line: &str, turn: u32) -> Result<(), AllocError> {
         for replica in 1..=REPLICAS {
             let source = replica;
@@ -123,7 +125,7 @@ impl Storm {
         Ok(())
     }
 
-    /// An operation is to come to each replica but its own, twice.
+    /// Adds two late deliveries of an operation to each replica but its own.
     fn hold(&mut self, source: u32, turn: u32) -> Result<(), AllocError> {
         for number in 0..2 * REPLICAS {
             let replica = number / 2 + 1;
@@ -138,7 +140,7 @@ impl Storm {
         Ok(())
     }
 
-    /// Lets deliveries come, those that the numbers choose, until so many are left.
+    /// Appends late deliveries, in a pseudo-random order, until `left` of them are left.
     fn release(&mut self, left: usize) -> Result<(), AllocError> {
         for count in (left..self.late.len()).rev() {
             let place = self.below(count + 1);
@@ -150,7 +152,8 @@ impl Storm {
         Ok(())
     }
 
-    /// Every replica issues an operation; each third one deletes what the one before it made.
+    /// Appends a turn: every replica issues an operation, and in each third turn it deletes the
+    /// folder of the turn before.
     fn turn(&mut self, turn: u32) -> Result<(), AllocError> {
         let line = if turn % 3 == 2 { DELETE } else { CREATE };
         self.put_for_each(line, turn)?;
@@ -173,7 +176,8 @@ impl Storm {
     }
 }
 
-/// A script in which five replicas issue operations while those of the others come late, twice and out of order.
+/// A script in which five replicas issue operations, and receive those of the others late, twice
+/// and out of order.
 fn script(alloc: Global) -> Result<Vec<u8>, AllocError> {
     let mut storm = Storm {
         script: Vec::new(alloc),
@@ -186,7 +190,7 @@ fn script(alloc: Global) -> Result<Vec<u8>, AllocError> {
     Ok(storm.script)
 }
 
-/// What the script prints, where it is served to its end.
+/// The output of the script, if it runs to its end.
 fn printed(alloc: Global) -> Option<Vec<u8>> {
     let script = script(alloc).ok()?;
     let mut reader = script.as_slice();
@@ -199,7 +203,7 @@ fn printed(alloc: Global) -> Option<Vec<u8>> {
     }
 }
 
-/// Whether operations came early and again, and none was refused.
+/// Whether operations came early and repeatedly, and none was refused.
 fn came_late(results: &str) -> bool {
     results.contains(": Held\n")
         && results.contains(": Repeat\n")
@@ -208,7 +212,8 @@ fn came_late(results: &str) -> bool {
         && !results.contains("Unsound")
 }
 
-/// How many operations stand in a dump that has messages and subscriptions.
+/// The number of operations in a dump that has messages and subscriptions; 0 for one that lacks
+/// either.
 fn ops_of(dump: &str) -> usize {
     if !dump.contains("\nmessage ") || !dump.contains("\nsubscribed ") {
         return 0;
@@ -216,7 +221,7 @@ fn ops_of(dump: &str) -> usize {
     dump.lines().filter(|line| line.starts_with("op ")).count()
 }
 
-/// How many dumps stand behind this one that are the same but for their first lines.
+/// The number of dumps in `others` that equal the first but for their first lines.
 fn same_dumps(first: &str, others: &str) -> usize {
     others
         .split("\ndump ")
@@ -224,7 +229,7 @@ fn same_dumps(first: &str, others: &str) -> usize {
         .count()
 }
 
-/// Whether the five dumps are the same, of all operations.
+/// Whether the five dumps are the same, with all operations.
 fn replicas_agree(alloc: Global) -> bool {
     let Some(printed) = printed(alloc) else {
         return false;

@@ -1,5 +1,5 @@
-//! The programs' command lines, what is said where one asks for nothing, and what `mail_tool` does: devices that fail, audits, and a long script whose deliveries come
-//! late and twice.
+//! The programs' command lines, the line that ends a replay, and replays and audits of `mail_tool`:
+//! devices that fail, and a long script whose deliveries come late and twice.
 
 mod audits;
 mod devices;

@@ -4,7 +4,7 @@ use server_settings::{Access, CommandLine, SettingsFault, UsageFault, access_of,
 use std::alloc::{AllocError, Global};
 use std::test::*;
 
-/// Command lines that name who may use the server, and what each comes to.
+/// Command lines that name who may use the server, and the settings or the fault of each.
 const ACCESSES: &[(&str, &str)] = &[
     (
         "imap_server 1=127.0.0.1:1",
@@ -37,7 +37,7 @@ const BAD_REPLICAS: &[(&str, &str)] = &[
     ("imap_server --preauth 7=b x=a", "usage: bad replica x=a"),
 ];
 
-/// Command lines with replicas apart, and with one twice.
+/// Command lines with distinct replicas, and with one replica twice.
 const APART: &[(&str, &str)] = &[
     ("imap_server --preauth 65535=a=b", "preauth 1 false"),
     (
@@ -57,7 +57,7 @@ const OTHERS: &[(&str, &str)] = &[
     ("imap_server --preauth -1=a", "words"),
 ];
 
-/// Command lines with a word that names no replica that can join where 1 and 2 are there.
+/// Command lines with a word that names no replica that can join replicas 1 and 2.
 const BAD_JOINS: &[(&str, &str)] = &[
     (
         "imap_server --preauth --join 3 1=a 2=b",
@@ -105,7 +105,8 @@ const BAD_JOINS: &[(&str, &str)] = &[
     ),
 ];
 
-/// Command lines with replicas that can join, with one twice, with one whose peer comes behind it, and with one beside a word that names no replica.
+/// Command lines with replicas that can join, with one twice, with one whose peer comes after it,
+/// and with one beside a word that names no replica.
 const JOINS: &[(&str, &str)] = &[
     (
         "imap_server --preauth --join 3=a/b/2 1=a 2=b",
@@ -129,7 +130,7 @@ const JOINS: &[(&str, &str)] = &[
     ),
 ];
 
-/// Whether everybody is known, the user and the password that are given, and the access that they name.
+/// Whether everybody is known, the given user and password, and the access that they name.
 const NAMED: &[(bool, Option<&str>, Option<&str>, Option<Access<'_>>)] = &[
     (
         false,
@@ -156,7 +157,8 @@ fn words_of(alloc: Global, line: &str) -> Result<Vec<String>, AllocError> {
     Ok(words)
 }
 
-/// Settings as a text.
+/// The settings as text: the access, the number of replicas, and whether there is a bound of
+/// connections.
 fn settings_told(alloc: Global, settings: &CommandLine<'_>) -> Result<String, AllocError> {
     let access = match settings.access {
         Access::Preauth => "preauth",
@@ -169,7 +171,7 @@ fn settings_told(alloc: Global, settings: &CommandLine<'_>) -> Result<String, Al
     )
 }
 
-/// What the program prints of a fault, but for faults of the words, which are clap's.
+/// The text that the program prints of a fault; `words` for faults of the words, which are clap's.
 fn fault_told(alloc: Global, fault: &SettingsFault<'_>) -> Result<String, AllocError> {
     match fault {
         SettingsFault::Words(_) => format!(in alloc; "words"),
@@ -177,7 +179,7 @@ fn fault_told(alloc: Global, fault: &SettingsFault<'_>) -> Result<String, AllocE
     }
 }
 
-/// What the settings of these words are, as a text; what the program prints where they are none.
+/// The settings of these words as text, or the text of the fault.
 fn told(alloc: Global, words: &[String]) -> Result<String, AllocError> {
     match read_settings(alloc, words) {
         Ok(settings) => settings_told(alloc, &settings),
@@ -185,7 +187,7 @@ fn told(alloc: Global, words: &[String]) -> Result<String, AllocError> {
     }
 }
 
-/// Whether this was told.
+/// Whether this is the expected text.
 fn is_told(text: Result<String, AllocError>, wanted: &str) -> bool {
     match text {
         Ok(text) => text.as_str() == wanted,
@@ -193,7 +195,7 @@ fn is_told(text: Result<String, AllocError>, wanted: &str) -> bool {
     }
 }
 
-/// Whether a command line comes to this.
+/// Whether the settings or the fault of a command line have the expected text.
 fn comes_to(alloc: Global, line: &str, wanted: &str) -> bool {
     match words_of(alloc, line) {
         Ok(words) => is_told(told(alloc, &words), wanted),
@@ -201,7 +203,7 @@ fn comes_to(alloc: Global, line: &str, wanted: &str) -> bool {
     }
 }
 
-/// The place of the first command line that comes to something else.
+/// The place of the first command line with another text.
 fn first_wrong(alloc: Global, lines: &[(&str, &str)]) -> Option<usize> {
     lines
         .iter()
@@ -234,7 +236,7 @@ fn joins_name_replicas_and_peers(rt: HostRuntime) {
     assert_eq!(rt; first_wrong(rt.alloc(), JOINS), None);
 }
 
-/// The place of the first row of which another access, or none, is named.
+/// The place of the first row that names another access, or none.
 fn first_misnamed() -> Option<usize> {
     NAMED
         .iter()

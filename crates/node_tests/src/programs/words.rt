@@ -34,7 +34,7 @@ fn asks_for_audit(alloc: Global, words: &[&str], file: Option<&str>) -> bool {
     }
 }
 
-/// Whether these words are refused for this, with status 2.
+/// Whether these words are refused for this reason, with status 2.
 fn are_refused(alloc: Global, words: &[&str], why: ErrorKind) -> bool {
     let Ok(words) = owned(alloc, words) else {
         return false;
