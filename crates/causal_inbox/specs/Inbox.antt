@@ -2,7 +2,8 @@
 -- ones are released and own ones are issued. It is causal delivery (Jungnickel, Oldenburg, Loibl,
 -- OPODIS 2017).
 
-use Rattle.std.specs.Prelude.{◌≡◌, ◌↔◌, ◌⊎◌, ℕ, ◌+◌, ◌<◌, ◌≤◌, suc, zero, List, [], ◌∷◌, ◌++◌, length, slice_index_or, Bool, not, ◌&&◌, nat_lt, nat_le}
+use Rattle.std.specs.Prelude.{◌≡◌, ◌↔◌, ◌⊎◌, ℕ, ◌+◌, ◌<◌, ◌≤◌, suc, zero, List, [], ◌∷◌, ◌++◌}
+use Rattle.std.specs.Prelude.{length, slice_index_or, Bool, not, ◌&&◌, nat_lt, nat_le}
 use Rattle.std.specs.List.{filter}
 use Rattle.tags_clocks.specs.declared.id.OpId.{OpId}
 use Rattle.tags_clocks.specs.Clock.{IsCause, count_of}
@@ -37,7 +38,8 @@ abbrev pub held_limit : ℕ
 held_limit = 65536
 
 -- What holds of every inbox at any time.
-pub record IsLawfulInbox {S O : Type 0} (id : O → OpId) (clock : O → List (ℕ × ℕ)) (s : ReceivedOps S O) : Type 0 where
+pub record IsLawfulInbox {S O : Type 0} (id : O → OpId) (clock : O → List (ℕ × ℕ))
+    (s : ReceivedOps S O) : Type 0 where
   -- the applied list is causal
   pub causal : IsCausal id clock s.applied
   -- no id is in both lists
@@ -60,13 +62,15 @@ abbrev pub IsStalled : {S O : Type 0} → (O → OpId) → (O → List (ℕ × �
 IsStalled {S} {O} id clock s = (o : O) × IsIn o s.held × IsRipe id clock s.applied o
 
 -- The operation is held and ripe, and no ripe one has a lesser id: it is released next.
-pub record IsNextReleased {S O : Type 0} (id : O → OpId) (clock : O → List (ℕ × ℕ)) (s : ReceivedOps S O) (op : O) : Type 0 where
+pub record IsNextReleased {S O : Type 0} (id : O → OpId) (clock : O → List (ℕ × ℕ))
+    (s : ReceivedOps S O) (op : O) : Type 0 where
   pub held : IsIn op s.held
   pub ripe : IsRipe id clock s.applied op
   pub least : (o : O) → IsIn o s.held → IsRipe id clock s.applied o → ¬ IsLess (id o) (id op)
 
 -- The ripe held operation with the least id was applied. The counters had the numbers it needs.
-pub record IsReleased {S O : Type 0} (id : O → OpId) (clock : O → List (ℕ × ℕ)) (exhausts : S → List O → List O → Type 0) (old new : ReceivedOps S O) : Type 0 where
+pub record IsReleased {S O : Type 0} (id : O → OpId) (clock : O → List (ℕ × ℕ))
+    (exhausts : S → List O → List O → Type 0) (old new : ReceivedOps S O) : Type 0 where
   pub op : O
   pub next : IsNextReleased id clock old op
   pub in_reach : ¬ exhausts old.start old.applied (op ∷ [])
@@ -76,36 +80,44 @@ pub record IsReleased {S O : Type 0} (id : O → OpId) (clock : O → List (ℕ 
   pub let_go : ¬ IsIn op new.held
 
 -- This number of held operations were applied, one after another.
-abbrev pub AreReleasedInTurn : {S O : Type 0} → (O → OpId) → (O → List (ℕ × ℕ)) → (S → List O → List O → Type 0) → ℕ → ReceivedOps S O → ReceivedOps S O → Type 0
+abbrev pub AreReleasedInTurn : {S O : Type 0} → (O → OpId) → (O → List (ℕ × ℕ))
+    → (S → List O → List O → Type 0) → ℕ → ReceivedOps S O → ReceivedOps S O → Type 0
 AreReleasedInTurn id clock exhausts zero old new = new ≡ old
 AreReleasedInTurn {S} {O} id clock exhausts (suc n) old new =
-    (before : ReceivedOps S O) × AreReleasedInTurn id clock exhausts n old before × IsReleased id clock exhausts before new
+    (before : ReceivedOps S O)
+    × AreReleasedInTurn id clock exhausts n old before
+    × IsReleased id clock exhausts before new
 
 -- Each of the operations is ripe after the list and the operations before it.
 abbrev pub AreRipe : {O : Type 0} → (O → OpId) → (O → List (ℕ × ℕ)) → List O → List O → Type 0
 AreRipe {O} id clock applied ops =
-    (front : List O) (o : O) (back : List O) → ops ≡ front ++ o ∷ back → IsRipe id clock (applied ++ front) o
+    (front : List O) (o : O) (back : List O) → ops ≡ front ++ o ∷ back
+    → IsRipe id clock (applied ++ front) o
 
 -- An operation is issued after the list: its clock covers the list and nothing else, and its number
 -- is the next one by that clock.
 abbrev pub IsIssued : {O : Type 0} → (O → OpId) → (O → List (ℕ × ℕ)) → List O → O → Type 0
-IsIssued id clock os o = IsClockOf id os (clock o) × (count_of (clock o) (id o).replica + 1 ≡ (id o).number)
+IsIssued id clock os o =
+    IsClockOf id os (clock o) × (count_of (clock o) (id o).replica + 1 ≡ (id o).number)
 
 -- Each of the operations is issued after the list and the operations before it.
 abbrev pub AreIssued : {O : Type 0} → (O → OpId) → (O → List (ℕ × ℕ)) → List O → List O → Type 0
 AreIssued {O} id clock applied ops =
-    (front : List O) (o : O) (back : List O) → ops ≡ front ++ o ∷ back → IsIssued id clock (applied ++ front) o
+    (front : List O) (o : O) (back : List O) → ops ≡ front ++ o ∷ back
+    → IsIssued id clock (applied ++ front) o
 
 -- The new held operations are the old ones, without those whose id was issued.
 abbrev pub AreHeldStill : {O : Type 0} → (O → OpId) → List O → List O → List O → Type 0
 AreHeldStill {O} id ops old new = (o : O) → IsIn o new ↔ (IsIn o old × ¬ HasId id ops (id o))
 
 -- The held operation at this place is ripe, and no ripe one has a lesser id.
-abbrev pub IsLeastRipe : {S O : Type 0} → (O → OpId) → (O → List (ℕ × ℕ)) → ReceivedOps S O → ℕ → Type 0
+abbrev pub IsLeastRipe : {S O : Type 0} → (O → OpId) → (O → List (ℕ × ℕ)) → ReceivedOps S O → ℕ
+    → Type 0
 IsLeastRipe {S} {O} id clock s at =
     (at < length s.held)
     × ((o : O) → o ≡ slice_index_or s.held at o → IsRipe id clock s.applied o)
-    × ((o p : O) → o ≡ slice_index_or s.held at o → IsIn p s.held → IsRipe id clock s.applied p → ¬ IsLess (id p) (id o))
+    × ((o p : O) → o ≡ slice_index_or s.held at o → IsIn p s.held → IsRipe id clock s.applied p
+    → ¬ IsLess (id p) (id o))
 
 -- The operations of a list that a clock doesn't cover.
 abbrev pub uncovered_ops : {O : Type 0} → (O → OpId) → List (ℕ × ℕ) → List O → List O

@@ -21,7 +21,9 @@ pub record InboxState (S R F O : Type 0) : Type 0 where
   pub room : InboxRoom R F
 
 -- The operations can be applied after the list, in this order, without further memory.
-pub record IsReadied {R F O : Type 0} (is_prepared : R → List O → Type 0) (is_ready : F → List O → List O → Type 0) (id : O → OpId) (clock : O → List (ℕ × ℕ)) (applied : List O) (room : InboxRoom R F) (ops : List O) : Type 0 where
+pub record IsReadied {R F O : Type 0} (is_prepared : R → List O → Type 0)
+    (is_ready : F → List O → List O → Type 0) (id : O → OpId) (clock : O → List (ℕ × ℕ))
+    (applied : List O) (room : InboxRoom R F) (ops : List O) : Type 0 where
   pub prepared : is_prepared room.value ops
   pub ready : IsCausal id clock (applied ++ ops) → is_ready room.follower applied ops
   pub next : IsCausal id clock (applied ++ ops) → IsClockOf id (applied ++ ops) room.clock
@@ -41,4 +43,5 @@ id_numbers id o = ((id o).replica, (id o).number)
 -- The entry counts a replica's operations. Either the clock covers that many, or `keys` lacks the
 -- first number that it doesn't cover.
 abbrev pub LacksNext : List (ℕ × ℕ) → List (ℕ × ℕ) → ℕ × ℕ → Type 0
-LacksNext clock keys entry = (entry.1 ≤ count_of clock entry.0) ⊎ (¬ IsIn (entry.0, count_of clock entry.0 + 1) keys)
+LacksNext clock keys entry =
+    (entry.1 ≤ count_of clock entry.0) ⊎ (¬ IsIn (entry.0, count_of clock entry.0 + 1) keys)

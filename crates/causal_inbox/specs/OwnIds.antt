@@ -12,7 +12,8 @@ IsOwn id_of name ops id = HasId id_of ops id × (id.replica ≡ name)
 -- The least id of the operations that names this replica; none if none does.
 abbrev pub IsLeastOwn : {O : Type 0} → (O → OpId) → ℕ → List O → Option OpId → Type 0
 IsLeastOwn id_of name ops None = (id : OpId) → ¬ IsOwn id_of name ops id
-IsLeastOwn id_of name ops (Some id) = IsOwn id_of name ops id × ((other : OpId) → IsOwn id_of name ops other → ¬ IsLess other id)
+IsLeastOwn id_of name ops (Some id) =
+    IsOwn id_of name ops id × ((other : OpId) → IsOwn id_of name ops other → ¬ IsLess other id)
 
 -- The id names this replica, and is less than the other id if there is one.
 abbrev pub Precedes : ℕ → OpId → Option OpId → Type 0
@@ -21,4 +22,5 @@ Precedes name id (Some other) = (id.replica ≡ name) × IsLess id other
 
 -- The new id is this id if it precedes the old one, and else the old one.
 abbrev pub IsKeptOwn : ℕ → OpId → Option OpId → Option OpId → Type 0
-IsKeptOwn name id old new = (Precedes name id old × (new ≡ Some id)) ⊎ ((¬ Precedes name id old) × (new ≡ old))
+IsKeptOwn name id old new =
+    (Precedes name id old × (new ≡ Some id)) ⊎ ((¬ Precedes name id old) × (new ≡ old))

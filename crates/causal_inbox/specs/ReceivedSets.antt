@@ -21,13 +21,17 @@ ReceivedGrows {S} {O} old op new = (o : O) → IsReceived new o ↔ (IsReceived 
 
 -- The received operations afterwards are those received before and the issued ones, except each
 -- held operation that has the id of an issued one.
-abbrev pub ReceivedTakesIssued : {S O : Type 0} → (O → OpId) → ReceivedOps S O → List O → ReceivedOps S O → Type 0
+abbrev pub ReceivedTakesIssued : {S O : Type 0} → (O → OpId) → ReceivedOps S O → List O
+    → ReceivedOps S O → Type 0
 ReceivedTakesIssued {S} {O} id old ops new =
-    (o : O) → IsReceived new o ↔ (IsIn o ops ⊎ (IsReceived old o × (IsIn o old.held → ¬ HasId id ops (id o))))
+    (o : O)
+    → IsReceived new o
+    ↔ (IsIn o ops ⊎ (IsReceived old o × (IsIn o old.held → ¬ HasId id ops (id o))))
 
 -- What holds of all received operations, whatever they are: the applied list is causal, no id is
 -- both in it and in the held list, and an id determines the operation.
-pub record IsConsistent {S O : Type 0} (id : O → OpId) (clock : O → List (ℕ × ℕ)) (s : ReceivedOps S O) : Type 0 where
+pub record IsConsistent {S O : Type 0} (id : O → OpId) (clock : O → List (ℕ × ℕ))
+    (s : ReceivedOps S O) : Type 0 where
   pub causal : IsCausal id clock s.applied
   pub apart : (i : OpId) → HasId id s.held i → ¬ HasId id s.applied i
   pub determined : IdsDetermine id (s.applied ++ s.held)
@@ -40,6 +44,9 @@ TakesIn {O} id clock received os =
 -- The list is the least set that contains each received operation whose causes are all in the set.
 -- (It isn't the greatest set that contains the causes of its operations: forged operations may be
 -- one another's causes, and such a ring is never applied.)
-pub record IsLeastTaken {O : Type 0} (id : O → OpId) (clock : O → List (ℕ × ℕ)) (received : O → Type 0) (os : List O) : Type 0 where
+pub record IsLeastTaken {O : Type 0} (id : O → OpId) (clock : O → List (ℕ × ℕ))
+    (received : O → Type 0) (os : List O) : Type 0 where
   pub takes_in : TakesIn id clock received os
-  pub least : (others : List O) → TakesIn id clock received others → (o : O) → IsIn o os → IsIn o others
+  pub least : (others : List O)
+      → TakesIn id clock received others → (o : O) → IsIn o os
+      → IsIn o others

@@ -1,9 +1,12 @@
 //! The cause index: one entry for each held operation, ordered by the cause that it waits for.
 
-ghost use Rattle.std.specs.Prelude.{◌≡◌, ◌≢◌, ◌↔◌, ℕ, ◌+◌, ◌<◌, ◌≤◌, ◌^◌, List, [], ◌∷◌, length, insert, slice_get, take, IsTrue, MatchOption, Some, slice_index_or};
+ghost use Rattle.std.specs.Prelude.{◌≡◌, ◌≢◌, ◌↔◌, ℕ, ◌+◌, ◌<◌, ◌≤◌, ◌^◌, List, [], ◌∷◌, length};
+ghost use Rattle.std.specs.Prelude.{insert, slice_get, take, IsTrue, MatchOption, Some};
+ghost use Rattle.std.specs.Prelude.{slice_index_or};
 ghost use Rattle.merge_laws.specs.Orders.{IsIn, HasId};
 ghost use Rattle.causal_inbox.specs.Inbox.{IsClockOf};
-ghost use Rattle.causal_inbox.specs.CauseIndex.{AreOrdered, IsCauseLess, IsIndexedBefore, IsIndexedUnder};
+ghost use Rattle.causal_inbox.specs.CauseIndex.{AreOrdered, IsCauseLess, IsIndexedBefore};
+ghost use Rattle.causal_inbox.specs.CauseIndex.{IsIndexedUnder};
 
 use crate::search::awaited_cause;
 use merge_laws::Caused;
@@ -23,7 +26,10 @@ pub struct CauseEntry {
 /// The operation's index entry, for the clock that covers the applied operations.
 pub fn entry_of<O: Caused>(clock: &Clock, op: &O) -> CauseEntry
     ensures id { result.id ≡ O.id op.now }
-    ensures under { (applied : List O) → IsClockOf O.id applied clock.now → ¬ HasId O.id applied (O.id op.now) → IsIndexedUnder O.id O.clock applied op.now result.cause }
+    ensures under { (applied : List O)
+        → IsClockOf O.id applied clock.now
+        → ¬ HasId O.id applied (O.id op.now)
+        → IsIndexedUnder O.id O.clock applied op.now result.cause }
 {
     CauseEntry {
         cause: awaited_cause(clock, op),
@@ -68,7 +74,8 @@ fn is_filed_before(one: &CauseEntry, other: &CauseEntry) -> bool
 pub fn place_of(file: &TreeList<CauseEntry>, entry: &CauseEntry) -> usize
     requires { AreOrdered IsIndexedBefore file.now }
     ensures within { result ≤ length file.now }
-    ensures place { ¬ IsIn entry.now file.now → AreOrdered IsIndexedBefore (insert file.now result entry.now) }
+    ensures place { ¬ IsIn entry.now file.now
+        → AreOrdered IsIndexedBefore (insert file.now result entry.now) }
     ensures found { IsIn entry.now file.now → slice_get file.now result ≡ Some entry.now }
 {
     file.partition_point(|_, one| is_filed_before(one, entry))
@@ -77,7 +84,9 @@ pub fn place_of(file: &TreeList<CauseEntry>, entry: &CauseEntry) -> usize
 /// The place of the first entry under `cause`, or `None` if there is none.
 pub fn first_waiting_for(file: &TreeList<CauseEntry>, cause: &Option<OpId>) -> Option<usize>
     requires { AreOrdered IsIndexedBefore file.now }
-    ensures { MatchOption result ((f : CauseEntry) → IsIn f file.now → f.cause ≢ cause.now) (λ at. (at < length file.now) × ((f : CauseEntry) → slice_get file.now at ≡ Some f → f.cause ≡ cause.now)) }
+    ensures { MatchOption result ((f : CauseEntry) → IsIn f file.now → f.cause ≢ cause.now)
+        (λ at. (at < length file.now)
+        × ((f : CauseEntry) → slice_get file.now at ≡ Some f → f.cause ≡ cause.now)) }
 {
     let at = file.partition_point(|_, one| is_lesser_cause(&one.cause, cause));
     let one = file.get(at)?;

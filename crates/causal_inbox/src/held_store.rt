@@ -1,9 +1,12 @@
 //! The store of the held operations: their list, by ascending ids, and their cause index.
 
-ghost use Rattle.std.specs.Prelude.{◌≡◌, ◌↔◌, ◌≢◌, ℕ, ◌+◌, ◌<◌, ◌≤◌, ◌^◌, List, [], ◌∷◌, ◌++◌, drop, insert, length, map, take, IsTrue, MatchOption, OnOk, OnErr, remove, slice_get, slice_index_or};
+ghost use Rattle.std.specs.Prelude.{◌≡◌, ◌↔◌, ◌≢◌, ℕ, ◌+◌, ◌<◌, ◌≤◌, ◌^◌, List, [], ◌∷◌, ◌++◌};
+ghost use Rattle.std.specs.Prelude.{drop, insert, length, map, take, IsTrue, MatchOption, OnOk};
+ghost use Rattle.std.specs.Prelude.{OnErr, remove, slice_get, slice_index_or};
 ghost use Rattle.tags_clocks.specs.declared.id.OpId.{OpId};
 ghost use Rattle.merge_laws.specs.Orders.{IsIn, HasId, HaveSameElements, IsRipe};
-ghost use Rattle.causal_inbox.specs.Inbox.{AreAscending, AreHeldStill, IsClockOf, IsLess, held_limit};
+ghost use Rattle.causal_inbox.specs.Inbox.{AreAscending, AreHeldStill, IsClockOf, IsLess};
+ghost use Rattle.causal_inbox.specs.Inbox.{held_limit};
 ghost use Rattle.causal_inbox.specs.CauseIndex.{AreApart, AreIndexed, IsReindexed};
 
 use crate::cause_index::{CauseEntry, entry_of, first_waiting_for, place_of};
@@ -18,7 +21,8 @@ use tree_list::{Slot, TreeList};
 fn held_place<O: Caused + Drop>(list: &TreeList<OpCell<O>>, id: OpId) -> usize
     requires { AreAscending O.id list.now }
     ensures within { result ≤ length list.now }
-    ensures place { (o : O) → O.id o ≡ id → ¬ HasId O.id list.now id → AreAscending O.id (insert list.now result o) }
+    ensures place { (o : O) → O.id o ≡ id → ¬ HasId O.id list.now id
+        → AreAscending O.id (insert list.now result o) }
     ensures found { (o : O) → IsIn o list.now → O.id o ≡ id → slice_get list.now result ≡ Some o }
 {
     list.partition_point(|_, cell| cell.has_lesser_id(&id))
@@ -28,7 +32,8 @@ fn held_place<O: Caused + Drop>(list: &TreeList<OpCell<O>>, id: OpId) -> usize
 pub fn place_of_id<O: Caused + Drop>(list: &TreeList<OpCell<O>>, id: OpId) -> Option<usize>
     requires { AreAscending O.id list.now }
     ensures { MatchOption result (¬ HasId O.id list.now id)
-        (λ at. (at < length list.now) × ((o : O) → o ≡ slice_index_or list.now at o → O.id o ≡ id)) }
+        (λ at. (at < length list.now)
+        × ((o : O) → o ≡ slice_index_or list.now at o → O.id o ≡ id)) }
 {
     let at = held_place(list, id);
     let cell = list.get(at)?;
@@ -38,7 +43,8 @@ pub fn place_of_id<O: Caused + Drop>(list: &TreeList<OpCell<O>>, id: OpId) -> Op
 /// The operation with this id, or `None` if no operation in the list has it.
 pub fn find_held_op<O: Caused + Drop>(list: &TreeList<OpCell<O>>, id: OpId) -> Option<&O>
     requires { AreAscending O.id list.now }
-    ensures { MatchOption result (¬ HasId O.id list.now id) (λ found. IsIn found.now list.now × (O.id found.now ≡ id)) }
+    ensures { MatchOption result (¬ HasId O.id list.now id)
+        (λ found. IsIn found.now list.now × (O.id found.now ≡ id)) }
 {
     let at = held_place(list, id);
     let cell = list.get(at)?;
@@ -65,7 +71,11 @@ impl<O: Caused> Model for HeldStore<O> {
 
     ghost view = { λ h. record { list = h.list; file = h.file } };
 
-    ghost invariant = { λ h. record { ascending : AreAscending O.id h.list; count : length h.file ≡ length h.list; file : IsCauseIndex O.id h.list h.file } };
+    ghost invariant = { λ h. record {
+      ascending : AreAscending O.id h.list;
+      count : length h.file ≡ length h.list;
+      file : IsCauseIndex O.id h.list h.file;
+    } };
 }
 
 impl<O: Caused + Drop> HeldStore<O> {
@@ -100,11 +110,14 @@ impl<O: Caused + Drop> HeldStore<O> {
 
     /// The place of the ripe operation with the least id, or `None` if no held operation is ripe.
     pub fn next_ripe(&self) -> Option<usize>
-        ensures { (applied : List O) → AreIndexed O.id O.clock [] applied self.now.list self.now.file → MatchOption result
+        ensures { (applied : List O)
+            → AreIndexed O.id O.clock [] applied self.now.list self.now.file
+            → MatchOption result
             ((o : O) → IsIn o self.now.list → ¬ IsRipe O.id O.clock applied o)
             (λ at. (at < length self.now.list)
             × ((o : O) → o ≡ slice_index_or self.now.list at o → IsRipe O.id O.clock applied o)
-            × ((o p : O) → o ≡ slice_index_or self.now.list at o → IsIn p self.now.list → IsRipe O.id O.clock applied p → ¬ IsLess (O.id p) (O.id o))) }
+            × ((o p : O) → o ≡ slice_index_or self.now.list at o → IsIn p self.now.list
+            → IsRipe O.id O.clock applied p → ¬ IsLess (O.id p) (O.id o))) }
     {
         let first = self.file.get(0)?;
         if first.cause.is_some() {
@@ -119,7 +132,10 @@ impl<O: Caused + Drop> HeldStore<O> {
         requires few { length self.old.list < held_limit }
         ensures elements { OnOk result (HaveSameElements self.new.list (op ∷ self.old.list)) }
         ensures count { OnOk result (length self.new.list ≡ length self.old.list + 1) }
-        ensures filed { OnOk result ((applied : List O) → IsClockOf O.id applied clock.now → ¬ HasId O.id applied (O.id op) → AreIndexed O.id O.clock [] applied self.old.list self.old.file → AreIndexed O.id O.clock [] applied self.new.list self.new.file) }
+        ensures filed { OnOk result ((applied : List O) → IsClockOf O.id applied clock.now
+            → ¬ HasId O.id applied (O.id op)
+            → AreIndexed O.id O.clock [] applied self.old.list self.old.file
+            → AreIndexed O.id O.clock [] applied self.new.list self.new.file) }
         ensures err { OnErr result (self.new ≡ self.old) }
     {
         let entry = entry_of(clock, &op);
@@ -134,10 +150,15 @@ impl<O: Caused + Drop> HeldStore<O> {
     /// Takes out and returns the operation at place `at`, and removes its index entry.
     pub fn take_out(&mut self, clock: &Clock, at: usize) -> O
         requires within { at < length self.old.list }
-        requires filed { (applied : List O) × IsClockOf O.id applied clock.now × AreApart O.id self.old.list applied × AreIndexed O.id O.clock [] applied self.old.list self.old.file }
+        requires filed { (applied : List O)
+            × IsClockOf O.id applied clock.now
+            × AreApart O.id self.old.list applied
+            × AreIndexed O.id O.clock [] applied self.old.list self.old.file }
         ensures op { result ≡ slice_index_or self.old.list at result }
         ensures list { self.new.list ≡ remove self.old.list at }
-        ensures filed { (woken : List OpId) (applied : List O) → AreIndexed O.id O.clock woken applied self.old.list self.old.file → AreIndexed O.id O.clock woken applied self.new.list self.new.file }
+        ensures filed { (woken : List OpId) (applied : List O)
+            → AreIndexed O.id O.clock woken applied self.old.list self.old.file
+            → AreIndexed O.id O.clock woken applied self.new.list self.new.file }
     {
         let op = self.list.take(at).into_item().into_op();
         let there = place_of(&self.file, &entry_of(clock, &op));
@@ -147,10 +168,15 @@ impl<O: Caused + Drop> HeldStore<O> {
 
     /// Removes the operation with this id, if one is held.
     fn discard(&mut self, clock: &Clock, id: OpId)
-        requires { (applied : List O) × IsClockOf O.id applied clock.now × AreApart O.id self.old.list applied × AreIndexed O.id O.clock [] applied self.old.list self.old.file }
+        requires { (applied : List O)
+            × IsClockOf O.id applied clock.now
+            × AreApart O.id self.old.list applied
+            × AreIndexed O.id O.clock [] applied self.old.list self.old.file }
         ensures others { (o : O) → IsIn o self.new.list ↔ (IsIn o self.old.list × (O.id o ≢ id)) }
         ensures count { length self.new.list ≤ length self.old.list }
-        ensures filed { (woken : List OpId) (applied : List O) → AreIndexed O.id O.clock woken applied self.old.list self.old.file → AreIndexed O.id O.clock woken applied self.new.list self.new.file }
+        ensures filed { (woken : List OpId) (applied : List O)
+            → AreIndexed O.id O.clock woken applied self.old.list self.old.file
+            → AreIndexed O.id O.clock woken applied self.new.list self.new.file }
     {
         if let Some(at) = place_of_id(&self.list, id) {
             let _ = self.take_out(clock, at);
@@ -159,10 +185,15 @@ impl<O: Caused + Drop> HeldStore<O> {
 
     /// Removes each operation whose id is that of one of `ops`.
     pub fn discard_all(&mut self, clock: &Clock, ops: &[O])
-        requires { (applied : List O) × IsClockOf O.id applied clock.now × AreApart O.id self.old.list applied × AreIndexed O.id O.clock [] applied self.old.list self.old.file }
+        requires { (applied : List O)
+            × IsClockOf O.id applied clock.now
+            × AreApart O.id self.old.list applied
+            × AreIndexed O.id O.clock [] applied self.old.list self.old.file }
         ensures kept { AreHeldStill O.id ops.now self.old.list self.new.list }
         ensures count { length self.new.list ≤ length self.old.list }
-        ensures filed { (woken : List OpId) (applied : List O) → AreIndexed O.id O.clock woken applied self.old.list self.old.file → AreIndexed O.id O.clock woken applied self.new.list self.new.file }
+        ensures filed { (woken : List OpId) (applied : List O)
+            → AreIndexed O.id O.clock woken applied self.old.list self.old.file
+            → AreIndexed O.id O.clock woken applied self.new.list self.new.file }
     {
         for op in ops {
             self.discard(clock, op.id());
@@ -174,7 +205,8 @@ impl<O: Caused + Drop> HeldStore<O> {
     fn reindex(&mut self, clock: &Clock, at: usize)
         requires { at < length self.old.file }
         ensures list { self.new.list ≡ self.old.list }
-        ensures file { IsReindexed O.id O.clock clock.now self.old.list at self.old.file self.new.file }
+        ensures file { IsReindexed O.id O.clock clock.now self.old.list at self.old.file
+            self.new.file }
     {
         let mut slot = self.file.take(at);
         match find_held_op(&self.list, slot.item().id) {
@@ -188,7 +220,11 @@ impl<O: Caused + Drop> HeldStore<O> {
     /// Indexes again each operation that waits for `id`, an applied operation. Takes no memory.
     pub fn reindex_waiting(&mut self, clock: &Clock, id: OpId)
         ensures list { self.new.list ≡ self.old.list }
-        ensures filed { (woken : List OpId) (applied : List O) → IsClockOf O.id applied clock.now → HasId O.id applied id → AreApart O.id self.old.list applied → AreIndexed O.id O.clock (id ∷ woken) applied self.old.list self.old.file → AreIndexed O.id O.clock woken applied self.new.list self.new.file }
+        ensures filed { (woken : List OpId) (applied : List O)
+            → IsClockOf O.id applied clock.now → HasId O.id applied id
+            → AreApart O.id self.old.list applied
+            → AreIndexed O.id O.clock (id ∷ woken) applied self.old.list self.old.file
+            → AreIndexed O.id O.clock woken applied self.new.list self.new.file }
     {
         let cause = Some(id);
         for _ in 0..self.file.len() {
@@ -203,7 +239,12 @@ impl<O: Caused + Drop> HeldStore<O> {
     /// memory.
     pub fn reindex_all_waiting(&mut self, clock: &Clock, ops: &[O])
         ensures list { self.new.list ≡ self.old.list }
-        ensures filed { (applied : List O) → IsClockOf O.id applied clock.now → ((o : O) → IsIn o ops.now → HasId O.id applied (O.id o)) → AreApart O.id self.old.list applied → AreIndexed O.id O.clock (map O.id ops.now) applied self.old.list self.old.file → AreIndexed O.id O.clock [] applied self.new.list self.new.file }
+        ensures filed { (applied : List O)
+            → IsClockOf O.id applied clock.now
+            → ((o : O) → IsIn o ops.now → HasId O.id applied (O.id o))
+            → AreApart O.id self.old.list applied
+            → AreIndexed O.id O.clock (map O.id ops.now) applied self.old.list self.old.file
+            → AreIndexed O.id O.clock [] applied self.new.list self.new.file }
     {
         for op in ops {
             self.reindex_waiting(clock, op.id());

@@ -28,8 +28,8 @@
 //! - What `Inbox::issue` relies on (the prepared room and the next clock) is part of the inbox's
 //!   model, beside the received operations. "Unchanged" speaks only of the received operations.
 //! - `Inbox::ops_since` returns copies.
-//! - A stall that no counter causes is `Stall::Drainable`, not `NoMemory`: after an issue, the inbox
-//!   may hold a ripe operation that was never refused.
+//! - A stall that no counter causes is `Stall::Drainable`, not `NoMemory`: after an issue, the
+//!   inbox may hold a ripe operation that was never refused.
 //! - `Inbox::held` returns a type of its own with an iterator, which hides the tree of the held
 //!   operations.
 #![tactic(auto)]

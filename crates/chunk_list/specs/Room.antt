@@ -1,6 +1,7 @@
 -- A list's items and room, and when chunks and spares hold them.
 
-use Rattle.std.specs.Prelude.{◌≡◌, ℕ, ◌+◌, ◌-◌, ◌*◌, ◌/◌, ◌≤◌, List, [], Vec, length, All, vec_len, vec_capacity}
+use Rattle.std.specs.Prelude.{◌≡◌, ℕ, ◌+◌, ◌-◌, ◌*◌, ◌/◌, ◌≤◌, List, [], Vec, length, All, vec_len}
+use Rattle.std.specs.Prelude.{vec_capacity}
 use Rattle.chunk_list.specs.declared.chunks.TheConstants.{CHUNK, MOST_CHUNKS}
 use Rattle.chunk_list.specs.declared.chunks.Chunk.{Chunk}
 use Rattle.chunk_list.specs.Chunks.{items_of, AreChunks, AreDense}
@@ -17,7 +18,8 @@ pub record IsSpare {T Z : Type 0} (spare : Vec T Z) : Type 0 where
 
 -- The chunks are consecutive and dense, the spares are empty, and there are places for all chunks
 -- and spares, both among the chunks and among the spares.
-pub record IsChunkList {T X Y Z : Type 0} (held : Vec (Chunk T) X) (empty : Vec (Vec T Y) Z) (count : ℕ) : Type 0 where
+pub record IsChunkList {T X Y Z : Type 0} (held : Vec (Chunk T) X) (empty : Vec (Vec T Y) Z)
+    (count : ℕ) : Type 0 where
   pub chunks : AreChunks 0 held.items
   pub dense : AreDense 0 held.items
   pub spares : All IsSpare empty.items
@@ -39,7 +41,8 @@ most_items places spares = (places - spares - 1) * (CHUNK / 2)
 
 -- There are no chunks and all spares are empty; there is a place among the chunks for each spare,
 -- and there are at least as many places among the spares as among the chunks.
-pub record IsReady {T X Y Z : Type 0} (held : Vec (Chunk T) X) (empty : Vec (Vec T Y) Z) : Type 0 where
+pub record IsReady {T X Y Z : Type 0} (held : Vec (Chunk T) X) (empty : Vec (Vec T Y) Z) :
+    Type 0 where
   pub none : held.items ≡ []
   pub spares : All IsSpare empty.items
   pub chunk_places : vec_len empty ≤ vec_capacity held

@@ -21,7 +21,10 @@ impl<T> Model for ReservedRoom<T> {
 
     ghost Value = { RoomState };
 
-    ghost view = { λ a. record { most = most_items (vec_capacity a.chunks) (vec_len a.spares); room = CHUNK * vec_len a.spares } };
+    ghost view = { λ a. record {
+      most = most_items (vec_capacity a.chunks) (vec_len a.spares);
+      room = CHUNK * vec_len a.spares;
+    } };
 
     ghost invariant = { λ a. IsReady a.chunks a.spares };
 }

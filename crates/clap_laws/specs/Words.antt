@@ -12,4 +12,5 @@ pub record IsWord (argument : Arg) (word : Rule) : Type 0 where
 
 -- Adding these arguments one after another adds the words that the function does.
 abbrev pub Add : List Arg → (App → App) → Type 0
-Add arguments more = (old new : Command) → AddsInTurn AddsArg old arguments new → app_of new ≡ more (app_of old)
+Add arguments more =
+    (old new : Command) → AddsInTurn AddsArg old arguments new → app_of new ≡ more (app_of old)

@@ -5,7 +5,8 @@ use Rattle.std.specs.List.{flat_map}
 use Rattle.tags_clocks.specs.declared.id.OpId.{OpId}
 use Rattle.crdt_ops.specs.declared.message.Message.{Message}
 use Rattle.crdt_ops.specs.declared.op.Op.{Op}
-use Rattle.crdt_ops.specs.Sets.{folder_tags_of, folders_of, messages_of, subscribed_names_of, subscription_tags_of}
+use Rattle.crdt_ops.specs.Sets.{folder_tags_of, folders_of, messages_of, subscribed_names_of}
+use Rattle.crdt_ops.specs.Sets.{subscription_tags_of}
 use Rattle.crdt_ops.specs.Text.{flags_text, id_text, ids_text, text_field, name_text, op_text}
 
 -- The line of an operation.
@@ -30,7 +31,9 @@ message_fields message = flags_text message.flags ++ dated_text_fields message
 
 -- The line of a message: its origin, its versions, flags, date and text.
 abbrev pub message_line : Message → List ℕ
-message_line message = codes "message " ++ (id_text message.origin ++ 32 ∷ (ids_text message.versions ++ 32 ∷ message_fields message))
+message_line message =
+    codes "message "
+    ++ (id_text message.origin ++ 32 ∷ (ids_text message.versions ++ 32 ∷ message_fields message))
 
 -- The lines of a folder: its own, and those of its messages by their origins.
 abbrev pub folder_lines : List Op → List ℕ → List ℕ
@@ -42,4 +45,6 @@ subscription_line ops name = named_line (codes "subscribed ") name (subscription
 
 -- The state that these operations define: folders with their messages, and subscribed names.
 abbrev pub state_text : List Op → List ℕ
-state_text ops = flat_map (folder_lines ops) (folders_of ops) ++ flat_map (subscription_line ops) (subscribed_names_of ops)
+state_text ops =
+    flat_map (folder_lines ops) (folders_of ops)
+    ++ flat_map (subscription_line ops) (subscribed_names_of ops)

@@ -34,7 +34,8 @@ IsAscending order (x ∷ rest) = StandsBefore order x rest × IsAscending order 
 -- An ascending list with another element in its place, if the list lacks it.
 abbrev pub insert_ordered : {X : Type 0} → (X → X → Ordering) → X → List X → List X
 insert_ordered order x [] = x ∷ []
-insert_ordered order x (y ∷ rest) = match_ordering (order x y) (x ∷ y ∷ rest) (y ∷ rest) (y ∷ insert_ordered order x rest)
+insert_ordered order x (y ∷ rest) =
+    match_ordering (order x y) (x ∷ y ∷ rest) (y ∷ rest) (y ∷ insert_ordered order x rest)
 
 -- The elements in ascending order, none twice.
 abbrev pub sorted_set : {X : Type 0} → (X → X → Ordering) → List X → List X

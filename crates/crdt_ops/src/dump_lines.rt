@@ -3,7 +3,8 @@
 ghost use Rattle.std.specs.Prelude.{◌≡◌, ◌++◌, ◌∷◌, [], OnOk};
 ghost use Rattle.std.specs.List.{flat_map};
 ghost use Rattle.crdt_ops.specs.Text.{text_field};
-ghost use Rattle.crdt_ops.specs.DumpLines.{message_fields, dated_text_fields, message_line, named_line};
+ghost use Rattle.crdt_ops.specs.DumpLines.{message_fields, dated_text_fields, message_line};
+ghost use Rattle.crdt_ops.specs.DumpLines.{named_line};
 
 use crate::ids::Ids;
 use crate::message::Message;
@@ -20,7 +21,8 @@ pub fn push_name_line(
     ids: &Ids,
     text: &mut Vec<u8>,
 ) -> Result<(), AllocError>
-    ensures { OnOk result (text.new.items ≡ text.old.items ++ named_line word.now name.now ids.now) }
+    ensures { OnOk result
+        (text.new.items ≡ text.old.items ++ named_line word.now name.now ids.now) }
 {
     text.extend_from_slice(word)?;
     write_escaped(Escape::Field, name.as_bytes(), text)?;
@@ -75,7 +77,8 @@ fn push_date_and_text(message: &Message, text: &mut Vec<u8>) -> Result<(), Alloc
 
 /// Appends a message's text, after a space, and the end of its line.
 fn push_text_field(letter: &Text, text: &mut Vec<u8>) -> Result<(), AllocError>
-    ensures { OnOk result (text.new.items ≡ text.old.items ++ 32 ∷ (text_field letter.now ++ 10 ∷ [])) }
+    ensures { OnOk result
+        (text.new.items ≡ text.old.items ++ 32 ∷ (text_field letter.now ++ 10 ∷ [])) }
 {
     text.extend_from_slice(b" =")?;
     write_escaped(Escape::Text, letter.as_bytes(), text)?;

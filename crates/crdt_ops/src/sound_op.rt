@@ -1,10 +1,13 @@
 //! Which operations are sound.
 
-ghost use Rattle.std.specs.Prelude.{◌≡◌, ◌↔◌, ◌+◌, IfErr, IfOk, IfSome, IsOk, IsSome, IsTrue, MatchOption};
+ghost use Rattle.std.specs.Prelude.{◌≡◌, ◌↔◌, ◌+◌, IfErr, IfOk, IfSome, IsOk, IsSome, IsTrue};
+ghost use Rattle.std.specs.Prelude.{MatchOption};
 ghost use Rattle.imap_types.specs.Names.{IsLawfulName, inbox};
 ghost use Rattle.tags_clocks.specs.Clock.{count_of};
 ghost use Rattle.crdt_ops.specs.Tags.{name_of};
-ghost use Rattle.crdt_ops.specs.Sound.{AreCovered, CoversReferenced, HasLawfulFlags, HasLawfulCount, HasOwnEntry, IsCount, IsDeleteOfInbox, IsFirstFault, IsSound};
+ghost use Rattle.crdt_ops.specs.Sound.{AreCovered, CoversReferenced, HasLawfulFlags};
+ghost use Rattle.crdt_ops.specs.Sound.{HasLawfulCount, HasOwnEntry, IsCount, IsDeleteOfInbox};
+ghost use Rattle.crdt_ops.specs.Sound.{IsFirstFault, IsSound};
 
 use crate::ids::Ids;
 use crate::kind::{Kind, MAX_OLD_IDS};
@@ -51,7 +54,8 @@ pub fn check(op: Op) -> Result<SoundOp, (Op, Unsound)>
 
 /// The operation's first fault, in the order of [`Unsound`].
 fn fault_of(op: &Op) -> Option<Unsound>
-    ensures { MatchOption result (IsSound op.now) (λ fault. IsFirstFault op.now fault × ¬ IsSound op.now) }
+    ensures { MatchOption result (IsSound op.now)
+        (λ fault. IsFirstFault op.now fault × ¬ IsSound op.now) }
 {
     if !has_own_entry(op) {
         return Some(Unsound::OwnClockEntry);

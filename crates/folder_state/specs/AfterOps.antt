@@ -27,7 +27,12 @@ has_tag_after c ops folder id = (after c ops).tags folder id || has_body (after 
 
 -- The contents of one folder, as if each folder had them, without dates and texts.
 abbrev pub alone : Option FolderTables → Contents
-alone folder = record { tags = λ name id. has_tag_in folder id; bodies = λ name id. body_in_folder folder id; letters = λ id. None }
+alone folder =
+    record {
+      tags = λ name id. has_tag_in folder id;
+      bodies = λ name id. body_in_folder folder id;
+      letters = λ id. None;
+    }
 
 -- Whether the id is that of a version of the origin in the folder.
 abbrev pub is_version : Contents → List ℕ → OpId → OpId → Bool
@@ -35,4 +40,6 @@ is_version c folder origin id = is_some_id origin (origin_in c folder id)
 
 -- Whether an operation adds a version of the origin that the folder has after all these operations.
 abbrev pub is_added_and_left : Option FolderTables → List Op → List ℕ → OpId → Op → Bool
-is_added_and_left held ops folder origin op = is_some_id origin (origin_by op.id op.kind) && is_version (after (alone held) ops) folder origin op.id
+is_added_and_left held ops folder origin op =
+    is_some_id origin (origin_by op.id op.kind)
+    && is_version (after (alone held) ops) folder origin op.id

@@ -1,6 +1,7 @@
 -- The tables of a folder, what they contain, and how changes leave them.
 
-use Rattle.std.specs.Prelude.{◌≡◌, ◌⊎◌, ◌↔◌, ℕ, ◌<◌, ◌≤◌, ◌==◌, not, Bool, true, false, Option, None, Some, IsSome, List, [], ◌++◌, length, if◌then◌else◌}
+use Rattle.std.specs.Prelude.{◌≡◌, ◌⊎◌, ◌↔◌, ℕ, ◌<◌, ◌≤◌, ◌==◌, not, Bool, true, false, Option}
+use Rattle.std.specs.Prelude.{None, Some, IsSome, List, [], ◌++◌, length, if◌then◌else◌}
 use Rattle.std.specs.Global.{Vec}
 use Rattle.std.specs.List.{filter, list_any}
 use Rattle.std.specs.Map.{keys_of, lookup}
@@ -47,12 +48,15 @@ versions_at messages origin = versions_or_none (lookup (same_id origin) messages
 
 -- The flags of the version with this id.
 abbrev pub flags_among : List Version → OpId → Option Flags
-flags_among versions id = first_some (λ version. if same_id id version.id then Some version.flags else None) versions
+flags_among versions id =
+    first_some (λ version. if same_id id version.id then Some version.flags else None) versions
 
 -- The data of the version with this id and origin.
 abbrev pub body_at : List (OpId × Vec Version) → OpId → Option OpId → Option MessageTagData
 body_at messages id None = None
-body_at messages id (Some origin) = option_map (λ flags. record { flags = flags; origin = origin }) (flags_among (versions_at messages origin) id)
+body_at messages id (Some origin) =
+    option_map (λ flags. record { flags = flags; origin = origin })
+    (flags_among (versions_at messages origin) id)
 
 -- What the tables of a folder contain.
 abbrev pub folder_contents : FolderTables → FolderContents
@@ -103,18 +107,26 @@ name_if_tagged entry = if has_ids entry.1 then Some entry.0.items else None
 
 -- The versions are those of an origin: at least one, ascending by id, each with the data of its
 -- tag.
-pub record AreVersionsOf (folder : FolderContents) (origin : OpId) (versions : List Version) : Type 0 where
+pub record AreVersionsOf (folder : FolderContents) (origin : OpId) (versions : List Version) :
+    Type 0 where
   pub some : 0 < length versions
   pub ascending : IsAscending id_order (version_ids versions)
-  pub listed : (i : OpId) → IsIn i (version_ids versions) ↔ (option_map (λ body. body.origin) (folder.bodies i) ≡ Some origin)
-  pub carried : (v : Version) → IsIn v versions → folder.bodies v.id ≡ Some (record { flags = v.flags; origin = origin })
+  pub listed : (i : OpId)
+      → IsIn i (version_ids versions)
+      ↔ (option_map (λ body. body.origin) (folder.bodies i) ≡ Some origin)
+  pub carried : (v : Version) → IsIn v versions
+      → folder.bodies v.id ≡ Some (record { flags = v.flags; origin = origin })
 
 -- Each message has a version, its versions ascend by id, and an id has an origin exactly if that
 -- origin has a version with this id.
-pub record AreIndexed (messages : List (OpId × Vec Version)) (origins : List (OpId × OpId)) : Type 0 where
-  pub some : (o : OpId) (vs : Vec Version) → lookup (same_id o) messages ≡ Some vs → 0 < length vs.items
+pub record AreIndexed (messages : List (OpId × Vec Version)) (origins : List (OpId × OpId)) :
+    Type 0 where
+  pub some : (o : OpId) (vs : Vec Version)
+      → lookup (same_id o) messages ≡ Some vs
+      → 0 < length vs.items
   pub ascending : (o : OpId) → IsAscending id_order (version_ids (versions_at messages o))
-  pub both : (i o : OpId) → (lookup (same_id i) origins ≡ Some o) ↔ IsIn i (version_ids (versions_at messages o))
+  pub both : (i o : OpId)
+      → (lookup (same_id i) origins ≡ Some o) ↔ IsIn i (version_ids (versions_at messages o))
 
 abbrev pub AreIndexedIn : Option FolderTables → Type 0
 AreIndexedIn None = Unit {0}
@@ -134,15 +146,24 @@ without id versions = filter (λ version. not (same_id id version.id)) versions
 -- it had no other; other messages stay.
 pub record IsTakenOut (origin id : OpId) (old new : List (OpId × Vec Version)) : Type 0 where
   pub here : versions_at new origin ≡ without id (versions_at old origin)
-  pub beside : (o : OpId) → same_id o origin ≡ false → lookup (same_id o) new ≡ lookup (same_id o) old
+  pub beside : (o : OpId) → same_id o origin ≡ false
+      → lookup (same_id o) new ≡ lookup (same_id o) old
   pub some : (vs : Vec Version) → lookup (same_id origin) new ≡ Some vs → 0 < length vs.items
-  pub places : (vs : Vec Version) → lookup (same_id origin) new ≡ Some vs → (ws : Vec Version) × (lookup (same_id origin) old ≡ Some ws) × (length vs.items ≤ length ws.items) × (vec_capacity vs ≡ vec_capacity ws)
+  pub places : (vs : Vec Version)
+      → lookup (same_id origin) new ≡ Some vs
+      → (ws : Vec Version)
+      × (lookup (same_id origin) old ≡ Some ws)
+      × (length vs.items ≤ length ws.items)
+      × (vec_capacity vs ≡ vec_capacity ws)
 
 -- The version was added to the message of its origin; other messages stay.
-pub record IsPutIn (origin : OpId) (version : Version) (old new : List (OpId × Vec Version)) : Type 0 where
+pub record IsPutIn (origin : OpId) (version : Version) (old new : List (OpId × Vec Version)) :
+    Type 0 where
   pub here : versions_at new origin ≡ insert_ordered by_id version (versions_at old origin)
-  pub beside : (o : OpId) → same_id o origin ≡ false → lookup (same_id o) new ≡ lookup (same_id o) old
+  pub beside : (o : OpId) → same_id o origin ≡ false
+      → lookup (same_id o) new ≡ lookup (same_id o) old
 
 -- The folder is found by its name, and its versions and origins agree.
 abbrev pub IsIndexedFolder : List (Vec ℕ × FolderTables) → Vec ℕ × FolderTables → Type 0
-IsIndexedFolder folders entry = (find_folder entry.0.items folders ≡ Some entry.1) × AreIndexed entry.1.messages entry.1.origins
+IsIndexedFolder folders entry =
+    (find_folder entry.0.items folders ≡ Some entry.1) × AreIndexed entry.1.messages entry.1.origins

@@ -21,7 +21,14 @@ kept_dated_text letter = record { date = letter.date; text = letter.text }
 
 -- The message of an origin with this data.
 abbrev pub message_of_data : OpId → MessageData → Message
-message_of_data origin told = record { origin = origin; versions = told.versions; flags = told.flags; date = told.date; text = told.text }
+message_of_data origin told =
+    record {
+      origin = origin;
+      versions = told.versions;
+      flags = told.flags;
+      date = told.date;
+      text = told.text;
+    }
 
 -- The message that is lent.
 abbrev pub lent_message : LentMessage → Message
@@ -36,7 +43,8 @@ lent_message message = record {
 -- The message of an origin by the tables.
 abbrev pub kept_message : List (OpId × Vec Version) → List (OpId × KeptLetter) → OpId → Message
 kept_message messages letters origin =
-    let letter : DatedText = unwrap_or (option_map kept_dated_text (lookup (same_id origin) letters)) no_dated_text in
+    let letter : DatedText = unwrap_or
+    (option_map kept_dated_text (lookup (same_id origin) letters)) no_dated_text in
     record {
       origin = origin;
       versions = version_ids (versions_at messages origin);

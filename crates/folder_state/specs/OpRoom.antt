@@ -1,6 +1,7 @@
 -- The room that pending operations need in the tables of folders, and how it changes.
 
-use Rattle.std.specs.Prelude.{◌≡◌, ℕ, ◌+◌, ◌≤◌, Bool, false, Option, None, Some, List, [], ◌∷◌, if◌then◌else◌, length}
+use Rattle.std.specs.Prelude.{◌≡◌, ℕ, ◌+◌, ◌≤◌, Bool, false, Option, None, Some, List, [], ◌∷◌}
+use Rattle.std.specs.Prelude.{if◌then◌else◌, length}
 use Rattle.std.specs.Global.{Vec}
 use Rattle.std.specs.Map.{lookup}
 use Rattle.std.specs.Option.{option_map, unwrap_or}
@@ -8,7 +9,8 @@ use Rattle.std.specs.Str.{bytes_eq}
 use Rattle.std.specs.Vec.{vec_capacity}
 use Rattle.tags_clocks.specs.declared.id.OpId.{OpId}
 use Rattle.crdt_ops.specs.declared.kind.Kind.{Kind}
-use Rattle.crdt_ops.specs.declared.kind.Kind.TheVariants.{Create, Delete, Append, Expunge, Store, Subscribe, Unsubscribe}
+use Rattle.crdt_ops.specs.declared.kind.Kind.TheVariants.{Create, Delete, Append, Expunge, Store}
+use Rattle.crdt_ops.specs.declared.kind.Kind.TheVariants.{Subscribe, Unsubscribe}
 use Rattle.crdt_ops.specs.declared.op.Op.{Op}
 use Rattle.crdt_ops.specs.SortedSets.{is_some_id, same_id}
 use Rattle.crdt_ops.specs.Sets.{tag_data_by}
@@ -41,7 +43,8 @@ tags_added (op ∷ ops) name = (if is_named name (target op.kind) then 1 else 0)
 -- The number of operations that add a version of this origin, in whatever folder.
 abbrev pub versions_added : List Op → OpId → ℕ
 versions_added [] origin = 0
-versions_added (op ∷ ops) origin = (if is_some_id origin (origin_by op.id op.kind) then 1 else 0) + versions_added ops origin
+versions_added (op ∷ ops) origin =
+    (if is_some_id origin (origin_by op.id op.kind) then 1 else 0) + versions_added ops origin
 
 -- The number of versions of the origin, if there is one; else 0.
 abbrev pub counts_of : (OpId → ℕ) → Option OpId → ℕ
@@ -71,7 +74,10 @@ pub record HasPlaces (folder : FolderTables) (origin : Option OpId) (count : ℕ
 
 -- There is room for this number of further versions in the message of the origin, if it exists.
 abbrev pub HasVersionRoom : List (OpId × Vec Version) → OpId → ℕ → Type 0
-HasVersionRoom messages origin count = (versions : Vec Version) → lookup (same_id origin) messages ≡ Some versions → length versions.items + count ≤ vec_capacity versions
+HasVersionRoom messages origin count =
+    (versions : Vec Version)
+    → lookup (same_id origin) messages ≡ Some versions
+    → length versions.items + count ≤ vec_capacity versions
 
 -- There is room for this number of further versions in the message of the origin, if there is an
 -- origin and its message exists.
@@ -81,21 +87,31 @@ HasVersionPlaces folder (Some origin) count = HasVersionRoom folder.messages ori
 
 -- The folder has tables, with room for the counted tags in it and for the counted versions in its
 -- message of the origin.
-abbrev pub HasRoomAt : (List ℕ → ℕ) → (OpId → ℕ) → Option OpId → Option (List ℕ) → (List ℕ → Option FolderTables) → Type 0
+abbrev pub HasRoomAt : (List ℕ → ℕ) → (OpId → ℕ) → Option OpId → Option (List ℕ)
+    → (List ℕ → Option FolderTables) → Type 0
 HasRoomAt tags versions origin None folders = Unit {0}
-HasRoomAt tags versions origin (Some name) folders = (folder : FolderTables) × (folders name ≡ Some folder) × HasPlaces folder origin (tags name) × HasVersionPlaces folder origin (counts_of versions origin)
+HasRoomAt tags versions origin (Some name) folders =
+    (folder : FolderTables)
+    × (folders name ≡ Some folder)
+    × HasPlaces folder origin (tags name)
+    × HasVersionPlaces folder origin (counts_of versions origin)
 
 -- The folder of the tag that the operation adds has tables, with room for what these operations
 -- add.
 abbrev pub HasRoomFor : List Op → Op → (List ℕ → Option FolderTables) → Type 0
-HasRoomFor ops op folders = HasRoomAt (tags_added ops) (versions_added ops) (origin_by op.id op.kind) (target op.kind) folders
+HasRoomFor ops op folders =
+    HasRoomAt (tags_added ops) (versions_added ops) (origin_by op.id op.kind) (target op.kind)
+    folders
 
 -- Each operation that adds a version has an empty list, with room for the versions of its origin
 -- that it and the operations after it add.
 abbrev pub HaveLists : List Op → List (Vec Version) → Type 0
 HaveLists [] lists = Unit {0}
 HaveLists (op ∷ ops) [] = ⊥
-HaveLists (op ∷ ops) (list ∷ lists) = (list.items ≡ []) × (counts_of (versions_added (op ∷ ops)) (origin_by op.id op.kind) ≤ vec_capacity list) × HaveLists ops lists
+HaveLists (op ∷ ops) (list ∷ lists) =
+    (list.items ≡ [])
+    × (counts_of (versions_added (op ∷ ops)) (origin_by op.id op.kind) ≤ vec_capacity list)
+    × HaveLists ops lists
 
 -- ---- changes of room
 
@@ -104,7 +120,9 @@ pub record IsNoFuller (old new : FolderTables) : Type 0 where
   pub tags : old.tag_room ≤ new.tag_room
   pub messages : old.message_room ≤ new.message_room
   pub origins : old.origin_room ≤ new.origin_room
-  pub versions : (o : OpId) (n : ℕ) → HasVersionRoom old.messages o n → HasVersionRoom new.messages o n
+  pub versions : (o : OpId) (n : ℕ)
+      → HasVersionRoom old.messages o n
+      → HasVersionRoom new.messages o n
 
 abbrev pub IsNoFullerIn : Option FolderTables → Option FolderTables → Type 0
 IsNoFullerIn None new = Unit {0}
@@ -119,10 +137,12 @@ abbrev pub IsRoomierList : Option (Vec Version) → Option (Vec Version) → Typ
 IsRoomierList None None = Unit {0}
 IsRoomierList None (Some new) = ⊥
 IsRoomierList (Some old) None = ⊥
-IsRoomierList (Some old) (Some new) = (new.items ≡ old.items) × (vec_capacity old ≤ vec_capacity new)
+IsRoomierList (Some old) (Some new) =
+    (new.items ≡ old.items) × (vec_capacity old ≤ vec_capacity new)
 
 abbrev pub AreRoomierLists : List (OpId × Vec Version) → List (OpId × Vec Version) → Type 0
-AreRoomierLists old new = (o : OpId) → IsRoomierList (lookup (same_id o) old) (lookup (same_id o) new)
+AreRoomierLists old new =
+    (o : OpId) → IsRoomierList (lookup (same_id o) old) (lookup (same_id o) new)
 
 -- The folder has the same tags, and no less room.
 pub record IsRoomier (old new : FolderTables) : Type 0 where
@@ -145,15 +165,21 @@ AreRoomier old new = (name : List ℕ) → IsRoomierIn (find_folder name old) (f
 
 -- A tag was put into the folder, as a version of the origin if there is one. The remaining room
 -- suffices for the tags after it, also if a new message began in a list with `places` places.
-abbrev pub LeavesRoom : List ℕ → Option OpId → ℕ → (List ℕ → Option FolderTables) → (List ℕ → Option FolderTables) → Type 0
+abbrev pub LeavesRoom : List ℕ → Option OpId → ℕ → (List ℕ → Option FolderTables)
+    → (List ℕ → Option FolderTables) → Type 0
 LeavesRoom name origin places old new =
     (tags : List ℕ → ℕ) (versions : OpId → ℕ) (o : Option OpId) (t : Option (List ℕ))
-    → HasRoomAt (λ n. (if bytes_eq n name then 1 else 0) + tags n) (λ i. (if is_some_id i origin then 1 else 0) + versions i) o t old
+    → HasRoomAt (λ n. (if bytes_eq n name then 1 else 0) + tags n)
+    (λ i. (if is_some_id i origin then 1 else 0) + versions i) o t old
     → counts_of (λ i. (if is_some_id i origin then 1 else 0) + versions i) origin ≤ places
     → HasRoomAt tags versions o t new
 
 -- The tag that an operation adds was put in, and the remaining room suffices for the operations
 -- after it.
-abbrev pub LeavesRoomBehind : Op → ℕ → (List ℕ → Option FolderTables) → (List ℕ → Option FolderTables) → Type 0
+abbrev pub LeavesRoomBehind : Op → ℕ → (List ℕ → Option FolderTables)
+    → (List ℕ → Option FolderTables) → Type 0
 LeavesRoomBehind op places old new =
-    (rest : List Op) (o : Op) → HasRoomFor (op ∷ rest) o old → counts_of (versions_added (op ∷ rest)) (origin_by op.id op.kind) ≤ places → HasRoomFor rest o new
+    (rest : List Op) (o : Op)
+    → HasRoomFor (op ∷ rest) o old
+    → counts_of (versions_added (op ∷ rest)) (origin_by op.id op.kind) ≤ places
+    → HasRoomFor rest o new

@@ -1,6 +1,7 @@
 //! Which tags a folder has, and which it will have after pending operations.
 
-ghost use Rattle.std.specs.Prelude.{◌≡◌, ◌↔◌, ◌&&◌, ◌||◌, false, None, Some, MatchOption, length, not, if◌then◌else◌};
+ghost use Rattle.std.specs.Prelude.{◌≡◌, ◌↔◌, ◌&&◌, ◌||◌, false, None, Some, MatchOption, length};
+ghost use Rattle.std.specs.Prelude.{not, if◌then◌else◌};
 ghost use Rattle.std.specs.Bool.{MatchBool};
 ghost use Rattle.std.specs.List.{list_any, slice_get};
 ghost use Rattle.std.specs.Option.{option_copied, option_map};
@@ -11,8 +12,10 @@ ghost use Rattle.crdt_ops.specs.SortedSets.{is_some_id, same_id};
 ghost use Rattle.crdt_ops.specs.Tags.{FolderTag, MessageTag, adds, removes};
 ghost use Rattle.folder_state.specs.Contents.{Contents, origin_in};
 ghost use Rattle.folder_state.specs.Keys.{is_among, is_at};
-ghost use Rattle.folder_state.specs.FolderTables.{HasTagIn, body_in_folder, has_tag_in, folder_tag_data, ids_in, versions_in};
-ghost use Rattle.folder_state.specs.AfterOps.{after, alone, has_tag_after, is_added_and_left, is_version};
+ghost use Rattle.folder_state.specs.FolderTables.{HasTagIn, body_in_folder, has_tag_in};
+ghost use Rattle.folder_state.specs.FolderTables.{folder_tag_data, ids_in, versions_in};
+ghost use Rattle.folder_state.specs.AfterOps.{after, alone, has_tag_after, is_added_and_left};
+ghost use Rattle.folder_state.specs.AfterOps.{is_version};
 ghost use Rattle.folder_state.specs.OpRoom.{origin_by};
 
 use crate::folder::Folder;
@@ -22,7 +25,9 @@ use tags_clocks::OpId;
 
 /// Whether the folder has a tag of either kind.
 pub fn has_tags(folder: Option<&Folder>) -> bool
-    ensures { MatchBool result ((i : OpId) × HasTagIn (folder_tag_data (option_copied folder.entry)) i) ((i : OpId) → HasTagIn (folder_tag_data (option_copied folder.entry)) i → ⊥) }
+    ensures { MatchBool result
+        ((i : OpId) × HasTagIn (folder_tag_data (option_copied folder.entry)) i)
+        ((i : OpId) → HasTagIn (folder_tag_data (option_copied folder.entry)) i → ⊥) }
 {
     match folder {
         Some(folder) => !folder.is_empty(),
@@ -33,8 +38,12 @@ pub fn has_tags(folder: Option<&Folder>) -> bool
 /// Whether the origin has a version in the folder.
 pub fn has_versions(folder: Option<&Folder>, origin: &OpId) -> bool
     ensures { MatchBool result
-        ((i : OpId) × (option_map (λ body. body.origin) (body_in_folder (option_copied folder.entry) i) ≡ Some origin.now))
-        ((i : OpId) → option_map (λ body. body.origin) (body_in_folder (option_copied folder.entry) i) ≡ Some origin.now → ⊥) }
+        ((i : OpId)
+        × (option_map (λ body. body.origin) (body_in_folder (option_copied folder.entry) i)
+        ≡ Some origin.now))
+        ((i : OpId)
+        → option_map (λ body. body.origin) (body_in_folder (option_copied folder.entry) i)
+        ≡ Some origin.now → ⊥) }
 {
     match folder {
         Some(folder) => folder.has_versions(origin),
@@ -100,14 +109,18 @@ fn removes_message(op: &Op, folder: &Name, id: OpId) -> bool
 
 /// Whether the folder tag is present after the operation, given whether it was before.
 fn tag_after_op(op: &Op, folder: &Name, id: &OpId, before: bool) -> bool
-    ensures { result ≡ (adds (FolderTag folder.now id.now) op.now || (not (removes (FolderTag folder.now id.now) op.now) && before)) }
+    ensures { result
+        ≡ (adds (FolderTag folder.now id.now) op.now
+        || (not (removes (FolderTag folder.now id.now) op.now) && before)) }
 {
     adds_tag(op, folder, *id) || (!removes_tag(op, folder, *id) && before)
 }
 
 /// Whether the folder tag is present after these operations, given whether it is now.
 fn tag_after(ops: &[SoundOp], folder: &Name, id: &OpId, now: bool) -> bool
-    ensures { (c : Contents) → c.tags folder.now id.now ≡ now → result ≡ (after c ops.now).tags folder.now id.now }
+    ensures { (c : Contents)
+        → c.tags folder.now id.now ≡ now
+        → result ≡ (after c ops.now).tags folder.now id.now }
 {
     let mut there = now;
     for op in ops {
@@ -118,7 +131,9 @@ fn tag_after(ops: &[SoundOp], folder: &Name, id: &OpId, now: bool) -> bool
 
 /// The origin of the message tag after the operation, given its origin before; None if absent.
 fn origin_after_op(op: &Op, folder: &Name, id: &OpId, before: Option<OpId>) -> Option<OpId>
-    ensures { result ≡ (if adds (MessageTag folder.now id.now) op.now then origin_by op.now.id op.now.kind else (if removes (MessageTag folder.now id.now) op.now then None else before)) }
+    ensures { result
+        ≡ (if adds (MessageTag folder.now id.now) op.now then origin_by op.now.id op.now.kind
+        else (if removes (MessageTag folder.now id.now) op.now then None else before)) }
 {
     if adds_message(op, folder, *id) {
         return origin_by(op);
@@ -142,7 +157,9 @@ pub fn origin_by(op: &Op) -> Option<OpId>
 
 /// The origin of the message tag after these operations, given its origin now; None if absent.
 fn origin_after(ops: &[SoundOp], folder: &Name, id: &OpId, now: Option<OpId>) -> Option<OpId>
-    ensures { (c : Contents) → origin_in c folder.now id.now ≡ now → result ≡ origin_in (after c ops.now) folder.now id.now }
+    ensures { (c : Contents)
+        → origin_in c folder.now id.now ≡ now
+        → result ≡ origin_in (after c ops.now) folder.now id.now }
 {
     let mut origin = now;
     for op in ops {
@@ -163,7 +180,8 @@ fn has_tag_at(held: Option<&Folder>, id: &OpId) -> bool
 
 /// The origin of the message tag with this id, if it is present.
 fn origin_at(held: Option<&Folder>, id: &OpId) -> Option<OpId>
-    ensures { result ≡ option_map (λ body. body.origin) (body_in_folder (option_copied held.entry) id.now) }
+    ensures { result
+        ≡ option_map (λ body. body.origin) (body_in_folder (option_copied held.entry) id.now) }
 {
     match held {
         Some(folder) => folder.origin_of(id),
@@ -174,7 +192,9 @@ fn origin_at(held: Option<&Folder>, id: &OpId) -> Option<OpId>
 /// The number of the folder's tags, of both kinds.
 fn count_in(held: Option<&Folder>) -> usize
     ensures count { result ≡ length (ids_in (option_copied held.entry)) }
-    ensures ids { (i : OpId) → IsIn i (ids_in (option_copied held.entry)) ↔ HasTagIn (folder_tag_data (option_copied held.entry)) i }
+    ensures ids { (i : OpId)
+        → IsIn i (ids_in (option_copied held.entry))
+        ↔ HasTagIn (folder_tag_data (option_copied held.entry)) i }
 {
     match held {
         Some(folder) => folder.count(),
@@ -203,16 +223,26 @@ fn has_tag_after(held: Option<&Folder>, folder: &Name, id: &OpId, ops: &[SoundOp
 /// Whether the folder has any tag after these operations. Only its present tags and those that the
 /// operations add are looked at.
 pub fn has_tag_after_all(held: Option<&Folder>, folder: &Name, ops: &[SoundOp]) -> bool
-    ensures ids { (i : OpId) → IsIn i (ids_in (option_copied held.entry)) ↔ HasTagIn (folder_tag_data (option_copied held.entry)) i }
-    ensures left { result ≡ (list_any (λ i. has_tag_after (alone (option_copied held.entry)) ops.now folder.now i) (ids_in (option_copied held.entry)) || list_any (λ o. has_tag_after (alone (option_copied held.entry)) ops.now folder.now o.id) ops.now) }
+    ensures ids { (i : OpId)
+        → IsIn i (ids_in (option_copied held.entry))
+        ↔ HasTagIn (folder_tag_data (option_copied held.entry)) i }
+    ensures left { result
+        ≡ (list_any (λ i. has_tag_after (alone (option_copied held.entry)) ops.now folder.now i)
+        (ids_in (option_copied held.entry))
+        || list_any (λ o. has_tag_after (alone (option_copied held.entry)) ops.now folder.now o.id)
+        ops.now) }
 {
     any_kept_left(held, folder, ops) || any_added_left(held, folder, ops)
 }
 
 /// Whether a tag with the id of a present tag remains.
 fn any_kept_left(held: Option<&Folder>, folder: &Name, ops: &[SoundOp]) -> bool
-    ensures ids { (i : OpId) → IsIn i (ids_in (option_copied held.entry)) ↔ HasTagIn (folder_tag_data (option_copied held.entry)) i }
-    ensures left { result ≡ list_any (λ i. has_tag_after (alone (option_copied held.entry)) ops.now folder.now i) (ids_in (option_copied held.entry)) }
+    ensures ids { (i : OpId)
+        → IsIn i (ids_in (option_copied held.entry))
+        ↔ HasTagIn (folder_tag_data (option_copied held.entry)) i }
+    ensures left { result
+        ≡ list_any (λ i. has_tag_after (alone (option_copied held.entry)) ops.now folder.now i)
+        (ids_in (option_copied held.entry)) }
 {
     let count = count_in(held);
     for place in 0..count {
@@ -225,7 +255,8 @@ fn any_kept_left(held: Option<&Folder>, folder: &Name, ops: &[SoundOp]) -> bool
 
 /// Whether a tag with the id of the present tag at `place` remains.
 fn is_left_at(held: Option<&Folder>, folder: &Name, ops: &[SoundOp], place: usize) -> bool
-    ensures { MatchOption (slice_get (ids_in (option_copied held.entry)) place) (result ≡ false) (λ i. result ≡ has_tag_after (alone (option_copied held.entry)) ops.now folder.now i) }
+    ensures { MatchOption (slice_get (ids_in (option_copied held.entry)) place) (result ≡ false)
+        (λ i. result ≡ has_tag_after (alone (option_copied held.entry)) ops.now folder.now i) }
 {
     match id_in(held, place) {
         Some(id) => has_tag_after(held, folder, &id, ops),
@@ -235,7 +266,9 @@ fn is_left_at(held: Option<&Folder>, folder: &Name, ops: &[SoundOp], place: usiz
 
 /// Whether a tag of the folder with the id of one of these operations remains.
 fn any_added_left(held: Option<&Folder>, folder: &Name, ops: &[SoundOp]) -> bool
-    ensures { result ≡ list_any (λ o. has_tag_after (alone (option_copied held.entry)) ops.now folder.now o.id) ops.now }
+    ensures { result
+        ≡ list_any (λ o. has_tag_after (alone (option_copied held.entry)) ops.now folder.now o.id)
+        ops.now }
 {
     for op in ops {
         if has_tag_after(held, folder, &op.op().id, ops) {
@@ -253,7 +286,9 @@ fn is_version_after(
     id: &OpId,
     ops: &[SoundOp],
 ) -> bool
-    ensures { result ≡ is_version (after (alone (option_copied held.entry)) ops.now) folder.now origin.now id.now }
+    ensures { result
+        ≡ is_version (after (alone (option_copied held.entry)) ops.now) folder.now origin.now
+        id.now }
 {
     is_id(origin, origin_after(ops, folder, id, origin_at(held, id)))
 }
@@ -276,16 +311,30 @@ pub fn has_version_after_all(
     origin: &OpId,
     ops: &[SoundOp],
 ) -> bool
-    ensures versions { (i : OpId) → IsIn i (version_ids (versions_in (option_copied held.entry) origin.now)) ↔ (option_map (λ body. body.origin) (body_in_folder (option_copied held.entry) i) ≡ Some origin.now) }
-    ensures left { result ≡ (list_any (λ version. is_version (after (alone (option_copied held.entry)) ops.now) folder.now origin.now version.id) (versions_in (option_copied held.entry) origin.now) || list_any (is_added_and_left (option_copied held.entry) ops.now folder.now origin.now) ops.now) }
+    ensures versions { (i : OpId)
+        → IsIn i (version_ids (versions_in (option_copied held.entry) origin.now))
+        ↔ (option_map (λ body. body.origin) (body_in_folder (option_copied held.entry) i)
+        ≡ Some origin.now) }
+    ensures left { result
+        ≡ (list_any
+        (λ version. is_version (after (alone (option_copied held.entry)) ops.now) folder.now
+        origin.now version.id) (versions_in (option_copied held.entry) origin.now)
+        || list_any (is_added_and_left (option_copied held.entry) ops.now folder.now origin.now)
+        ops.now) }
 {
     keeps_version(held, folder, origin, ops) || adds_lasting_version(held, folder, origin, ops)
 }
 
 /// Whether one of the origin's present versions remains.
 fn keeps_version(held: Option<&Folder>, folder: &Name, origin: &OpId, ops: &[SoundOp]) -> bool
-    ensures versions { (i : OpId) → IsIn i (version_ids (versions_in (option_copied held.entry) origin.now)) ↔ (option_map (λ body. body.origin) (body_in_folder (option_copied held.entry) i) ≡ Some origin.now) }
-    ensures left { result ≡ list_any (λ version. is_version (after (alone (option_copied held.entry)) ops.now) folder.now origin.now version.id) (versions_in (option_copied held.entry) origin.now) }
+    ensures versions { (i : OpId)
+        → IsIn i (version_ids (versions_in (option_copied held.entry) origin.now))
+        ↔ (option_map (λ body. body.origin) (body_in_folder (option_copied held.entry) i)
+        ≡ Some origin.now) }
+    ensures left { result
+        ≡ list_any
+        (λ version. is_version (after (alone (option_copied held.entry)) ops.now) folder.now
+        origin.now version.id) (versions_in (option_copied held.entry) origin.now) }
 {
     match held {
         Some(kept) => any_left(held, kept.versions_at(origin), folder, origin, ops),
@@ -301,7 +350,10 @@ fn any_left(
     origin: &OpId,
     ops: &[SoundOp],
 ) -> bool
-    ensures { result ≡ list_any (λ version. is_version (after (alone (option_copied held.entry)) ops.now) folder.now origin.now version.id) versions.now }
+    ensures { result
+        ≡ list_any
+        (λ version. is_version (after (alone (option_copied held.entry)) ops.now) folder.now
+        origin.now version.id) versions.now }
 {
     for version in versions {
         if is_version_after(held, folder, origin, &version.id, ops) {
@@ -318,7 +370,9 @@ fn adds_lasting_version(
     origin: &OpId,
     ops: &[SoundOp],
 ) -> bool
-    ensures { result ≡ list_any (is_added_and_left (option_copied held.entry) ops.now folder.now origin.now) ops.now }
+    ensures { result
+        ≡ list_any (is_added_and_left (option_copied held.entry) ops.now folder.now origin.now)
+        ops.now }
 {
     for op in ops {
         if is_added_and_left(held, folder, origin, op.op(), ops) {
@@ -336,7 +390,8 @@ fn is_added_and_left(
     op: &Op,
     ops: &[SoundOp],
 ) -> bool
-    ensures { result ≡ is_added_and_left (option_copied held.entry) ops.now folder.now origin.now op.now }
+    ensures { result
+        ≡ is_added_and_left (option_copied held.entry) ops.now folder.now origin.now op.now }
 {
     is_id(origin, origin_by(op)) && is_version_after(held, folder, origin, &op.id, ops)
 }

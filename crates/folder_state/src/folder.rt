@@ -7,7 +7,9 @@ ghost use Rattle.std.specs.Map.{keys_of};
 ghost use Rattle.std.specs.Option.{option_map};
 ghost use Rattle.tags_clocks.specs.declared.id.OpId.{OpId};
 ghost use Rattle.merge_laws.specs.Orders.{IsIn};
-ghost use Rattle.folder_state.specs.FolderTables.{AreIndexed, AreVersionsOf, HasTagIn, folder_contents, folder_ids, has_ids, versions_at};
+ghost use Rattle.folder_state.specs.FolderTables.{AreIndexed, AreVersionsOf, HasTagIn};
+ghost use Rattle.folder_state.specs.FolderTables.{folder_contents, folder_ids, has_ids};
+ghost use Rattle.folder_state.specs.FolderTables.{versions_at};
 
 use imap_types::Version;
 use indexmap::{IndexMap, IndexSet};
@@ -41,7 +43,14 @@ impl Model for Folder {
 
     ghost Value = { FolderTables };
 
-    ghost view = { λ f. record { tags = f.tags.keys; messages = f.messages.entries; origins = f.origins.entries; tag_room = spare_keys f.tags; message_room = spare f.messages; origin_room = spare f.origins } };
+    ghost view = { λ f. record {
+      tags = f.tags.keys;
+      messages = f.messages.entries;
+      origins = f.origins.entries;
+      tag_room = spare_keys f.tags;
+      message_room = spare f.messages;
+      origin_room = spare f.origins;
+    } };
 
     ghost invariant = { λ f. AreIndexed f.messages.entries f.origins.entries };
 }
@@ -67,7 +76,8 @@ impl Folder {
 
     /// The origin of the message tag with this id, if it is present. Cost: a look-up.
     pub fn origin_of(&self, id: &OpId) -> Option<OpId>
-        ensures { result ≡ option_map (λ body. body.origin) ((folder_contents self.now).bodies id.now) }
+        ensures { result
+            ≡ option_map (λ body. body.origin) ((folder_contents self.now).bodies id.now) }
     {
         self.origins.get(id).copied()
     }
@@ -76,7 +86,9 @@ impl Folder {
     /// look-up.
     pub fn versions_of(&self, origin: &OpId) -> Option<&[Version]>
         ensures { MatchOption result
-            ((i : OpId) → option_map (λ body. body.origin) ((folder_contents self.now).bodies i) ≡ Some origin.now → ⊥)
+            ((i : OpId)
+            → option_map (λ body. body.origin) ((folder_contents self.now).bodies i)
+            ≡ Some origin.now → ⊥)
             (λ versions. AreVersionsOf (folder_contents self.now) origin.now versions.now) }
     {
         match self.messages.get(origin) {
@@ -88,8 +100,12 @@ impl Folder {
     /// Whether this origin has a version. Cost: a look-up.
     pub(crate) fn has_versions(&self, origin: &OpId) -> bool
         ensures { MatchBool result
-            ((i : OpId) × (option_map (λ body. body.origin) ((folder_contents self.now).bodies i) ≡ Some origin.now))
-            ((i : OpId) → option_map (λ body. body.origin) ((folder_contents self.now).bodies i) ≡ Some origin.now → ⊥) }
+            ((i : OpId)
+            × (option_map (λ body. body.origin) ((folder_contents self.now).bodies i)
+            ≡ Some origin.now))
+            ((i : OpId)
+            → option_map (λ body. body.origin) ((folder_contents self.now).bodies i)
+            ≡ Some origin.now → ⊥) }
     {
         match self.versions_of(origin) {
             Some(_) => true,
@@ -111,7 +127,8 @@ impl Folder {
     /// The number of its tags, of both kinds.
     pub fn count(&self) -> usize
         ensures ids { result ≡ length (folder_ids self.now) }
-        ensures tags { (i : OpId) → IsIn i (folder_ids self.now) ↔ HasTagIn (folder_contents self.now) i }
+        ensures tags { (i : OpId)
+            → IsIn i (folder_ids self.now) ↔ HasTagIn (folder_contents self.now) i }
     {
         self.tags.len() + self.origins.len()
     }
@@ -134,7 +151,8 @@ impl Folder {
     /// Whether it has no tag of either kind.
     pub fn is_empty(&self) -> bool
         ensures ids { result ≡ not (has_ids self.now) }
-        ensures tags { MatchBool result ((i : OpId) → HasTagIn (folder_contents self.now) i → ⊥) ((i : OpId) × HasTagIn (folder_contents self.now) i) }
+        ensures tags { MatchBool result ((i : OpId) → HasTagIn (folder_contents self.now) i → ⊥)
+            ((i : OpId) × HasTagIn (folder_contents self.now) i) }
     {
         self.tags.is_empty() && self.origins.is_empty()
     }
@@ -157,7 +175,8 @@ impl Folder {
     /// The ids of all its tags; `Err` if memory runs out.
     pub(crate) fn ids(&self, alloc: Global) -> Result<Vec<OpId>, AllocError>
         ensures ids { IfOk result (λ ids. ids.items ≡ folder_ids self.now) }
-        ensures tags { (i : OpId) → IsIn i (folder_ids self.now) ↔ HasTagIn (folder_contents self.now) i }
+        ensures tags { (i : OpId)
+            → IsIn i (folder_ids self.now) ↔ HasTagIn (folder_contents self.now) i }
     {
         let count = self.count();
         let mut ids = Vec::new(alloc);

@@ -40,7 +40,8 @@ impl Drop for Folders {
 }
 
 impl Folders {
-    ghost use Rattle.std.specs.Prelude.{◌≡◌, ◌↔◌, List, None, Some, IfOk, IsTrue, true, if◌then◌else◌};
+    ghost use Rattle.std.specs.Prelude.{◌≡◌, ◌↔◌, List, None, Some, IfOk, IsTrue, true};
+    ghost use Rattle.std.specs.Prelude.{if◌then◌else◌};
     ghost use Rattle.std.specs.List.{list_any};
     ghost use Rattle.std.specs.Option.{option_copied, option_map};
     ghost use Rattle.tags_clocks.specs.declared.id.OpId.{OpId};
@@ -50,12 +51,15 @@ impl Folders {
     ghost use Rattle.crdt_ops.specs.Sound.{IsSound};
     ghost use Rattle.folder_state.specs.AfterOps.{after};
     ghost use Rattle.folder_state.specs.FolderTables.{body_in_folder, has_tag_in};
-    ghost use Rattle.folder_state.specs.LentMessages.{lent_message, kept_dated_text, message_of_data};
+    ghost use Rattle.folder_state.specs.LentMessages.{lent_message, kept_dated_text};
+    ghost use Rattle.folder_state.specs.LentMessages.{message_of_data};
     ghost use Rattle.mailbox_rows.specs.MessageData.{kept_message_data};
     ghost use Rattle.crdt_ops.specs.declared.op.Op.{Op};
     ghost use Rattle.crdt_ops.specs.SortedSets.{IsListOf, id_order, same_id};
-    ghost use Rattle.crdt_ops.specs.Sets.{delete_set_of, folder_tags_of, folders_of, message_of, messages_of, origins_of, versions_of};
-    ghost use Rattle.folder_state.specs.Contents.{AreMessages, AreVersions, HasTag, HasVersion, IsFolder, IsMadeBy, IsMessageOf, no_contents};
+    ghost use Rattle.crdt_ops.specs.Sets.{delete_set_of, folder_tags_of, folders_of, message_of};
+    ghost use Rattle.crdt_ops.specs.Sets.{messages_of, origins_of, versions_of};
+    ghost use Rattle.folder_state.specs.Contents.{AreMessages, AreVersions, HasTag, HasVersion};
+    ghost use Rattle.folder_state.specs.Contents.{IsFolder, IsMadeBy, IsMessageOf, no_contents};
     ghost use Rattle.folder_state.specs.Tables.{contents_of};
 
     /// Only INBOX, without messages; takes no memory.
@@ -72,8 +76,10 @@ impl Folders {
 
     /// The tables of this folder, if it has some. Cost: a look-up.
     pub fn folder(&self, name: &Name) -> Option<&Folder>
-        ensures tags { (i : OpId) → (contents_of self.now).tags name.now i ≡ has_tag_in (option_copied result) i }
-        ensures bodies { (i : OpId) → (contents_of self.now).bodies name.now i ≡ body_in_folder (option_copied result) i }
+        ensures tags { (i : OpId)
+            → (contents_of self.now).tags name.now i ≡ has_tag_in (option_copied result) i }
+        ensures bodies { (i : OpId)
+            → (contents_of self.now).bodies name.now i ≡ body_in_folder (option_copied result) i }
     {
         self.by_name.get(name.as_bytes())
     }
@@ -81,7 +87,9 @@ impl Folders {
     /// The folder's stored messages, borrowed, with the dates and texts of all Appends. Cost: a
     /// look-up.
     pub fn mailbox(&self, name: &Name) -> FolderMessages<'_>
-        ensures contents { (origin : OpId) → IsMessageOf (contents_of self.now) name.now origin (option_map (message_of_data origin) (kept_message_data result origin)) }
+        ensures contents { (origin : OpId)
+            → IsMessageOf (contents_of self.now) name.now origin
+            (option_map (message_of_data origin) (kept_message_data result origin)) }
     {
         FolderMessages {
             messages: lent_messages(self.folder(name)),
@@ -92,7 +100,8 @@ impl Folders {
     /// The date and text of the Append with this id, if one was applied, in whatever folder. Cost:
     /// a look-up.
     pub fn dated_text(&self, id: &OpId) -> Option<&DatedText>
-        ensures { option_map kept_dated_text (option_copied result) ≡ (contents_of self.now).letters id.now }
+        ensures { option_map kept_dated_text (option_copied result)
+            ≡ (contents_of self.now).letters id.now }
     {
         self.letters.get(id)
     }
@@ -101,7 +110,9 @@ impl Folders {
     /// look-up.
     pub fn exists(&self, name: &Name) -> bool
         ensures contents { IsTrue result ↔ IsFolder (contents_of self.now) name.now }
-        ensures set { (ops : List Op) → IsMadeBy (contents_of self.now) ops → IsTrue result ↔ IsIn name.now (folders_of ops) }
+        ensures set { (ops : List Op)
+            → IsMadeBy (contents_of self.now) ops
+            → IsTrue result ↔ IsIn name.now (folders_of ops) }
     {
         is_inbox(name) || has_tags(self.folder(name))
     }
@@ -110,8 +121,13 @@ impl Folders {
     /// memory. Cost: at most the number of operations times that of the folder's tags and the
     /// operations together.
     pub fn exists_after(&self, name: &Name, ops: &[SoundOp]) -> bool
-        ensures contents { IsTrue result ↔ IsFolder (after (contents_of self.now) ops.now) name.now }
-        ensures set { (list : List Op) → IsMadeBy (contents_of self.now) list → AreSound IsSound (list ++ ops.now) → IsCausal id_of clock_of (list ++ ops.now) → IsTrue result ↔ IsIn name.now (folders_of (list ++ ops.now)) }
+        ensures contents { IsTrue result
+            ↔ IsFolder (after (contents_of self.now) ops.now) name.now }
+        ensures set { (list : List Op)
+            → IsMadeBy (contents_of self.now) list
+            → AreSound IsSound (list ++ ops.now)
+            → IsCausal id_of clock_of (list ++ ops.now)
+            → IsTrue result ↔ IsIn name.now (folders_of (list ++ ops.now)) }
     {
         is_inbox(name) || has_tag_after_all(self.folder(name), name, ops)
     }
@@ -119,7 +135,9 @@ impl Folders {
     /// Whether the origin has a version in the folder. Takes no memory. Cost: a look-up.
     pub fn has_version(&self, folder: &Name, origin: &OpId) -> bool
         ensures contents { IsTrue result ↔ HasVersion (contents_of self.now) folder.now origin.now }
-        ensures set { (ops : List Op) → IsMadeBy (contents_of self.now) ops → IsTrue result ↔ IsIn origin.now (origins_of ops folder.now) }
+        ensures set { (ops : List Op)
+            → IsMadeBy (contents_of self.now) ops
+            → IsTrue result ↔ IsIn origin.now (origins_of ops folder.now) }
     {
         has_versions(self.folder(folder), origin)
     }
@@ -127,8 +145,13 @@ impl Folders {
     /// Whether the origin will have a version in the folder after these operations, applied in this
     /// order. Takes no memory.
     pub fn has_version_after(&self, folder: &Name, origin: &OpId, ops: &[SoundOp]) -> bool
-        ensures contents { IsTrue result ↔ HasVersion (after (contents_of self.now) ops.now) folder.now origin.now }
-        ensures set { (list : List Op) → IsMadeBy (contents_of self.now) list → AreSound IsSound (list ++ ops.now) → IsCausal id_of clock_of (list ++ ops.now) → IsTrue result ↔ IsIn origin.now (origins_of (list ++ ops.now) folder.now) }
+        ensures contents { IsTrue result
+            ↔ HasVersion (after (contents_of self.now) ops.now) folder.now origin.now }
+        ensures set { (list : List Op)
+            → IsMadeBy (contents_of self.now) list
+            → AreSound IsSound (list ++ ops.now)
+            → IsCausal id_of clock_of (list ++ ops.now)
+            → IsTrue result ↔ IsIn origin.now (origins_of (list ++ ops.now) folder.now) }
     {
         has_version_after_all(self.folder(folder), folder, origin, ops)
     }
@@ -136,8 +159,14 @@ impl Folders {
     /// The folder's message of this origin, borrowed; None if the origin has no version in the
     /// folder. Takes no memory. Cost: at most three look-ups.
     pub fn message<'a>(&'a self, folder: &Name, origin: &OpId) -> Option<LentMessage<'a>>
-        ensures contents { IsMessageOf (contents_of self.now) folder.now origin.now (option_map lent_message result) }
-        ensures set { (list : List Op) → IsMadeBy (contents_of self.now) list → option_map lent_message result ≡ (if list_any (same_id origin.now) (origins_of list folder.now) then Some (message_of list folder.now origin.now) else None) }
+        ensures contents { IsMessageOf (contents_of self.now) folder.now origin.now
+            (option_map lent_message result) }
+        ensures set { (list : List Op)
+            → IsMadeBy (contents_of self.now) list
+            → option_map lent_message result
+            ≡ (if list_any (same_id origin.now) (origins_of list folder.now)
+            then Some (message_of list folder.now origin.now)
+            else None) }
     {
         match self.folder(folder) {
             Some(found) => lent_message(found, &self.letters, origin),
@@ -148,8 +177,11 @@ impl Folders {
     /// The names of the existing folders, INBOX among them, ascending by octets; `Err` if memory
     /// runs out.
     pub fn names(&self, alloc: Global) -> Result<Vec<Name>, AllocError>
-        ensures contents { IfOk result (λ names. IsListOf octet_order (IsFolder (contents_of self.now)) names.items) }
-        ensures set { (ops : List Op) → IsMadeBy (contents_of self.now) ops → IfOk result (λ names. names.items ≡ folders_of ops) }
+        ensures contents { IfOk result
+            (λ names. IsListOf octet_order (IsFolder (contents_of self.now)) names.items) }
+        ensures set { (ops : List Op)
+            → IsMadeBy (contents_of self.now) ops
+            → IfOk result (λ names. names.items ≡ folders_of ops) }
     {
         let names = folder_names(alloc, &self.by_name)?;
         Ok(names)
@@ -157,8 +189,11 @@ impl Folders {
 
     /// The ids of the folder's present folder tags; `Err` if memory runs out.
     pub fn tags(&self, alloc: Global, folder: &Name) -> Result<Ids, AllocError>
-        ensures contents { IfOk result (λ ids. IsListOf id_order (λ i. (contents_of self.now).tags folder.now i ≡ true) ids) }
-        ensures set { (ops : List Op) → IsMadeBy (contents_of self.now) ops → IfOk result (λ ids. ids ≡ folder_tags_of ops folder.now) }
+        ensures contents { IfOk result
+            (λ ids. IsListOf id_order (λ i. (contents_of self.now).tags folder.now i ≡ true) ids) }
+        ensures set { (ops : List Op)
+            → IsMadeBy (contents_of self.now) ops
+            → IfOk result (λ ids. ids ≡ folder_tags_of ops folder.now) }
     {
         let ids = tag_ids(alloc, self.folder(folder))?;
         Ok(ids)
@@ -167,8 +202,11 @@ impl Folders {
     /// The ids of the origin's versions in the folder, which are the folder's present message tags
     /// with this origin; `Err` if memory runs out.
     pub fn versions(&self, alloc: Global, folder: &Name, origin: &OpId) -> Result<Ids, AllocError>
-        ensures contents { IfOk result (λ ids. AreVersions (contents_of self.now) folder.now origin.now ids) }
-        ensures set { (ops : List Op) → IsMadeBy (contents_of self.now) ops → IfOk result (λ ids. ids ≡ versions_of ops folder.now origin.now) }
+        ensures contents { IfOk result
+            (λ ids. AreVersions (contents_of self.now) folder.now origin.now ids) }
+        ensures set { (ops : List Op)
+            → IsMadeBy (contents_of self.now) ops
+            → IfOk result (λ ids. ids ≡ versions_of ops folder.now origin.now) }
     {
         let ids = version_ids(alloc, self.folder(folder), origin)?;
         Ok(ids)
@@ -179,8 +217,11 @@ impl Folders {
     /// whatever that one's folder. If no such Append was applied, the text is empty and the date is
     /// the first moment of 1970. `Err` if memory runs out.
     pub fn messages(&self, alloc: Global, folder: &Name) -> Result<Vec<Message>, AllocError>
-        ensures contents { IfOk result (λ messages. AreMessages (contents_of self.now) folder.now messages.items) }
-        ensures set { (ops : List Op) → IsMadeBy (contents_of self.now) ops → IfOk result (λ messages. messages.items ≡ messages_of ops folder.now) }
+        ensures contents { IfOk result
+            (λ messages. AreMessages (contents_of self.now) folder.now messages.items) }
+        ensures set { (ops : List Op)
+            → IsMadeBy (contents_of self.now) ops
+            → IfOk result (λ messages. messages.items ≡ messages_of ops folder.now) }
     {
         let messages = folder_messages(alloc, self.folder(folder), &self.letters)?;
         Ok(messages)
@@ -189,8 +230,11 @@ impl Folders {
     /// The ids that a Delete of the folder lists, which are those of all its present tags, of both
     /// kinds; `Err` if memory runs out.
     pub fn delete_set(&self, alloc: Global, folder: &Name) -> Result<Ids, AllocError>
-        ensures contents { IfOk result (λ ids. IsListOf id_order (HasTag (contents_of self.now) folder.now) ids) }
-        ensures set { (ops : List Op) → IsMadeBy (contents_of self.now) ops → IfOk result (λ ids. ids ≡ delete_set_of ops folder.now) }
+        ensures contents { IfOk result
+            (λ ids. IsListOf id_order (HasTag (contents_of self.now) folder.now) ids) }
+        ensures set { (ops : List Op)
+            → IsMadeBy (contents_of self.now) ops
+            → IfOk result (λ ids. ids ≡ delete_set_of ops folder.now) }
     {
         let ids = all_ids(alloc, self.folder(folder))?;
         Ok(ids)

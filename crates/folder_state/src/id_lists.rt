@@ -1,6 +1,7 @@
 //! Lists of names and ids made from the tables.
 
-ghost use Rattle.std.specs.Prelude.{◌≡◌, ◌∷◌, ℕ, true, Some, IfOk, IfSome, OnOk, MatchOption, [], if◌then◌else◌};
+ghost use Rattle.std.specs.Prelude.{◌≡◌, ◌∷◌, ℕ, true, Some, IfOk, IfSome, OnOk, MatchOption, []};
+ghost use Rattle.std.specs.Prelude.{if◌then◌else◌};
 ghost use Rattle.std.specs.Global.{Vec as Key};
 ghost use Rattle.std.specs.List.{cons_option, filter_map, fold, slice_get};
 ghost use Rattle.std.specs.Option.{option_copied, option_map};
@@ -8,9 +9,13 @@ ghost use Rattle.std.specs.Str.{bytes_eq};
 ghost use Rattle.imap_types.specs.Ascending.{octet_order};
 ghost use Rattle.imap_types.specs.Names.{inbox};
 ghost use Rattle.merge_laws.specs.Orders.{IsIn};
-ghost use Rattle.crdt_ops.specs.SortedSets.{IsAscending, IsListOf, id_order, sorted_set, insert_ordered};
+ghost use Rattle.crdt_ops.specs.SortedSets.{IsAscending, IsListOf, id_order, sorted_set};
+ghost use Rattle.crdt_ops.specs.SortedSets.{insert_ordered};
 ghost use Rattle.imap_types.specs.Unions.{version_ids};
-ghost use Rattle.folder_state.specs.FolderTables.{AreIndexed, HasTagIn, IsIndexedFolder, FolderTables, body_in_folder, folder_contents, name_if_tagged, has_ids, has_tag_in, folder_tag_data};
+ghost use Rattle.folder_state.specs.FolderTables.{AreIndexed, HasTagIn, IsIndexedFolder};
+ghost use Rattle.folder_state.specs.FolderTables.{FolderTables, body_in_folder, folder_contents};
+ghost use Rattle.folder_state.specs.FolderTables.{name_if_tagged, has_ids, has_tag_in};
+ghost use Rattle.folder_state.specs.FolderTables.{folder_tag_data};
 
 use crate::folder::Folder;
 use crdt_ops::{Ids, insert_name};
@@ -31,8 +36,10 @@ pub fn folder_names(
     alloc: Global,
     by_name: &IndexMap<Vec<u8>, Folder>,
 ) -> Result<Vec<Name>, AllocError>
-    ensures names { IfOk result (λ names. names.items ≡ sorted_set octet_order (inbox ∷ filter_map name_if_tagged by_name.now.entries)) }
-    ensures known { OnOk result ((entry : Key ℕ × FolderTables) → IsIn entry by_name.now.entries → IsIndexedFolder by_name.now.entries entry) }
+    ensures names { IfOk result (λ names. names.items
+        ≡ sorted_set octet_order (inbox ∷ filter_map name_if_tagged by_name.now.entries)) }
+    ensures known { OnOk result ((entry : Key ℕ × FolderTables) → IsIn entry by_name.now.entries
+        → IsIndexedFolder by_name.now.entries entry) }
 {
     let mut names = Vec::new(alloc);
     insert_name(alloc, &mut names, &Name::inbox(alloc)?)?;
@@ -50,10 +57,13 @@ fn place_folder(
     by_name: &IndexMap<Vec<u8>, Folder>,
     place: usize,
 ) -> Result<(), AllocError>
-    ensures known { IfSome (slice_get by_name.now.entries place) (IsIndexedFolder by_name.now.entries) }
+    ensures known { IfSome (slice_get by_name.now.entries place)
+        (IsIndexedFolder by_name.now.entries) }
     ensures names { MatchOption (slice_get by_name.now.entries place)
         (OnOk result (names.new.items ≡ names.old.items))
-        (λ entry. OnOk result (names.new.items ≡ fold (λ done name. insert_ordered octet_order name done) names.old.items (cons_option (name_if_tagged entry) []))) }
+        (λ entry. OnOk result (names.new.items
+        ≡ fold (λ done name. insert_ordered octet_order name done) names.old.items
+        (cons_option (name_if_tagged entry) []))) }
 {
     match by_name.get_index(place) {
         Some((name, folder)) => insert_if_tagged(alloc, names, name.as_slice(), folder),
@@ -69,7 +79,9 @@ fn insert_if_tagged(
     folder: &Folder,
 ) -> Result<(), AllocError>
     ensures filed { AreIndexed folder.now.messages folder.now.origins }
-    ensures names { OnOk result (names.new.items ≡ (if has_ids folder.now then insert_ordered octet_order name.now names.old.items else names.old.items)) }
+    ensures names { OnOk result (names.new.items
+        ≡ (if has_ids folder.now then insert_ordered octet_order name.now names.old.items
+        else names.old.items)) }
 {
     let _messages = folder.messages();
     if folder.is_empty() {
@@ -80,7 +92,8 @@ fn insert_if_tagged(
 
 /// The ids of the folder's folder tags, ascending; `Err` if memory runs out.
 pub fn tag_ids(alloc: Global, folder: Option<&Folder>) -> Result<Ids, AllocError>
-    ensures { IfOk result (λ ids. IsListOf id_order (λ i. has_tag_in (option_copied folder.entry) i ≡ true) ids) }
+    ensures { IfOk result
+        (λ ids. IsListOf id_order (λ i. has_tag_in (option_copied folder.entry) i ≡ true) ids) }
 {
     match folder {
         Some(folder) => tag_ids_of(alloc, folder),
@@ -89,7 +102,8 @@ pub fn tag_ids(alloc: Global, folder: Option<&Folder>) -> Result<Ids, AllocError
 }
 
 fn tag_ids_of(alloc: Global, folder: &Folder) -> Result<Ids, AllocError>
-    ensures { IfOk result (λ ids. IsListOf id_order (λ i. (folder_contents folder.now).tags i ≡ true) ids) }
+    ensures { IfOk result
+        (λ ids. IsListOf id_order (λ i. (folder_contents folder.now).tags i ≡ true) ids) }
 {
     let ids = ids_in_order(alloc, folder.tags())?;
     Ok(ids)
@@ -97,7 +111,8 @@ fn tag_ids_of(alloc: Global, folder: &Folder) -> Result<Ids, AllocError>
 
 /// The ids of the folder's tags of both kinds, ascending; `Err` if memory runs out.
 pub fn all_ids(alloc: Global, folder: Option<&Folder>) -> Result<Ids, AllocError>
-    ensures { IfOk result (λ ids. IsListOf id_order (HasTagIn (folder_tag_data (option_copied folder.entry))) ids) }
+    ensures { IfOk result
+        (λ ids. IsListOf id_order (HasTagIn (folder_tag_data (option_copied folder.entry))) ids) }
 {
     match folder {
         Some(folder) => all_ids_of(alloc, folder),
@@ -115,7 +130,9 @@ fn all_ids_of(alloc: Global, folder: &Folder) -> Result<Ids, AllocError>
 
 /// The ids of the origin's versions in the folder, ascending; `Err` if memory runs out.
 pub fn version_ids(alloc: Global, folder: Option<&Folder>, origin: &OpId) -> Result<Ids, AllocError>
-    ensures { IfOk result (λ ids. IsListOf id_order (λ i. option_map (λ body. body.origin) (body_in_folder (option_copied folder.entry) i) ≡ Some origin.now) ids) }
+    ensures { IfOk result (λ ids. IsListOf id_order
+        (λ i. option_map (λ body. body.origin) (body_in_folder (option_copied folder.entry) i)
+        ≡ Some origin.now) ids) }
 {
     match folder {
         Some(folder) => version_ids_of(alloc, folder, origin),
@@ -124,7 +141,9 @@ pub fn version_ids(alloc: Global, folder: Option<&Folder>, origin: &OpId) -> Res
 }
 
 fn version_ids_of(alloc: Global, folder: &Folder, origin: &OpId) -> Result<Ids, AllocError>
-    ensures { IfOk result (λ ids. IsListOf id_order (λ i. option_map (λ body. body.origin) ((folder_contents folder.now).bodies i) ≡ Some origin.now) ids) }
+    ensures { IfOk result (λ ids. IsListOf id_order
+        (λ i. option_map (λ body. body.origin) ((folder_contents folder.now).bodies i)
+        ≡ Some origin.now) ids) }
 {
     match folder.versions_of(origin) {
         Some(versions) => ids_of(alloc, versions),

@@ -32,7 +32,8 @@ pub struct LentMessage<'a> {
 
 /// The folder's messages by origin; None if it has no table.
 pub fn lent_messages<'a>(folder: Option<&'a Folder>) -> Option<&'a IndexMap<OpId, Vec<Version>>>
-    ensures messages { option_map (λ messages. messages.now.entries) result ≡ option_map (λ kept. kept.messages) (option_copied folder.entry) }
+    ensures messages { option_map (λ messages. messages.now.entries) result
+        ≡ option_map (λ kept. kept.messages) (option_copied folder.entry) }
     ensures filed { AreIndexedIn (option_copied folder.entry) }
 {
     match folder {
@@ -47,7 +48,11 @@ pub fn lent_message<'a>(
     letters: &'a IndexMap<OpId, DatedText>,
     origin: &OpId,
 ) -> Option<LentMessage<'a>>
-    ensures { (c : Contents) (name : List ℕ) → ((i : OpId) → c.bodies name i ≡ (folder_contents folder.now).bodies i) → c.letters origin.now ≡ option_map kept_dated_text (lookup (same_id origin.now) letters.now.entries) → IsMessageOf c name origin.now (option_map lent_message result) }
+    ensures { (c : Contents) (name : List ℕ)
+        → ((i : OpId) → c.bodies name i ≡ (folder_contents folder.now).bodies i)
+        → c.letters origin.now
+        ≡ option_map kept_dated_text (lookup (same_id origin.now) letters.now.entries)
+        → IsMessageOf c name origin.now (option_map lent_message result) }
 {
     match folder.versions_of(origin) {
         Some(versions) => Some(with_dated_text(
@@ -68,8 +73,10 @@ fn with_dated_text<'a>(
     ensures origin { (lent_message result).origin ≡ origin.now }
     ensures versions { (lent_message result).versions ≡ version_ids versions.entry.list.now }
     ensures flags { (lent_message result).flags ≡ united_flags versions.entry.list.now }
-    ensures date { (lent_message result).date ≡ (unwrap_or (option_map kept_dated_text (option_copied letter.entry)) no_dated_text).date }
-    ensures text { (lent_message result).text ≡ (unwrap_or (option_map kept_dated_text (option_copied letter.entry)) no_dated_text).text }
+    ensures date { (lent_message result).date
+        ≡ (unwrap_or (option_map kept_dated_text (option_copied letter.entry)) no_dated_text).date }
+    ensures text { (lent_message result).text
+        ≡ (unwrap_or (option_map kept_dated_text (option_copied letter.entry)) no_dated_text).text }
 {
     match letter {
         Some(letter) => LentMessage {

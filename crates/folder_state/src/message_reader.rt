@@ -25,7 +25,11 @@ pub fn folder_messages(
     folder: Option<&Folder>,
     letters: &IndexMap<OpId, DatedText>,
 ) -> Result<Vec<Message>, AllocError>
-    ensures { (c : Contents) (name : List ℕ) → ((i : OpId) → c.bodies name i ≡ body_in_folder (option_copied folder.entry) i) → ((i : OpId) → c.letters i ≡ option_map kept_dated_text (lookup (same_id i) letters.now.entries)) → IfOk result (λ messages. AreMessages c name messages.items) }
+    ensures { (c : Contents) (name : List ℕ)
+        → ((i : OpId) → c.bodies name i ≡ body_in_folder (option_copied folder.entry) i)
+        → ((i : OpId)
+        → c.letters i ≡ option_map kept_dated_text (lookup (same_id i) letters.now.entries))
+        → IfOk result (λ messages. AreMessages c name messages.items) }
 {
     match folder {
         Some(folder) => messages_in(alloc, folder, letters),
@@ -38,7 +42,11 @@ fn messages_in(
     folder: &Folder,
     letters: &IndexMap<OpId, DatedText>,
 ) -> Result<Vec<Message>, AllocError>
-    ensures { (c : Contents) (name : List ℕ) → ((i : OpId) → c.bodies name i ≡ (folder_contents folder.now).bodies i) → ((i : OpId) → c.letters i ≡ option_map kept_dated_text (lookup (same_id i) letters.now.entries)) → IfOk result (λ messages. AreMessages c name messages.items) }
+    ensures { (c : Contents) (name : List ℕ)
+        → ((i : OpId) → c.bodies name i ≡ (folder_contents folder.now).bodies i)
+        → ((i : OpId)
+        → c.letters i ≡ option_map kept_dated_text (lookup (same_id i) letters.now.entries))
+        → IfOk result (λ messages. AreMessages c name messages.items) }
 {
     let list = folder.origins(alloc)?;
     let origins = ids_in_order(alloc, &list)?;
@@ -53,7 +61,8 @@ fn messages_of(
     letters: &IndexMap<OpId, DatedText>,
     origins: &[OpId],
 ) -> Result<Vec<Message>, AllocError>
-    ensures { IfOk result (λ messages. messages.items ≡ map (kept_message folder.now.messages letters.now.entries) origins.now) }
+    ensures { IfOk result (λ messages. messages.items
+        ≡ map (kept_message folder.now.messages letters.now.entries) origins.now) }
 {
     let mut messages = Vec::with_capacity(alloc, origins.len())?;
     for origin in origins {
@@ -70,7 +79,8 @@ fn message(
     letters: &IndexMap<OpId, DatedText>,
     origin: &OpId,
 ) -> Result<Message, AllocError>
-    ensures { IfOk result (λ message. message ≡ kept_message folder.now.messages letters.now.entries origin.now) }
+    ensures { IfOk result
+        (λ message. message ≡ kept_message folder.now.messages letters.now.entries origin.now) }
 {
     let list = folder.versions_at(origin);
     let versions = ids_of(alloc, list)?;
@@ -92,8 +102,12 @@ fn copy_dated_text(
     letters: &IndexMap<OpId, DatedText>,
     id: &OpId,
 ) -> Result<(DateTime, Text), AllocError>
-    ensures date { IfOk result (λ copied. copied.0 ≡ (unwrap_or (option_map kept_dated_text (lookup (same_id id.now) letters.now.entries)) no_dated_text).date) }
-    ensures text { IfOk result (λ copied. copied.1 ≡ (unwrap_or (option_map kept_dated_text (lookup (same_id id.now) letters.now.entries)) no_dated_text).text) }
+    ensures date { IfOk result (λ copied. copied.0
+        ≡ (unwrap_or (option_map kept_dated_text (lookup (same_id id.now) letters.now.entries))
+        no_dated_text).date) }
+    ensures text { IfOk result (λ copied. copied.1
+        ≡ (unwrap_or (option_map kept_dated_text (lookup (same_id id.now) letters.now.entries))
+        no_dated_text).text) }
 {
     match letters.get(id) {
         Some(letter) => Ok((letter.date.copy(), letter.text.copy()?)),

@@ -7,7 +7,10 @@ ghost use Rattle.tags_clocks.specs.declared.id.OpId.{OpId};
 ghost use Rattle.merge_laws.specs.Orders.{IsIn};
 ghost use Rattle.crdt_ops.specs.declared.op.Op.{Op};
 ghost use Rattle.folder_state.specs.FolderTables.{FolderTables, find_folder};
-ghost use Rattle.folder_state.specs.OpRoom.{AreRoomier, AreRoomierLists, HasPlaces, HasRoomAt, HasRoomFor, HasVersionPlaces, HasVersionRoom, HaveLists, IsRoomier, count_at, count_under, origin_by, tags_added, target, versions_added, counts_of};
+ghost use Rattle.folder_state.specs.OpRoom.{AreRoomier, AreRoomierLists, HasPlaces, HasRoomAt};
+ghost use Rattle.folder_state.specs.OpRoom.{HasRoomFor, HasVersionPlaces, HasVersionRoom};
+ghost use Rattle.folder_state.specs.OpRoom.{HaveLists, IsRoomier, count_at, count_under, origin_by};
+ghost use Rattle.folder_state.specs.OpRoom.{tags_added, target, versions_added, counts_of};
 
 use crate::after_ops::origin_by;
 use crate::folder::Folder;
@@ -26,7 +29,8 @@ pub fn empty_lists(
     ops: &[SoundOp],
     tag_counts: &TagCounts,
 ) -> Result<VecDeque<Vec<Version>>, AllocError>
-    requires { (origin : OpId) → count_at origin tag_counts.now.versions ≡ versions_added ops.now origin }
+    requires { (origin : OpId)
+        → count_at origin tag_counts.now.versions ≡ versions_added ops.now origin }
     ensures { IfOk result (λ lists. HaveLists ops.now lists.items) }
 {
     let mut lists = VecDeque::new(alloc);
@@ -40,7 +44,8 @@ pub fn empty_lists(
 /// out.
 fn empty_list(alloc: Global, op: &Op, tag_counts: &TagCounts) -> Result<Vec<Version>, AllocError>
     ensures items { IfOk result (λ list. list.items ≡ []) }
-    ensures capacity { IfOk result (λ list. counts_of (λ o. count_at o tag_counts.now.versions) (origin_by op.now.id op.now.kind) ≤ vec_capacity list) }
+    ensures capacity { IfOk result (λ list. counts_of (λ o. count_at o tag_counts.now.versions)
+        (origin_by op.now.id op.now.kind) ≤ vec_capacity list) }
 {
     let list = Vec::with_capacity(alloc, tag_counts.versions_of(&origin_by(op)))?;
     Ok(list)
@@ -55,10 +60,13 @@ pub fn reserve_folders(
     ops: &[SoundOp],
     tag_counts: &TagCounts,
 ) -> Result<(), AllocError>
-    requires tags { (name : List ℕ) → count_under name tag_counts.now.tags ≡ tags_added ops.now name }
-    requires versions { (origin : OpId) → count_at origin tag_counts.now.versions ≡ versions_added ops.now origin }
+    requires tags { (name : List ℕ)
+        → count_under name tag_counts.now.tags ≡ tags_added ops.now name }
+    requires versions { (origin : OpId)
+        → count_at origin tag_counts.now.versions ≡ versions_added ops.now origin }
     ensures roomier { AreRoomier by_name.old.entries by_name.new.entries }
-    ensures rooms { OnOk result ((o : Op) → IsIn o ops.now → HasRoomFor ops.now o (λ name. find_folder name by_name.new.entries)) }
+    ensures rooms { OnOk result ((o : Op) → IsIn o ops.now
+        → HasRoomFor ops.now o (λ name. find_folder name by_name.new.entries)) }
 {
     for op in ops {
         reserve_for(alloc, by_name, op.op(), tag_counts)?;
@@ -73,7 +81,8 @@ pub fn reserve_one(
     op: &Op,
 ) -> Result<(), AllocError>
     ensures roomier { AreRoomier by_name.old.entries by_name.new.entries }
-    ensures room { OnOk result (HasRoomFor (op.now ∷ []) op.now (λ name. find_folder name by_name.new.entries)) }
+    ensures room { OnOk result
+        (HasRoomFor (op.now ∷ []) op.now (λ name. find_folder name by_name.new.entries)) }
 {
     match target(op) {
         Some(name) => reserve_in(alloc, by_name, name.as_bytes(), 1, &origin_by(op), 1),
@@ -89,7 +98,9 @@ fn reserve_for(
     tag_counts: &TagCounts,
 ) -> Result<(), AllocError>
     ensures roomier { AreRoomier by_name.old.entries by_name.new.entries }
-    ensures ok { OnOk result (HasRoomAt (λ n. count_under n tag_counts.now.tags) (λ o. count_at o tag_counts.now.versions) (origin_by op.now.id op.now.kind) (target op.now.kind) (λ name. find_folder name by_name.new.entries)) }
+    ensures ok { OnOk result (HasRoomAt (λ n. count_under n tag_counts.now.tags)
+        (λ o. count_at o tag_counts.now.versions) (origin_by op.now.id op.now.kind)
+        (target op.now.kind) (λ name. find_folder name by_name.new.entries)) }
 {
     let origin = origin_by(op);
     match target(op) {
@@ -116,7 +127,9 @@ fn reserve_in(
     versions: usize,
 ) -> Result<(), AllocError>
     ensures roomier { AreRoomier by_name.old.entries by_name.new.entries }
-    ensures ok { OnOk result ((folder : FolderTables) × (find_folder name.now by_name.new.entries ≡ Some folder) × HasPlaces folder origin.now tags × HasVersionPlaces folder origin.now versions) }
+    ensures ok { OnOk result ((folder : FolderTables)
+        × (find_folder name.now by_name.new.entries ≡ Some folder)
+        × HasPlaces folder origin.now tags × HasVersionPlaces folder origin.now versions) }
 {
     match by_name.get_mut(name) {
         Some(folder) => folder.reserve(tags, origin, versions),
@@ -135,7 +148,9 @@ fn put_folder(
 ) -> Result<(), AllocError>
     requires { find_folder name.now by_name.old.entries ≡ None }
     ensures roomier { AreRoomier by_name.old.entries by_name.new.entries }
-    ensures ok { OnOk result ((folder : FolderTables) × (find_folder name.now by_name.new.entries ≡ Some folder) × HasPlaces folder origin.now tags × (folder.messages ≡ [])) }
+    ensures ok { OnOk result ((folder : FolderTables)
+        × (find_folder name.now by_name.new.entries ≡ Some folder)
+        × HasPlaces folder origin.now tags × (folder.messages ≡ [])) }
 {
     let folder = Folder::with_room(alloc, tags, origin)?;
     let key = name.to_vec(alloc)?;
@@ -149,7 +164,8 @@ impl Folder {
     /// A folder without tags, with room for `tags` of them and, if there is an origin, for as many
     /// messages; `Err` if memory runs out.
     fn with_room(alloc: Global, tags: usize, origin: &Option<OpId>) -> Result<Folder, AllocError>
-        ensures empty { IfOk result (λ folder. (folder.tags ≡ []) × (folder.messages ≡ []) × (folder.origins ≡ [])) }
+        ensures empty { IfOk result
+            (λ folder. (folder.tags ≡ []) × (folder.messages ≡ []) × (folder.origins ≡ [])) }
         ensures room { IfOk result (λ folder. HasPlaces folder origin.now tags) }
     {
         let mut folder = Folder::new(alloc);
@@ -167,7 +183,8 @@ impl Folder {
         versions: usize,
     ) -> Result<(), AllocError>
         ensures roomier { IsRoomier self.old self.new }
-        ensures ok { OnOk result (HasPlaces self.new origin.now tags × HasVersionPlaces self.new origin.now versions) }
+        ensures ok { OnOk result
+            (HasPlaces self.new origin.now tags × HasVersionPlaces self.new origin.now versions) }
     {
         self.reserve_places(tags, origin)?;
         match origin {
@@ -178,8 +195,12 @@ impl Folder {
 
     /// Makes room for `tags` further tags and, if there is an origin, for as many messages.
     fn reserve_places(&mut self, tags: usize, origin: &Option<OpId>) -> Result<(), AllocError>
-        ensures same { (self.new.tags ≡ self.old.tags) × (self.new.messages ≡ self.old.messages) × (self.new.origins ≡ self.old.origins) }
-        ensures grown { (self.old.tag_room ≤ self.new.tag_room) × (self.old.message_room ≤ self.new.message_room) × (self.old.origin_room ≤ self.new.origin_room) }
+        ensures same { (self.new.tags ≡ self.old.tags)
+            × (self.new.messages ≡ self.old.messages)
+            × (self.new.origins ≡ self.old.origins) }
+        ensures grown { (self.old.tag_room ≤ self.new.tag_room)
+            × (self.old.message_room ≤ self.new.message_room)
+            × (self.old.origin_room ≤ self.new.origin_room) }
         ensures ok { OnOk result (HasPlaces self.new origin.now tags) }
     {
         self.tags.reserve(tags)?;
@@ -191,10 +212,14 @@ impl Folder {
 
     /// Makes room for `count` further messages.
     fn reserve_messages(&mut self, count: usize) -> Result<(), AllocError>
-        ensures same { (self.new.tags ≡ self.old.tags) × (self.new.messages ≡ self.old.messages) × (self.new.origins ≡ self.old.origins) }
-        ensures grown { (self.old.message_room ≤ self.new.message_room) × (self.old.origin_room ≤ self.new.origin_room) }
+        ensures same { (self.new.tags ≡ self.old.tags)
+            × (self.new.messages ≡ self.old.messages)
+            × (self.new.origins ≡ self.old.origins) }
+        ensures grown { (self.old.message_room ≤ self.new.message_room)
+            × (self.old.origin_room ≤ self.new.origin_room) }
         ensures tag_room { self.new.tag_room ≡ self.old.tag_room }
-        ensures ok { OnOk result ((count ≤ self.new.message_room) × (count ≤ self.new.origin_room)) }
+        ensures ok { OnOk result
+            ((count ≤ self.new.message_room) × (count ≤ self.new.origin_room)) }
     {
         self.messages.reserve(count)?;
         self.origins.reserve(count)

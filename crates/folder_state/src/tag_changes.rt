@@ -1,6 +1,7 @@
 //! The changes that an operation makes to the tables.
 
-ghost use Rattle.std.specs.Prelude.{◌≡◌, ◌≤◌, ◌<◌, ◌+◌, ℕ, List, [], ◌∷◌, None, Some, not, ◌&&◌, ◌||◌, if◌then◌else◌};
+ghost use Rattle.std.specs.Prelude.{◌≡◌, ◌≤◌, ◌<◌, ◌+◌, ℕ, List, [], ◌∷◌, None, Some, not, ◌&&◌};
+ghost use Rattle.std.specs.Prelude.{◌||◌, if◌then◌else◌};
 ghost use Rattle.std.specs.Map.{lookup};
 ghost use Rattle.std.specs.Option.{option_map, option_or};
 ghost use Rattle.std.specs.Vec.{vec_capacity};
@@ -10,8 +11,11 @@ ghost use Rattle.crdt_ops.specs.SortedSets.{same_id};
 ghost use Rattle.crdt_ops.specs.Tags.{FolderTag, MessageTag, adds, removes};
 ghost use Rattle.crdt_ops.specs.Sets.{tag_data_by, dated_text_from};
 ghost use Rattle.folder_state.specs.Keys.{is_among, is_at};
-ghost use Rattle.folder_state.specs.FolderTables.{FolderTables, body_in_folder, find_folder, has_tag_in};
-ghost use Rattle.folder_state.specs.OpRoom.{AreNoFuller, HasPlaces, HasRoomFor, HasVersionRoom, LeavesRoom, LeavesRoomBehind, origin_by, versions_added, counts_of};
+ghost use Rattle.folder_state.specs.FolderTables.{FolderTables, body_in_folder, find_folder};
+ghost use Rattle.folder_state.specs.FolderTables.{has_tag_in};
+ghost use Rattle.folder_state.specs.OpRoom.{AreNoFuller, HasPlaces, HasRoomFor, HasVersionRoom};
+ghost use Rattle.folder_state.specs.OpRoom.{LeavesRoom, LeavesRoomBehind, origin_by};
+ghost use Rattle.folder_state.specs.OpRoom.{versions_added, counts_of};
 ghost use Rattle.folder_state.specs.LentMessages.{kept_dated_text};
 
 use crate::folder::Folder;
@@ -23,8 +27,14 @@ use tags_clocks::OpId;
 
 /// Takes out the tags that the operation removes.
 pub fn remove_tags_of(by_name: &mut IndexMap<Vec<u8>, Folder>, op: &Op)
-    ensures tags { (f : List ℕ) (i : OpId) → has_tag_in (find_folder f by_name.new.entries) i ≡ (not (removes (FolderTag f i) op.now) && has_tag_in (find_folder f by_name.old.entries) i) }
-    ensures bodies { (f : List ℕ) (i : OpId) → body_in_folder (find_folder f by_name.new.entries) i ≡ (if removes (MessageTag f i) op.now then None else body_in_folder (find_folder f by_name.old.entries) i) }
+    ensures tags { (f : List ℕ) (i : OpId)
+        → has_tag_in (find_folder f by_name.new.entries) i
+        ≡ (not (removes (FolderTag f i) op.now)
+        && has_tag_in (find_folder f by_name.old.entries) i) }
+    ensures bodies { (f : List ℕ) (i : OpId)
+        → body_in_folder (find_folder f by_name.new.entries) i
+        ≡ (if removes (MessageTag f i) op.now then None
+        else body_in_folder (find_folder f by_name.old.entries) i) }
     ensures room { AreNoFuller by_name.old.entries by_name.new.entries }
 {
     match &op.kind {
@@ -40,8 +50,14 @@ pub fn remove_tags_of(by_name: &mut IndexMap<Vec<u8>, Folder>, op: &Op)
 
 /// Takes out the folder's tags of both kinds with these ids.
 fn forget_both(by_name: &mut IndexMap<Vec<u8>, Folder>, name: &Name, ids: &[OpId])
-    ensures tags { (f : List ℕ) (i : OpId) → has_tag_in (find_folder f by_name.new.entries) i ≡ (not (is_among f i name.now ids.now) && has_tag_in (find_folder f by_name.old.entries) i) }
-    ensures bodies { (f : List ℕ) (i : OpId) → body_in_folder (find_folder f by_name.new.entries) i ≡ (if is_among f i name.now ids.now then None else body_in_folder (find_folder f by_name.old.entries) i) }
+    ensures tags { (f : List ℕ) (i : OpId)
+        → has_tag_in (find_folder f by_name.new.entries) i
+        ≡ (not (is_among f i name.now ids.now)
+        && has_tag_in (find_folder f by_name.old.entries) i) }
+    ensures bodies { (f : List ℕ) (i : OpId)
+        → body_in_folder (find_folder f by_name.new.entries) i
+        ≡ (if is_among f i name.now ids.now then None
+        else body_in_folder (find_folder f by_name.old.entries) i) }
     ensures room { AreNoFuller by_name.old.entries by_name.new.entries }
 {
     match by_name.get_mut(name.as_bytes()) {
@@ -52,8 +68,13 @@ fn forget_both(by_name: &mut IndexMap<Vec<u8>, Folder>, name: &Name, ids: &[OpId
 
 /// Takes out the folder's message tags with these ids.
 fn forget_messages(by_name: &mut IndexMap<Vec<u8>, Folder>, name: &Name, ids: &[OpId])
-    ensures tags { (f : List ℕ) (i : OpId) → has_tag_in (find_folder f by_name.new.entries) i ≡ has_tag_in (find_folder f by_name.old.entries) i }
-    ensures bodies { (f : List ℕ) (i : OpId) → body_in_folder (find_folder f by_name.new.entries) i ≡ (if is_among f i name.now ids.now then None else body_in_folder (find_folder f by_name.old.entries) i) }
+    ensures tags { (f : List ℕ) (i : OpId)
+        → has_tag_in (find_folder f by_name.new.entries) i
+        ≡ has_tag_in (find_folder f by_name.old.entries) i }
+    ensures bodies { (f : List ℕ) (i : OpId)
+        → body_in_folder (find_folder f by_name.new.entries) i
+        ≡ (if is_among f i name.now ids.now then None
+        else body_in_folder (find_folder f by_name.old.entries) i) }
     ensures room { AreNoFuller by_name.old.entries by_name.new.entries }
 {
     match by_name.get_mut(name.as_bytes()) {
@@ -72,12 +93,23 @@ pub fn add_tag_of(
 )
     requires room { HasRoomFor (op ∷ []) op (λ name. find_folder name by_name.old.entries) }
     requires letters { 0 < spare letters.old }
-    requires list { (list.items ≡ []) × (counts_of (versions_added (op ∷ [])) (origin_by op.id op.kind) ≤ vec_capacity list) }
-    ensures tags { (f : List ℕ) (i : OpId) → has_tag_in (find_folder f by_name.new.entries) i ≡ (adds (FolderTag f i) op || has_tag_in (find_folder f by_name.old.entries) i) }
-    ensures bodies { (f : List ℕ) (i : OpId) → body_in_folder (find_folder f by_name.new.entries) i ≡ (if adds (MessageTag f i) op then tag_data_by op.id op.kind else body_in_folder (find_folder f by_name.old.entries) i) }
-    ensures letters { (i : OpId) → option_map kept_dated_text (lookup (same_id i) letters.new.entries) ≡ option_or (dated_text_from i op) (option_map kept_dated_text (lookup (same_id i) letters.old.entries)) }
+    requires list { (list.items ≡ [])
+        × (counts_of (versions_added (op ∷ [])) (origin_by op.id op.kind) ≤ vec_capacity list) }
+    ensures tags { (f : List ℕ) (i : OpId)
+        → has_tag_in (find_folder f by_name.new.entries) i
+        ≡ (adds (FolderTag f i) op || has_tag_in (find_folder f by_name.old.entries) i) }
+    ensures bodies { (f : List ℕ) (i : OpId)
+        → body_in_folder (find_folder f by_name.new.entries) i
+        ≡ (if adds (MessageTag f i) op then tag_data_by op.id op.kind
+        else body_in_folder (find_folder f by_name.old.entries) i) }
+    ensures letters { (i : OpId)
+        → option_map kept_dated_text (lookup (same_id i) letters.new.entries)
+        ≡ option_or (dated_text_from i op)
+        (option_map kept_dated_text (lookup (same_id i) letters.old.entries)) }
     ensures letters_room { spare letters.old ≤ spare letters.new + 1 }
-    ensures room { LeavesRoomBehind op (vec_capacity list) (λ name. find_folder name by_name.old.entries) (λ name. find_folder name by_name.new.entries) }
+    ensures room { LeavesRoomBehind op (vec_capacity list)
+        (λ name. find_folder name by_name.old.entries)
+        (λ name. find_folder name by_name.new.entries) }
 {
     let Op { id, clock: _, kind } = op;
     match kind {
@@ -106,10 +138,17 @@ pub fn add_tag_of(
 
 /// Puts in a folder tag, for which there is room.
 fn put_tag(by_name: &mut IndexMap<Vec<u8>, Folder>, name: &Name, id: &OpId)
-    requires { (folder : FolderTables) × (find_folder name.now by_name.old.entries ≡ Some folder) × HasPlaces folder None 1 }
-    ensures tags { (f : List ℕ) (i : OpId) → has_tag_in (find_folder f by_name.new.entries) i ≡ (is_at f i name.now id.now || has_tag_in (find_folder f by_name.old.entries) i) }
-    ensures bodies { (f : List ℕ) (i : OpId) → body_in_folder (find_folder f by_name.new.entries) i ≡ body_in_folder (find_folder f by_name.old.entries) i }
-    ensures room { LeavesRoom name.now None 0 (λ n. find_folder n by_name.old.entries) (λ n. find_folder n by_name.new.entries) }
+    requires { (folder : FolderTables)
+        × (find_folder name.now by_name.old.entries ≡ Some folder)
+        × HasPlaces folder None 1 }
+    ensures tags { (f : List ℕ) (i : OpId)
+        → has_tag_in (find_folder f by_name.new.entries) i
+        ≡ (is_at f i name.now id.now || has_tag_in (find_folder f by_name.old.entries) i) }
+    ensures bodies { (f : List ℕ) (i : OpId)
+        → body_in_folder (find_folder f by_name.new.entries) i
+        ≡ body_in_folder (find_folder f by_name.old.entries) i }
+    ensures room { LeavesRoom name.now None 0 (λ n. find_folder n by_name.old.entries)
+        (λ n. find_folder n by_name.new.entries) }
 {
     match by_name.get_mut(name.as_bytes()) {
         Some(folder) => folder.put_tag(id),
@@ -125,11 +164,21 @@ fn put_message(
     version: Version,
     list: Vec<Version>,
 )
-    requires room { (folder : FolderTables) × (find_folder name.now by_name.old.entries ≡ Some folder) × HasPlaces folder (Some origin.now) 1 × HasVersionRoom folder.messages origin.now 1 }
+    requires room { (folder : FolderTables)
+        × (find_folder name.now by_name.old.entries ≡ Some folder)
+        × HasPlaces folder (Some origin.now) 1
+        × HasVersionRoom folder.messages origin.now 1 }
     requires list { (list.items ≡ []) × (1 ≤ vec_capacity list) }
-    ensures tags { (f : List ℕ) (i : OpId) → has_tag_in (find_folder f by_name.new.entries) i ≡ has_tag_in (find_folder f by_name.old.entries) i }
-    ensures bodies { (f : List ℕ) (i : OpId) → body_in_folder (find_folder f by_name.new.entries) i ≡ (if is_at f i name.now version.id then Some (record { flags = version.flags; origin = origin.now }) else body_in_folder (find_folder f by_name.old.entries) i) }
-    ensures room { LeavesRoom name.now (Some origin.now) (vec_capacity list) (λ n. find_folder n by_name.old.entries) (λ n. find_folder n by_name.new.entries) }
+    ensures tags { (f : List ℕ) (i : OpId)
+        → has_tag_in (find_folder f by_name.new.entries) i
+        ≡ has_tag_in (find_folder f by_name.old.entries) i }
+    ensures bodies { (f : List ℕ) (i : OpId)
+        → body_in_folder (find_folder f by_name.new.entries) i
+        ≡ (if is_at f i name.now version.id
+        then Some (record { flags = version.flags; origin = origin.now })
+        else body_in_folder (find_folder f by_name.old.entries) i) }
+    ensures room { LeavesRoom name.now (Some origin.now) (vec_capacity list)
+        (λ n. find_folder n by_name.old.entries) (λ n. find_folder n by_name.new.entries) }
 {
     match by_name.get_mut(name.as_bytes()) {
         Some(folder) => folder.put_message(origin, version, list),
@@ -145,11 +194,20 @@ fn put_first(
     flags: Flags,
     list: Vec<Version>,
 )
-    requires room { (folder : FolderTables) × (find_folder name.now by_name.old.entries ≡ Some folder) × HasPlaces folder (Some id.now) 1 × HasVersionRoom folder.messages id.now 1 }
+    requires room { (folder : FolderTables)
+        × (find_folder name.now by_name.old.entries ≡ Some folder)
+        × HasPlaces folder (Some id.now) 1
+        × HasVersionRoom folder.messages id.now 1 }
     requires list { (list.items ≡ []) × (1 ≤ vec_capacity list) }
-    ensures tags { (f : List ℕ) (i : OpId) → has_tag_in (find_folder f by_name.new.entries) i ≡ has_tag_in (find_folder f by_name.old.entries) i }
-    ensures bodies { (f : List ℕ) (i : OpId) → body_in_folder (find_folder f by_name.new.entries) i ≡ (if is_at f i name.now id.now then Some (record { flags = flags; origin = id.now }) else body_in_folder (find_folder f by_name.old.entries) i) }
-    ensures room { LeavesRoom name.now (Some id.now) (vec_capacity list) (λ n. find_folder n by_name.old.entries) (λ n. find_folder n by_name.new.entries) }
+    ensures tags { (f : List ℕ) (i : OpId)
+        → has_tag_in (find_folder f by_name.new.entries) i
+        ≡ has_tag_in (find_folder f by_name.old.entries) i }
+    ensures bodies { (f : List ℕ) (i : OpId)
+        → body_in_folder (find_folder f by_name.new.entries) i
+        ≡ (if is_at f i name.now id.now then Some (record { flags = flags; origin = id.now })
+        else body_in_folder (find_folder f by_name.old.entries) i) }
+    ensures room { LeavesRoom name.now (Some id.now) (vec_capacity list)
+        (λ n. find_folder n by_name.old.entries) (λ n. find_folder n by_name.new.entries) }
 {
     put_message(by_name, name, id, Version { id: *id, flags }, list);
 }
@@ -157,7 +215,10 @@ fn put_first(
 /// Puts in a date and text, for which there is room, in place of those with its id.
 fn put_dated_text(letters: &mut IndexMap<OpId, DatedText>, id: &OpId, letter: DatedText)
     requires { 0 < spare letters.old }
-    ensures found { (i : OpId) → option_map kept_dated_text (lookup (same_id i) letters.new.entries) ≡ (if same_id i id.now then Some (record { date = letter.date; text = letter.text }) else option_map kept_dated_text (lookup (same_id i) letters.old.entries)) }
+    ensures found { (i : OpId)
+        → option_map kept_dated_text (lookup (same_id i) letters.new.entries)
+        ≡ (if same_id i id.now then Some (record { date = letter.date; text = letter.text })
+        else option_map kept_dated_text (lookup (same_id i) letters.old.entries)) }
     ensures room { spare letters.old ≤ spare letters.new + 1 }
 {
     if letters.insert(*id, letter).is_err() {

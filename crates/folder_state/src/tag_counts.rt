@@ -5,7 +5,8 @@ ghost use Rattle.std.specs.Option.{option_copied};
 ghost use Rattle.tags_clocks.specs.declared.id.OpId.{OpId};
 ghost use Rattle.crdt_ops.specs.SortedSets.{is_some_id, same_id};
 ghost use Rattle.std.specs.Str.{bytes_eq};
-ghost use Rattle.folder_state.specs.OpRoom.{count_at, count_under, is_named, origin_by, tags_added, target, versions_added, counts_of};
+ghost use Rattle.folder_state.specs.OpRoom.{count_at, count_under, is_named, origin_by, tags_added};
+ghost use Rattle.folder_state.specs.OpRoom.{target, versions_added, counts_of};
 
 use crate::after_ops::origin_by;
 use crdt_ops::{Kind, Op, SoundOp};
@@ -42,8 +43,10 @@ impl Model for TagCounts {
 impl TagCounts {
     /// What these operations add; `Err` if memory runs out. Cost: at most two look-ups for each.
     pub fn of_ops(alloc: Global, ops: &[SoundOp]) -> Result<TagCounts, AllocError>
-        ensures tags { IfOk result (λ tag_counts. (name : List ℕ) → count_under name tag_counts.tags ≡ tags_added ops.now name) }
-        ensures versions { IfOk result (λ tag_counts. (origin : OpId) → count_at origin tag_counts.versions ≡ versions_added ops.now origin) }
+        ensures tags { IfOk result (λ tag_counts. (name : List ℕ)
+            → count_under name tag_counts.tags ≡ tags_added ops.now name) }
+        ensures versions { IfOk result (λ tag_counts.
+            (origin : OpId) → count_at origin tag_counts.versions ≡ versions_added ops.now origin) }
     {
         let tags = tags_by(alloc, ops)?;
         let versions = versions_by(alloc, ops)?;
@@ -96,7 +99,8 @@ fn count_at(counts: &IndexMap<OpId, usize>, id: &OpId) -> usize
 }
 
 fn tags_by(alloc: Global, ops: &[SoundOp]) -> Result<IndexMap<Vec<u8>, usize>, AllocError>
-    ensures { IfOk result (λ counts. (name : List ℕ) → count_under name counts.entries ≡ tags_added ops.now name) }
+    ensures { IfOk result
+        (λ counts. (name : List ℕ) → count_under name counts.entries ≡ tags_added ops.now name) }
 {
     let mut counts = IndexMap::new(alloc);
     for op in ops {
@@ -110,7 +114,10 @@ fn count_tag(
     counts: &mut IndexMap<Vec<u8>, usize>,
     op: &Op,
 ) -> Result<(), AllocError>
-    ensures { OnOk result ((name : List ℕ) → count_under name counts.new.entries ≡ (if is_named name (target op.now.kind) then 1 else 0) + count_under name counts.old.entries) }
+    ensures { OnOk result ((name : List ℕ)
+        → count_under name counts.new.entries
+        ≡ (if is_named name (target op.now.kind) then 1 else 0)
+        + count_under name counts.old.entries) }
 {
     match target(op) {
         Some(name) => count_name(alloc, counts, name.as_bytes()),
@@ -123,7 +130,9 @@ fn count_name(
     counts: &mut IndexMap<Vec<u8>, usize>,
     name: &[u8],
 ) -> Result<(), AllocError>
-    ensures { OnOk result ((n : List ℕ) → count_under n counts.new.entries ≡ (if bytes_eq n name.now then 1 else 0) + count_under n counts.old.entries) }
+    ensures { OnOk result ((n : List ℕ)
+        → count_under n counts.new.entries
+        ≡ (if bytes_eq n name.now then 1 else 0) + count_under n counts.old.entries) }
 {
     match count_under(counts, name).checked_add(1) {
         Some(more) => put_name(alloc, counts, name, more),
@@ -137,7 +146,9 @@ fn put_name(
     name: &[u8],
     count: usize,
 ) -> Result<(), AllocError>
-    ensures { OnOk result ((n : List ℕ) → count_under n counts.new.entries ≡ (if bytes_eq n name.now then count else count_under n counts.old.entries)) }
+    ensures { OnOk result ((n : List ℕ)
+        → count_under n counts.new.entries
+        ≡ (if bytes_eq n name.now then count else count_under n counts.old.entries)) }
 {
     let key = name.to_vec(alloc)?;
     if counts.insert(key, count).is_err() {
@@ -147,7 +158,8 @@ fn put_name(
 }
 
 fn versions_by(alloc: Global, ops: &[SoundOp]) -> Result<IndexMap<OpId, usize>, AllocError>
-    ensures { IfOk result (λ counts. (origin : OpId) → count_at origin counts.entries ≡ versions_added ops.now origin) }
+    ensures { IfOk result (λ counts. (origin : OpId)
+        → count_at origin counts.entries ≡ versions_added ops.now origin) }
 {
     let mut counts = IndexMap::new(alloc);
     for op in ops {
@@ -157,7 +169,10 @@ fn versions_by(alloc: Global, ops: &[SoundOp]) -> Result<IndexMap<OpId, usize>, 
 }
 
 fn count_version(counts: &mut IndexMap<OpId, usize>, op: &Op) -> Result<(), AllocError>
-    ensures { OnOk result ((origin : OpId) → count_at origin counts.new.entries ≡ (if is_some_id origin (origin_by op.now.id op.now.kind) then 1 else 0) + count_at origin counts.old.entries) }
+    ensures { OnOk result ((origin : OpId)
+        → count_at origin counts.new.entries
+        ≡ (if is_some_id origin (origin_by op.now.id op.now.kind) then 1 else 0)
+        + count_at origin counts.old.entries) }
 {
     match origin_by(op) {
         Some(origin) => count_id(counts, &origin),
@@ -166,7 +181,9 @@ fn count_version(counts: &mut IndexMap<OpId, usize>, op: &Op) -> Result<(), Allo
 }
 
 fn count_id(counts: &mut IndexMap<OpId, usize>, id: &OpId) -> Result<(), AllocError>
-    ensures { OnOk result ((i : OpId) → count_at i counts.new.entries ≡ (if same_id i id.now then 1 else 0) + count_at i counts.old.entries) }
+    ensures { OnOk result ((i : OpId)
+        → count_at i counts.new.entries
+        ≡ (if same_id i id.now then 1 else 0) + count_at i counts.old.entries) }
 {
     match count_at(counts, id).checked_add(1) {
         Some(more) => put_id(counts, id, more),
@@ -175,7 +192,9 @@ fn count_id(counts: &mut IndexMap<OpId, usize>, id: &OpId) -> Result<(), AllocEr
 }
 
 fn put_id(counts: &mut IndexMap<OpId, usize>, id: &OpId, count: usize) -> Result<(), AllocError>
-    ensures { OnOk result ((i : OpId) → count_at i counts.new.entries ≡ (if same_id i id.now then count else count_at i counts.old.entries)) }
+    ensures { OnOk result ((i : OpId)
+        → count_at i counts.new.entries
+        ≡ (if same_id i id.now then count else count_at i counts.old.entries)) }
 {
     if counts.insert(*id, count).is_err() {
         return Err(AllocError);

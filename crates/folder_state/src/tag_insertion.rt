@@ -1,6 +1,7 @@
 //! Inserting tags into a folder.
 
-ghost use Rattle.std.specs.Prelude.{◌≡◌, ◌≤◌, ◌<◌, ◌+◌, ◌||◌, ℕ, [], true, Option, None, Some, MatchResult, insert, length, if◌then◌else◌};
+ghost use Rattle.std.specs.Prelude.{◌≡◌, ◌≤◌, ◌<◌, ◌+◌, ◌||◌, ℕ, [], true, Option, None, Some};
+ghost use Rattle.std.specs.Prelude.{MatchResult, insert, length, if◌then◌else◌};
 ghost use Rattle.std.specs.List.{list_any};
 ghost use Rattle.std.specs.Map.{lookup};
 ghost use Rattle.std.specs.Vec.{vec_capacity};
@@ -20,9 +21,14 @@ impl Folder {
     /// Puts in a folder tag, for which there is room. Cost: a look-up.
     pub(crate) fn put_tag(&mut self, id: &OpId)
         requires { HasPlaces self.old None 1 }
-        ensures tags { (i : OpId) → (folder_contents self.new).tags i ≡ (same_id i id.now || (folder_contents self.old).tags i) }
-        ensures messages { (self.new.messages ≡ self.old.messages) × (self.new.origins ≡ self.old.origins) }
-        ensures room { (o : Option OpId) (n : ℕ) → HasPlaces self.old o (n + 1) → HasPlaces self.new o n }
+        ensures tags { (i : OpId)
+            → (folder_contents self.new).tags i
+            ≡ (same_id i id.now || (folder_contents self.old).tags i) }
+        ensures messages { (self.new.messages ≡ self.old.messages)
+            × (self.new.origins ≡ self.old.origins) }
+        ensures room { (o : Option OpId) (n : ℕ)
+            → HasPlaces self.old o (n + 1)
+            → HasPlaces self.new o n }
     {
         if self.tags.insert(*id).is_err() {
             unreachable!();
@@ -36,10 +42,19 @@ impl Folder {
         requires places { HasPlaces self.old (Some origin.now) 1 }
         requires versions { HasVersionRoom self.old.messages origin.now 1 }
         requires list { (list.items ≡ []) × (1 ≤ vec_capacity list) }
-        ensures bodies { (i : OpId) → (folder_contents self.new).bodies i ≡ (if same_id i version.id then Some (record { flags = version.flags; origin = origin.now }) else (folder_contents self.old).bodies i) }
+        ensures bodies { (i : OpId)
+            → (folder_contents self.new).bodies i
+            ≡ (if same_id i version.id
+            then Some (record { flags = version.flags; origin = origin.now })
+            else (folder_contents self.old).bodies i) }
         ensures tags { self.new.tags ≡ self.old.tags }
-        ensures room { (o : Option OpId) (n : ℕ) → HasPlaces self.old o (n + 1) → HasPlaces self.new o n }
-        ensures versions { (o : OpId) (n : ℕ) → HasVersionRoom self.old.messages o ((if same_id o origin.now then 1 else 0) + n) → (same_id o origin.now ≡ true → 1 + n ≤ vec_capacity list) → HasVersionRoom self.new.messages o n }
+        ensures room { (o : Option OpId) (n : ℕ)
+            → HasPlaces self.old o (n + 1)
+            → HasPlaces self.new o n }
+        ensures versions { (o : OpId) (n : ℕ)
+            → HasVersionRoom self.old.messages o ((if same_id o origin.now then 1 else 0) + n)
+            → (same_id o origin.now ≡ true → 1 + n ≤ vec_capacity list)
+            → HasVersionRoom self.new.messages o n }
     {
         self.remove_message(&version.id);
         self.put_version(origin, version, list);
@@ -51,10 +66,19 @@ impl Folder {
         requires places { HasPlaces self.old (Some origin.now) 1 }
         requires versions { HasVersionRoom self.old.messages origin.now 1 }
         requires list { (list.items ≡ []) × (1 ≤ vec_capacity list) }
-        ensures bodies { (i : OpId) → (folder_contents self.new).bodies i ≡ (if same_id i version.id then Some (record { flags = version.flags; origin = origin.now }) else (folder_contents self.old).bodies i) }
+        ensures bodies { (i : OpId)
+            → (folder_contents self.new).bodies i
+            ≡ (if same_id i version.id
+            then Some (record { flags = version.flags; origin = origin.now })
+            else (folder_contents self.old).bodies i) }
         ensures tags { self.new.tags ≡ self.old.tags }
-        ensures room { (o : Option OpId) (n : ℕ) → HasPlaces self.old o (n + 1) → HasPlaces self.new o n }
-        ensures versions { (o : OpId) (n : ℕ) → HasVersionRoom self.old.messages o ((if same_id o origin.now then 1 else 0) + n) → (same_id o origin.now ≡ true → 1 + n ≤ vec_capacity list) → HasVersionRoom self.new.messages o n }
+        ensures room { (o : Option OpId) (n : ℕ)
+            → HasPlaces self.old o (n + 1)
+            → HasPlaces self.new o n }
+        ensures versions { (o : OpId) (n : ℕ)
+            → HasVersionRoom self.old.messages o ((if same_id o origin.now then 1 else 0) + n)
+            → (same_id o origin.now ≡ true → 1 + n ≤ vec_capacity list)
+            → HasVersionRoom self.new.messages o n }
     {
         index_origin(&mut self.origins, &version.id, origin);
         put_in(&mut self.messages, origin, version, list);
@@ -64,7 +88,9 @@ impl Folder {
 /// Sets the origin of this id in the index, for which there is room.
 fn index_origin(origins: &mut IndexMap<OpId, OpId>, id: &OpId, origin: &OpId)
     requires { 0 < spare origins.old }
-    ensures told { (i : OpId) → lookup (same_id i) origins.new.entries ≡ (if same_id i id.now then Some origin.now else lookup (same_id i) origins.old.entries) }
+    ensures told { (i : OpId)
+        → lookup (same_id i) origins.new.entries
+        ≡ (if same_id i id.now then Some origin.now else lookup (same_id i) origins.old.entries) }
     ensures room { spare origins.old ≤ spare origins.new + 1 }
 {
     if origins.insert(*id, *origin).is_err() {
@@ -84,7 +110,10 @@ fn put_in(
     requires list { (list.items ≡ []) × (1 ≤ vec_capacity list) }
     ensures put { IsPutIn origin.now version messages.old.entries messages.new.entries }
     ensures room { spare messages.old ≤ spare messages.new + 1 }
-    ensures versions { (o : OpId) (n : ℕ) → HasVersionRoom messages.old.entries o ((if same_id o origin.now then 1 else 0) + n) → (same_id o origin.now ≡ true → 1 + n ≤ vec_capacity list) → HasVersionRoom messages.new.entries o n }
+    ensures versions { (o : OpId) (n : ℕ)
+        → HasVersionRoom messages.old.entries o ((if same_id o origin.now then 1 else 0) + n)
+        → (same_id o origin.now ≡ true → 1 + n ≤ vec_capacity list)
+        → HasVersionRoom messages.new.entries o n }
 {
     match messages.get_mut(origin) {
         Some(versions) => put_to(versions, version),
@@ -104,7 +133,10 @@ fn put_first(
     requires list { (list.items ≡ []) × (1 ≤ vec_capacity list) }
     ensures put { IsPutIn origin.now version messages.old.entries messages.new.entries }
     ensures room { spare messages.old ≤ spare messages.new + 1 }
-    ensures versions { (o : OpId) (n : ℕ) → HasVersionRoom messages.old.entries o ((if same_id o origin.now then 1 else 0) + n) → (same_id o origin.now ≡ true → 1 + n ≤ vec_capacity list) → HasVersionRoom messages.new.entries o n }
+    ensures versions { (o : OpId) (n : ℕ)
+        → HasVersionRoom messages.old.entries o ((if same_id o origin.now then 1 else 0) + n)
+        → (same_id o origin.now ≡ true → 1 + n ≤ vec_capacity list)
+        → HasVersionRoom messages.new.entries o n }
 {
     let mut versions = list;
     put_to(&mut versions, version);
@@ -131,7 +163,9 @@ fn put_to(versions: &mut Vec<Version>, version: Version)
 fn place_of(versions: &[Version], version: &Version) -> Result<usize, usize>
     ensures { MatchResult result
         (λ at. insert_ordered by_id version.now versions.now ≡ versions.now)
-        (λ at. (at ≤ length versions.now) × (insert_ordered by_id version.now versions.now ≡ insert versions.now at version.now)) }
+        (λ at. (at ≤ length versions.now)
+        × (insert_ordered by_id version.now versions.now
+        ≡ insert versions.now at version.now)) }
 {
     for (at, other) in versions.iter().enumerate() {
         if version.id == other.id {

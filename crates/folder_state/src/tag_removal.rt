@@ -1,6 +1,7 @@
 //! Removing tags from a folder.
 
-ghost use Rattle.std.specs.Prelude.{◌≡◌, ◌≤◌, ◌<◌, ◌==◌, [], None, Some, false, true, length, not, ◌&&◌, if◌then◌else◌};
+ghost use Rattle.std.specs.Prelude.{◌≡◌, ◌≤◌, ◌<◌, ◌==◌, [], None, Some, false, true, length, not};
+ghost use Rattle.std.specs.Prelude.{◌&&◌, if◌then◌else◌};
 ghost use Rattle.std.specs.Global.{Vec as Places};
 ghost use Rattle.std.specs.List.{list_any};
 ghost use Rattle.std.specs.Map.{lookup};
@@ -10,7 +11,8 @@ ghost use Rattle.indexmap.specs.IndexSet.{spare as spare_keys};
 ghost use Rattle.tags_clocks.specs.declared.id.OpId.{OpId};
 ghost use Rattle.crdt_ops.specs.SortedSets.{same_id};
 ghost use Rattle.imap_types.specs.declared.version.Version.{Version};
-ghost use Rattle.folder_state.specs.FolderTables.{IsTakenOut, folder_contents, versions_at, without};
+ghost use Rattle.folder_state.specs.FolderTables.{IsTakenOut, folder_contents, versions_at};
+ghost use Rattle.folder_state.specs.FolderTables.{without};
 ghost use Rattle.folder_state.specs.OpRoom.{IsNoFuller};
 
 use crate::folder::Folder;
@@ -21,8 +23,11 @@ use tags_clocks::OpId;
 impl Folder {
     /// Takes out the folder tags with these ids. Cost: a look-up for each id.
     pub(crate) fn remove_tags(&mut self, ids: &[OpId])
-        ensures tags { (i : OpId) → (folder_contents self.new).tags i ≡ (not (list_any (same_id i) ids.now) && (folder_contents self.old).tags i) }
-        ensures messages { (self.new.messages ≡ self.old.messages) × (self.new.origins ≡ self.old.origins) }
+        ensures tags { (i : OpId)
+            → (folder_contents self.new).tags i
+            ≡ (not (list_any (same_id i) ids.now) && (folder_contents self.old).tags i) }
+        ensures messages { (self.new.messages ≡ self.old.messages)
+            × (self.new.origins ≡ self.old.origins) }
         ensures room { IsNoFuller self.old self.new }
     {
         forget_keys(&mut self.tags, ids);
@@ -30,8 +35,13 @@ impl Folder {
 
     /// Takes out the tags of both kinds with these ids. Cost: some look-ups for each id.
     pub(crate) fn remove_ids(&mut self, ids: &[OpId])
-        ensures tags { (i : OpId) → (folder_contents self.new).tags i ≡ (not (list_any (same_id i) ids.now) && (folder_contents self.old).tags i) }
-        ensures bodies { (i : OpId) → (folder_contents self.new).bodies i ≡ (if list_any (same_id i) ids.now then None else (folder_contents self.old).bodies i) }
+        ensures tags { (i : OpId)
+            → (folder_contents self.new).tags i
+            ≡ (not (list_any (same_id i) ids.now) && (folder_contents self.old).tags i) }
+        ensures bodies { (i : OpId)
+            → (folder_contents self.new).bodies i
+            ≡ (if list_any (same_id i) ids.now then None
+            else (folder_contents self.old).bodies i) }
         ensures room { IsNoFuller self.old self.new }
     {
         self.remove_tags(ids);
@@ -40,7 +50,10 @@ impl Folder {
 
     /// Takes out the message tags with these ids. Cost: some look-ups for each id.
     pub(crate) fn remove_messages(&mut self, ids: &[OpId])
-        ensures bodies { (i : OpId) → (folder_contents self.new).bodies i ≡ (if list_any (same_id i) ids.now then None else (folder_contents self.old).bodies i) }
+        ensures bodies { (i : OpId)
+            → (folder_contents self.new).bodies i
+            ≡ (if list_any (same_id i) ids.now then None
+            else (folder_contents self.old).bodies i) }
         ensures tags { self.new.tags ≡ self.old.tags }
         ensures room { IsNoFuller self.old self.new }
     {
@@ -52,7 +65,9 @@ impl Folder {
     /// Takes out the message tag with this id. Cost: some look-ups, and a pass over the versions of
     /// its message.
     pub(crate) fn remove_message(&mut self, id: &OpId)
-        ensures bodies { (i : OpId) → (folder_contents self.new).bodies i ≡ (if same_id i id.now then None else (folder_contents self.old).bodies i) }
+        ensures bodies { (i : OpId)
+            → (folder_contents self.new).bodies i
+            ≡ (if same_id i id.now then None else (folder_contents self.old).bodies i) }
         ensures gone { lookup (same_id id.now) self.new.origins ≡ None }
         ensures tags { self.new.tags ≡ self.old.tags }
         ensures room { IsNoFuller self.old self.new }
@@ -66,7 +81,9 @@ impl Folder {
 
 /// Removes these keys.
 fn forget_keys(keys: &mut IndexSet<OpId>, ids: &[OpId])
-    ensures keys { (i : OpId) → list_any (same_id i) keys.new.keys ≡ (not (list_any (same_id i) ids.now) && list_any (same_id i) keys.old.keys) }
+    ensures keys { (i : OpId)
+        → list_any (same_id i) keys.new.keys
+        ≡ (not (list_any (same_id i) ids.now) && list_any (same_id i) keys.old.keys) }
     ensures room { spare_keys keys.old ≤ spare_keys keys.new }
 {
     for id in ids {
@@ -89,10 +106,20 @@ fn take_out(messages: &mut IndexMap<OpId, Vec<Version>>, origin: &OpId, id: &OpI
 /// none left.
 fn take_version(messages: &mut IndexMap<OpId, Vec<Version>>, origin: &OpId, id: &OpId) -> bool
     ensures none { result ≡ true → versions_at messages.new.entries origin.now ≡ [] }
-    ensures some { result ≡ false → (vs : Places Version) → lookup (same_id origin.now) messages.new.entries ≡ Some vs → 0 < length vs.items }
-    ensures here { versions_at messages.new.entries origin.now ≡ without id.now (versions_at messages.old.entries origin.now) }
-    ensures beside { (o : OpId) → same_id o origin.now ≡ false → lookup (same_id o) messages.new.entries ≡ lookup (same_id o) messages.old.entries }
-    ensures places { (vs : Places Version) → lookup (same_id origin.now) messages.new.entries ≡ Some vs → (ws : Places Version) × (lookup (same_id origin.now) messages.old.entries ≡ Some ws) × (length vs.items ≤ length ws.items) × (vec_capacity vs ≡ vec_capacity ws) }
+    ensures some { result ≡ false → (vs : Places Version)
+        → lookup (same_id origin.now) messages.new.entries ≡ Some vs
+        → 0 < length vs.items }
+    ensures here { versions_at messages.new.entries origin.now
+        ≡ without id.now (versions_at messages.old.entries origin.now) }
+    ensures beside { (o : OpId)
+        → same_id o origin.now ≡ false
+        → lookup (same_id o) messages.new.entries ≡ lookup (same_id o) messages.old.entries }
+    ensures places { (vs : Places Version)
+        → lookup (same_id origin.now) messages.new.entries ≡ Some vs
+        → (ws : Places Version)
+        × (lookup (same_id origin.now) messages.old.entries ≡ Some ws)
+        × (length vs.items ≤ length ws.items)
+        × (vec_capacity vs ≡ vec_capacity ws) }
     ensures room { spare messages.old ≤ spare messages.new }
 {
     match messages.get_mut(origin) {

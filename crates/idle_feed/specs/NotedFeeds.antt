@@ -30,17 +30,23 @@ IsLeftBy left whole rows entries = whole ≡ true → NoteAllChanges left rows e
 
 -- The view's messages after a change.
 abbrev pub entries_after_change : List ViewEntry → ViewChange → List ViewEntry
-entries_after_change view (InPlace first patch left whole) = patched_entries (after_silent view first.items) patch.gone.items patch.came.items patch.flags.items
+entries_after_change view (InPlace first patch left whole) =
+    patched_entries (after_silent view first.items) patch.gone.items patch.came.items
+    patch.flags.items
 entries_after_change view (Anew entries left whole) = entries.items
 
 -- The notes that the change leaves, if they are all, name every row that differs then between the
 -- view and the listing.
 abbrev pub IsChangeTo : List ListedMessage → List ViewEntry → ViewChange → Type 0
-IsChangeTo rows view (InPlace first patch left whole) = IsLeftBy left.items whole rows (patched_entries (after_silent view first.items) patch.gone.items patch.came.items patch.flags.items)
+IsChangeTo rows view (InPlace first patch left whole) =
+    IsLeftBy left.items whole rows (patched_entries (after_silent view first.items) patch.gone.items
+    patch.came.items patch.flags.items)
 IsChangeTo rows view (Anew entries left whole) = IsLeftBy left.items whole rows entries.items
 
 -- The change can be made without further memory, and the UIDs ascend after it.
 abbrev pub CanCommit : List ViewEntry → ViewChange → Type 0
 CanCommit view (InPlace first patch left whole) =
-    HasRoomForArrivals (after_silent view first.items) patch × AreRising 1 (patched_entries (after_silent view first.items) patch.gone.items patch.came.items patch.flags.items)
+    HasRoomForArrivals (after_silent view first.items) patch
+    × AreRising 1 (patched_entries (after_silent view first.items) patch.gone.items patch.came.items
+    patch.flags.items)
 CanCommit view (Anew entries left whole) = AreRising 1 entries.items

@@ -1,8 +1,10 @@
 //! `Feed`: a session's notes of what changed in its mailbox.
 
-ghost use Rattle.std.specs.Prelude.{◌≡◌, ◌⊎◌, ◌≤◌, ◌+◌, ◌-◌, ◌&&◌, [], true, false, nat_lt, length, min, OnOk};
+ghost use Rattle.std.specs.Prelude.{◌≡◌, ◌⊎◌, ◌≤◌, ◌+◌, ◌-◌, ◌&&◌, [], true, false, nat_lt, length};
+ghost use Rattle.std.specs.Prelude.{min, OnOk};
 ghost use Rattle.std.specs.Option.{option_copied};
-ghost use Rattle.idle_feed.specs.Feeds.{pending_after, input_of_restore, pending_notes, no_pending, one, missed_pending, taken_from};
+ghost use Rattle.idle_feed.specs.Feeds.{pending_after, input_of_restore, pending_notes, no_pending};
+ghost use Rattle.idle_feed.specs.Feeds.{one, missed_pending, taken_from};
 
 use session_view::{Changes, Note};
 use std::alloc::{AllocError, Global};
@@ -44,9 +46,15 @@ impl Model for Feed {
 
     ghost Value = { FeedState };
 
-    ghost view = { λ f. record { pending = record { notes = f.notes.items; missed = f.missed }; room = vec_capacity f.notes - vec_len f.notes } };
+    ghost view = { λ f. record {
+      pending = record { notes = f.notes.items; missed = f.missed };
+      room = vec_capacity f.notes - vec_len f.notes;
+    } };
 
-    ghost invariant = { λ f. record { few : length f.notes.items ≤ 4096; none : f.missed ≡ true → f.notes.items ≡ [] } };
+    ghost invariant = { λ f. record {
+      few : length f.notes.items ≤ 4096;
+      none : f.missed ≡ true → f.notes.items ≡ [];
+    } };
 }
 
 impl Feed {
@@ -64,7 +72,8 @@ impl Feed {
     /// memory runs out; the notes stay unchanged either way.
     pub fn ready(&mut self, additional: usize) -> Result<(), AllocError>
         ensures same { self.new.pending ≡ self.old.pending }
-        ensures ok { OnOk result (min additional (4096 - length self.old.pending.notes) ≤ self.new.room) }
+        ensures ok { OnOk result
+            (min additional (4096 - length self.old.pending.notes) ≤ self.new.room) }
         ensures room { self.old.room ≤ self.new.room }
     {
         let left = MAX_NOTES - self.notes.len();
@@ -74,7 +83,8 @@ impl Feed {
     /// Adds a note. Takes no memory. A note for which there is no room is missed, and so is the
     /// 4,097th.
     pub fn note(&mut self, note: Note)
-        ensures pending { self.new.pending ≡ pending_after self.old.pending (one note (nat_lt 0 self.old.room)) }
+        ensures pending { self.new.pending
+            ≡ pending_after self.old.pending (one note (nat_lt 0 self.old.room)) }
         ensures room { self.old.room ≤ self.new.room + 1 }
     {
         if self.missed {
@@ -106,8 +116,11 @@ impl Feed {
 
     /// Puts back what was taken. Takes no memory if nothing came since.
     pub fn restore(&mut self, taken: TakenNotes)
-        ensures back { self.old.pending.notes ≡ [] → self.new.pending ≡ pending_after self.old.pending (input_of_restore taken true) }
-        ensures anyhow { (self.new.pending ≡ pending_after self.old.pending (input_of_restore taken true)) ⊎ (self.new.pending ≡ pending_after self.old.pending (input_of_restore taken false)) }
+        ensures back { self.old.pending.notes ≡ []
+            → self.new.pending ≡ pending_after self.old.pending (input_of_restore taken true) }
+        ensures anyhow { (self.new.pending
+            ≡ pending_after self.old.pending (input_of_restore taken true))
+            ⊎ (self.new.pending ≡ pending_after self.old.pending (input_of_restore taken false)) }
     {
         if self.missed {
             return;
@@ -119,8 +132,13 @@ impl Feed {
     }
 
     fn push_front(&mut self, notes: Vec<Note>)
-        ensures back { self.old.pending.notes ≡ [] → self.new.pending ≡ pending_after self.old.pending (record { notes = notes.items; found = true }) }
-        ensures anyhow { (self.new.pending ≡ pending_after self.old.pending (record { notes = notes.items; found = true })) ⊎ (self.new.pending ≡ pending_after self.old.pending (record { notes = notes.items; found = false })) }
+        ensures back { self.old.pending.notes ≡ []
+            → self.new.pending
+            ≡ pending_after self.old.pending (record { notes = notes.items; found = true }) }
+        ensures anyhow { (self.new.pending
+            ≡ pending_after self.old.pending (record { notes = notes.items; found = true }))
+            ⊎ (self.new.pending
+            ≡ pending_after self.old.pending (record { notes = notes.items; found = false })) }
     {
         if self.missed {
             return;

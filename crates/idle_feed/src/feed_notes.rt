@@ -13,14 +13,18 @@ use session_view::Note;
 /// Notes what changed in a view's mailbox. Takes no memory. A note for which there is no room is
 /// missed, and the feed says so.
 pub fn note_all(feed: &mut Feed, notes: &[Note])
-    ensures noted { (before after : List ListedMessage) (view : List ViewEntry) → NotesAllOf feed.old.pending before view → NoteAllChanges notes.now after (entries_of before) → NotesAllOf feed.new.pending after view }
+    ensures noted { (before after : List ListedMessage) (view : List ViewEntry)
+        → NotesAllOf feed.old.pending before view
+        → NoteAllChanges notes.now after (entries_of before)
+        → NotesAllOf feed.new.pending after view }
 {
     push_all(feed, notes);
 }
 
 fn push_all(feed: &mut Feed, notes: &[Note])
     ensures missed { feed.old.pending.missed ≡ true → feed.new.pending.missed ≡ true }
-    ensures noted { (feed.new.pending.missed ≡ true) ⊎ (feed.new.pending.notes ≡ feed.old.pending.notes ++ notes.now) }
+    ensures noted { (feed.new.pending.missed ≡ true)
+        ⊎ (feed.new.pending.notes ≡ feed.old.pending.notes ++ notes.now) }
 {
     for note in notes {
         feed.note(*note);

@@ -9,7 +9,8 @@ ghost use Rattle.session_view.specs.Sync.{sync_answers, view_after_sync};
 ghost use Rattle.session_view.specs.Views.{entries_of};
 ghost use Rattle.session_view.specs.declared.notes.Note.TheVariants.{Ended};
 ghost use Rattle.session_view.specs.declared.view_entry.SyncKind.TheVariants.{Full};
-ghost use Rattle.idle_feed.specs.NotedFeeds.{CanCommit, IsChangeTo, NotesAllOf, entries_after_change};
+ghost use Rattle.idle_feed.specs.NotedFeeds.{CanCommit, IsChangeTo, NotesAllOf};
+ghost use Rattle.idle_feed.specs.NotedFeeds.{entries_after_change};
 
 use crate::feed::Feed;
 use crate::view_change::ViewChange;
@@ -53,10 +54,14 @@ pub fn plan(
     first: Vec<SilentFlags>,
     form: SyncForm,
 ) -> Result<PlannedSync, AllocError>
-    requires { (before : List ListedMessage) × NotesAllOf noted.feed.now.pending before view.old.entries × NoteAllChanges noted.notes.now rows.now (entries_of before) }
+    requires { (before : List ListedMessage)
+        × NotesAllOf noted.feed.now.pending before view.old.entries
+        × NoteAllChanges noted.notes.now rows.now (entries_of before) }
     ensures same { view.new ≡ view.old }
-    ensures answers { IfOk result (λ plan. plan.answers.items ≡ sync_answers form.kind form.modseq rows.now (after_silent view.old.entries first.items)) }
-    ensures changed { IfOk result (λ plan. entries_after_change view.old.entries plan.change ≡ view_after_sync form.kind rows.now (after_silent view.old.entries first.items)) }
+    ensures answers { IfOk result (λ plan. plan.answers.items
+        ≡ sync_answers form.kind form.modseq rows.now (after_silent view.old.entries first.items)) }
+    ensures changed { IfOk result (λ plan. entries_after_change view.old.entries plan.change
+        ≡ view_after_sync form.kind rows.now (after_silent view.old.entries first.items)) }
     ensures change { IfOk result (λ plan. IsChangeTo rows.now view.old.entries plan.change) }
     ensures can { IfOk result (λ plan. CanCommit view.old.entries plan.change) }
 {
@@ -88,8 +93,10 @@ fn plan_by_comparison(
     form: SyncForm,
 ) -> Result<PlannedSync, AllocError>
     ensures same { view.new ≡ view.old }
-    ensures answers { IfOk result (λ plan. plan.answers.items ≡ sync_answers form.kind form.modseq rows.now (after_silent view.old.entries first.items)) }
-    ensures changed { IfOk result (λ plan. entries_after_change view.old.entries plan.change ≡ view_after_sync form.kind rows.now (after_silent view.old.entries first.items)) }
+    ensures answers { IfOk result (λ plan. plan.answers.items
+        ≡ sync_answers form.kind form.modseq rows.now (after_silent view.old.entries first.items)) }
+    ensures changed { IfOk result (λ plan. entries_after_change view.old.entries plan.change
+        ≡ view_after_sync form.kind rows.now (after_silent view.old.entries first.items)) }
     ensures change { IfOk result (λ plan. IsChangeTo rows.now view.old.entries plan.change) }
     ensures can { IfOk result (λ plan. CanCommit view.old.entries plan.change) }
 {
@@ -163,8 +170,10 @@ fn plan_in_place(
 ) -> Result<PlannedSync, AllocError>
     requires { NoteAllChanges notes.items rows.now view.old.entries }
     ensures same { view.new ≡ view.old }
-    ensures answers { IfOk result (λ plan. plan.answers.items ≡ sync_answers form.kind form.modseq rows.now (after_silent view.old.entries first.items)) }
-    ensures changed { IfOk result (λ plan. entries_after_change view.old.entries plan.change ≡ view_after_sync form.kind rows.now (after_silent view.old.entries first.items)) }
+    ensures answers { IfOk result (λ plan. plan.answers.items
+        ≡ sync_answers form.kind form.modseq rows.now (after_silent view.old.entries first.items)) }
+    ensures changed { IfOk result (λ plan. entries_after_change view.old.entries plan.change
+        ≡ view_after_sync form.kind rows.now (after_silent view.old.entries first.items)) }
     ensures change { IfOk result (λ plan. IsChangeTo rows.now view.old.entries plan.change) }
     ensures can { IfOk result (λ plan. CanCommit view.old.entries plan.change) }
 {
@@ -196,8 +205,10 @@ fn plan_rebuilt_view(
     first: Vec<SilentFlags>,
     form: SyncForm,
 ) -> Result<PlannedSync, AllocError>
-    ensures answers { IfOk result (λ plan. plan.answers.items ≡ sync_answers form.kind form.modseq rows.now (after_silent view.now.entries first.items)) }
-    ensures changed { IfOk result (λ plan. entries_after_change view.now.entries plan.change ≡ view_after_sync form.kind rows.now (after_silent view.now.entries first.items)) }
+    ensures answers { IfOk result (λ plan. plan.answers.items
+        ≡ sync_answers form.kind form.modseq rows.now (after_silent view.now.entries first.items)) }
+    ensures changed { IfOk result (λ plan. entries_after_change view.now.entries plan.change
+        ≡ view_after_sync form.kind rows.now (after_silent view.now.entries first.items)) }
     ensures change { IfOk result (λ plan. IsChangeTo rows.now view.now.entries plan.change) }
     ensures can { IfOk result (λ plan. CanCommit view.now.entries plan.change) }
 {

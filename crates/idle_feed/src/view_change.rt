@@ -4,7 +4,8 @@ ghost use Rattle.std.specs.Prelude.{◌≡◌, List};
 ghost use Rattle.idle_feed.specs.Feeds.{Pending};
 ghost use Rattle.mailbox_rows.specs.ListedMessage.{ListedMessage};
 ghost use Rattle.session_view.specs.declared.view_entry.ViewEntry.{ViewEntry};
-ghost use Rattle.idle_feed.specs.NotedFeeds.{CanCommit, IsChangeTo, IsLeftNoted, IsLeftBy, NotesAllOf, entries_after_change};
+ghost use Rattle.idle_feed.specs.NotedFeeds.{CanCommit, IsChangeTo, IsLeftNoted, IsLeftBy};
+ghost use Rattle.idle_feed.specs.NotedFeeds.{NotesAllOf, entries_after_change};
 
 use crate::feed::{Feed, TakenNotes};
 use session_view::{Changes, Note, Patch, SilentFlags, View, ViewEntries};
@@ -32,8 +33,11 @@ pub enum ViewChange {
 /// Carries out a planned sync of a view and its feed. Takes no memory.
 pub fn commit(view: &mut View, feed: &mut Feed, change: ViewChange)
     requires { CanCommit view.old.entries change }
-    ensures view { view.new ≡ record view.old { entries = entries_after_change view.old.entries change } }
-    ensures noted { (rows : List ListedMessage) → IsChangeTo rows view.old.entries change → NotesAllOf feed.new.pending rows view.new.entries }
+    ensures view { view.new
+        ≡ record view.old { entries = entries_after_change view.old.entries change } }
+    ensures noted { (rows : List ListedMessage)
+        → IsChangeTo rows view.old.entries change
+        → NotesAllOf feed.new.pending rows view.new.entries }
 {
     let left = change_view(view, change);
     feed.clear();
@@ -44,8 +48,11 @@ pub fn commit(view: &mut View, feed: &mut Feed, change: ViewChange)
 /// Takes no memory.
 fn change_view(view: &mut View, change: ViewChange) -> TakenNotes
     requires { CanCommit view.old.entries change }
-    ensures view { view.new ≡ record view.old { entries = entries_after_change view.old.entries change } }
-    ensures left { (rows : List ListedMessage) → IsChangeTo rows view.old.entries change → IsLeftNoted result rows (entries_after_change view.old.entries change) }
+    ensures view { view.new
+        ≡ record view.old { entries = entries_after_change view.old.entries change } }
+    ensures left { (rows : List ListedMessage)
+        → IsChangeTo rows view.old.entries change
+        → IsLeftNoted result rows (entries_after_change view.old.entries change) }
 {
     match change {
         ViewChange::InPlace {
@@ -72,7 +79,9 @@ fn change_view(view: &mut View, change: ViewChange) -> TakenNotes
 
 /// These notes, if they name all that is still to be sent; else a resync.
 fn notes_if_all(left: Vec<Note>, whole: bool) -> TakenNotes
-    ensures { (rows : List ListedMessage) (goal : List ViewEntry) → IsLeftBy left.items whole rows goal → IsLeftNoted result rows goal }
+    ensures { (rows : List ListedMessage) (goal : List ViewEntry)
+        → IsLeftBy left.items whole rows goal
+        → IsLeftNoted result rows goal }
 {
     if whole {
         TakenNotes::Changes {

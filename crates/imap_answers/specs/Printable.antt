@@ -1,7 +1,8 @@
 -- Which answers may be sent: the grammar of responses, read as conditions on the value of an answer
 -- (RFC 9051, section 9; RFC 7162, section 7).
 
-use Rattle.std.specs.Prelude.{◌≡◌, ℕ, ◌<◌, ◌^◌, Bool, not, ◌&&◌, ◌||◌, ◌==◌, is_some, List, [], ◌∷◌, length, Option, Some, None, IsTrue}
+use Rattle.std.specs.Prelude.{◌≡◌, ℕ, ◌<◌, ◌^◌, Bool, not, ◌&&◌, ◌||◌, ◌==◌, is_some, List, [], ◌∷◌}
+use Rattle.std.specs.Prelude.{length, Option, Some, None, IsTrue}
 use Rattle.std.specs.List.{list_all}
 use Rattle.imap_types.specs.DateTimes.{IsDateTime}
 use Rattle.imap_types.specs.Keywords.{AreKeywords, is_atom_octet, is_tag_octet}
@@ -92,7 +93,8 @@ pub record IsPart (part : SectionData) : Type 0 where
 -- Whether there is at least one item of a message.
 abbrev pub tells_of_message : FetchItems → Bool
 tells_of_message items =
-    is_some items.uid || is_some items.flags || is_some items.date || is_some items.size || is_some items.modseq || not (length items.sections == 0)
+    is_some items.uid || is_some items.flags || is_some items.date || is_some items.size
+    || is_some items.modseq || not (length items.sections == 0)
 
 -- The items of FETCH: at least one (RFC 9051, section 9, msg-att).
 pub record AreFetchItems (items : FetchItems) : Type 0 where
@@ -107,7 +109,9 @@ pub record AreFetchItems (items : FetchItems) : Type 0 where
 -- Whether there is at least one item of a mailbox.
 abbrev pub tells_of_mailbox : StatusItems → Bool
 tells_of_mailbox items =
-    is_some items.messages || is_some items.uidnext || is_some items.uidvalidity || is_some items.unseen || is_some items.deleted || is_some items.size || is_some items.highest_modseq
+    is_some items.messages || is_some items.uidnext || is_some items.uidvalidity
+    || is_some items.unseen || is_some items.deleted || is_some items.size
+    || is_some items.highest_modseq
 
 -- The items of STATUS: at least one, since each STATUS command asks for one (RFC 9051, section
 -- 6.3.11).

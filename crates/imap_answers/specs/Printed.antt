@@ -1,6 +1,7 @@
 -- The text of each answer (RFC 9051, section 7; RFC 7162, section 3.1).
 
-use Rattle.std.specs.Prelude.{ℕ, Bool, true, false, List, [], ◌∷◌, ◌++◌, map, codes, decimal, Option, Some, None}
+use Rattle.std.specs.Prelude.{ℕ, Bool, true, false, List, [], ◌∷◌, ◌++◌, map, codes, decimal}
+use Rattle.std.specs.Prelude.{Option, Some, None}
 use Rattle.imap_types.specs.Flags.{flag_texts}
 use Rattle.imap_types.specs.declared.date_time.DateTime.{DateTime}
 use Rattle.imap_types.specs.declared.flags.Flags.{Flags}
@@ -18,8 +19,10 @@ use Rattle.imap_answers.specs.declared.fetch_items.SectionData.{SectionData}
 use Rattle.imap_answers.specs.declared.mailbox.MailboxState.{MailboxState}
 use Rattle.imap_answers.specs.declared.mailbox.SearchResults.{SearchResults}
 use Rattle.imap_answers.specs.declared.mailbox.StatusItems.{StatusItems}
-use Rattle.imap_answers.specs.Strings.{crlf, field_text, item, labelled_number, literal_text, name_text, separated_by, set_text}
-use Rattle.imap_answers.specs.Words.{attributes_text, bye_text, command_text, continuation_text, enabled_text, greeting_text, refusal_text}
+use Rattle.imap_answers.specs.Strings.{crlf, field_text, item, labelled_number, literal_text}
+use Rattle.imap_answers.specs.Strings.{name_text, separated_by, set_text}
+use Rattle.imap_answers.specs.Words.{attributes_text, bye_text, command_text, continuation_text}
+use Rattle.imap_answers.specs.Words.{enabled_text, greeting_text, refusal_text}
 
 -- Flags in parentheses, separated by spaces (32) (RFC 9051, section 9, flag-list).
 abbrev pub flags_text : Flags → List ℕ
@@ -29,7 +32,8 @@ flags_text flags = codes "(" ++ separated_by 32 (flag_texts flags) ++ codes ")"
 -- 7.1, PERMANENTFLAGS).
 abbrev pub permanent_text : Option Flags → List ℕ
 permanent_text None = codes "()"
-permanent_text (Some flags) = codes "(" ++ separated_by 32 (flag_texts flags ++ codes "\\*" ∷ []) ++ codes ")"
+permanent_text (Some flags) =
+    codes "(" ++ separated_by 32 (flag_texts flags ++ codes "\\*" ∷ []) ++ codes ")"
 
 -- The UIDs of the copied messages, then those of their copies.
 abbrev pub sets_text : List ℕ → List ℕ → List ℕ
@@ -38,20 +42,23 @@ sets_text source copies = set_text source ++ codes " " ++ set_text copies
 -- The UIDVALIDITY of the copies, then the UIDs of sources and copies (RFC 9051, section 7.1,
 -- COPYUID).
 abbrev pub copied_text : ℕ → List ℕ → List ℕ → List ℕ
-copied_text uidvalidity source copies = codes "[COPYUID " ++ decimal uidvalidity ++ codes " " ++ sets_text source copies ++ codes "]"
+copied_text uidvalidity source copies =
+    codes "[COPYUID " ++ decimal uidvalidity ++ codes " " ++ sets_text source copies ++ codes "]"
 
 -- The code of an untagged OK (RFC 9051, section 7.1; RFC 7162, section 3.1.2.1).
 abbrev pub notice_text : Notice → List ℕ
 notice_text notice.Closed = codes "[CLOSED]"
 notice_text (notice.UidValidity value) = codes "[UIDVALIDITY " ++ decimal value ++ codes "]"
 notice_text (notice.UidNext uid) = codes "[UIDNEXT " ++ decimal uid ++ codes "]"
-notice_text (notice.PermanentFlags flags) = codes "[PERMANENTFLAGS " ++ permanent_text flags ++ codes "]"
+notice_text (notice.PermanentFlags flags) =
+    codes "[PERMANENTFLAGS " ++ permanent_text flags ++ codes "]"
 notice_text (notice.HighestModSeq modseq) = codes "[HIGHESTMODSEQ " ++ decimal modseq ++ codes "]"
 notice_text (notice.CopyUid uidvalidity source copies) = copied_text uidvalidity source copies
 
 -- The UIDVALIDITY and UID of the appended message (RFC 9051, section 7.1, APPENDUID).
 abbrev pub appended_text : ℕ → ℕ → List ℕ
-appended_text uidvalidity uid = codes "[APPENDUID " ++ decimal uidvalidity ++ codes " " ++ decimal uid ++ codes "]"
+appended_text uidvalidity uid =
+    codes "[APPENDUID " ++ decimal uidvalidity ++ codes " " ++ decimal uid ++ codes "]"
 
 -- The code of a tagged OK (RFC 9051, section 7.1; RFC 7162, section 3.1.3).
 abbrev pub code_text : Code → List ℕ
@@ -97,8 +104,10 @@ abbrev pub section_text : Section → List ℕ
 section_text section.Whole = []
 section_text section.Header = codes "HEADER"
 section_text section.Text = codes "TEXT"
-section_text (section.Fields names) = codes "HEADER.FIELDS (" ++ separated_by 32 (map field_text names) ++ codes ")"
-section_text (section.FieldsNot names) = codes "HEADER.FIELDS.NOT (" ++ separated_by 32 (map field_text names) ++ codes ")"
+section_text (section.Fields names) =
+    codes "HEADER.FIELDS (" ++ separated_by 32 (map field_text names) ++ codes ")"
+section_text (section.FieldsNot names) =
+    codes "HEADER.FIELDS.NOT (" ++ separated_by 32 (map field_text names) ++ codes ")"
 
 -- The offset of a partial range, if any (RFC 9051, section 7.5.2).
 abbrev pub origin_text : Option ℕ → List ℕ
@@ -107,7 +116,9 @@ origin_text (Some origin) = codes "<" ++ decimal origin ++ codes ">"
 
 -- A section of a message with its octets (RFC 9051, section 7.5.2).
 abbrev pub body_text : SectionData → List ℕ
-body_text part = codes "BODY[" ++ section_text part.section ++ codes "]" ++ origin_text part.origin ++ codes " " ++ literal_text part.octets
+body_text part =
+    codes "BODY[" ++ section_text part.section ++ codes "]" ++ origin_text part.origin ++ codes " "
+    ++ literal_text part.octets
 
 -- The flags of a message, if sent (RFC 9051, section 7.5.2).
 abbrev pub flags_item : Option Flags → List (List ℕ)
@@ -136,11 +147,14 @@ fetch_texts items =
 
 -- A name in LIST (RFC 9051, section 7.3.1).
 abbrev pub list_text : List ℕ → MailboxState → Bool → List ℕ
-list_text name state subscribed = codes "* LIST " ++ attributes_text state subscribed ++ codes " \"/\" " ++ name_text name
+list_text name state subscribed =
+    codes "* LIST " ++ attributes_text state subscribed ++ codes " \"/\" " ++ name_text name
 
 -- A mailbox in STATUS (RFC 9051, section 7.3.3).
 abbrev pub status_text : List ℕ → StatusItems → List ℕ
-status_text name items = codes "* STATUS " ++ name_text name ++ codes " (" ++ separated_by 32 (status_texts items) ++ codes ")"
+status_text name items =
+    codes "* STATUS " ++ name_text name ++ codes " (" ++ separated_by 32 (status_texts items)
+    ++ codes ")"
 
 -- The text after the tag in ESEARCH, by whether the hits are UIDs (RFC 9051, section 7.3.4).
 abbrev pub uid_mark : Bool → List ℕ
@@ -149,15 +163,19 @@ uid_mark false = codes "\")"
 
 -- The results of the search with this tag, as ESEARCH sends them (RFC 9051, section 7.3.4).
 abbrev pub search_text : List ℕ → Bool → SearchResults → List ℕ
-search_text tag by_uid results = codes "* ESEARCH (TAG \"" ++ tag ++ uid_mark by_uid ++ results_text results
+search_text tag by_uid results =
+    codes "* ESEARCH (TAG \"" ++ tag ++ uid_mark by_uid ++ results_text results
 
 -- A message in FETCH (RFC 9051, section 7.5.2).
 abbrev pub fetch_text : ℕ → FetchItems → List ℕ
-fetch_text number items = codes "* " ++ decimal number ++ codes " FETCH (" ++ separated_by 32 (fetch_texts items) ++ codes ")"
+fetch_text number items =
+    codes "* " ++ decimal number ++ codes " FETCH (" ++ separated_by 32 (fetch_texts items)
+    ++ codes ")"
 
 -- The tagged line of a completed command (RFC 9051, section 7.1.1).
 abbrev pub completed_text : List ℕ → Option Code → CompletedWord → List ℕ
-completed_text tag code command = tag ++ codes " OK " ++ code_before code ++ command_text command ++ codes " completed"
+completed_text tag code command =
+    tag ++ codes " OK " ++ code_before code ++ command_text command ++ codes " completed"
 
 -- An answer without its line end.
 unfoldable pub line_of_answer : Answer → List ℕ

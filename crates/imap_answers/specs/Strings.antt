@@ -1,6 +1,7 @@
 -- Strings, names, numbers and sets of numbers as answers print them (RFC 9051, section 9).
 
-use Rattle.std.specs.Prelude.{ℕ, Bool, not, ◌&&◌, ◌||◌, ◌==◌, List, [], ◌∷◌, ◌++◌, length, map, flat_map, codes, decimal, Option, Some, None, if◌then◌else◌}
+use Rattle.std.specs.Prelude.{ℕ, Bool, not, ◌&&◌, ◌||◌, ◌==◌, List, [], ◌∷◌, ◌++◌, length, map}
+use Rattle.std.specs.Prelude.{flat_map, codes, decimal, Option, Some, None, if◌then◌else◌}
 use Rattle.std.specs.List.{list_all, list_any}
 use Rattle.std.specs.Str.{bytes_eq}
 use Rattle.imap_types.specs.Keywords.{is_astring_octet, to_lower_case}
@@ -20,7 +21,9 @@ separated_by between (text ∷ texts) = text ++ flat_map (λ next. between ∷ n
 -- Whether a string can be printed without quotes: it isn't empty, all its octets may be in an
 -- astring, and it isn't NIL in any case (RFC 9051, section 9, astring and nil).
 abbrev pub is_plain : List ℕ → Bool
-is_plain string = not (length string == 0) && list_all is_astring_octet string && not (bytes_eq (to_lower_case string) (codes "nil"))
+is_plain string =
+    not (length string == 0) && list_all is_astring_octet string
+    && not (bytes_eq (to_lower_case string) (codes "nil"))
 
 -- An octet between quotes; `"` (34) and `\` (92) follow a `\` (RFC 9051, section 9, QUOTED-CHAR).
 abbrev pub escaped_octet : ℕ → List ℕ
@@ -37,7 +40,8 @@ literal_text string = codes "{" ++ decimal (length string) ++ codes "}\r\n" ++ s
 -- A mailbox name: INBOX in capitals, any other name without quotes if possible (RFC 9051, section
 -- 9, mailbox).
 abbrev pub name_text : List ℕ → List ℕ
-name_text name = if is_inbox name then inbox else (if is_plain name then name else quoted_string name)
+name_text name =
+    if is_inbox name then inbox else (if is_plain name then name else quoted_string name)
 
 -- Whether a string has octets that quotes can't hold: CR (13) or LF (10).
 abbrev pub has_line_octet : List ℕ → Bool
@@ -46,12 +50,16 @@ has_line_octet string = list_any (λ octet. (octet == 13) || (octet == 10)) stri
 -- The name of a header field: without quotes if possible, as a literal only if quotes can't hold it
 -- (RFC 9051, section 9, header-fld-name).
 abbrev pub field_text : List ℕ → List ℕ
-field_text name = if is_plain name then name else (if has_line_octet name then literal_text name else quoted_string name)
+field_text name =
+    if is_plain name then name
+    else (if has_line_octet name then literal_text name else quoted_string name)
 
 -- A run of numbers: a single number, or the first and last of several (RFC 9051, section 9,
 -- seq-range).
 abbrev pub run_text : Run → List ℕ
-run_text run = if run.first == run.last then decimal run.first else decimal run.first ++ codes ":" ++ decimal run.last
+run_text run =
+    if run.first == run.last then decimal run.first
+    else decimal run.first ++ codes ":" ++ decimal run.last
 
 -- Ascending numbers as runs separated by commas (44) (RFC 9051, section 9, sequence-set).
 abbrev pub set_text : List ℕ → List ℕ

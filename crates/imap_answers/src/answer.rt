@@ -281,7 +281,9 @@ fn are_same_items(items: &StatusItems, others: &StatusItems) -> bool
 
 /// Whether the counts of messages and the sizes are the same.
 fn are_same_counts(items: &StatusItems, others: &StatusItems) -> bool
-    ensures { IsTrue result ↔ ((items.now.messages ≡ others.now.messages) × (items.now.unseen ≡ others.now.unseen) × (items.now.deleted ≡ others.now.deleted) × (items.now.size ≡ others.now.size)) }
+    ensures { IsTrue result
+        ↔ ((items.now.messages ≡ others.now.messages) × (items.now.unseen ≡ others.now.unseen)
+        × (items.now.deleted ≡ others.now.deleted) × (items.now.size ≡ others.now.size)) }
 {
     items.messages == others.messages
         && items.unseen == others.unseen

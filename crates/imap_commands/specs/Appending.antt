@@ -1,12 +1,15 @@
 -- APPEND (RFC 9051, section 6.3.12).
 
-use Rattle.std.specs.Prelude.{ℕ, nat_lt, Bool, List, [], ◌∷◌, length, Option, Some, None, Result, Ok, Err, if◌then◌else◌}
+use Rattle.std.specs.Prelude.{ℕ, nat_lt, Bool, List, [], ◌∷◌, length, Option, Some, None, Result}
+use Rattle.std.specs.Prelude.{Ok, Err, if◌then◌else◌}
 use Rattle.std.specs.List.{list_all}
 use Rattle.crdt_ops.specs.declared.kind.Kind.{Kind}
 use Rattle.crdt_ops.specs.declared.kind.Kind.TheVariants.{Append}
 use Rattle.imap_answers.specs.declared.codes.Code.TheVariants.{AppendUid}
 use Rattle.imap_answers.specs.declared.fixed_words.Refusal.{Refusal}
-use Rattle.imap_answers.specs.declared.fixed_words.Refusal.TheVariants.{KeywordTooLong, NoDestination, TooManyKeywords}
+use Rattle.imap_answers.specs.declared.fixed_words.Refusal.TheVariants.{KeywordTooLong}
+use Rattle.imap_answers.specs.declared.fixed_words.Refusal.TheVariants.{NoDestination}
+use Rattle.imap_answers.specs.declared.fixed_words.Refusal.TheVariants.{TooManyKeywords}
 use Rattle.imap_types.specs.Keywords.{is_lawful_keyword}
 use Rattle.imap_commands.specs.Arguments.{AppendArgs}
 use Rattle.imap_commands.specs.Report.{CommandReport}
@@ -25,11 +28,13 @@ append_intent is_there stamp asked =
     if is_there
     then (
     if list_all is_lawful_keyword asked.flags.keywords
-    then (if nat_lt 32 (length asked.flags.keywords) then Err TooManyKeywords else Ok (Append asked.name asked.flags (given_date asked.date stamp) asked.text ∷ []))
+    then (if nat_lt 32 (length asked.flags.keywords) then Err TooManyKeywords
+    else Ok (Append asked.name asked.flags (given_date asked.date stamp) asked.text ∷ []))
     else Err KeywordTooLong
     )
     else Err NoDestination
 
 -- The report of APPEND: APPENDUID with the message's UID (RFC 9051, section 7.1).
 abbrev pub append_report : ℕ → ℕ → CommandReport
-append_report uidvalidity uid = record { own = []; silent = []; code = Some (AppendUid uidvalidity uid) }
+append_report uidvalidity uid =
+    record { own = []; silent = []; code = Some (AppendUid uidvalidity uid) }

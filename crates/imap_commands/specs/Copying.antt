@@ -1,6 +1,7 @@
 -- COPY and MOVE (RFC 9051, sections 6.4.7 and 6.4.8).
 
-use Rattle.std.specs.Prelude.{ℕ, ◌-◌, Bool, true, not, List, [], ◌∷◌, ◌++◌, map, flat_map, Option, Some, None, Result, Err, if◌then◌else◌}
+use Rattle.std.specs.Prelude.{ℕ, ◌-◌, Bool, true, not, List, [], ◌∷◌, ◌++◌, map, flat_map, Option}
+use Rattle.std.specs.Prelude.{Some, None, Result, Err, if◌then◌else◌}
 use Rattle.crdt_ops.specs.declared.kind.Kind.{Kind}
 use Rattle.crdt_ops.specs.declared.kind.Kind.TheVariants.{Append, Expunge}
 use Rattle.imap_answers.specs.declared.answer.Answer.{Answer}
@@ -9,7 +10,8 @@ use Rattle.imap_answers.specs.declared.codes.Code.{Code}
 use Rattle.imap_answers.specs.declared.codes.Code.TheVariants as codes
 use Rattle.imap_answers.specs.declared.codes.Notice.TheVariants as notice
 use Rattle.imap_answers.specs.declared.fixed_words.Refusal.{Refusal}
-use Rattle.imap_answers.specs.declared.fixed_words.Refusal.TheVariants.{NoDestination, NoSuchMessage, ReadOnly}
+use Rattle.imap_answers.specs.declared.fixed_words.Refusal.TheVariants.{NoDestination}
+use Rattle.imap_answers.specs.declared.fixed_words.Refusal.TheVariants.{NoSuchMessage, ReadOnly}
 use Rattle.mailbox_rows.specs.ListedMessage.{ListedMessage}
 use Rattle.mailbox_rows.specs.RowViews.{rows_after_uid}
 use Rattle.session_view.specs.Sets.{is_in_range, numbers_in_set}
@@ -27,7 +29,8 @@ append_of destination (Some row) = Append destination row.flags row.date row.tex
 
 -- The Appends of the messages with these numbers.
 abbrev pub appends_of : List ℕ → List ListedMessage → List ViewEntry → List ℕ → List Kind
-appends_of destination before view numbers = flat_map (λ n. append_of destination (message_at before view n)) numbers
+appends_of destination before view numbers =
+    flat_map (λ n. append_of destination (message_at before view n)) numbers
 
 -- The Expunge of a moved message, with or without `\Deleted`: it removes all its versions.
 abbrev pub expunge_of_moved : List ℕ → Option ListedMessage → List Kind
@@ -36,7 +39,8 @@ expunge_of_moved folder (Some row) = Expunge folder row.versions ∷ []
 
 -- The Expunges of the messages with these numbers.
 abbrev pub expunges_of_moved : List ℕ → List ListedMessage → List ViewEntry → List ℕ → List Kind
-expunges_of_moved folder before view numbers = flat_map (λ n. expunge_of_moved folder (message_at before view n)) numbers
+expunges_of_moved folder before view numbers =
+    flat_map (λ n. expunge_of_moved folder (message_at before view n)) numbers
 
 -- The intent of COPY, or the first reason for refusing it (RFC 9051, section 6.4.7). `is_there`
 -- says whether the destination exists.
@@ -44,7 +48,8 @@ abbrev pub copy_intent : OpenMailbox → CopyArgs → Bool → Result (List Kind
 copy_intent mailbox asked is_there =
     if not (is_in_range asked.by_uid asked.messages mailbox.view) then Err NoSuchMessage
     else (if not is_there then Err NoDestination
-    else within_limits (appends_of asked.destination mailbox.rows mailbox.view (numbers_in_set asked.by_uid asked.messages mailbox.view)))
+    else within_limits (appends_of asked.destination mailbox.rows mailbox.view
+    (numbers_in_set asked.by_uid asked.messages mailbox.view)))
 
 -- The intent of MOVE, or the first reason for refusing it: all Appends first, and then the Expunges
 -- (RFC 9051, section 6.4.8).
@@ -54,8 +59,10 @@ move_intent mailbox asked is_there =
     else (if mailbox.read_only then Err ReadOnly
     else (if not is_there then Err NoDestination
     else within_limits (
-    appends_of asked.destination mailbox.rows mailbox.view (numbers_in_set asked.by_uid asked.messages mailbox.view)
-    ++ expunges_of_moved mailbox.name mailbox.rows mailbox.view (numbers_in_set asked.by_uid asked.messages mailbox.view)
+    appends_of asked.destination mailbox.rows mailbox.view
+    (numbers_in_set asked.by_uid asked.messages mailbox.view)
+    ++ expunges_of_moved mailbox.name mailbox.rows mailbox.view
+    (numbers_in_set asked.by_uid asked.messages mailbox.view)
     )))
 
 -- The UIDs of those of the messages with these numbers that are copied.
@@ -70,12 +77,14 @@ copies_in uidnext landed = map (λ row. row.uid) (rows_after_uid (uidnext - 1) l
 -- The code of a COPY: COPYUID, or the other code if nothing was copied.
 abbrev pub copied_code : ℕ → List ℕ → List ℕ → Option Code → Option Code
 copied_code uidvalidity [] copies code = code
-copied_code uidvalidity (n ∷ sources) copies code = Some (codes.CopyUid uidvalidity (n ∷ sources) copies)
+copied_code uidvalidity (n ∷ sources) copies code =
+    Some (codes.CopyUid uidvalidity (n ∷ sources) copies)
 
 -- The answers of a MOVE: COPYUID, unless nothing was copied.
 abbrev pub moved_answers : ℕ → List ℕ → List ℕ → List Answer
 moved_answers uidvalidity [] copies = []
-moved_answers uidvalidity (n ∷ sources) copies = Tell (notice.CopyUid uidvalidity (n ∷ sources) copies) ∷ []
+moved_answers uidvalidity (n ∷ sources) copies =
+    Tell (notice.CopyUid uidvalidity (n ∷ sources) copies) ∷ []
 
 -- The report of COPY, from the mailbox before it and the destination (RFC 9051, sections 6.4.7 and
 -- 7.1).
@@ -85,7 +94,9 @@ copy_report mailbox asked landing =
     record {
       own = [];
       silent = [];
-      code = copied_code landing.uidvalidity (sources_of mailbox.rows mailbox.view numbers) (copies_in landing.uidnext landing.rows) (gone_code mailbox.rows mailbox.view numbers);
+      code =
+          copied_code landing.uidvalidity (sources_of mailbox.rows mailbox.view numbers)
+          (copies_in landing.uidnext landing.rows) (gone_code mailbox.rows mailbox.view numbers);
     }
 
 -- The report of MOVE, from the mailbox before it and the destination (RFC 9051, section 6.4.8).
@@ -93,7 +104,9 @@ abbrev pub move_report : OpenMailbox → CopyArgs → CopyTarget → CommandRepo
 move_report mailbox asked landing =
     let numbers = numbers_in_set asked.by_uid asked.messages mailbox.view in
     record {
-      own = moved_answers landing.uidvalidity (sources_of mailbox.rows mailbox.view numbers) (copies_in landing.uidnext landing.rows);
+      own =
+          moved_answers landing.uidvalidity (sources_of mailbox.rows mailbox.view numbers)
+          (copies_in landing.uidnext landing.rows);
       silent = [];
       code = gone_code mailbox.rows mailbox.view numbers;
     }

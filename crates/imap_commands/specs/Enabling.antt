@@ -1,15 +1,21 @@
 -- ENABLE, and the other commands that turn mod-sequences on (RFC 9051, section 6.3.1; RFC 7162,
 -- section 3.1).
 
-use Rattle.std.specs.Prelude.{ℕ, Bool, true, false, ◌||◌, List, [], ◌∷◌, map, codes, is_some, Option}
+use Rattle.std.specs.Prelude.{ℕ, Bool, true, false, ◌||◌, List, [], ◌∷◌, map, codes, is_some}
+use Rattle.std.specs.Prelude.{Option}
 use Rattle.std.specs.Char.{to_ascii_lowercase}
 use Rattle.std.specs.List.{filter, list_any}
 use Rattle.std.specs.Str.{bytes_eq}
 use Rattle.imap_answers.specs.declared.answer.Answer.TheVariants.{Enabled as EnabledAnswer}
 use Rattle.imap_answers.specs.declared.fixed_words.EnabledExtensions.{EnabledExtensions}
-use Rattle.imap_answers.specs.declared.fixed_words.EnabledExtensions.TheVariants.{Nothing, Condstore, Imap4Rev2, CondstoreImap4Rev2, Imap4Rev2Condstore}
+use Rattle.imap_answers.specs.declared.fixed_words.EnabledExtensions.TheVariants.{Nothing}
+use Rattle.imap_answers.specs.declared.fixed_words.EnabledExtensions.TheVariants.{Condstore}
+use Rattle.imap_answers.specs.declared.fixed_words.EnabledExtensions.TheVariants.{Imap4Rev2}
+use Rattle.imap_answers.specs.declared.fixed_words.EnabledExtensions.TheVariants.{CondstoreImap4Rev2}
+use Rattle.imap_answers.specs.declared.fixed_words.EnabledExtensions.TheVariants.{Imap4Rev2Condstore}
 use Rattle.imap_syntax.specs.declared.fetch.FetchItem.{FetchItem}
-use Rattle.imap_syntax.specs.declared.fetch.FetchItem.TheVariants.{Body, Flags, InternalDate, ModSeq, Size, Uid}
+use Rattle.imap_syntax.specs.declared.fetch.FetchItem.TheVariants.{Body, Flags, InternalDate}
+use Rattle.imap_syntax.specs.declared.fetch.FetchItem.TheVariants.{ModSeq, Size, Uid}
 use Rattle.imap_syntax.specs.declared.search.SearchStep.{SearchStep}
 use Rattle.imap_syntax.specs.declared.status.StatusItem.{StatusItem}
 use Rattle.imap_syntax.specs.declared.status.StatusItem.TheVariants.{HighestModSeq}
@@ -42,7 +48,8 @@ begins_with_condstore (name ∷ names) = is_condstore name
 
 -- Whether CONDSTORE is the first of the two extensions among the names.
 abbrev pub asks_condstore_first : List (List ℕ) → Bool
-asks_condstore_first names = begins_with_condstore (filter (λ name. is_condstore name || is_imap4rev2 name) names)
+asks_condstore_first names =
+    begins_with_condstore (filter (λ name. is_condstore name || is_imap4rev2 name) names)
 
 -- The extensions that are enabled, from which of the two were requested, and whether CONDSTORE was
 -- first.
@@ -55,7 +62,8 @@ enabled_by true true false = Imap4Rev2Condstore
 
 -- The extensions that ENABLE enables, in the order of their first requests.
 abbrev pub enabled_of : List (List ℕ) → EnabledExtensions
-enabled_of names = enabled_by (asks_condstore names) (asks_imap4rev2 names) (asks_condstore_first names)
+enabled_of names =
+    enabled_by (asks_condstore names) (asks_imap4rev2 names) (asks_condstore_first names)
 
 -- The report of ENABLE.
 abbrev pub enable_report : List (List ℕ) → CommandReport

@@ -1,6 +1,7 @@
 -- EXPUNGE, UID EXPUNGE and CLOSE (RFC 9051, sections 6.4.3, 6.4.9 and 6.4.1).
 
-use Rattle.std.specs.Prelude.{ℕ, true, List, [], ◌∷◌, flat_map, Option, Some, None, Result, Ok, Err, if◌then◌else◌}
+use Rattle.std.specs.Prelude.{ℕ, true, List, [], ◌∷◌, flat_map, Option, Some, None, Result, Ok, Err}
+use Rattle.std.specs.Prelude.{if◌then◌else◌}
 use Rattle.crdt_ops.specs.declared.kind.Kind.{Kind}
 use Rattle.crdt_ops.specs.declared.kind.Kind.TheVariants.{Expunge}
 use Rattle.imap_answers.specs.declared.fixed_words.Refusal.{Refusal}
@@ -29,24 +30,34 @@ expunge_at folder (Some row) = expunge_of folder row
 -- The intent of EXPUNGE, or the first reason for refusing it: it removes all messages with
 -- `\Deleted` (RFC 9051, section 6.4.3).
 abbrev pub expunge_intent : OpenMailbox → Result (List Kind) Refusal
-expunge_intent mailbox = if mailbox.read_only then Err ReadOnly else within_limits (expunges_of mailbox.name mailbox.rows)
+expunge_intent mailbox =
+    if mailbox.read_only then Err ReadOnly
+    else within_limits (expunges_of mailbox.name mailbox.rows)
 
 -- The Expunges of those of the messages with these numbers that have `\Deleted`.
 abbrev pub expunges_at : List ℕ → List ListedMessage → List ViewEntry → List ℕ → List Kind
-expunges_at folder before view numbers = flat_map (λ n. expunge_at folder (message_at before view n)) numbers
+expunges_at folder before view numbers =
+    flat_map (λ n. expunge_at folder (message_at before view n)) numbers
 
 -- The intent of UID EXPUNGE, or the first reason for refusing it: it removes only messages that the
 -- set names (RFC 9051, section 6.4.9).
 abbrev pub uid_expunge_intent : OpenMailbox → List SequenceRange → Result (List Kind) Refusal
 uid_expunge_intent mailbox uids =
     if mailbox.read_only then Err ReadOnly
-    else within_limits (expunges_at mailbox.name mailbox.rows mailbox.view (numbers_in_set true uids mailbox.view))
+    else within_limits
+    (expunges_at mailbox.name mailbox.rows mailbox.view (numbers_in_set true uids mailbox.view))
 
 -- The report of UID EXPUNGE, from the mailbox before it.
 abbrev pub uid_expunge_report : OpenMailbox → List SequenceRange → CommandReport
-uid_expunge_report mailbox uids = record { own = []; silent = []; code = gone_code mailbox.rows mailbox.view (numbers_in_set true uids mailbox.view) }
+uid_expunge_report mailbox uids =
+    record {
+      own = [];
+      silent = [];
+      code = gone_code mailbox.rows mailbox.view (numbers_in_set true uids mailbox.view);
+    }
 
 -- The intent of CLOSE: that of EXPUNGE, but nothing in a read-only mailbox (RFC 9051,
 -- section 6.4.1).
 abbrev pub close_intent : OpenMailbox → Result (List Kind) Refusal
-close_intent mailbox = if mailbox.read_only then Ok [] else within_limits (expunges_of mailbox.name mailbox.rows)
+close_intent mailbox =
+    if mailbox.read_only then Ok [] else within_limits (expunges_of mailbox.name mailbox.rows)

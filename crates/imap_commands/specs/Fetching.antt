@@ -1,6 +1,7 @@
 -- FETCH (RFC 9051, section 6.4.5; RFC 7162, section 3.1.4).
 
-use Rattle.std.specs.Prelude.{ℕ, Bool, true, false, not, ◌&&◌, List, [], ◌∷◌, flat_map, Option, Some, None, Result, Err, if◌then◌else◌}
+use Rattle.std.specs.Prelude.{ℕ, Bool, true, false, not, ◌&&◌, List, [], ◌∷◌, flat_map, Option}
+use Rattle.std.specs.Prelude.{Some, None, Result, Err, if◌then◌else◌}
 use Rattle.crdt_ops.specs.declared.kind.Kind.{Kind}
 use Rattle.crdt_ops.specs.declared.kind.Kind.TheVariants.{Store}
 use Rattle.imap_answers.specs.declared.fixed_words.Refusal.{Refusal}
@@ -19,7 +20,13 @@ use Rattle.imap_commands.specs.Report.{CommandReport, entry_at, gone_code, messa
 
 -- The mode of a FETCH, with CONDSTORE on or off.
 abbrev pub mode_of : OpenMailbox → Bool → FetchArgs → FetchMode
-mode_of mailbox condstore asked = record { by_uid = asked.by_uid; condstore = condstore; writable = not mailbox.read_only; changed_since = asked.changed_since }
+mode_of mailbox condstore asked =
+    record {
+      by_uid = asked.by_uid;
+      condstore = condstore;
+      writable = not mailbox.read_only;
+      changed_since = asked.changed_since;
+    }
 
 -- Flags with `\Seen`.
 abbrev pub seen_flags : Flags → Flags
@@ -31,18 +38,24 @@ seen_flags flags = record flags { seen = true }
 abbrev pub seen_store : List ℕ → List FetchItem → FetchMode → Option ListedMessage → List Kind
 seen_store folder items mode None = []
 seen_store folder items mode (Some row) =
-    if is_above_changed_since mode.changed_since row && is_seen_set items mode row then Store folder (seen_flags row.flags) row.versions row.origin ∷ [] else []
+    if is_above_changed_since mode.changed_since row && is_seen_set items mode row
+    then Store folder (seen_flags row.flags) row.versions row.origin ∷ []
+    else []
 
 -- The Stores of `\Seen` for the messages with these numbers.
 abbrev pub seen_stores : OpenMailbox → FetchArgs → List ℕ → List Kind
-seen_stores mailbox asked numbers = flat_map (λ n. seen_store mailbox.name asked.items (mode_of mailbox false asked) (message_at mailbox.rows mailbox.view n)) numbers
+seen_stores mailbox asked numbers =
+    flat_map
+    (λ n. seen_store mailbox.name asked.items (mode_of mailbox false asked)
+    (message_at mailbox.rows mailbox.view n)) numbers
 
 -- The intent of FETCH, or the first reason for refusing it (RFC 9051, section 6.4.5; RFC 7162,
 -- section 3.1.4).
 abbrev pub fetch_intent : OpenMailbox → FetchArgs → Result (List Kind) Refusal
 fetch_intent mailbox asked =
     if not (is_in_range asked.by_uid asked.messages mailbox.view) then Err NoSuchMessage
-    else within_limits (seen_stores mailbox asked (numbers_in_set asked.by_uid asked.messages mailbox.view))
+    else within_limits
+    (seen_stores mailbox asked (numbers_in_set asked.by_uid asked.messages mailbox.view))
 
 -- A message of a view as queries take it.
 abbrev pub shown_at : ℕ → Option ViewEntry → List ViewedMessage
@@ -59,7 +72,9 @@ abbrev pub fetch_report : OpenMailbox → List ListedMessage → Bool → FetchA
 fetch_report mailbox after condstore asked =
     let numbers = numbers_in_set asked.by_uid asked.messages mailbox.view in
     record {
-      own = fetch_answers asked.items (mode_of mailbox condstore asked) mailbox.rows after (shown_of mailbox.view numbers);
+      own =
+          fetch_answers asked.items (mode_of mailbox condstore asked) mailbox.rows after
+          (shown_of mailbox.view numbers);
       silent = [];
       code = gone_code mailbox.rows mailbox.view numbers;
     }

@@ -5,6 +5,7 @@ use Rattle.imap_answers.specs.declared.fixed_words.Refusal.{Refusal}
 use Rattle.imap_answers.specs.declared.fixed_words.Refusal.TheVariants.{NoMemory}
 
 -- The function's result is the definition's, as `view` shows it; or the function ran out of memory.
-abbrev pub GivesOrLacksMemory : {X Y : Type 0} → (X → Y) → Result X Refusal → Result Y Refusal → Type 0
+abbrev pub GivesOrLacksMemory : {X Y : Type 0} → (X → Y) → Result X Refusal → Result Y Refusal
+    → Type 0
 GivesOrLacksMemory view (Ok x) want = want ≡ Ok (view x)
 GivesOrLacksMemory view (Err why) want = (why ≡ NoMemory) ⊎ (want ≡ Err why)

@@ -3,9 +3,11 @@
 use Rattle.std.specs.Prelude.{nat_lt, Bool, false, List, length, Result, Ok, Err, if◌then◌else◌}
 use Rattle.std.specs.List.{list_any}
 use Rattle.crdt_ops.specs.declared.kind.Kind.{Kind}
-use Rattle.crdt_ops.specs.declared.kind.Kind.TheVariants.{Create, Delete, Append, Expunge, Store, Subscribe, Unsubscribe}
+use Rattle.crdt_ops.specs.declared.kind.Kind.TheVariants.{Create, Delete, Append, Expunge, Store}
+use Rattle.crdt_ops.specs.declared.kind.Kind.TheVariants.{Subscribe, Unsubscribe}
 use Rattle.imap_answers.specs.declared.fixed_words.Refusal.{Refusal}
-use Rattle.imap_answers.specs.declared.fixed_words.Refusal.TheVariants.{TooManyKeywords, TooManyVersions}
+use Rattle.imap_answers.specs.declared.fixed_words.Refusal.TheVariants.{TooManyKeywords}
+use Rattle.imap_answers.specs.declared.fixed_words.Refusal.TheVariants.{TooManyVersions}
 
 -- Whether an operation gives a message more than 32 keywords, which none may. A message's versions
 -- together may have more.

@@ -1,12 +1,15 @@
 -- CREATE, DELETE, SUBSCRIBE and UNSUBSCRIBE (RFC 9051, sections 6.3.4, 6.3.5, 6.3.7 and 6.3.8).
 
-use Rattle.std.specs.Prelude.{ℕ, ◌-◌, ◌==◌, nat_lt, Bool, not, ◌&&◌, List, [], ◌∷◌, length, take, slice_index, Result, Ok, Err, if◌then◌else◌}
+use Rattle.std.specs.Prelude.{ℕ, ◌-◌, ◌==◌, nat_lt, Bool, not, ◌&&◌, List, [], ◌∷◌, length, take}
+use Rattle.std.specs.Prelude.{slice_index, Result, Ok, Err, if◌then◌else◌}
 use Rattle.std.specs.List.{list_all}
 use Rattle.std.specs.Str.{bytes_eq, is_utf8}
 use Rattle.crdt_ops.specs.declared.kind.Kind.{Kind}
 use Rattle.crdt_ops.specs.declared.kind.Kind.TheVariants.{Create, Delete, Subscribe, Unsubscribe}
 use Rattle.imap_answers.specs.declared.fixed_words.Refusal.{Refusal}
-use Rattle.imap_answers.specs.declared.fixed_words.Refusal.TheVariants.{InboxStays, MailboxExists, NameNotAllowed, NoSuchMailbox}
+use Rattle.imap_answers.specs.declared.fixed_words.Refusal.TheVariants.{InboxStays, MailboxExists}
+use Rattle.imap_answers.specs.declared.fixed_words.Refusal.TheVariants.{NameNotAllowed}
+use Rattle.imap_answers.specs.declared.fixed_words.Refusal.TheVariants.{NoSuchMailbox}
 use Rattle.imap_types.specs.Names.{fold_inbox, has_octets, inbox, is_name_octet, levels_of}
 use Rattle.tags_clocks.specs.declared.id.OpId.{OpId}
 
@@ -17,11 +20,13 @@ use Rattle.tags_clocks.specs.declared.id.OpId.{OpId}
 unfoldable pub is_lawful_name : List ℕ → Bool
 is_lawful_name name =
     not (length name == 0) && not (nat_lt 255 (length name)) && is_utf8 name
-    && list_all is_name_octet name && list_all has_octets (levels_of name) && bytes_eq (fold_inbox name) name
+    && list_all is_name_octet name && list_all has_octets (levels_of name)
+    && bytes_eq (fold_inbox name) name
 
 -- A name without one separator `/` (47) at its end.
 abbrev pub without_last_separator : List ℕ → List ℕ
-without_last_separator name = if slice_index name (length name - 1) == 47 then take (length name - 1) name else name
+without_last_separator name =
+    if slice_index name (length name - 1) == 47 then take (length name - 1) name else name
 
 -- The name of the mailbox that CREATE creates: without one separator at its end, with INBOX in
 -- capitals (RFC 9051, sections 5.1 and 6.3.4).
@@ -62,4 +67,5 @@ unsubscribes (id ∷ ids) name = Unsubscribe name (id ∷ ids) ∷ []
 -- The intent of UNSUBSCRIBE (RFC 9051, section 6.3.8): nothing is issued if the name isn't
 -- subscribed.
 abbrev pub unsubscribe_intent : List OpId → List ℕ → Result (List Kind) Refusal
-unsubscribe_intent seen name = if is_lawful_name name then Ok (unsubscribes seen name) else Err NameNotAllowed
+unsubscribe_intent seen name =
+    if is_lawful_name name then Ok (unsubscribes seen name) else Err NameNotAllowed

@@ -23,10 +23,14 @@ messages_named_by by_uid set view = record { numbers = numbers_in_set by_uid set
 
 -- These are the messages that some set names in the view.
 abbrev pub AreNamedBySome : List ViewEntry → NamedMessages → Type 0
-AreNamedBySome view found = (by_uid : Bool) × (set : List SequenceRange) × (found ≡ messages_named_by by_uid set view)
+AreNamedBySome view found =
+    (by_uid : Bool) × (set : List SequenceRange) × (found ≡ messages_named_by by_uid set view)
 
 -- The messages of the view that a STORE names, and those that it may change.
 abbrev pub messages_stored_by : OpenMailbox → StoreArgs → NamedMessages
 messages_stored_by mailbox asked =
     let numbers = numbers_in_set asked.by_uid asked.messages mailbox.view in
-    record { numbers = numbers; taken = taken_messages mailbox.rows mailbox.view asked.unchanged_since numbers }
+    record {
+      numbers = numbers;
+      taken = taken_messages mailbox.rows mailbox.view asked.unchanged_since numbers;
+    }

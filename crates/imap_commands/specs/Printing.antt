@@ -2,11 +2,13 @@
 -- RFC 7162, section 7).
 
 use Rattle.std.specs.Prelude.{◌≡◌, ◌<◌, List, length}
-use Rattle.imap_answers.specs.Printable.{AreFlags, Each, IsCode, IsFolded, IsModSeq, IsNonzero, IsPrintable, IsSection, IsSmall, IsWide, Where}
+use Rattle.imap_answers.specs.Printable.{AreFlags, Each, IsCode, IsFolded, IsModSeq, IsNonzero}
+use Rattle.imap_answers.specs.Printable.{IsPrintable, IsSection, IsSmall, IsWide, Where}
 use Rattle.imap_syntax.specs.declared.command.Command.{Command}
 use Rattle.imap_syntax.specs.declared.command.Command.TheVariants as commands
 use Rattle.imap_syntax.specs.declared.fetch.FetchItem.{FetchItem}
-use Rattle.imap_syntax.specs.declared.fetch.FetchItem.TheVariants.{Body, Flags, InternalDate, ModSeq, Size, Uid}
+use Rattle.imap_syntax.specs.declared.fetch.FetchItem.TheVariants.{Body, Flags, InternalDate}
+use Rattle.imap_syntax.specs.declared.fetch.FetchItem.TheVariants.{ModSeq, Size, Uid}
 use Rattle.imap_query.specs.declared.mailbox_status.MailboxCounters.{MailboxCounters}
 use Rattle.imap_types.specs.DateTimes.{IsDateTime}
 use Rattle.mailbox_rows.specs.ListedMessage.{ListedMessage}
@@ -58,7 +60,8 @@ IsTellable Flags = Unit {0}
 IsTellable InternalDate = Unit {0}
 IsTellable Size = Unit {0}
 IsTellable ModSeq = Unit {0}
-IsTellable (Body peek section partial) = IsSection section × Where (λ cut. IsSmall cut.start) partial
+IsTellable (Body peek section partial) =
+    IsSection section × Where (λ cut. IsSmall cut.start) partial
 
 -- Each item of a FETCH can be printed in an answer, and there is at least one.
 pub record AreTellable (items : List FetchItem) : Type 0 where
@@ -68,7 +71,9 @@ pub record AreTellable (items : List FetchItem) : Type 0 where
 -- The destination got as many messages as the command copied (RFC 9051, section 7.1, COPYUID).
 abbrev pub AreAsMany : OpenMailbox → CopyArgs → CopyTarget → Type 0
 AreAsMany mailbox asked landing =
-    length (sources_of mailbox.rows mailbox.view (numbers_in_set asked.by_uid asked.messages mailbox.view)) ≡ length (copies_in landing.uidnext landing.rows)
+    length
+    (sources_of mailbox.rows mailbox.view (numbers_in_set asked.by_uid asked.messages mailbox.view))
+    ≡ length (copies_in landing.uidnext landing.rows)
 
 -- A command's arguments can be printed in its answers: names have INBOX in capitals, and there is
 -- at least one item, each of which can be printed.

@@ -1,6 +1,7 @@
 -- SEARCH (RFC 9051, section 6.4.4; RFC 7162, section 3.1.5).
 
-use Rattle.std.specs.Prelude.{◌≡◌, ℕ, ◌+◌, Bool, true, false, ◌&&◌, List, [], ◌∷◌, Result, Ok, Err, if◌then◌else◌}
+use Rattle.std.specs.Prelude.{◌≡◌, ℕ, ◌+◌, Bool, true, false, ◌&&◌, List, [], ◌∷◌, Result, Ok, Err}
+use Rattle.std.specs.Prelude.{if◌then◌else◌}
 use Rattle.std.specs.List.{list_all}
 use Rattle.crdt_ops.specs.declared.kind.Kind.{Kind}
 use Rattle.imap_answers.specs.declared.answer.Answer.TheVariants.{Search}
@@ -56,7 +57,8 @@ step_is_in_range view And = true
 -- The intent of SEARCH by the steps of its key; the law `searches_are_by_keys` says that it is the
 -- one by the key.
 abbrev pub search_intent : List ViewEntry → List SearchStep → Result (List Kind) Refusal
-search_intent view steps = if list_all (step_is_in_range view) steps then Ok [] else Err NoSuchMessage
+search_intent view steps =
+    if list_all (step_is_in_range view) steps then Ok [] else Err NoSuchMessage
 
 -- The messages of a view as queries take them, numbered from n.
 abbrev pub shown_from : ℕ → List ViewEntry → List ViewedMessage
@@ -65,13 +67,17 @@ shown_from n (e ∷ es) = record { number = n; uid = e.uid } ∷ shown_from (n +
 
 -- The results of SEARCH in a mailbox, by the key whose steps it has (RFC 9051, section 6.4.4;
 -- RFC 7162, section 3.1.5).
-pub record IsSearchResult (mailbox : OpenMailbox) (asked : SearchArgs) (results : SearchResults) : Type 0 where
+pub record IsSearchResult (mailbox : OpenMailbox) (asked : SearchArgs) (results : SearchResults) :
+    Type 0 where
   pub key : Key
   pub steps_are : asked.steps ≡ steps_of key
-  pub results_are : results ≡ results_of asked.options (asks_modseq key) (hits_in asked.by_uid key mailbox.rows (shown_from 1 mailbox.view))
+  pub results_are : results
+      ≡ results_of asked.options (asks_modseq key)
+      (hits_in asked.by_uid key mailbox.rows (shown_from 1 mailbox.view))
 
 -- The report of SEARCH, which is determined: one answer, with its results.
-pub record IsSearchReport (mailbox : OpenMailbox) (tag : List ℕ) (asked : SearchArgs) (told : CommandReport) : Type 0 where
+pub record IsSearchReport (mailbox : OpenMailbox) (tag : List ℕ) (asked : SearchArgs)
+    (told : CommandReport) : Type 0 where
   pub results : SearchResults
   pub finds : IsSearchResult mailbox asked results
   pub only : told ≡ report_of_answers (Search tag asked.by_uid results ∷ [])

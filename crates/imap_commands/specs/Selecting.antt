@@ -1,12 +1,16 @@
 -- SELECT and EXAMINE (RFC 9051, sections 6.3.2 and 6.3.3; RFC 7162, section 3.1.2.1).
 
-use Rattle.std.specs.Prelude.{◌≡◌, ◌↔◌, ℕ, Bool, true, false, List, [], ◌∷◌, ◌++◌, length, Option, Some, None, Result, Ok, Err, if◌then◌else◌}
+use Rattle.std.specs.Prelude.{◌≡◌, ◌↔◌, ℕ, Bool, true, false, List, [], ◌∷◌, ◌++◌, length, Option}
+use Rattle.std.specs.Prelude.{Some, None, Result, Ok, Err, if◌then◌else◌}
 use Rattle.crdt_ops.specs.declared.kind.Kind.{Kind}
 use Rattle.imap_answers.specs.declared.answer.Answer.{Answer}
-use Rattle.imap_answers.specs.declared.answer.Answer.TheVariants.{Exists, Tell, Flags as FlagsAnswer, List as ListAnswer}
+use Rattle.imap_answers.specs.declared.answer.Answer.TheVariants.{Exists, Tell}
+use Rattle.imap_answers.specs.declared.answer.Answer.TheVariants.{Flags as FlagsAnswer}
+use Rattle.imap_answers.specs.declared.answer.Answer.TheVariants.{List as ListAnswer}
 use Rattle.imap_answers.specs.declared.codes.Code.{Code}
 use Rattle.imap_answers.specs.declared.codes.Code.TheVariants.{ReadWrite, ReadOnly}
-use Rattle.imap_answers.specs.declared.codes.Notice.TheVariants.{Closed, UidValidity, UidNext, PermanentFlags, HighestModSeq}
+use Rattle.imap_answers.specs.declared.codes.Notice.TheVariants.{Closed, UidValidity, UidNext}
+use Rattle.imap_answers.specs.declared.codes.Notice.TheVariants.{PermanentFlags, HighestModSeq}
 use Rattle.imap_answers.specs.declared.mailbox.MailboxState.TheVariants.{There}
 use Rattle.imap_answers.specs.declared.fixed_words.Refusal.{Refusal}
 use Rattle.imap_answers.specs.declared.fixed_words.Refusal.TheVariants.{NoSuchMailbox}
@@ -27,7 +31,9 @@ select_intent is_there = if is_there then Ok [] else Err NoSuchMailbox
 -- A message of the listing has a keyword that is spelled so in lower case.
 abbrev pub BearsKeyword : List ListedMessage → List ℕ → Type 0
 BearsKeyword rows word =
-    (row : ListedMessage) × IsIn row rows × ((keyword : List ℕ) × IsIn keyword row.flags.keywords × (to_lower_case keyword ≡ word))
+    (row : ListedMessage)
+    × IsIn row rows
+    × ((keyword : List ℕ) × IsIn keyword row.flags.keywords × (to_lower_case keyword ≡ word))
 
 -- The keywords of a listing: the set of the keywords of its messages (RFC 9051, section 2.3.2).
 pub record AreListedKeywords (rows : List ListedMessage) (keywords : List (List ℕ)) : Type 0 where
@@ -39,7 +45,15 @@ pub record AreListedKeywords (rows : List ListedMessage) (keywords : List (List 
 -- The flags in use in a mailbox whose messages have these keywords: the system flags and the
 -- keywords (RFC 9051, section 7.3.5).
 abbrev pub flags_in_use : List (List ℕ) → Flags
-flags_in_use keywords = record { answered = true; flagged = true; deleted = true; seen = true; draft = true; keywords = keywords }
+flags_in_use keywords =
+    record {
+      answered = true;
+      flagged = true;
+      deleted = true;
+      seen = true;
+      draft = true;
+      keywords = keywords;
+    }
 
 -- The flags in use that the session can change permanently: none in a read-only mailbox (RFC 9051,
 -- section 7.1, PERMANENTFLAGS).
@@ -52,7 +66,8 @@ abbrev pub mailbox_answers : Bool → List ℕ → MailboxCounters → ℕ → F
 mailbox_answers read_only name marks count flags =
     FlagsAnswer flags ∷ Exists count ∷ ListAnswer name There false
     ∷ Tell (UidValidity marks.uidvalidity) ∷ Tell (UidNext marks.uidnext)
-    ∷ Tell (PermanentFlags (permanent_flags read_only flags)) ∷ Tell (HighestModSeq marks.highest_modseq) ∷ []
+    ∷ Tell (PermanentFlags (permanent_flags read_only flags))
+    ∷ Tell (HighestModSeq marks.highest_modseq) ∷ []
 
 -- The answer when another mailbox was selected before (RFC 9051, section 7.1, CLOSED).
 abbrev pub closed_answers : Bool → List Answer
@@ -63,16 +78,20 @@ abbrev pub access_code : Bool → Code
 access_code read_only = if read_only then ReadOnly else ReadWrite
 
 -- The report of SELECT and EXAMINE for a mailbox whose messages have these keywords.
-abbrev pub select_report : Bool → Bool → List ℕ → MailboxCounters → List ListedMessage → List (List ℕ) → CommandReport
+abbrev pub select_report : Bool → Bool → List ℕ → MailboxCounters → List ListedMessage
+    → List (List ℕ) → CommandReport
 select_report was_selected read_only name marks rows keywords = record {
-  own = closed_answers was_selected ++ mailbox_answers read_only name marks (length rows) (flags_in_use keywords);
+  own =
+      closed_answers was_selected
+      ++ mailbox_answers read_only name marks (length rows) (flags_in_use keywords);
   silent = [];
   code = Some (access_code read_only);
 }
 
 -- The report of SELECT and of EXAMINE, which selects read-only. It is determined, since a listing
 -- has one set of keywords.
-pub record IsSelectReport (was_selected read_only : Bool) (name : List ℕ) (marks : MailboxCounters) (rows : List ListedMessage) (told : CommandReport) : Type 0 where
+pub record IsSelectReport (was_selected read_only : Bool) (name : List ℕ) (marks : MailboxCounters)
+    (rows : List ListedMessage) (told : CommandReport) : Type 0 where
   pub keywords : List (List ℕ)
   pub borne : AreListedKeywords rows keywords
   pub only : told ≡ select_report was_selected read_only name marks rows keywords

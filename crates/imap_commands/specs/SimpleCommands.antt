@@ -3,7 +3,8 @@
 
 use Rattle.std.specs.Prelude.{◌≡◌, ℕ, Bool, List, [], ◌∷◌, Result, Ok, Err, if◌then◌else◌}
 use Rattle.crdt_ops.specs.declared.kind.Kind.{Kind}
-use Rattle.imap_answers.specs.declared.answer.Answer.TheVariants.{Bye, Capability, Continue, Namespace, Status}
+use Rattle.imap_answers.specs.declared.answer.Answer.TheVariants.{Bye, Capability, Continue}
+use Rattle.imap_answers.specs.declared.answer.Answer.TheVariants.{Namespace, Status}
 use Rattle.imap_answers.specs.declared.fixed_words.ByeReason.TheVariants.{LoggingOut}
 use Rattle.imap_answers.specs.declared.fixed_words.Continuation.TheVariants.{Idling}
 use Rattle.imap_answers.specs.declared.fixed_words.Refusal.{Refusal}
@@ -18,7 +19,8 @@ use Rattle.imap_commands.specs.Report.{CommandReport, report_of_answers}
 
 -- The report of LIST: the answers for the folders and the subscriptions, and nothing else
 -- (RFC 9051, section 6.3.9).
-pub record IsListReport (mode : ListMode) (reference pattern : List ℕ) (folders subscriptions : List (List ℕ)) (told : CommandReport) : Type 0 where
+pub record IsListReport (mode : ListMode) (reference pattern : List ℕ)
+    (folders subscriptions : List (List ℕ)) (told : CommandReport) : Type 0 where
   pub names : ListsNames mode reference pattern folders subscriptions told.own
   pub only : told ≡ report_of_answers told.own
 
@@ -27,8 +29,10 @@ abbrev pub status_intent : Bool → Result (List Kind) Refusal
 status_intent is_there = if is_there then Ok [] else Err NoSuchMailbox
 
 -- The report of STATUS, from the mailbox's listing and counters.
-abbrev pub status_report : List ℕ → List StatusItem → MailboxCounters → List ListedMessage → CommandReport
-status_report name items marks rows = report_of_answers (Status name (status_of items marks rows) ∷ [])
+abbrev pub status_report : List ℕ → List StatusItem → MailboxCounters → List ListedMessage
+    → CommandReport
+status_report name items marks rows =
+    report_of_answers (Status name (status_of items marks rows) ∷ [])
 
 -- The report of CAPABILITY (RFC 9051, section 6.1.1).
 abbrev pub capability_report : CommandReport

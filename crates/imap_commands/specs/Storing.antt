@@ -1,6 +1,7 @@
 -- STORE (RFC 9051, section 6.4.6; RFC 7162, section 3.1.3).
 
-use Rattle.std.specs.Prelude.{ℕ, nat_le, Bool, true, false, not, ◌&&◌, ◌||◌, is_some, List, [], ◌∷◌, flat_map, Option, Some, None, Result, Err, if◌then◌else◌}
+use Rattle.std.specs.Prelude.{ℕ, nat_le, Bool, true, false, not, ◌&&◌, ◌||◌, is_some, List, [], ◌∷◌}
+use Rattle.std.specs.Prelude.{flat_map, Option, Some, None, Result, Err, if◌then◌else◌}
 use Rattle.std.specs.List.{filter, list_all}
 use Rattle.crdt_ops.specs.declared.kind.Kind.{Kind}
 use Rattle.crdt_ops.specs.declared.kind.Kind.TheVariants.{Store}
@@ -9,7 +10,8 @@ use Rattle.imap_answers.specs.declared.answer.Answer.TheVariants.{Fetch}
 use Rattle.imap_answers.specs.declared.codes.Code.{Code}
 use Rattle.imap_answers.specs.declared.codes.Code.TheVariants.{Modified}
 use Rattle.imap_answers.specs.declared.fixed_words.Refusal.{Refusal}
-use Rattle.imap_answers.specs.declared.fixed_words.Refusal.TheVariants.{KeywordTooLong, NoSuchMessage, ReadOnly}
+use Rattle.imap_answers.specs.declared.fixed_words.Refusal.TheVariants.{KeywordTooLong}
+use Rattle.imap_answers.specs.declared.fixed_words.Refusal.TheVariants.{NoSuchMessage, ReadOnly}
 use Rattle.imap_syntax.specs.declared.store.StoreMode.{StoreMode}
 use Rattle.imap_query.specs.Fetching.{if_told}
 use Rattle.imap_types.specs.Keywords.{is_lawful_keyword}
@@ -48,22 +50,28 @@ is_refused since (Some row) = not (is_unchanged since row)
 
 -- The numbers of the messages that STORE may change, by the listing before it.
 abbrev pub taken_messages : List ListedMessage → List ViewEntry → Option ℕ → List ℕ → List ℕ
-taken_messages before view since numbers = filter (λ n. is_taken since (message_at before view n)) numbers
+taken_messages before view since numbers =
+    filter (λ n. is_taken since (message_at before view n)) numbers
 
 -- The numbers of the messages that STORE refuses, by the listing before it.
 abbrev pub refused_messages : List ListedMessage → List ViewEntry → Option ℕ → List ℕ → List ℕ
-refused_messages before view since numbers = filter (λ n. is_refused since (message_at before view n)) numbers
+refused_messages before view since numbers =
+    filter (λ n. is_refused since (message_at before view n)) numbers
 
 -- The Store of a message, if its flags change: one version with the new flags in place of all its
 -- versions.
 abbrev pub store_of : List ℕ → StoreMode → Flags → Option ListedMessage → List Kind
 store_of folder mode given None = []
 store_of folder mode given (Some row) =
-    if same_flags (changed_flags mode row.flags given) row.flags then [] else Store folder (changed_flags mode row.flags given) row.versions row.origin ∷ []
+    if same_flags (changed_flags mode row.flags given) row.flags then []
+    else Store folder (changed_flags mode row.flags given) row.versions row.origin ∷ []
 
 -- The Stores of the messages with these numbers.
 abbrev pub stores_of : OpenMailbox → StoreArgs → List ℕ → List Kind
-stores_of mailbox asked numbers = flat_map (λ n. store_of mailbox.name asked.action.mode asked.flags (message_at mailbox.rows mailbox.view n)) numbers
+stores_of mailbox asked numbers =
+    flat_map
+    (λ n. store_of mailbox.name asked.action.mode asked.flags
+    (message_at mailbox.rows mailbox.view n)) numbers
 
 -- The intent of STORE, or the first reason for refusing it (RFC 9051, section 6.4.6; RFC 7162,
 -- section 3.1.3).
@@ -72,7 +80,8 @@ store_intent mailbox asked =
     if not (is_in_range asked.by_uid asked.messages mailbox.view) then Err NoSuchMessage
     else (if mailbox.read_only then Err ReadOnly
     else (if has_unlawful_keyword asked.flags then Err KeywordTooLong
-    else within_limits (stores_of mailbox asked (taken_messages mailbox.rows mailbox.view asked.unchanged_since (numbers_in_set asked.by_uid asked.messages mailbox.view)))))
+    else within_limits (stores_of mailbox asked (taken_messages mailbox.rows mailbox.view
+    asked.unchanged_since (numbers_in_set asked.by_uid asked.messages mailbox.view)))))
 
 -- The FETCH of a message as it is after the command: with its flags unless STORE is silent, and
 -- with its mod-sequence if UNCHANGEDSINCE is given or CONDSTORE is on.
@@ -90,7 +99,8 @@ stored_answer condstore asked n (Some row) =
 
 -- The answers of STORE for the messages that it may change; none if it is silent and has no
 -- UNCHANGEDSINCE.
-abbrev pub stored_answers : List ListedMessage → List ViewEntry → Bool → StoreArgs → List ℕ → List Answer
+abbrev pub stored_answers : List ListedMessage → List ViewEntry → Bool → StoreArgs → List ℕ
+    → List Answer
 stored_answers after view condstore asked taken =
     if asked.action.silent && not (is_some asked.unchanged_since) then []
     else flat_map (λ n. stored_answer condstore asked n (message_at after view n)) taken
@@ -98,11 +108,15 @@ stored_answers after view condstore asked taken =
 -- The view's flags of a message, changed as STORE asks.
 abbrev pub silent_at : StoreMode → Flags → ℕ → Option ViewEntry → List SilentFlags
 silent_at mode given n None = []
-silent_at mode given n (Some e) = record { number = n; flags = changed_flags mode e.flags given } ∷ []
+silent_at mode given n (Some e) =
+    record { number = n; flags = changed_flags mode e.flags given } ∷ []
 
 -- The flags that the session sets itself if STORE is silent.
 abbrev pub silents_of : List ViewEntry → StoreArgs → List ℕ → List SilentFlags
-silents_of view asked taken = if asked.action.silent then flat_map (λ n. silent_at asked.action.mode asked.flags n (entry_at view n)) taken else []
+silents_of view asked taken =
+    if asked.action.silent
+    then flat_map (λ n. silent_at asked.action.mode asked.flags n (entry_at view n)) taken
+    else []
 
 -- The code of a STORE: MODIFIED with the refused messages, or the other code if there are none.
 abbrev pub modified_code : List ℕ → Option Code → Option Code
@@ -119,5 +133,7 @@ store_report mailbox after condstore asked =
     record {
       own = stored_answers after mailbox.view condstore asked taken;
       silent = silents_of mailbox.view asked taken;
-      code = modified_code (names_of asked.by_uid mailbox.view refused) (gone_code mailbox.rows mailbox.view numbers);
+      code =
+          modified_code (names_of asked.by_uid mailbox.view refused)
+          (gone_code mailbox.rows mailbox.view numbers);
     }

@@ -25,7 +25,8 @@ pub fn append_intent(
     stamp: &DateTime,
     asked: &AppendArgs<'_>,
 ) -> Result<Vec<Kind>, Refusal>
-    ensures { GivesOrLacksMemory (λ kinds. kinds.items) result (append_intent is_there stamp.now asked.now) }
+    ensures { GivesOrLacksMemory (λ kinds. kinds.items) result
+        (append_intent is_there stamp.now asked.now) }
 {
     if !is_there {
         return Err(Refusal::NoDestination);
@@ -69,7 +70,8 @@ fn append(
     date: DateTime,
     text: &Text,
 ) -> Result<Vec<Kind>, AllocError>
-    ensures { IfOk result (λ kinds. kinds.items ≡ AppendKind name.now flags.now date text.now ∷ []) }
+    ensures { IfOk result
+        (λ kinds. kinds.items ≡ AppendKind name.now flags.now date text.now ∷ []) }
 {
     let folder = name.copy(alloc)?;
     let flags = flags.copy(alloc)?;

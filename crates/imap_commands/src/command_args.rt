@@ -30,7 +30,12 @@ impl<'a> Model for OpenMailbox<'a> {
 
     ghost Value = { OpenMailbox };
 
-    ghost view = { λ m. record { name = m.name.now; rows = m.rows; view = m.view.now.entries; read_only = m.read_only } };
+    ghost view = { λ m. record {
+      name = m.name.now;
+      rows = m.rows;
+      view = m.view.now.entries;
+      read_only = m.read_only;
+    } };
 }
 
 impl<'a> OpenMailbox<'a> {
@@ -59,7 +64,11 @@ impl<'a> Model for CopyTarget<'a> {
 
     ghost Value = { CopyTarget };
 
-    ghost view = { λ l. record { uidvalidity = l.uidvalidity; uidnext = l.uidnext; rows = l.rows } };
+    ghost view = { λ l. record {
+      uidvalidity = l.uidvalidity;
+      uidnext = l.uidnext;
+      rows = l.rows;
+    } };
 }
 
 /// The arguments of APPEND (RFC 9051, section 6.3.12).
@@ -80,7 +89,12 @@ impl<'a> Model for AppendArgs<'a> {
 
     ghost Value = { AppendArgs };
 
-    ghost view = { λ a. record { name = a.name.now; flags = a.flags.now; date = a.date.now; text = a.text.now } };
+    ghost view = { λ a. record {
+      name = a.name.now;
+      flags = a.flags.now;
+      date = a.date.now;
+      text = a.text.now;
+    } };
 }
 
 /// The arguments of STORE (RFC 9051, section 6.4.6; RFC 7162, section 3.1.3).
@@ -103,7 +117,13 @@ impl<'a> Model for StoreArgs<'a> {
 
     ghost Value = { StoreArgs };
 
-    ghost view = { λ a. record { by_uid = a.by_uid; messages = a.messages.now; unchanged_since = a.unchanged_since; action = a.action; flags = a.flags.now } };
+    ghost view = { λ a. record {
+      by_uid = a.by_uid;
+      messages = a.messages.now;
+      unchanged_since = a.unchanged_since;
+      action = a.action;
+      flags = a.flags.now;
+    } };
 }
 
 /// The arguments of FETCH (RFC 9051, section 6.4.5; RFC 7162, section 3.1.4).
@@ -124,7 +144,12 @@ impl<'a> Model for FetchArgs<'a> {
 
     ghost Value = { FetchArgs };
 
-    ghost view = { λ a. record { by_uid = a.by_uid; messages = a.messages.now; items = a.items.now; changed_since = a.changed_since } };
+    ghost view = { λ a. record {
+      by_uid = a.by_uid;
+      messages = a.messages.now;
+      items = a.items.now;
+      changed_since = a.changed_since;
+    } };
 }
 
 /// The arguments of COPY and MOVE (RFC 9051, sections 6.4.7 and 6.4.8).
@@ -143,7 +168,11 @@ impl<'a> Model for CopyArgs<'a> {
 
     ghost Value = { CopyArgs };
 
-    ghost view = { λ a. record { by_uid = a.by_uid; messages = a.messages.now; destination = a.destination.now } };
+    ghost view = { λ a. record {
+      by_uid = a.by_uid;
+      messages = a.messages.now;
+      destination = a.destination.now;
+    } };
 }
 
 /// The arguments of SEARCH (RFC 9051, section 6.4.4).
@@ -162,5 +191,9 @@ impl<'a> Model for SearchArgs<'a> {
 
     ghost Value = { SearchArgs };
 
-    ghost view = { λ a. record { by_uid = a.by_uid; options = a.options.now; steps = a.steps.now } };
+    ghost view = { λ a. record {
+      by_uid = a.by_uid;
+      options = a.options.now;
+      steps = a.steps.now;
+    } };
 }

@@ -6,7 +6,10 @@ ghost use Rattle.std.specs.Option.{option_to_list};
 ghost use Rattle.imap_types.specs.Numbers.{AreRisingFrom};
 ghost use Rattle.mailbox_rows.specs.RowViews.{rows_after_uid};
 ghost use Rattle.imap_commands.specs.Arguments.{CopyArgs};
-ghost use Rattle.imap_commands.specs.Copying.{append_of, appends_of, copied_code, copies_in, copy_report, copy_intent, move_report, move_intent, moved_answers, expunge_of_moved, expunges_of_moved, sources_of};
+ghost use Rattle.imap_commands.specs.Copying.{append_of, appends_of, copied_code, copies_in};
+ghost use Rattle.imap_commands.specs.Copying.{copy_report, copy_intent, move_report, move_intent};
+ghost use Rattle.imap_commands.specs.Copying.{moved_answers, expunge_of_moved, expunges_of_moved};
+ghost use Rattle.imap_commands.specs.Copying.{sources_of};
 ghost use Rattle.imap_commands.specs.NamedMessages.{AreNamedBySome, messages_named_by};
 ghost use Rattle.imap_commands.specs.Gives.{GivesOrLacksMemory};
 ghost use Rattle.imap_commands.specs.Report.{gone_code, message_at};
@@ -44,8 +47,10 @@ pub fn copy_intent(
     asked: &CopyArgs<'_>,
     is_there: bool,
 ) -> Result<Intent, Refusal>
-    ensures gives { GivesOrLacksMemory (λ intent. intent.kinds.items) result (copy_intent mailbox.now asked.now is_there) }
-    ensures found { IfOk result (λ intent. intent.found ≡ messages_named_by asked.now.by_uid asked.now.messages mailbox.now.view) }
+    ensures gives { GivesOrLacksMemory (λ intent. intent.kinds.items) result
+        (copy_intent mailbox.now asked.now is_there) }
+    ensures found { IfOk result (λ intent. intent.found
+        ≡ messages_named_by asked.now.by_uid asked.now.messages mailbox.now.view) }
 {
     let numbers = messages_named(alloc, asked.by_uid, asked.messages, mailbox.view)?;
     if !is_there {
@@ -67,8 +72,10 @@ pub fn move_intent(
     asked: &CopyArgs<'_>,
     is_there: bool,
 ) -> Result<Intent, Refusal>
-    ensures gives { GivesOrLacksMemory (λ intent. intent.kinds.items) result (move_intent mailbox.now asked.now is_there) }
-    ensures found { IfOk result (λ intent. intent.found ≡ messages_named_by asked.now.by_uid asked.now.messages mailbox.now.view) }
+    ensures gives { GivesOrLacksMemory (λ intent. intent.kinds.items) result
+        (move_intent mailbox.now asked.now is_there) }
+    ensures found { IfOk result (λ intent. intent.found
+        ≡ messages_named_by asked.now.by_uid asked.now.messages mailbox.now.view) }
 {
     let numbers = messages_named(alloc, asked.by_uid, asked.messages, mailbox.view)?;
     if mailbox.read_only {
@@ -91,7 +98,9 @@ fn push_appends(
     numbers: &[u32],
     kinds: &mut Vec<Kind>,
 ) -> Result<(), AllocError>
-    ensures { OnOk result (kinds.new.items ≡ kinds.old.items ++ appends_of destination.now mailbox.now.rows mailbox.now.view numbers.now) }
+    ensures { OnOk result (kinds.new.items
+        ≡ kinds.old.items
+        ++ appends_of destination.now mailbox.now.rows mailbox.now.view numbers.now) }
 {
     for number in numbers {
         push_append(alloc, destination, mailbox, *number, kinds)?;
@@ -106,7 +115,9 @@ fn push_append(
     number: u32,
     kinds: &mut Vec<Kind>,
 ) -> Result<(), AllocError>
-    ensures { OnOk result (kinds.new.items ≡ kinds.old.items ++ append_of destination.now (message_at mailbox.now.rows mailbox.now.view number)) }
+    ensures { OnOk result (kinds.new.items
+        ≡ kinds.old.items
+        ++ append_of destination.now (message_at mailbox.now.rows mailbox.now.view number)) }
 {
     let Some(row) = mailbox.message_at(number) else {
         return Ok(());
@@ -130,7 +141,9 @@ fn push_removals(
     numbers: &[u32],
     kinds: &mut Vec<Kind>,
 ) -> Result<(), AllocError>
-    ensures { OnOk result (kinds.new.items ≡ kinds.old.items ++ expunges_of_moved mailbox.now.name mailbox.now.rows mailbox.now.view numbers.now) }
+    ensures { OnOk result (kinds.new.items
+        ≡ kinds.old.items
+        ++ expunges_of_moved mailbox.now.name mailbox.now.rows mailbox.now.view numbers.now) }
 {
     for number in numbers {
         push_removal(alloc, mailbox, *number, kinds)?;
@@ -144,7 +157,10 @@ fn push_removal(
     number: u32,
     kinds: &mut Vec<Kind>,
 ) -> Result<(), AllocError>
-    ensures { OnOk result (kinds.new.items ≡ kinds.old.items ++ expunge_of_moved mailbox.now.name (message_at mailbox.now.rows mailbox.now.view number)) }
+    ensures { OnOk result (kinds.new.items
+        ≡ kinds.old.items
+        ++ expunge_of_moved mailbox.now.name
+        (message_at mailbox.now.rows mailbox.now.view number)) }
 {
     let Some(row) = mailbox.message_at(number) else {
         return Ok(());
@@ -166,7 +182,9 @@ pub fn copy_report(
     found: &NamedMessages,
 ) -> Result<CommandReport, AllocError>
     requires { AreNamedBySome mailbox.now.view found.now }
-    ensures { (asked : CopyArgs) → found.now ≡ messages_named_by asked.by_uid asked.messages mailbox.now.view → IfOk result (λ told. told ≡ copy_report mailbox.now asked landing.now) }
+    ensures { (asked : CopyArgs)
+        → found.now ≡ messages_named_by asked.by_uid asked.messages mailbox.now.view
+        → IfOk result (λ told. told ≡ copy_report mailbox.now asked landing.now) }
 {
     let Copied {
         source,
@@ -187,7 +205,9 @@ pub fn move_report(
     found: &NamedMessages,
 ) -> Result<CommandReport, AllocError>
     requires { AreNamedBySome mailbox.now.view found.now }
-    ensures { (asked : CopyArgs) → found.now ≡ messages_named_by asked.by_uid asked.messages mailbox.now.view → IfOk result (λ told. told ≡ move_report mailbox.now asked landing.now) }
+    ensures { (asked : CopyArgs)
+        → found.now ≡ messages_named_by asked.by_uid asked.messages mailbox.now.view
+        → IfOk result (λ told. told ≡ move_report mailbox.now asked landing.now) }
 {
     let Copied {
         source,
@@ -207,9 +227,12 @@ fn outcome_of(
     found: &NamedMessages,
 ) -> Result<Copied, AllocError>
     requires { AreNamedBySome mailbox.now.view found.now }
-    ensures source { IfOk result (λ copied. copied.source ≡ sources_of mailbox.now.rows mailbox.now.view found.now.numbers) }
-    ensures copies { IfOk result (λ copied. copied.copies ≡ copies_in landing.now.uidnext landing.now.rows) }
-    ensures gone { IfOk result (λ copied. copied.gone ≡ gone_code mailbox.now.rows mailbox.now.view found.now.numbers) }
+    ensures source { IfOk result
+        (λ copied. copied.source ≡ sources_of mailbox.now.rows mailbox.now.view found.now.numbers) }
+    ensures copies { IfOk result
+        (λ copied. copied.copies ≡ copies_in landing.now.uidnext landing.now.rows) }
+    ensures gone { IfOk result
+        (λ copied. copied.gone ≡ gone_code mailbox.now.rows mailbox.now.view found.now.numbers) }
 {
     let before = &mailbox.rows;
     let view = mailbox.view.entries();
@@ -274,7 +297,8 @@ fn moved_answers(
 
 /// The listing's UIDs above this one.
 fn uids_beyond(alloc: Global, uid: u32, rows: &Rows<'_>) -> Result<Vec<u32>, AllocError>
-    ensures uids { IfOk result (λ uids. uids.items ≡ map (λ row. row.uid) (rows_after_uid uid rows.now)) }
+    ensures uids { IfOk result
+        (λ uids. uids.items ≡ map (λ row. row.uid) (rows_after_uid uid rows.now)) }
     ensures rising { IfOk result (λ uids. AreRisingFrom 1 uids.items) }
 {
     let _count = rows.count();
@@ -295,7 +319,8 @@ fn uids_from(alloc: Global, start: usize, rows: &Rows<'_>) -> Result<Vec<u32>, A
 
 /// Adds the UID of the message at this place.
 fn push_uid(rows: &Rows<'_>, place: usize, uids: &mut Vec<u32>) -> Result<(), AllocError>
-    ensures { OnOk result (uids.new.items ≡ uids.old.items ++ map (λ row. row.uid) (option_to_list (slice_get rows.now place))) }
+    ensures { OnOk result (uids.new.items
+        ≡ uids.old.items ++ map (λ row. row.uid) (option_to_list (slice_get rows.now place))) }
 {
     if let Some(row) = rows.row_at(place) {
         uids.push(row.uid)?;

@@ -3,7 +3,12 @@
 
 ghost use Rattle.std.specs.Prelude.{◌≡◌, IfOk, false};
 ghost use Rattle.std.specs.List.{filter, list_any};
-ghost use Rattle.imap_commands.specs.Enabling.{asks_condstore, asks_condstore_first, asks_imap4rev2, begins_with_condstore, enable_report, enabled_by, enabled_of, fetch_asks_modseq, is_condstore, is_imap4rev2, is_modseq_item, search_asks_modseq, status_asks_modseq};
+ghost use Rattle.imap_commands.specs.Enabling.{asks_condstore, asks_condstore_first};
+ghost use Rattle.imap_commands.specs.Enabling.{asks_imap4rev2, begins_with_condstore};
+ghost use Rattle.imap_commands.specs.Enabling.{enable_report, enabled_by, enabled_of};
+ghost use Rattle.imap_commands.specs.Enabling.{fetch_asks_modseq, is_condstore, is_imap4rev2};
+ghost use Rattle.imap_commands.specs.Enabling.{is_modseq_item, search_asks_modseq};
+ghost use Rattle.imap_commands.specs.Enabling.{status_asks_modseq};
 ghost use Rattle.imap_query.specs.Hits.{step_names_modseq};
 
 use crate::report::CommandReport;

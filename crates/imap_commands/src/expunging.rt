@@ -4,7 +4,9 @@ ghost use Rattle.std.specs.Prelude.{◌≡◌, ◌++◌, List, true, IfOk, OnOk}
 ghost use Rattle.std.specs.List.{slice_get};
 ghost use Rattle.imap_types.specs.declared.sequence_set.SequenceRange.{SequenceRange};
 ghost use Rattle.mailbox_rows.specs.RowViews.{listed_message};
-ghost use Rattle.imap_commands.specs.Expunging.{close_intent, expunge_at, expunge_of, expunge_intent, expunges_at, expunges_of, uid_expunge_report, uid_expunge_intent};
+ghost use Rattle.imap_commands.specs.Expunging.{close_intent, expunge_at, expunge_of};
+ghost use Rattle.imap_commands.specs.Expunging.{expunge_intent, expunges_at, expunges_of};
+ghost use Rattle.imap_commands.specs.Expunging.{uid_expunge_report, uid_expunge_intent};
 ghost use Rattle.imap_commands.specs.NamedMessages.{messages_named_by};
 ghost use Rattle.imap_commands.specs.Gives.{GivesOrLacksMemory};
 
@@ -63,7 +65,8 @@ fn push_expunge_at(
     place: usize,
     kinds: &mut Vec<Kind>,
 ) -> Result<(), AllocError>
-    ensures { OnOk result (kinds.new.items ≡ kinds.old.items ++ expunge_at folder.now (slice_get before.now place)) }
+    ensures { OnOk result
+        (kinds.new.items ≡ kinds.old.items ++ expunge_at folder.now (slice_get before.now place)) }
 {
     match before.row_at(place) {
         None => Ok(()),
@@ -78,7 +81,8 @@ fn push_expunge(
     row: &Row<'_>,
     kinds: &mut Vec<Kind>,
 ) -> Result<(), AllocError>
-    ensures { OnOk result (kinds.new.items ≡ kinds.old.items ++ expunge_of folder.now (listed_message row.now)) }
+    ensures { OnOk result
+        (kinds.new.items ≡ kinds.old.items ++ expunge_of folder.now (listed_message row.now)) }
 {
     if !row.versions.deleted() {
         return Ok(());
@@ -99,8 +103,10 @@ pub fn uid_expunge_intent(
     mailbox: &OpenMailbox<'_>,
     uids: &SequenceSet,
 ) -> Result<Intent, Refusal>
-    ensures gives { GivesOrLacksMemory (λ intent. intent.kinds.items) result (uid_expunge_intent mailbox.now uids.now) }
-    ensures found { IfOk result (λ intent. intent.found ≡ messages_named_by true uids.now mailbox.now.view) }
+    ensures gives { GivesOrLacksMemory (λ intent. intent.kinds.items) result
+        (uid_expunge_intent mailbox.now uids.now) }
+    ensures found { IfOk result
+        (λ intent. intent.found ≡ messages_named_by true uids.now mailbox.now.view) }
 {
     if mailbox.read_only {
         return Err(Refusal::ReadOnly);
@@ -116,7 +122,8 @@ fn expunges_at(
     mailbox: &OpenMailbox<'_>,
     numbers: &[u32],
 ) -> Result<Vec<Kind>, AllocError>
-    ensures { IfOk result (λ kinds. kinds.items ≡ expunges_at mailbox.now.name mailbox.now.rows mailbox.now.view numbers.now) }
+    ensures { IfOk result (λ kinds. kinds.items
+        ≡ expunges_at mailbox.now.name mailbox.now.rows mailbox.now.view numbers.now) }
 {
     let mut kinds = Vec::new(alloc);
     for number in numbers {
@@ -134,7 +141,9 @@ pub fn uid_expunge_report(
     mailbox: &OpenMailbox<'_>,
     found: &NamedMessages,
 ) -> CommandReport
-    ensures { (uids : List SequenceRange) → found.now ≡ messages_named_by true uids mailbox.now.view → result ≡ uid_expunge_report mailbox.now uids }
+    ensures { (uids : List SequenceRange)
+        → found.now ≡ messages_named_by true uids mailbox.now.view
+        → result ≡ uid_expunge_report mailbox.now uids }
 {
     let code = gone_code(&mailbox.rows, mailbox.view.entries(), found.numbers());
     CommandReport::new(Vec::new(alloc), Vec::new(alloc), code)

@@ -4,7 +4,8 @@ ghost use Rattle.std.specs.Prelude.{◌≡◌, ◌++◌, false, length, IfOk, On
 ghost use Rattle.std.specs.Option.{option_map, unwrap_or};
 ghost use Rattle.imap_query.specs.Fetching.{fetch_answers};
 ghost use Rattle.imap_types.specs.Unions.{united_flags};
-ghost use Rattle.imap_commands.specs.Fetching.{fetch_report, fetch_intent, mode_of, seen_flags, seen_store, seen_stores, shown_at, shown_of};
+ghost use Rattle.imap_commands.specs.Fetching.{fetch_report, fetch_intent, mode_of, seen_flags};
+ghost use Rattle.imap_commands.specs.Fetching.{seen_store, seen_stores, shown_at, shown_of};
 ghost use Rattle.imap_commands.specs.NamedMessages.{messages_named_by};
 ghost use Rattle.imap_commands.specs.Gives.{GivesOrLacksMemory};
 ghost use Rattle.imap_commands.specs.Report.{are_some_gone, entry_at, gone_code, message_at};
@@ -35,8 +36,10 @@ pub fn fetch_intent(
     mailbox: &OpenMailbox<'_>,
     asked: &FetchArgs<'_>,
 ) -> Result<Intent, Refusal>
-    ensures gives { GivesOrLacksMemory (λ intent. intent.kinds.items) result (fetch_intent mailbox.now asked.now) }
-    ensures found { IfOk result (λ intent. intent.found ≡ messages_named_by asked.now.by_uid asked.now.messages mailbox.now.view) }
+    ensures gives { GivesOrLacksMemory (λ intent. intent.kinds.items) result
+        (fetch_intent mailbox.now asked.now) }
+    ensures found { IfOk result (λ intent. intent.found
+        ≡ messages_named_by asked.now.by_uid asked.now.messages mailbox.now.view) }
 {
     let numbers = messages_named(alloc, asked.by_uid, asked.messages, mailbox.view)?;
     let kinds = seen_stores(alloc, mailbox, asked, &numbers)?;
@@ -82,7 +85,10 @@ fn push_seen(
     number: u32,
     kinds: &mut Vec<Kind>,
 ) -> Result<(), AllocError>
-    ensures { OnOk result (kinds.new.items ≡ kinds.old.items ++ seen_store mailbox.now.name asked.now.items (mode_of mailbox.now false asked.now) (message_at mailbox.now.rows mailbox.now.view number)) }
+    ensures { OnOk result (kinds.new.items
+        ≡ kinds.old.items
+        ++ seen_store mailbox.now.name asked.now.items (mode_of mailbox.now false asked.now)
+        (message_at mailbox.now.rows mailbox.now.view number)) }
 {
     let Some(row) = mailbox.message_at(number) else {
         return Ok(());
@@ -125,7 +131,10 @@ pub fn fetch_report(
     found: &NamedMessages,
 ) -> Result<CommandReport, AllocError>
     requires { found.now ≡ messages_named_by asked.now.by_uid asked.now.messages mailbox.now.view }
-    ensures { IfOk result (λ told. told ≡ fetch_report mailbox.now (unwrap_or (option_map (λ rows. rows.now) after.entry) mailbox.now.rows) condstore asked.now) }
+    ensures { IfOk result (λ told. told
+        ≡ fetch_report mailbox.now
+        (unwrap_or (option_map (λ rows. rows.now) after.entry) mailbox.now.rows) condstore
+        asked.now) }
 {
     let before = &mailbox.rows;
     let view = mailbox.view.entries();
@@ -144,7 +153,8 @@ fn code_for_answers(
     view: &ViewEntries,
     numbers: &[u32],
 ) -> Option<Code>
-    requires { length told.now ≡ length numbers.now → are_some_gone rows.now view.now.items numbers.now ≡ false }
+    requires { length told.now ≡ length numbers.now
+        → are_some_gone rows.now view.now.items numbers.now ≡ false }
     ensures { result ≡ gone_code rows.now view.now.items numbers.now }
 {
     if told.len() == numbers.len() {
@@ -163,7 +173,9 @@ fn fetch_answers_of(
     items: &[FetchItem],
     mode: FetchMode,
 ) -> Result<Vec<Answer>, AllocError>
-    ensures { IfOk result (λ answers. answers.items ≡ fetch_answers items.now mode before.now (unwrap_or (option_map (λ rows. rows.now) after.entry) before.now) shown.now) }
+    ensures { IfOk result (λ answers. answers.items
+        ≡ fetch_answers items.now mode before.now
+        (unwrap_or (option_map (λ rows. rows.now) after.entry) before.now) shown.now) }
 {
     match after {
         Some(after) => fetch(alloc, shown, before, after, items, mode),
@@ -191,7 +203,8 @@ fn push_shown(
     number: u32,
     shown: &mut Vec<ViewedMessage>,
 ) -> Result<(), AllocError>
-    ensures { OnOk result (shown.new.items ≡ shown.old.items ++ shown_at number (entry_at view.now.items number)) }
+    ensures { OnOk result
+        (shown.new.items ≡ shown.old.items ++ shown_at number (entry_at view.now.items number)) }
 {
     if let Some(entry) = entry_at(view, number) {
         make_room(shown)?;

@@ -13,15 +13,24 @@ ghost use Rattle.merge_laws.specs.Orders.{IsIn};
 /// +FLAGS is the union: afterwards a message has each flag that it had, each that is given, and no
 /// other.
 pub fn added_flags_are_the_union()
-    ensures system { (flag : SystemFlag) (old given : Flags) → IsTrue (has_flag flag (changed_flags Add old given)) ↔ (IsTrue (has_flag flag old) ⊎ IsTrue (has_flag flag given)) }
-    ensures keywords { (word : List ℕ) (old given : Flags) → IsIn word (changed_flags Add old given).keywords ↔ (IsIn word old.keywords ⊎ IsIn word given.keywords) }
+    ensures system { (flag : SystemFlag) (old given : Flags)
+        → IsTrue (has_flag flag (changed_flags Add old given))
+        ↔ (IsTrue (has_flag flag old) ⊎ IsTrue (has_flag flag given)) }
+    ensures keywords { (word : List ℕ) (old given : Flags)
+        → IsIn word (changed_flags Add old given).keywords
+        ↔ (IsIn word old.keywords ⊎ IsIn word given.keywords) }
 {}
 
 /// -FLAGS is the difference: afterwards a message has each flag that it had and that isn't given,
 /// and no other.
 pub fn removed_flags_are_the_difference()
-    ensures system { (flag : SystemFlag) (old given : Flags) → IsTrue (has_flag flag (changed_flags Remove old given)) ↔ (IsTrue (has_flag flag old) × (IsTrue (has_flag flag given) → ⊥)) }
-    ensures keywords { (word : List ℕ) (old given : Flags) → AreKeywords old.keywords → AreKeywords given.keywords → IsIn word (changed_flags Remove old given).keywords ↔ (IsIn word old.keywords × (IsIn word given.keywords → ⊥)) }
+    ensures system { (flag : SystemFlag) (old given : Flags)
+        → IsTrue (has_flag flag (changed_flags Remove old given))
+        ↔ (IsTrue (has_flag flag old) × (IsTrue (has_flag flag given) → ⊥)) }
+    ensures keywords { (word : List ℕ) (old given : Flags) → AreKeywords old.keywords
+        → AreKeywords given.keywords
+        → IsIn word (changed_flags Remove old given).keywords
+        ↔ (IsIn word old.keywords × (IsIn word given.keywords → ⊥)) }
 {}
 
 /// FLAGS is replacement: afterwards a message has the flags that are given, and no other.
@@ -32,5 +41,7 @@ pub fn replaced_flags_are_those_given()
 /// After each STORE the keywords ascend in lower case, each once, so that the set determines the
 /// list.
 pub fn changed_flags_are_spelled()
-    ensures { (mode : StoreMode) (old given : Flags) → AreKeywords old.keywords → AreKeywords given.keywords → AreKeywords (changed_flags mode old given).keywords }
+    ensures { (mode : StoreMode) (old given : Flags) → AreKeywords old.keywords
+        → AreKeywords given.keywords
+        → AreKeywords (changed_flags mode old given).keywords }
 {}

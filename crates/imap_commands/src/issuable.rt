@@ -13,28 +13,47 @@ ghost use Rattle.imap_commands.specs.Storing.{store_intent};
 
 /// STORE issues Stores of listed messages, with lawful flags.
 pub fn stores_are_issuable()
-    ensures { (mailbox : OpenMailbox) (destination : List ℕ) (asked : StoreArgs) (kinds : List Kind) → HaveLawfulKeywords mailbox.rows → store_intent mailbox asked ≡ Ok kinds → AreIssuable mailbox.name destination mailbox.rows kinds }
+    ensures { (mailbox : OpenMailbox) (destination : List ℕ) (asked : StoreArgs) (kinds : List Kind)
+        → HaveLawfulKeywords mailbox.rows
+        → store_intent mailbox asked ≡ Ok kinds
+        → AreIssuable mailbox.name destination mailbox.rows kinds }
 {}
 
 /// EXPUNGE and UID EXPUNGE issue Expunges of listed messages; CLOSE issues what EXPUNGE does, or
 /// nothing.
 pub fn expunges_are_issuable()
-    ensures all { (mailbox : OpenMailbox) (destination : List ℕ) (kinds : List Kind) → expunge_intent mailbox ≡ Ok kinds → AreIssuable mailbox.name destination mailbox.rows kinds }
-    ensures close { (mailbox : OpenMailbox) (destination : List ℕ) (kinds : List Kind) → close_intent mailbox ≡ Ok kinds → AreIssuable mailbox.name destination mailbox.rows kinds }
-    ensures some { (mailbox : OpenMailbox) (destination : List ℕ) (uids : List SequenceRange) (kinds : List Kind) → uid_expunge_intent mailbox uids ≡ Ok kinds → AreIssuable mailbox.name destination mailbox.rows kinds }
+    ensures all { (mailbox : OpenMailbox) (destination : List ℕ) (kinds : List Kind)
+        → expunge_intent mailbox ≡ Ok kinds
+        → AreIssuable mailbox.name destination mailbox.rows kinds }
+    ensures close { (mailbox : OpenMailbox) (destination : List ℕ) (kinds : List Kind)
+        → close_intent mailbox ≡ Ok kinds
+        → AreIssuable mailbox.name destination mailbox.rows kinds }
+    ensures some { (mailbox : OpenMailbox) (destination : List ℕ) (uids : List SequenceRange)
+        (kinds : List Kind)
+        → uid_expunge_intent mailbox uids ≡ Ok kinds
+        → AreIssuable mailbox.name destination mailbox.rows kinds }
 {}
 
 /// FETCH issues Stores of listed messages, with lawful flags.
 pub fn seen_stores_are_issuable()
-    ensures { (mailbox : OpenMailbox) (destination : List ℕ) (asked : FetchArgs) (kinds : List Kind) → HaveLawfulKeywords mailbox.rows → fetch_intent mailbox asked ≡ Ok kinds → AreIssuable mailbox.name destination mailbox.rows kinds }
+    ensures { (mailbox : OpenMailbox) (destination : List ℕ) (asked : FetchArgs) (kinds : List Kind)
+        → HaveLawfulKeywords mailbox.rows
+        → fetch_intent mailbox asked ≡ Ok kinds
+        → AreIssuable mailbox.name destination mailbox.rows kinds }
 {}
 
 /// COPY issues Appends in the destination, with lawful flags.
 pub fn copies_are_issuable()
-    ensures { (mailbox : OpenMailbox) (asked : CopyArgs) (is_there : Bool) (kinds : List Kind) → HaveLawfulKeywords mailbox.rows → copy_intent mailbox asked is_there ≡ Ok kinds → AreIssuable mailbox.name asked.destination mailbox.rows kinds }
+    ensures { (mailbox : OpenMailbox) (asked : CopyArgs) (is_there : Bool) (kinds : List Kind)
+        → HaveLawfulKeywords mailbox.rows
+        → copy_intent mailbox asked is_there ≡ Ok kinds
+        → AreIssuable mailbox.name asked.destination mailbox.rows kinds }
 {}
 
 /// MOVE issues Appends in the destination, with lawful flags, and Expunges of listed messages.
 pub fn moves_are_issuable()
-    ensures { (mailbox : OpenMailbox) (asked : CopyArgs) (is_there : Bool) (kinds : List Kind) → HaveLawfulKeywords mailbox.rows → move_intent mailbox asked is_there ≡ Ok kinds → AreIssuable mailbox.name asked.destination mailbox.rows kinds }
+    ensures { (mailbox : OpenMailbox) (asked : CopyArgs) (is_there : Bool) (kinds : List Kind)
+        → HaveLawfulKeywords mailbox.rows
+        → move_intent mailbox asked is_there ≡ Ok kinds
+        → AreIssuable mailbox.name asked.destination mailbox.rows kinds }
 {}

@@ -18,12 +18,16 @@ pub fn lawful_name_is()
 
 /// Each listing has a set of the keywords that its messages bear.
 pub fn listed_keywords_are_borne()
-    ensures { (rows : List ListedMessage) → (keywords : List (List ℕ)) × AreListedKeywords rows keywords }
+    ensures { (rows : List ListedMessage)
+        → (keywords : List (List ℕ)) × AreListedKeywords rows keywords }
 {}
 
 /// A listing has one such set: two sets of the keywords that its messages bear are equal.
 pub fn one_set_of_keywords()
-    ensures { (rows : List ListedMessage) (these those : List (List ℕ)) → AreListedKeywords rows these → AreListedKeywords rows those → these ≡ those }
+    ensures { (rows : List ListedMessage) (these those : List (List ℕ))
+        → AreListedKeywords rows these
+        → AreListedKeywords rows those
+        → these ≡ those }
 {}
 
 /// The steps of a SEARCH say the same as its key: whether it has a MODSEQ test (RFC 7162,
@@ -31,5 +35,6 @@ pub fn one_set_of_keywords()
 /// section 6.4.4).
 pub fn searches_are_by_keys()
     ensures modseq { (key : Key) → search_asks_modseq (steps_of key) ≡ asks_modseq key }
-    ensures wants { (view : List ViewEntry) (key : Key) → search_intent view (steps_of key) ≡ search_intent_by_key view key }
+    ensures wants { (view : List ViewEntry) (key : Key)
+        → search_intent view (steps_of key) ≡ search_intent_by_key view key }
 {}

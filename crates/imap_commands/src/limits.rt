@@ -29,7 +29,8 @@ pub fn within_limits(kinds: Vec<Kind>) -> Result<Vec<Kind>, Refusal>
 /// The intent with these operations and named messages, if all operations are within the limits;
 /// otherwise the error of [`within_limits`].
 pub fn intent_within_limits(kinds: Vec<Kind>, found: NamedMessages) -> Result<Intent, Refusal>
-    ensures gives { GivesOrLacksMemory (λ intent. intent.kinds.items) result (within_limits kinds.items) }
+    ensures gives { GivesOrLacksMemory (λ intent. intent.kinds.items) result
+        (within_limits kinds.items) }
     ensures found { IfOk result (λ intent. intent.found ≡ found) }
 {
     match within_limits(kinds) {

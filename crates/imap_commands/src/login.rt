@@ -18,7 +18,8 @@ pub fn login_intent(
     user: &Octets,
     password: &Octets,
 ) -> Result<Vec<Kind>, Refusal>
-    ensures { GivesOrLacksMemory (λ kinds. kinds.items) result (login_intent credentials.now user.now password.now) }
+    ensures { GivesOrLacksMemory (λ kinds. kinds.items) result
+        (login_intent credentials.now user.now password.now) }
 {
     if !are_credentials(credentials, user, password) {
         return Err(Refusal::LoginFailed);

@@ -2,9 +2,14 @@
 
 ghost use Rattle.std.specs.Prelude.{◌≡◌, ◌∷◌, [], IfOk};
 ghost use Rattle.std.specs.Str.{bytes_eq};
-ghost use Rattle.crdt_ops.specs.declared.kind.Kind.TheVariants.{Create as CreateKind, Delete as DeleteKind, Subscribe as SubscribeKind};
+ghost use Rattle.crdt_ops.specs.declared.kind.Kind.TheVariants.{Create as CreateKind};
+ghost use Rattle.crdt_ops.specs.declared.kind.Kind.TheVariants.{Delete as DeleteKind};
+ghost use Rattle.crdt_ops.specs.declared.kind.Kind.TheVariants.{Subscribe as SubscribeKind};
 ghost use Rattle.imap_commands.specs.Gives.{GivesOrLacksMemory};
-ghost use Rattle.imap_commands.specs.Mailboxes.{create_intent, created_name, delete_intent, is_lawful_name, subscribe_intent, unsubscribe_intent, unsubscribes, without_last_separator};
+ghost use Rattle.imap_commands.specs.Mailboxes.{create_intent, created_name, delete_intent};
+ghost use Rattle.imap_commands.specs.Mailboxes.{is_lawful_name, subscribe_intent};
+ghost use Rattle.imap_commands.specs.Mailboxes.{unsubscribe_intent, unsubscribes};
+ghost use Rattle.imap_commands.specs.Mailboxes.{without_last_separator};
 ghost use Rattle.imap_types.specs.Names.{inbox};
 
 use crdt_ops::{Ids, Kind};
@@ -62,7 +67,8 @@ pub fn delete_intent(
     seen: Ids,
     name: &Name,
 ) -> Result<Vec<Kind>, Refusal>
-    ensures { GivesOrLacksMemory (λ kinds. kinds.items) result (delete_intent is_there seen name.now) }
+    ensures { GivesOrLacksMemory (λ kinds. kinds.items) result
+        (delete_intent is_there seen name.now) }
 {
     if !is_there {
         return Err(Refusal::NoSuchMailbox);
@@ -93,7 +99,8 @@ pub fn subscribe_intent(
     is_subscribed: bool,
     name: &Name,
 ) -> Result<Vec<Kind>, Refusal>
-    ensures { GivesOrLacksMemory (λ kinds. kinds.items) result (subscribe_intent is_subscribed name.now) }
+    ensures { GivesOrLacksMemory (λ kinds. kinds.items) result
+        (subscribe_intent is_subscribed name.now) }
 {
     if !is_lawful_name(name) {
         return Err(Refusal::NameNotAllowed);

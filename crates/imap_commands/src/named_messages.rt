@@ -1,7 +1,8 @@
 //! The messages that a command names, by their numbers in the view.
 
 ghost use Rattle.std.specs.Prelude.{◌≡◌, ◌⊎◌, true, false, IfErr, IfOk};
-ghost use Rattle.imap_answers.specs.declared.fixed_words.Refusal.TheVariants.{NoMemory, NoSuchMessage};
+ghost use Rattle.imap_answers.specs.declared.fixed_words.Refusal.TheVariants.{NoMemory};
+ghost use Rattle.imap_answers.specs.declared.fixed_words.Refusal.TheVariants.{NoSuchMessage};
 ghost use Rattle.imap_types.specs.Numbers.{AreRisingFrom};
 ghost use Rattle.session_view.specs.Sets.{is_in_range, numbers_in_set};
 ghost use Rattle.imap_commands.specs.MessageNames.{name_at, names_of, existing_messages};
@@ -22,8 +23,10 @@ pub fn messages_named(
     view: &View,
 ) -> Result<Vec<u32>, Refusal>
     ensures range { IfOk result (λ _. is_in_range by_uid set.now view.now.entries ≡ true) }
-    ensures numbers { IfOk result (λ numbers. numbers.items ≡ numbers_in_set by_uid set.now view.now.entries) }
-    ensures err { IfErr result (λ why. (why ≡ NoMemory) ⊎ ((why ≡ NoSuchMessage) × (is_in_range by_uid set.now view.now.entries ≡ false))) }
+    ensures numbers { IfOk result
+        (λ numbers. numbers.items ≡ numbers_in_set by_uid set.now view.now.entries) }
+    ensures err { IfErr result (λ why. (why ≡ NoMemory)
+        ⊎ ((why ≡ NoSuchMessage) × (is_in_range by_uid set.now view.now.entries ≡ false))) }
 {
     match view.resolve(alloc, set, by_uid) {
         Ok(numbers) => Ok(numbers),
@@ -39,7 +42,8 @@ pub fn existing_messages(
     view: &ViewEntries,
     numbers: &[u32],
 ) -> Result<Vec<u32>, AllocError>
-    ensures { IfOk result (λ there. there.items ≡ existing_messages rows.now view.now.items numbers.now) }
+    ensures { IfOk result
+        (λ there. there.items ≡ existing_messages rows.now view.now.items numbers.now) }
 {
     let mut there = Vec::new(alloc);
     for number in numbers {

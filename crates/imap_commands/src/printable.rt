@@ -1,10 +1,14 @@
 //! Reports can be printed: laws over `specs/Printing`, one for each family of commands.
 
 ghost use Rattle.std.specs.Prelude.{ℕ, ◌<◌, Bool, List, length};
-ghost use Rattle.imap_answers.specs.Printable.{Each, IsFolded, IsNonzero, IsPrintable, IsTag, IsWide};
-ghost use Rattle.imap_commands.specs.Arguments.{CopyArgs, FetchArgs, CopyTarget, OpenMailbox, SearchArgs, StoreArgs};
+ghost use Rattle.imap_answers.specs.Printable.{Each, IsFolded, IsNonzero, IsPrintable, IsTag};
+ghost use Rattle.imap_answers.specs.Printable.{IsWide};
+ghost use Rattle.imap_commands.specs.Arguments.{CopyArgs, FetchArgs, CopyTarget, OpenMailbox};
+ghost use Rattle.imap_commands.specs.Arguments.{SearchArgs, StoreArgs};
 ghost use Rattle.imap_commands.specs.Appending.{append_report};
-ghost use Rattle.imap_commands.specs.SimpleCommands.{IsListReport, capability_report, idle_report, logout_report, namespace_report, status_report};
+ghost use Rattle.imap_commands.specs.SimpleCommands.{IsListReport, capability_report, idle_report};
+ghost use Rattle.imap_commands.specs.SimpleCommands.{logout_report, namespace_report};
+ghost use Rattle.imap_commands.specs.SimpleCommands.{status_report};
 ghost use Rattle.imap_commands.specs.Copying.{copy_report, move_report};
 ghost use Rattle.imap_commands.specs.Enabling.{enable_report};
 ghost use Rattle.imap_commands.specs.Report.{CommandReport};
@@ -17,7 +21,9 @@ ghost use Rattle.imap_commands.specs.Storing.{store_report};
 ghost use Rattle.imap_syntax.specs.Commands.{IsSpelled};
 ghost use Rattle.imap_syntax.specs.declared.command.Tagged.{Tagged};
 ghost use Rattle.imap_types.specs.declared.sequence_set.SequenceRange.{SequenceRange};
-ghost use Rattle.imap_commands.specs.Printing.{AreAsMany, AreNonzeroMarks, AreShowable, AreTellable, IsNumbered, IsAnswerable, IsPrintableTelling};
+ghost use Rattle.imap_commands.specs.Printing.{AreAsMany, AreNonzeroMarks, AreShowable};
+ghost use Rattle.imap_commands.specs.Printing.{AreTellable, IsNumbered, IsAnswerable};
+ghost use Rattle.imap_commands.specs.Printing.{IsPrintableTelling};
 ghost use Rattle.imap_commands.specs.Selecting.{IsSelectReport};
 ghost use Rattle.imap_query.specs.declared.mailbox_status.MailboxCounters.{MailboxCounters};
 ghost use Rattle.mailbox_rows.specs.ListedMessage.{ListedMessage};
@@ -30,48 +36,65 @@ ghost use Rattle.imap_answers.specs.declared.answer.Answer.{Answer};
 
 /// The reports of SELECT and EXAMINE can be printed.
 pub fn select_is_printable()
-    ensures { (was_selected read_only : Bool) (name : List ℕ) (marks : MailboxCounters) (rows : List ListedMessage) (told : CommandReport) → IsFolded name → AreNonzeroMarks marks → AreShowable rows
+    ensures { (was_selected read_only : Bool) (name : List ℕ) (marks : MailboxCounters)
+        (rows : List ListedMessage) (told : CommandReport) → IsFolded name → AreNonzeroMarks marks
+        → AreShowable rows
         → IsSelectReport was_selected read_only name marks rows told → IsPrintableTelling told }
 {}
 
 /// After any replay and any sync a view's UIDs ascend and have 32 bits.
 pub fn views_stay_numbered()
-    ensures replay { (rows : List ListedMessage) (view : List ViewEntry) (silents : List SilentFlags) (answers : List Answer) → AreShowable rows → IsNumbered view → IsNumbered (view_after_reply rows view silents answers) }
-    ensures sync { (kind : SyncKind) (rows : List ListedMessage) (view : List ViewEntry) → AreShowable rows → IsNumbered view → IsNumbered (view_after_sync kind rows view) }
+    ensures replay { (rows : List ListedMessage) (view : List ViewEntry)
+        (silents : List SilentFlags) (answers : List Answer) → AreShowable rows → IsNumbered view
+        → IsNumbered (view_after_reply rows view silents answers) }
+    ensures sync { (kind : SyncKind) (rows : List ListedMessage) (view : List ViewEntry)
+        → AreShowable rows → IsNumbered view
+        → IsNumbered (view_after_sync kind rows view) }
 {}
 
 /// The report of FETCH can be printed, if the listing after it can be shown.
 pub fn fetch_is_printable()
-    ensures { (mailbox : OpenMailbox) (after : List ListedMessage) (condstore : Bool) (asked : FetchArgs)
-        → AreShowable after → IsNumbered mailbox.view → AreTellable asked.items → IsPrintableTelling (fetch_report mailbox after condstore asked) }
+    ensures { (mailbox : OpenMailbox) (after : List ListedMessage) (condstore : Bool)
+        (asked : FetchArgs)
+        → AreShowable after → IsNumbered mailbox.view → AreTellable asked.items
+        → IsPrintableTelling (fetch_report mailbox after condstore asked) }
 {}
 
 /// The report of STORE can be printed, if the listing after it can be shown.
 pub fn store_is_printable()
-    ensures { (mailbox : OpenMailbox) (after : List ListedMessage) (condstore : Bool) (asked : StoreArgs) → AreShowable after → IsNumbered mailbox.view → IsPrintableTelling (store_report mailbox after condstore asked) }
+    ensures { (mailbox : OpenMailbox) (after : List ListedMessage) (condstore : Bool)
+        (asked : StoreArgs) → AreShowable after → IsNumbered mailbox.view
+        → IsPrintableTelling (store_report mailbox after condstore asked) }
 {}
 
 /// The report of UID EXPUNGE can be printed.
 pub fn uid_expunge_is_printable()
-    ensures { (mailbox : OpenMailbox) (uids : List SequenceRange) → IsPrintableTelling (uid_expunge_report mailbox uids) }
+    ensures { (mailbox : OpenMailbox) (uids : List SequenceRange)
+        → IsPrintableTelling (uid_expunge_report mailbox uids) }
 {}
 
 /// The answers of a sync can be printed: the expunged messages, the number of messages then, and
 /// the flags that changed.
 pub fn sync_is_printable()
-    ensures { (kind : SyncKind) (modseq : Bool) (rows : List ListedMessage) (view : List ViewEntry) → AreShowable rows → IsNumbered view → Each IsPrintable (sync_answers kind modseq rows view) }
+    ensures { (kind : SyncKind) (modseq : Bool) (rows : List ListedMessage) (view : List ViewEntry)
+        → AreShowable rows → IsNumbered view
+        → Each IsPrintable (sync_answers kind modseq rows view) }
 {}
 
 /// The report of LIST can be printed, if the names of folders and subscriptions have INBOX in
 /// capitals.
 pub fn list_is_printable()
-    ensures { (mode : ListMode) (reference pattern : List ℕ) (folders subscriptions : List (List ℕ)) (told : CommandReport) → Each IsFolded folders → Each IsFolded subscriptions
+    ensures { (mode : ListMode) (reference pattern : List ℕ) (folders subscriptions : List (List ℕ))
+        (told : CommandReport) → Each IsFolded folders
+        → Each IsFolded subscriptions
         → IsListReport mode reference pattern folders subscriptions told → IsPrintableTelling told }
 {}
 
 /// The report of STATUS can be printed, if at least one item is requested.
 pub fn status_is_printable()
-    ensures { (name : List ℕ) (items : List StatusItem) (marks : MailboxCounters) (rows : List ListedMessage) → IsFolded name → 0 < length items → AreNonzeroMarks marks → AreShowable rows
+    ensures { (name : List ℕ) (items : List StatusItem) (marks : MailboxCounters)
+        (rows : List ListedMessage) → IsFolded name → 0 < length items → AreNonzeroMarks marks
+        → AreShowable rows
         → IsPrintableTelling (status_report name items marks rows) }
 {}
 
@@ -87,24 +110,29 @@ pub fn constant_answers_are_printable()
 /// The report of SEARCH can be printed.
 pub fn search_is_printable()
     ensures { (mailbox : OpenMailbox) (tag : List ℕ) (asked : SearchArgs) (told : CommandReport)
-        → IsTag tag → AreShowable mailbox.rows → IsNumbered mailbox.view → IsSearchReport mailbox tag asked told → IsPrintableTelling told }
+        → IsTag tag → AreShowable mailbox.rows → IsNumbered mailbox.view
+        → IsSearchReport mailbox tag asked told → IsPrintableTelling told }
 {}
 
 /// The reports of COPY and MOVE can be printed, if the destination got as many messages as were
 /// copied.
 pub fn copies_are_printable()
     ensures copied { (mailbox : OpenMailbox) (asked : CopyArgs) (landing : CopyTarget)
-        → IsNumbered mailbox.view → IsNonzero landing.uidvalidity → AreShowable landing.rows → AreAsMany mailbox asked landing → IsPrintableTelling (copy_report mailbox asked landing) }
+        → IsNumbered mailbox.view → IsNonzero landing.uidvalidity → AreShowable landing.rows
+        → AreAsMany mailbox asked landing → IsPrintableTelling (copy_report mailbox asked landing) }
     ensures moved { (mailbox : OpenMailbox) (asked : CopyArgs) (landing : CopyTarget)
-        → IsNumbered mailbox.view → IsNonzero landing.uidvalidity → AreShowable landing.rows → AreAsMany mailbox asked landing → IsPrintableTelling (move_report mailbox asked landing) }
+        → IsNumbered mailbox.view → IsNonzero landing.uidvalidity → AreShowable landing.rows
+        → AreAsMany mailbox asked landing → IsPrintableTelling (move_report mailbox asked landing) }
 {}
 
 /// The report of APPEND can be printed.
 pub fn append_is_printable()
-    ensures { (uidvalidity uid : ℕ) → IsNonzero uidvalidity → IsNonzero uid → IsPrintableTelling (append_report uidvalidity uid) }
+    ensures { (uidvalidity uid : ℕ) → IsNonzero uidvalidity → IsNonzero uid
+        → IsPrintableTelling (append_report uidvalidity uid) }
 {}
 
 /// A frame that spells a command spells a tag and arguments that can be printed in answers.
 pub fn spelled_commands_are_answerable()
-    ensures { (tagged : Tagged) (octets : List ℕ) → IsSpelled tagged octets → IsWide (length octets) → IsTag tagged.tag × IsAnswerable tagged.command }
+    ensures { (tagged : Tagged) (octets : List ℕ) → IsSpelled tagged octets → IsWide (length octets)
+        → IsTag tagged.tag × IsAnswerable tagged.command }
 {}

@@ -3,7 +3,8 @@
 ghost use Rattle.std.specs.Prelude.{◌≡◌, ◌-◌, [], None, Some, if◌then◌else◌};
 ghost use Rattle.std.specs.List.{list_any};
 ghost use Rattle.std.specs.Option.{option_copied, option_map};
-ghost use Rattle.imap_commands.specs.Report.{are_some_gone, entry_at, gone_code, is_gone, message_at, empty_report, report_of_answers};
+ghost use Rattle.imap_commands.specs.Report.{are_some_gone, entry_at, gone_code, is_gone};
+ghost use Rattle.imap_commands.specs.Report.{message_at, empty_report, report_of_answers};
 ghost use Rattle.mailbox_rows.specs.RowViews.{listed_message};
 
 use imap_answers::{Answer, Code};

@@ -4,7 +4,8 @@ ghost use Rattle.std.specs.Prelude.{◌≡◌, IfOk};
 ghost use Rattle.std.specs.List.{list_all};
 ghost use Rattle.session_view.specs.Views.{AreRising};
 ghost use Rattle.imap_commands.specs.Gives.{GivesOrLacksMemory};
-ghost use Rattle.imap_commands.specs.Searching.{IsSearchResult, IsSearchReport, search_intent, shown_from, step_is_in_range, test_is_in_range};
+ghost use Rattle.imap_commands.specs.Searching.{IsSearchResult, IsSearchReport, search_intent};
+ghost use Rattle.imap_commands.specs.Searching.{shown_from, step_is_in_range, test_is_in_range};
 
 use crate::command_args::{OpenMailbox, SearchArgs};
 use crate::report::CommandReport;
@@ -20,7 +21,8 @@ use std::alloc::{AllocError, Global};
 /// The intent of SEARCH, which issues nothing. `NoSuchMessage` if a set of message numbers anywhere
 /// in its key names one that no message has (RFC 9051, section 6.4.4).
 pub fn search_intent(alloc: Global, view: &View, steps: &[SearchStep]) -> Result<Vec<Kind>, Refusal>
-    ensures { GivesOrLacksMemory (λ kinds. kinds.items) result (search_intent view.now.entries steps.now) }
+    ensures { GivesOrLacksMemory (λ kinds. kinds.items) result
+        (search_intent view.now.entries steps.now) }
 {
     if !are_in_range(view, steps) {
         return Err(Refusal::NoSuchMessage);

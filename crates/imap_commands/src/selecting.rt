@@ -2,13 +2,21 @@
 
 ghost use Rattle.std.specs.Prelude.{◌≡◌, ◌++◌, ◌+◌, ◌∷◌, [], false, drop, length, IfOk, OnOk};
 ghost use Rattle.std.specs.List.{fold};
-ghost use Rattle.imap_answers.specs.declared.answer.Answer.TheVariants.{Exists as ExistsAnswer, Flags as FlagsAnswer, List as ListAnswer, Tell as TellAnswer};
-ghost use Rattle.imap_answers.specs.declared.codes.Notice.TheVariants.{HighestModSeq as HighestModSeqNotice, PermanentFlags as PermanentFlagsNotice, UidNext as UidNextNotice, UidValidity as UidValidityNotice};
+ghost use Rattle.imap_answers.specs.declared.answer.Answer.TheVariants.{Exists as ExistsAnswer};
+ghost use Rattle.imap_answers.specs.declared.answer.Answer.TheVariants.{Flags as FlagsAnswer};
+ghost use Rattle.imap_answers.specs.declared.answer.Answer.TheVariants.{List as ListAnswer};
+ghost use Rattle.imap_answers.specs.declared.answer.Answer.TheVariants.{Tell as TellAnswer};
+ghost use Rattle.imap_answers.specs.declared.codes.Notice.TheVariants.{HighestModSeq as HighestModSeqNotice};
+ghost use Rattle.imap_answers.specs.declared.codes.Notice.TheVariants.{PermanentFlags as PermanentFlagsNotice};
+ghost use Rattle.imap_answers.specs.declared.codes.Notice.TheVariants.{UidNext as UidNextNotice};
+ghost use Rattle.imap_answers.specs.declared.codes.Notice.TheVariants.{UidValidity as UidValidityNotice};
 ghost use Rattle.imap_answers.specs.declared.mailbox.MailboxState.TheVariants.{There};
 ghost use Rattle.imap_types.specs.Keywords.{to_lower_case, with_word};
 ghost use Rattle.imap_types.specs.Unions.{united_flags};
 ghost use Rattle.imap_commands.specs.Gives.{GivesOrLacksMemory};
-ghost use Rattle.imap_commands.specs.Selecting.{AreListedKeywords, IsSelectReport, access_code, flags_in_use, mailbox_answers, permanent_flags, select_report, select_intent};
+ghost use Rattle.imap_commands.specs.Selecting.{AreListedKeywords, IsSelectReport, access_code};
+ghost use Rattle.imap_commands.specs.Selecting.{flags_in_use, mailbox_answers, permanent_flags};
+ghost use Rattle.imap_commands.specs.Selecting.{select_report, select_intent};
 
 use crate::report::CommandReport;
 use crdt_ops::Kind;
@@ -41,7 +49,8 @@ pub fn select_report(
     marks: MailboxCounters,
     rows: &Rows<'_>,
 ) -> Result<CommandReport, AllocError>
-    ensures { IfOk result (λ told. IsSelectReport was_selected read_only name.now marks rows.now told) }
+    ensures { IfOk result
+        (λ told. IsSelectReport was_selected read_only name.now marks rows.now told) }
 {
     let keywords = listed_keywords(alloc, rows)?;
     let opened = Opened {
@@ -68,7 +77,9 @@ fn report_with_flags(
     rows: &Rows<'_>,
     keywords: Keywords,
 ) -> Result<CommandReport, AllocError>
-    ensures { IfOk result (λ told. told ≡ select_report was_selected opened.now.read_only opened.now.name.now opened.now.marks rows.now keywords) }
+    ensures { IfOk result (λ told. told
+        ≡ select_report was_selected opened.now.read_only opened.now.name.now opened.now.marks
+        rows.now keywords) }
 {
     let mut own = Vec::new(alloc);
     if was_selected {
@@ -100,7 +111,10 @@ fn push_mailbox(
     keywords: Keywords,
     answers: &mut Vec<Answer>,
 ) -> Result<(), AllocError>
-    ensures { OnOk result (answers.new.items ≡ answers.old.items ++ mailbox_answers opened.now.read_only opened.now.name.now opened.now.marks count (flags_in_use keywords)) }
+    ensures { OnOk result (answers.new.items
+        ≡ answers.old.items
+        ++ mailbox_answers opened.now.read_only opened.now.name.now opened.now.marks count
+        (flags_in_use keywords)) }
 {
     let flags = flags_in_use(keywords);
     let permanent = match permanent_flags(alloc, opened.read_only, &flags) {
@@ -123,7 +137,9 @@ fn push_contents(
     count: u32,
     answers: &mut Vec<Answer>,
 ) -> Result<(), AllocError>
-    ensures { OnOk result (answers.new.items ≡ answers.old.items ++ FlagsAnswer flags ∷ ExistsAnswer count ∷ ListAnswer name.now There false ∷ []) }
+    ensures { OnOk result (answers.new.items
+        ≡ answers.old.items ++ FlagsAnswer flags ∷ ExistsAnswer count
+        ∷ ListAnswer name.now There false ∷ []) }
 {
     let name = name.copy(alloc)?;
     answers.push(Answer::Flags { flags })?;
@@ -138,7 +154,9 @@ fn push_contents(
 
 /// Adds UIDVALIDITY and UIDNEXT.
 fn push_uids(marks: MailboxCounters, answers: &mut Vec<Answer>) -> Result<(), AllocError>
-    ensures { OnOk result (answers.new.items ≡ answers.old.items ++ TellAnswer (UidValidityNotice marks.uidvalidity) ∷ TellAnswer (UidNextNotice marks.uidnext) ∷ []) }
+    ensures { OnOk result (answers.new.items
+        ≡ answers.old.items ++ TellAnswer (UidValidityNotice marks.uidvalidity)
+        ∷ TellAnswer (UidNextNotice marks.uidnext) ∷ []) }
 {
     answers.push(Answer::Tell {
         notice: Notice::UidValidity {
@@ -157,7 +175,9 @@ fn push_changes(
     marks: MailboxCounters,
     answers: &mut Vec<Answer>,
 ) -> Result<(), AllocError>
-    ensures { OnOk result (answers.new.items ≡ answers.old.items ++ TellAnswer (PermanentFlagsNotice permanent) ∷ TellAnswer (HighestModSeqNotice marks.highest_modseq) ∷ []) }
+    ensures { OnOk result (answers.new.items
+        ≡ answers.old.items ++ TellAnswer (PermanentFlagsNotice permanent)
+        ∷ TellAnswer (HighestModSeqNotice marks.highest_modseq) ∷ []) }
 {
     answers.push(Answer::Tell {
         notice: Notice::PermanentFlags { flags: permanent },
@@ -216,7 +236,12 @@ fn add_keywords_at(
     place: u32,
     keywords: &mut Keywords,
 ) -> Result<(), AllocError>
-    ensures { OnOk result (fold (λ done row. fold (λ done word. with_word (to_lower_case word) done) done row.flags.keywords) keywords.new (drop (place + 1) rows.now) ≡ fold (λ done row. fold (λ done word. with_word (to_lower_case word) done) done row.flags.keywords) keywords.old (drop place rows.now)) }
+    ensures { OnOk result (fold
+        (λ done row. fold (λ done word. with_word (to_lower_case word) done) done
+        row.flags.keywords) keywords.new (drop (place + 1) rows.now)
+        ≡ fold
+        (λ done row. fold (λ done word. with_word (to_lower_case word) done) done
+        row.flags.keywords) keywords.old (drop place rows.now)) }
 {
     match rows.row_at(place as usize) {
         Some(row) => add_keywords_of(alloc, &row.versions, keywords),
@@ -230,14 +255,17 @@ fn add_keywords_of(
     versions: &Versions<'_>,
     keywords: &mut Keywords,
 ) -> Result<(), AllocError>
-    ensures { OnOk result (keywords.new ≡ fold (λ done word. with_word (to_lower_case word) done) keywords.old (united_flags versions.now.list.now).keywords) }
+    ensures { OnOk result (keywords.new
+        ≡ fold (λ done word. with_word (to_lower_case word) done) keywords.old
+        (united_flags versions.now.list.now).keywords) }
 {
     let flags = versions.flags(alloc)?;
     add_keywords(alloc, flags.keywords.as_slice(), keywords)
 }
 
 fn add_keywords(alloc: Global, words: &[Octets], keywords: &mut Keywords) -> Result<(), AllocError>
-    ensures { OnOk result (keywords.new ≡ fold (λ done word. with_word (to_lower_case word) done) keywords.old words.now) }
+    ensures { OnOk result (keywords.new
+        ≡ fold (λ done word. with_word (to_lower_case word) done) keywords.old words.now) }
 {
     for word in words {
         keywords.insert(alloc, word.as_bytes())?;

@@ -2,7 +2,9 @@
 //! of LOGOUT.
 
 ghost use Rattle.std.specs.Prelude.{◌≡◌, ◌∷◌, [], IfOk};
-ghost use Rattle.imap_commands.specs.SimpleCommands.{IsListReport, capability_report, idle_report, logout_report, namespace_report, status_report, status_intent};
+ghost use Rattle.imap_commands.specs.SimpleCommands.{IsListReport, capability_report, idle_report};
+ghost use Rattle.imap_commands.specs.SimpleCommands.{logout_report, namespace_report};
+ghost use Rattle.imap_commands.specs.SimpleCommands.{status_report, status_intent};
 ghost use Rattle.imap_commands.specs.Gives.{GivesOrLacksMemory};
 ghost use Rattle.imap_commands.specs.Report.{report_of_answers};
 
@@ -25,7 +27,8 @@ pub fn list_report(
     folders: &[Name],
     subscriptions: &[Name],
 ) -> Result<CommandReport, AllocError>
-    ensures { IfOk result (λ told. IsListReport mode reference.now pattern.now folders.now subscriptions.now told) }
+    ensures { IfOk result
+        (λ told. IsListReport mode reference.now pattern.now folders.now subscriptions.now told) }
 {
     let own = list_names(
         alloc,

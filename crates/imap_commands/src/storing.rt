@@ -11,7 +11,11 @@ ghost use Rattle.session_view.specs.Views.{same_flags};
 ghost use Rattle.imap_commands.specs.NamedMessages.{messages_stored_by};
 ghost use Rattle.imap_commands.specs.Gives.{GivesOrLacksMemory};
 ghost use Rattle.imap_commands.specs.MessageNames.{names_of};
-ghost use Rattle.imap_commands.specs.Storing.{has_unlawful_keyword, is_refused, is_taken, is_unchanged, modified_code, silent_at, silents_of, store_of, store_report, store_intent, stored_answer, stored_answers, stores_of, refused_messages, taken_messages};
+ghost use Rattle.imap_commands.specs.Storing.{has_unlawful_keyword, is_refused, is_taken};
+ghost use Rattle.imap_commands.specs.Storing.{is_unchanged, modified_code, silent_at, silents_of};
+ghost use Rattle.imap_commands.specs.Storing.{store_of, store_report, store_intent, stored_answer};
+ghost use Rattle.imap_commands.specs.Storing.{stored_answers, stores_of, refused_messages};
+ghost use Rattle.imap_commands.specs.Storing.{taken_messages};
 ghost use Rattle.imap_commands.specs.Report.{entry_at, gone_code, message_at};
 
 use crate::command_args::{OpenMailbox, StoreArgs};
@@ -38,8 +42,10 @@ pub fn store_intent(
     mailbox: &OpenMailbox<'_>,
     asked: &StoreArgs<'_>,
 ) -> Result<Intent, Refusal>
-    ensures gives { GivesOrLacksMemory (λ intent. intent.kinds.items) result (store_intent mailbox.now asked.now) }
-    ensures found { IfOk result (λ intent. intent.found ≡ messages_stored_by mailbox.now asked.now) }
+    ensures gives { GivesOrLacksMemory (λ intent. intent.kinds.items) result
+        (store_intent mailbox.now asked.now) }
+    ensures found { IfOk result
+        (λ intent. intent.found ≡ messages_stored_by mailbox.now asked.now) }
 {
     let numbers = messages_named(alloc, asked.by_uid, asked.messages, mailbox.view)?;
     if mailbox.read_only {
@@ -109,7 +115,8 @@ fn taken_messages(
     since: Option<u64>,
     numbers: &[u32],
 ) -> Result<Vec<u32>, AllocError>
-    ensures { IfOk result (λ taken. taken.items ≡ taken_messages before.now view.now.items since numbers.now) }
+    ensures { IfOk result
+        (λ taken. taken.items ≡ taken_messages before.now view.now.items since numbers.now) }
 {
     let mut taken = Vec::new(alloc);
     for number in numbers {
@@ -128,7 +135,8 @@ fn refused_messages(
     since: Option<u64>,
     numbers: &[u32],
 ) -> Result<Vec<u32>, AllocError>
-    ensures { IfOk result (λ refused. refused.items ≡ refused_messages before.now view.now.items since numbers.now) }
+    ensures { IfOk result
+        (λ refused. refused.items ≡ refused_messages before.now view.now.items since numbers.now) }
 {
     let mut refused = Vec::new(alloc);
     for number in numbers {
@@ -163,7 +171,10 @@ fn push_store(
     number: u32,
     kinds: &mut Vec<Kind>,
 ) -> Result<(), AllocError>
-    ensures { OnOk result (kinds.new.items ≡ kinds.old.items ++ store_of mailbox.now.name asked.now.action.mode asked.now.flags (message_at mailbox.now.rows mailbox.now.view number)) }
+    ensures { OnOk result (kinds.new.items
+        ≡ kinds.old.items
+        ++ store_of mailbox.now.name asked.now.action.mode asked.now.flags
+        (message_at mailbox.now.rows mailbox.now.view number)) }
 {
     let Some(row) = mailbox.message_at(number) else {
         return Ok(());
@@ -226,7 +237,9 @@ fn store_code(
     numbers: &[u32],
 ) -> Result<Option<Code>, AllocError>
     requires { AreRisingFrom 1 (names_of by_uid view.now.items refused.now) }
-    ensures { IfOk result (λ code. code ≡ modified_code (names_of by_uid view.now.items refused.now) (gone_code before.now view.now.items numbers.now)) }
+    ensures { IfOk result (λ code. code
+        ≡ modified_code (names_of by_uid view.now.items refused.now)
+        (gone_code before.now view.now.items numbers.now)) }
 {
     let names = names_of(alloc, by_uid, view, refused)?;
     if names.is_empty() {
@@ -246,7 +259,8 @@ fn stored_answers(
     asked: &StoreArgs<'_>,
     taken: &[u32],
 ) -> Result<Vec<Answer>, AllocError>
-    ensures { IfOk result (λ answers. answers.items ≡ stored_answers after.now view.now.items condstore asked.now taken.now) }
+    ensures { IfOk result (λ answers. answers.items
+        ≡ stored_answers after.now view.now.items condstore asked.now taken.now) }
 {
     if answers_nothing(asked.action.silent, asked.unchanged_since) {
         return Ok(Vec::new(alloc));
@@ -270,7 +284,10 @@ fn answers_of(
     asked: &StoreArgs<'_>,
     taken: &[u32],
 ) -> Result<Vec<Answer>, AllocError>
-    ensures { IfOk result (λ answers. answers.items ≡ flat_map (λ n. stored_answer condstore asked.now n (message_at after.now view.now.items n)) taken.now) }
+    ensures { IfOk result (λ answers. answers.items
+        ≡ flat_map
+        (λ n. stored_answer condstore asked.now n (message_at after.now view.now.items n))
+        taken.now) }
 {
     let mut answers = Vec::new(alloc);
     for number in taken {
@@ -290,7 +307,9 @@ fn push_answer(
     row: &Row<'_>,
     answers: &mut Vec<Answer>,
 ) -> Result<(), AllocError>
-    ensures { OnOk result (answers.new.items ≡ answers.old.items ++ stored_answer condstore asked.now number (Some (listed_message row.now))) }
+    ensures { OnOk result (answers.new.items
+        ≡ answers.old.items
+        ++ stored_answer condstore asked.now number (Some (listed_message row.now))) }
 {
     let flags = flags_where(alloc, !asked.action.silent, &row.versions)?;
     let with_modseq = asked.unchanged_since.is_some() || condstore;
@@ -329,7 +348,8 @@ fn silents_of(
     asked: &StoreArgs<'_>,
     taken: &[u32],
 ) -> Result<Vec<SilentFlags>, AllocError>
-    ensures { IfOk result (λ silents. silents.items ≡ silents_of view.now.items asked.now taken.now) }
+    ensures { IfOk result
+        (λ silents. silents.items ≡ silents_of view.now.items asked.now taken.now) }
 {
     if !asked.action.silent {
         return Ok(Vec::new(alloc));
@@ -343,7 +363,10 @@ fn silents(
     asked: &StoreArgs<'_>,
     taken: &[u32],
 ) -> Result<Vec<SilentFlags>, AllocError>
-    ensures { IfOk result (λ silents. silents.items ≡ flat_map (λ n. silent_at asked.now.action.mode asked.now.flags n (entry_at view.now.items n)) taken.now) }
+    ensures { IfOk result (λ silents. silents.items
+        ≡ flat_map
+        (λ n. silent_at asked.now.action.mode asked.now.flags n (entry_at view.now.items n))
+        taken.now) }
 {
     let mut silents = Vec::new(alloc);
     for number in taken {
@@ -360,7 +383,10 @@ fn push_silent(
     number: u32,
     silents: &mut Vec<SilentFlags>,
 ) -> Result<(), AllocError>
-    ensures { OnOk result (silents.new.items ≡ silents.old.items ++ silent_at asked.now.action.mode asked.now.flags number (entry_at view.now.items number)) }
+    ensures { OnOk result (silents.new.items
+        ≡ silents.old.items
+        ++ silent_at asked.now.action.mode asked.now.flags number
+        (entry_at view.now.items number)) }
 {
     let Some(entry) = entry_at(view, number) else {
         return Ok(());

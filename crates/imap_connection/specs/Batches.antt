@@ -1,7 +1,8 @@
 -- Brief commands, which are given to a port in batches: the answers to them, and how a conversation
 -- ends at one of them.
 
-use Rattle.std.specs.Prelude.{◌≡◌, ◌⊎◌, ℕ, Bool, true, false, List, [], ◌∷◌, ◌++◌, map, None, Result, Ok, Err}
+use Rattle.std.specs.Prelude.{◌≡◌, ◌⊎◌, ℕ, Bool, true, false, List, [], ◌∷◌, ◌++◌, map, None}
+use Rattle.std.specs.Prelude.{Result, Ok, Err}
 use Rattle.std.specs.List.{list_all}
 use Rattle.imap_answers.specs.declared.answer.Answer.{Answer}
 use Rattle.imap_lex.specs.declared.item.Item.{Item}
@@ -42,7 +43,8 @@ answers_by tags replies = []
 -- These items are these commands, in a session that doesn't idle.
 abbrev pub AreAsked : List Item → List Tagged → Type 0
 AreAsked [] [] = Unit {0}
-AreAsked (item ∷ items) (tagged ∷ all) = IsRequest None item (requests.Command tagged) × AreAsked items all
+AreAsked (item ∷ items) (tagged ∷ all) =
+    IsRequest None item (requests.Command tagged) × AreAsked items all
 AreAsked items all = ⊥
 
 -- `steps` is the port before and after a command or a line of IDLE.
@@ -52,7 +54,10 @@ module _ {S : Type 0} (steps : S → PortCall → Result Reply PortFault → S �
   abbrev pub Carries : S → List Tagged → List Reply → Result (Unit {0}) PortFault → S → Type 0
   Carries old [] [] (Ok all) new = new ≡ old
   Carries old (tagged ∷ rest) [] (Err fault) new = steps old (asked.Command tagged) (Err fault) new
-  Carries old (tagged ∷ rest) (reply ∷ replies) given new = (mid : S) × steps old (asked.Command tagged) (Ok reply) mid × Carries mid rest replies given new
+  Carries old (tagged ∷ rest) (reply ∷ replies) given new =
+      (mid : S)
+      × steps old (asked.Command tagged) (Ok reply) mid
+      × Carries mid rest replies given new
   Carries old all replies given new = ⊥
 
   -- Commands that were given at once end the conversation, after these answers: memory ran out
@@ -61,6 +66,8 @@ module _ {S : Type 0} (steps : S → PortCall → Result Reply PortFault → S �
   abbrev pub Falters : S → List Tagged → Ended → List Answer → S → Type 0
   Falters old all ended told new =
       ((ended ≡ NoMemory) × (told ≡ []) × (new ≡ old))
-      ⊎ ((replies : List Reply) × (given : Result (Unit {0}) PortFault) × Carries old all replies given new
-      × (((fault : PortFault) × (given ≡ Err fault) × (ended ≡ ended_by fault) × (told ≡ answers_by (tags_of all) replies))
+      ⊎ ((replies : List Reply) × (given : Result (Unit {0}) PortFault)
+      × Carries old all replies given new
+      × (((fault : PortFault) × (given ≡ Err fault) × (ended ≡ ended_by fault)
+      × (told ≡ answers_by (tags_of all) replies))
       ⊎ ((ended ≡ NoMemory) × IsPrefixOf told (answers_by (tags_of all) replies))))

@@ -62,7 +62,9 @@ turns_of item given = turns_of_item item ++ turns_of_answers given
 -- command that the frame spells, or the one to its fault.
 abbrev pub TakesFrame : NodeState → ℕ → ℕ → List ℕ → List Answer → NodeState → Type 0
 TakesFrame old session moment octets given new =
-    ((tagged : Tagged) × (reply : Reply) × IsSpelled tagged octets × Responds old session (Command moment tagged) reply new × (given ≡ answers_of tagged.tag reply))
+    ((tagged : Tagged) × (reply : Reply) × IsSpelled tagged octets
+    × Responds old session (Command moment tagged) reply new
+    × (given ≡ answers_of tagged.tag reply))
     ⊎ ((answer : Answer) × IsFaultAnswer octets answer × (given ≡ answer ∷ []) × (new ≡ old))
 
 -- The line that an item is in IDLE (RFC 2177, section 3). A command beginning that is refused for
@@ -76,20 +78,31 @@ IsLine (Refused octets) line = line ≡ Other
 -- refused because memory ran out gets no answer (see `StopsAt`).
 abbrev pub TakesLine : NodeState → ℕ → List ℕ → Item → List Answer → NodeState → Type 0
 TakesLine old session tag item given new =
-    (line : IdleLine) × (reply : Reply) × IsLine item line × Responds old session (Line line) reply new × (is_without_memory reply ≡ false) × (given ≡ answers_of tag reply)
+    (line : IdleLine)
+    × (reply : Reply)
+    × IsLine item line
+    × Responds old session (Line line) reply new
+    × (is_without_memory reply ≡ false)
+    × (given ≡ answers_of tag reply)
 
 -- The node takes an item of the framer and gives these answers, if the session idles with this tag,
 -- or doesn't idle.
 abbrev pub TakesItem : Option (List ℕ) → NodeState → ℕ → ℕ → Item → List Answer → NodeState → Type 0
-TakesItem idling old session moment Ready given new = (given ≡ Continue continuations.Ready ∷ []) × (new ≡ old)
-TakesItem None old session moment (Frame octets) given new = TakesFrame old session moment octets given new
-TakesItem None old session moment (Refused octets) given new = (answer : Answer) × IsLiteralAnswer octets answer × (given ≡ answer ∷ []) × (new ≡ old)
-TakesItem (Some tag) old session moment (Frame octets) given new = TakesLine old session tag (Frame octets) given new
-TakesItem (Some tag) old session moment (Refused octets) given new = TakesLine old session tag (Refused octets) given new
+TakesItem idling old session moment Ready given new =
+    (given ≡ Continue continuations.Ready ∷ []) × (new ≡ old)
+TakesItem None old session moment (Frame octets) given new =
+    TakesFrame old session moment octets given new
+TakesItem None old session moment (Refused octets) given new =
+    (answer : Answer) × IsLiteralAnswer octets answer × (given ≡ answer ∷ []) × (new ≡ old)
+TakesItem (Some tag) old session moment (Frame octets) given new =
+    TakesLine old session tag (Frame octets) given new
+TakesItem (Some tag) old session moment (Refused octets) given new =
+    TakesLine old session tag (Refused octets) given new
 
 -- The node takes an item at the moment at which it came, and gives these answers.
 abbrev pub TakesItemAt : NodeState → ℕ → TimedItem → List Answer → NodeState → Type 0
-TakesItemAt old session came given new = TakesItem (idling_at old session) old session came.moment came.item given new
+TakesItemAt old session came given new =
+    TakesItem (idling_at old session) old session came.moment came.item given new
 
 -- ---- many items
 
@@ -99,8 +112,11 @@ abbrev pub Converses : NodeState → ℕ → List TimedItem → List Turn → No
 Converses old session [] turns new = (turns ≡ []) × (new ≡ old)
 Converses old session (came ∷ items) turns new =
     (given : List Answer) × (mid : NodeState) × TakesItemAt old session came given mid
-    × ((IsGoing mid session × ((rest : List Turn) × (turns ≡ turns_of came.item given ++ rest) × Converses mid session items rest new))
-    ⊎ (HasLoggedOut mid session × (turns ≡ turns_of came.item given) × (new ≡ with_session_closed mid session)))
+    × ((IsGoing mid session
+    × ((rest : List Turn) × (turns ≡ turns_of came.item given ++ rest)
+    × Converses mid session items rest new))
+    ⊎ (HasLoggedOut mid session × (turns ≡ turns_of came.item given)
+    × (new ≡ with_session_closed mid session)))
 
 -- The first list is an initial part of the second.
 abbrev pub IsPrefixOf : {T : Type 0} → List T → List T → Type 0
@@ -108,7 +124,8 @@ IsPrefixOf {T} front all = (back : List T) × (all ≡ front ++ back)
 
 -- The session idles, and the item is a line of it.
 abbrev pub IsIdleLine : NodeState → ℕ → Item → Type 0
-IsIdleLine node session item = (tag : List ℕ) × (line : IdleLine) × (idling_at node session ≡ Some tag) × IsLine item line
+IsIdleLine node session item =
+    (tag : List ℕ) × (line : IdleLine) × (idling_at node session ≡ Some tag) × IsLine item line
 
 -- An item at which the conversation stops.
 abbrev pub StopsAt : TalkFaultKind → NodeState → ℕ → TimedItem → List Turn → NodeState → Type 0
@@ -116,18 +133,26 @@ abbrev pub StopsAt : TalkFaultKind → NodeState → ℕ → TimedItem → List 
 -- added.
 StopsAt kinds.NoMemory old session came turns new =
     (IsPrefixOf turns (turns_of_item came.item) × (new ≡ old))
-    ⊎ ((given : List Answer) × TakesItemAt old session came given new × IsPrefixOf turns (turns_of came.item given))
+    ⊎ ((given : List Answer) × TakesItemAt old session came given new
+    × IsPrefixOf turns (turns_of came.item given))
 -- A line of IDLE was refused because memory ran out: nothing changed, and a BYE says so.
 StopsAt kinds.LineRefused old session came turns new =
-    IsIdleLine old session came.item × (turns ≡ turns_of came.item (Bye reasons.NoMemory ∷ [])) × (new ≡ old)
+    IsIdleLine old session came.item
+    × (turns ≡ turns_of came.item (Bye reasons.NoMemory ∷ []))
+    × (new ≡ old)
 StopsAt (kinds.Framing why) old session came turns new = ⊥
 
 -- The turns of a conversation over these items that was broken off: those of some items in full,
 -- then what the item at which it stops shows; or, if memory ran out, those of all items in full.
 -- The session is closed; a command that was carried out stays so.
-abbrev pub BreaksOff : TalkFaultKind → NodeState → ℕ → List TimedItem → List Turn → NodeState → Type 0
-BreaksOff why old session [] turns new = (why ≡ kinds.NoMemory) × (turns ≡ []) × (new ≡ with_session_closed old session)
+abbrev pub BreaksOff : TalkFaultKind → NodeState → ℕ → List TimedItem → List Turn → NodeState
+    → Type 0
+BreaksOff why old session [] turns new =
+    (why ≡ kinds.NoMemory) × (turns ≡ []) × (new ≡ with_session_closed old session)
 BreaksOff why old session (came ∷ items) turns new =
-    ((mid : NodeState) × StopsAt why old session came turns mid × (new ≡ with_session_closed mid session))
-    ⊎ ((given : List Answer) × (mid : NodeState) × TakesItemAt old session came given mid × IsGoing mid session
-    × ((rest : List Turn) × (turns ≡ turns_of came.item given ++ rest) × BreaksOff why mid session items rest new))
+    ((mid : NodeState) × StopsAt why old session came turns mid
+    × (new ≡ with_session_closed mid session))
+    ⊎ ((given : List Answer) × (mid : NodeState) × TakesItemAt old session came given mid
+    × IsGoing mid session
+    × ((rest : List Turn) × (turns ≡ turns_of came.item given ++ rest)
+    × BreaksOff why mid session items rest new))

@@ -1,14 +1,18 @@
 -- The whole conversation of `converse` with a mail client: the calls of the port, the octets read,
 -- the text of the answers, and how it ends.
 
-use Rattle.std.specs.Prelude.{◌≡◌, ◌⊎◌, ℕ, Bool, true, false, Option, None, List, [], ◌∷◌, ◌++◌, Result, Ok, Err, IsOk}
+use Rattle.std.specs.Prelude.{◌≡◌, ◌⊎◌, ℕ, Bool, true, false, Option, None, List, [], ◌∷◌, ◌++◌}
+use Rattle.std.specs.Prelude.{Result, Ok, Err, IsOk}
 use Rattle.imap_answers.specs.Printed.{text_of_answer}
 use Rattle.imap_answers.specs.declared.answer.Answer.{Answer}
 use Rattle.imap_answers.specs.declared.answer.Answer.TheVariants.{Greeting}
 use Rattle.imap_answers.specs.declared.fixed_words.Login.{Login}
 use Rattle.imap_lex.specs.Framing.{Cut, IsPrefix, cut_onward, start}
 use Rattle.imap_lex.specs.declared.fault.FrameFaultKind.{FrameFaultKind}
-use Rattle.imap_lex.specs.declared.fault.FrameFaultKind.TheVariants.{LineTooLong, LiteralTooLong, NulByte, NoMemory as NoRoomForItem, Failed}
+use Rattle.imap_lex.specs.declared.fault.FrameFaultKind.TheVariants.{LineTooLong, LiteralTooLong}
+use Rattle.imap_lex.specs.declared.fault.FrameFaultKind.TheVariants.{NulByte}
+use Rattle.imap_lex.specs.declared.fault.FrameFaultKind.TheVariants.{NoMemory as NoRoomForItem}
+use Rattle.imap_lex.specs.declared.fault.FrameFaultKind.TheVariants.{Failed}
 use Rattle.imap_lex.specs.declared.item.Item.{Item}
 use Rattle.imap_lex.specs.declared.limits.Limits.{Limits}
 use Rattle.imap_node.specs.declared.reply.Reply.{Reply}
@@ -19,7 +23,11 @@ use Rattle.imap_connection.specs.Devices.{Gave, Took, TookSome}
 use Rattle.imap_connection.specs.Endings.{bye_text_of, ended_by}
 use Rattle.imap_connection.specs.Requests.{StopsAt, Takes, texts}
 use Rattle.imap_connection.specs.declared.end_of_conversation.Ended.{Ended}
-use Rattle.imap_connection.specs.declared.end_of_conversation.Ended.TheVariants.{PeerClosed, Framing, ReadFailed, WriteFailed, NoMemory}
+use Rattle.imap_connection.specs.declared.end_of_conversation.Ended.TheVariants.{PeerClosed}
+use Rattle.imap_connection.specs.declared.end_of_conversation.Ended.TheVariants.{Framing}
+use Rattle.imap_connection.specs.declared.end_of_conversation.Ended.TheVariants.{ReadFailed}
+use Rattle.imap_connection.specs.declared.end_of_conversation.Ended.TheVariants.{WriteFailed}
+use Rattle.imap_connection.specs.declared.end_of_conversation.Ended.TheVariants.{NoMemory}
 use Rattle.imap_connection.specs.declared.fault.PortFault.{PortFault}
 
 module _ {S : Type 0} (steps : S → PortCall → Result Reply PortFault → S → Type 0) where
@@ -29,10 +37,13 @@ module _ {S : Type 0} (steps : S → PortCall → Result Reply PortFault → S �
   Converses old idling [] said new after = (said ≡ []) × (new ≡ old) × (after ≡ idling)
   Converses old idling (item ∷ items) said new after =
       (given : List Answer) × (mid : S) × (between : Option (List ℕ)) × (rest : List ℕ)
-      × Takes steps old idling item given mid between false × (said ≡ texts given ++ rest) × Converses mid between items rest new after
+      × Takes steps old idling item given mid between false
+      × (said ≡ texts given ++ rest)
+      × Converses mid between items rest new after
 
   -- The conversation over these items ends at one of them, after those before it.
-  pub record Breaks (old : S) (idling : Option (List ℕ)) (items : List Item) (ended : Ended) (said : List ℕ) (new : S) : Type 0 where
+  pub record Breaks (old : S) (idling : Option (List ℕ)) (items : List Item) (ended : Ended)
+      (said : List ℕ) (new : S) : Type 0 where
     pub front : List Item
     pub item : Item
     pub back : List Item
@@ -46,12 +57,14 @@ module _ {S : Type 0} (steps : S → PortCall → Result Reply PortFault → S �
     pub said_is : said ≡ before ++ texts given
 
   -- Items were answered, and the conversation continued.
-  pub record Goes (old : S) (idling : Option (List ℕ)) (items : List Item) (said : List ℕ) (new : S) : Type 0 where
+  pub record Goes (old : S) (idling : Option (List ℕ)) (items : List Item) (said : List ℕ) (new : S)
+      : Type 0 where
     pub after : Option (List ℕ)
     pub answered : Converses old idling items said new after
 
   -- Some of the first of these items were answered, and the conversation continued.
-  pub record GoesFor (old : S) (idling : Option (List ℕ)) (items : List Item) (said : List ℕ) (new : S) : Type 0 where
+  pub record GoesFor (old : S) (idling : Option (List ℕ)) (items : List Item) (said : List ℕ)
+      (new : S) : Type 0 where
     pub front : List Item
     pub first : IsPrefix front items
     pub goes : Goes old idling front said new
@@ -61,13 +74,16 @@ module _ {S : Type 0} (steps : S → PortCall → Result Reply PortFault → S �
   abbrev pub IsCut : S → Option (List ℕ) → Cut → FrameFaultKind → List ℕ → S → Type 0
   IsCut old idling cut NoRoomForItem said new = GoesFor old idling cut.0 said new
   IsCut old idling cut Failed said new = ⊥
-  IsCut old idling cut LineTooLong said new = (cut.1 ≡ Err LineTooLong) × Goes old idling cut.0 said new
-  IsCut old idling cut LiteralTooLong said new = (cut.1 ≡ Err LiteralTooLong) × Goes old idling cut.0 said new
+  IsCut old idling cut LineTooLong said new =
+      (cut.1 ≡ Err LineTooLong) × Goes old idling cut.0 said new
+  IsCut old idling cut LiteralTooLong said new =
+      (cut.1 ≡ Err LiteralTooLong) × Goes old idling cut.0 said new
   IsCut old idling cut NulByte said new = (cut.1 ≡ Err NulByte) × Goes old idling cut.0 said new
 
   -- Items were taken: the first were answered, and the rest are brief commands of a session that
   -- doesn't idle, not given to the port yet.
-  pub record Going (old : S) (idling : Option (List ℕ)) (items : List Item) (said : List ℕ) (new : S) (between : Option (List ℕ)) (waiting : List Tagged) : Type 0 where
+  pub record Going (old : S) (idling : Option (List ℕ)) (items : List Item) (said : List ℕ)
+      (new : S) (between : Option (List ℕ)) (waiting : List Tagged) : Type 0 where
     pub front : List Item
     pub back : List Item
     pub items_are : items ≡ front ++ back
@@ -78,9 +94,11 @@ module _ {S : Type 0} (steps : S → PortCall → Result Reply PortFault → S �
 
   -- Memory ran out for the last answers: items were answered, up to one that ends the conversation
   -- or not, and the port is as it is after them; but the texts of these last answers are missing.
-  pub record Unsaid (old : S) (idling : Option (List ℕ)) (items : List Item) (said : List ℕ) (new : S) : Type 0 where
+  pub record Unsaid (old : S) (idling : Option (List ℕ)) (items : List Item) (said : List ℕ)
+      (new : S) : Type 0 where
     pub lost : List Answer
-    pub all : (GoesFor old idling items (said ++ texts lost) new) ⊎ ((ended : Ended) × Breaks old idling items ended (said ++ texts lost) new)
+    pub all : (GoesFor old idling items (said ++ texts lost) new)
+        ⊎ ((ended : Ended) × Breaks old idling items ended (said ++ texts lost) new)
 
   -- The conversation over these items ends: a write failed after some of them; it ends at one of
   -- them; or memory ran out for the last answers.
@@ -94,7 +112,8 @@ module _ {S : Type 0} (steps : S → PortCall → Result Reply PortFault → S �
   -- it ends over the items.
   abbrev pub Halts : S → Option (List ℕ) → Cut → Ended → List ℕ → S → Type 0
   Halts old idling cut ended said new =
-      ((why : FrameFaultKind) × (ended ≡ Framing why) × IsCut old idling cut why said new) ⊎ Leaves old idling cut.0 ended said new
+      ((why : FrameFaultKind) × (ended ≡ Framing why) × IsCut old idling cut why said new)
+      ⊎ Leaves old idling cut.0 ended said new
 
   -- The conversation over the items that all octets give ends: the source reported its end, or a
   -- read failed, after all items; or the octets end it.
@@ -108,23 +127,32 @@ module _ {S : Type 0} (steps : S → PortCall → Result Reply PortFault → S �
   -- it, and nothing was read.
   abbrev pub Holds : S → Login → Limits → List ℕ → Ended → Bool → List ℕ → S → Type 0
   Holds old login limits octets ended at_end said new =
-      ((rest : List ℕ) × (said ≡ text_of_answer (Greeting login) ++ rest) × Ends old (cut_onward limits (Ok start) octets) ended at_end rest new)
+      ((rest : List ℕ) × (said ≡ text_of_answer (Greeting login) ++ rest)
+      × Ends old (cut_onward limits (Ok start) octets) ended at_end rest new)
       ⊎ ((ended ≡ NoMemory) × (octets ≡ []) × (said ≡ []) × (new ≡ old))
 
 -- All the text was written, and the conversation ended in `ended`; or a write failed, and an
 -- initial part was written.
 abbrev pub IsWritten : Ended → List ℕ → Ended → Option (List ℕ) → Option (List ℕ) → Type 0
-IsWritten ended said result old new = ((result ≡ ended) × Took old said new) ⊎ ((result ≡ WriteFailed) × TookSome false old said new)
+IsWritten ended said result old new =
+    ((result ≡ ended) × Took old said new) ⊎ ((result ≡ WriteFailed) × TookSome false old said new)
 
 -- `opens`, `steps` and `closes` are the port before and after its session is opened, before and
 -- after a command or a line of IDLE, and before and after its session is closed.
-module _ {S : Type 0} (opens : S → Result Login PortFault → S → Type 0) (steps : S → PortCall → Result Reply PortFault → S → Type 0) (closes : S → S → Type 0) where
+module _ {S : Type 0} (opens : S → Result Login PortFault → S → Type 0)
+    (steps : S → PortCall → Result Reply PortFault → S → Type 0) (closes : S → S → Type 0) where
   -- A whole conversation, from the opening of its session to its close: the calls of the port, what
   -- was read, what was written and how it ended. If the session can't be opened, that is the only
   -- call, and nothing is read.
-  abbrev pub Talked : S → S → Limits → Option (List ℕ) → Option (List ℕ) → Bool → Option (List ℕ) → Option (List ℕ) → Ended → Type 0
+  abbrev pub Talked : S → S → Limits → Option (List ℕ) → Option (List ℕ) → Bool → Option (List ℕ)
+      → Option (List ℕ) → Ended → Type 0
   Talked old new limits left rest at_end taken written result =
-      ((fault : PortFault) × opens old (Err fault) new × (rest ≡ left) × IsWritten (ended_by fault) (bye_text_of (ended_by fault)) result taken written)
-      ⊎ ((login : Login) × (first : S) × (last : S) × (octets : List ℕ) × (ended : Ended) × (said : List ℕ)
-      × opens old (Ok login) first × closes last new × Gave left octets rest × Holds steps first login limits octets ended at_end said last
+      ((fault : PortFault) × opens old (Err fault) new × (rest ≡ left)
+      × IsWritten (ended_by fault) (bye_text_of (ended_by fault)) result taken written)
+      ⊎ ((login : Login) × (first : S) × (last : S) × (octets : List ℕ) × (ended : Ended)
+      × (said : List ℕ)
+      × opens old (Ok login) first
+      × closes last new
+      × Gave left octets rest
+      × Holds steps first login limits octets ended at_end said last
       × IsWritten ended (said ++ bye_text_of ended) result taken written)

@@ -15,13 +15,15 @@ Took (Some old) octets new = new ≡ Some (old ++ octets)
 -- A sink took all of these octets; or, if not, an initial part.
 abbrev pub TookSome : Bool → Option (List ℕ) → List ℕ → Option (List ℕ) → Type 0
 TookSome true old octets new = Took old octets new
-TookSome false old octets new = (front : List ℕ) × (back : List ℕ) × (octets ≡ front ++ back) × Took old front new
+TookSome false old octets new =
+    (front : List ℕ) × (back : List ℕ) × (octets ≡ front ++ back) × Took old front new
 
 -- Text that follows what the sink had taken and what was held back: the sink took a first part of
 -- it, and the rest is held back.
 abbrev pub Said : Option (List ℕ) → List ℕ → List ℕ → Option (List ℕ) → List ℕ → Type 0
 Said None held said new left = Unit {0}
-Said (Some old) held said new left = (out : List ℕ) × (new ≡ Some (old ++ out)) × (held ++ said ≡ out ++ left)
+Said (Some old) held said new left =
+    (out : List ℕ) × (new ≡ Some (old ++ out)) × (held ++ said ≡ out ++ left)
 
 -- One octet was appended; or it wasn't.
 abbrev pub Puts : Bool → List ℕ → ℕ → List ℕ → Type 0

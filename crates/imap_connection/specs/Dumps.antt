@@ -16,7 +16,9 @@ IsDump replica applied text =
     (listed : List Op)
     × AreAscending id_of listed
     × HaveSameElements listed applied
-    × (text ≡ codes "dump " ++ decimal replica ++ 10 ∷ [] ++ flat_map op_line listed ++ state_text applied ++ codes "end" ++ 10 ∷ [])
+    × (text
+    ≡ codes "dump " ++ decimal replica ++ 10 ∷ [] ++ flat_map op_line listed ++ state_text applied
+    ++ codes "end" ++ 10 ∷ [])
 
 -- ---- what the code writes, part by part
 

@@ -1,6 +1,7 @@
 -- How a conversation ends, and the BYE that names its end (RFC 9051, section 7.1.5).
 
-use Rattle.std.specs.Prelude.{◌≡◌, ◌⊎◌, ℕ, false, Option, Some, None, List, [], ◌++◌, Result, Ok, Err}
+use Rattle.std.specs.Prelude.{◌≡◌, ◌⊎◌, ℕ, false, Option, Some, None, List, [], ◌++◌, Result, Ok}
+use Rattle.std.specs.Prelude.{Err}
 use Rattle.imap_lex.specs.declared.fault.FrameFaultKind.TheVariants as lex
 use Rattle.imap_answers.specs.Printed.{text_of_answer}
 use Rattle.imap_answers.specs.declared.answer.Answer.TheVariants.{Bye}
@@ -8,7 +9,12 @@ use Rattle.imap_answers.specs.declared.fixed_words.ByeReason.{ByeReason}
 use Rattle.imap_answers.specs.declared.fixed_words.ByeReason.TheVariants as reasons
 use Rattle.imap_connection.specs.Devices.{Said, TookSome}
 use Rattle.imap_connection.specs.declared.end_of_conversation.Ended.{Ended}
-use Rattle.imap_connection.specs.declared.end_of_conversation.Ended.TheVariants.{Logout, PeerClosed, TooManySessions, Framing, ReadFailed, WriteFailed, NoMemory, Torn}
+use Rattle.imap_connection.specs.declared.end_of_conversation.Ended.TheVariants.{Logout, PeerClosed}
+use Rattle.imap_connection.specs.declared.end_of_conversation.Ended.TheVariants.{TooManySessions}
+use Rattle.imap_connection.specs.declared.end_of_conversation.Ended.TheVariants.{Framing}
+use Rattle.imap_connection.specs.declared.end_of_conversation.Ended.TheVariants.{ReadFailed}
+use Rattle.imap_connection.specs.declared.end_of_conversation.Ended.TheVariants.{WriteFailed}
+use Rattle.imap_connection.specs.declared.end_of_conversation.Ended.TheVariants.{NoMemory, Torn}
 use Rattle.imap_connection.specs.declared.fault.PortFault.{PortFault}
 use Rattle.imap_connection.specs.declared.fault.PortFault.TheVariants as faults
 
@@ -64,4 +70,5 @@ failed (Err ended) = failed_writes ended
 -- part was taken.
 abbrev pub IsSaid : Ended → Option (List ℕ) → List ℕ → List ℕ → Option (List ℕ) → List ℕ → Type 0
 IsSaid ended old held said new left =
-    ((ended ≡ WriteFailed) × TookSome false old (held ++ said) new) ⊎ (((ended ≡ WriteFailed) → ⊥) × Said old held said new left)
+    ((ended ≡ WriteFailed) × TookSome false old (held ++ said) new)
+    ⊎ (((ended ≡ WriteFailed) → ⊥) × Said old held said new left)

@@ -8,7 +8,9 @@ use Rattle.imap_syntax.specs.declared.command.Tagged.{Tagged}
 use Rattle.imap_answers.specs.declared.answer.Answer.{Answer}
 use Rattle.imap_answers.specs.declared.answer.Answer.TheVariants as answers
 use Rattle.imap_answers.specs.declared.fixed_words.Refusal.{Refusal}
-use Rattle.imap_answers.specs.declared.fixed_words.Refusal.TheVariants.{UnknownCommand, BadSyntax, NotInProfile, NoMemory, LiteralTooLong}
+use Rattle.imap_answers.specs.declared.fixed_words.Refusal.TheVariants.{UnknownCommand, BadSyntax}
+use Rattle.imap_answers.specs.declared.fixed_words.Refusal.TheVariants.{NotInProfile, NoMemory}
+use Rattle.imap_answers.specs.declared.fixed_words.Refusal.TheVariants.{LiteralTooLong}
 
 -- The frame spells no command.
 abbrev pub IsUnspelled : List ℕ → Type 0
@@ -33,11 +35,13 @@ IsReason frame _ = ⊥
 abbrev pub IsFaultAnswer : List ℕ → Answer → Type 0
 IsFaultAnswer frame answer =
     ((HasTag frame → ⊥) × (answer ≡ answers.NoTag))
-    ⊎ ((tag : List ℕ) × (rest : List ℕ) × (reason : Refusal) × IsTagged frame tag rest × IsReason frame reason × (answer ≡ answers.Refused tag reason))
+    ⊎ ((tag : List ℕ) × (rest : List ℕ) × (reason : Refusal) × IsTagged frame tag rest
+    × IsReason frame reason × (answer ≡ answers.Refused tag reason))
 
 -- The one answer to the beginning of a command that was refused for its literal (RFC 9051, section
 -- 4.3).
 abbrev pub IsLiteralAnswer : List ℕ → Answer → Type 0
 IsLiteralAnswer front answer =
     ((HasTag front → ⊥) × (answer ≡ answers.LiteralTooLong))
-    ⊎ ((tag : List ℕ) × (rest : List ℕ) × IsTagged front tag rest × (answer ≡ answers.Refused tag LiteralTooLong))
+    ⊎ ((tag : List ℕ) × (rest : List ℕ) × IsTagged front tag rest
+    × (answer ≡ answers.Refused tag LiteralTooLong))

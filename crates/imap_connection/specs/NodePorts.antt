@@ -20,7 +20,8 @@ use Rattle.imap_connection.specs.Streams.{SomeOtherSteps}
 use Rattle.imap_connection.specs.PortCalls.{PortCall}
 use Rattle.imap_connection.specs.PortCalls as asked
 use Rattle.imap_connection.specs.declared.fault.PortFault.{PortFault}
-use Rattle.imap_connection.specs.declared.fault.PortFault.TheVariants.{NoMemory, PassedOver, TooManySessions}
+use Rattle.imap_connection.specs.declared.fault.PortFault.TheVariants.{NoMemory, PassedOver}
+use Rattle.imap_connection.specs.declared.fault.PortFault.TheVariants.{TooManySessions}
 
 -- A node, the way in which its session's user becomes known (`None` once the session was opened or
 -- couldn't be), the session, and the others who come to the node.
@@ -48,11 +49,24 @@ IsUnopened {O} old fault = ⊥
 
 -- The node before and after its session is opened: the session is opened for a user who becomes
 -- known by `auth`, or nothing changes at the node. There is only one attempt.
-abbrev pub NodeOpens : {O : Type 0} → NodeSession O → Result Login PortFault → NodeSession O → Type 0
-NodeOpens {O} old (Err fault) new = (new.node ≡ old.node) × (new.session ≡ old.session) × (new.others ≡ old.others) × (new.auth ≡ None) × IsUnopened old fault
+abbrev pub NodeOpens : {O : Type 0} → NodeSession O → Result Login PortFault → NodeSession O
+    → Type 0
+NodeOpens {O} old (Err fault) new =
+    (new.node ≡ old.node)
+    × (new.session ≡ old.session)
+    × (new.others ≡ old.others)
+    × (new.auth ≡ None)
+    × IsUnopened old fault
 NodeOpens {O} old (Ok login) new =
-    (auth : Auth) × (n : ℕ) × (login ≡ login_by auth) × (new.session ≡ Some n) × Opens old.node.sessions auth n new.node.sessions
-    × (new.node ≡ record old.node { sessions = new.node.sessions }) × (new.others ≡ old.others) × (old.auth ≡ Some auth) × (new.auth ≡ None)
+    (auth : Auth)
+    × (n : ℕ)
+    × (login ≡ login_by auth)
+    × (new.session ≡ Some n)
+    × Opens old.node.sessions auth n new.node.sessions
+    × (new.node ≡ record old.node { sessions = new.node.sessions })
+    × (new.others ≡ old.others)
+    × (old.auth ≡ Some auth)
+    × (new.auth ≡ None)
 
 -- `comes` is a turn of the others: their state before it, the session's number, the node before it,
 -- the moment at which the session's next command comes, the node after it, and their state after
@@ -60,12 +74,14 @@ NodeOpens {O} old (Ok login) new =
 module _ {O : Type 0} (comes : O → ℕ → NodeState → ℕ → NodeState → O → Type 0) where
   -- Others took a turn at the node of a port, during its session: what came to the node is exactly
   -- what they do, and consists of deliveries and what other sessions do.
-  pub record TakesTurn (old : NodeSession O) (n : ℕ) (moment : ℕ) (mid : NodeState) (others : O) : Type 0 where
+  pub record TakesTurn (old : NodeSession O) (n : ℕ) (moment : ℕ) (mid : NodeState) (others : O) :
+      Type 0 where
     pub beside : SomeOtherSteps n old.node mid
     pub just : comes old.others n old.node moment mid others
 
   -- Others took a turn, and then the node responded to the port's input as defined.
-  pub record RespondsTo (old : NodeSession O) (input : ℕ → Input) (reply : Reply) (new : NodeSession O) : Type 0 where
+  pub record RespondsTo (old : NodeSession O) (input : ℕ → Input) (reply : Reply)
+      (new : NodeSession O) : Type 0 where
     pub number : ℕ
     pub moment : ℕ
     pub mid : NodeState
@@ -78,8 +94,10 @@ module _ {O : Type 0} (comes : O → ℕ → NodeState → ℕ → NodeState →
   -- The node before and after a call, and its reply. Nothing changes if no session is open.
   abbrev pub NodeSteps : NodeSession O → PortCall → Result Reply PortFault → NodeSession O → Type 0
   NodeSteps old call (Err fault) new = (fault ≡ PassedOver) × (new ≡ old) × IsAway old
-  NodeSteps old (asked.Command tagged) (Ok reply) new = RespondsTo old (λ moment. inputs.Command moment tagged) reply new
-  NodeSteps old (asked.Line line) (Ok reply) new = RespondsTo old (λ moment. inputs.Line line) reply new
+  NodeSteps old (asked.Command tagged) (Ok reply) new =
+      RespondsTo old (λ moment. inputs.Command moment tagged) reply new
+  NodeSteps old (asked.Line line) (Ok reply) new =
+      RespondsTo old (λ moment. inputs.Line line) reply new
 
   -- Others took a turn, and then the session was closed.
   pub record Shuts (old : NodeSession O) (new : NodeSession O) : Type 0 where
@@ -105,9 +123,13 @@ NobodyComes old n node moment mid new = (moment ≡ old) × (mid ≡ node) × (n
 
 -- An operation was delivered to a node, which received or refused it.
 abbrev pub IsHanded : NodeState → Op → NodeState → Type 0
-IsHanded node op mid = ((arrival : Arrival) × Delivers node op arrival mid) ⊎ ((why : DeliverFault) × IsRefusedAt node op why × (mid ≡ node))
+IsHanded node op mid =
+    ((arrival : Arrival) × Delivers node op arrival mid)
+    ⊎ ((why : DeliverFault) × IsRefusedAt node op why × (mid ≡ node))
 
 -- The last of these operations was delivered to the node, and those before it are left; or there
 -- are none.
 abbrev pub LastIsHanded : List Op → NodeState → NodeState → List Op → Type 0
-LastIsHanded ops node mid left = ((ops ≡ []) × (left ≡ []) × (mid ≡ node)) ⊎ ((op : Op) × (ops ≡ left ++ op ∷ []) × IsHanded node op mid)
+LastIsHanded ops node mid left =
+    ((ops ≡ []) × (left ≡ []) × (mid ≡ node))
+    ⊎ ((op : Op) × (ops ≡ left ++ op ∷ []) × IsHanded node op mid)

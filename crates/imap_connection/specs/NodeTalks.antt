@@ -5,7 +5,8 @@ use Rattle.std.specs.List.{flat_map}
 use Rattle.imap_answers.specs.Printed.{text_of_answer}
 use Rattle.imap_answers.specs.declared.answer.Answer.TheVariants.{Greeting}
 use Rattle.imap_lex.specs.Framing.{cut_onward, start}
-use Rattle.imap_lex.specs.declared.fault.FrameFaultKind.TheVariants.{LineTooLong, LiteralTooLong, NulByte}
+use Rattle.imap_lex.specs.declared.fault.FrameFaultKind.TheVariants.{LineTooLong, LiteralTooLong}
+use Rattle.imap_lex.specs.declared.fault.FrameFaultKind.TheVariants.{NulByte}
 use Rattle.imap_lex.specs.declared.item.Item.{Item}
 use Rattle.imap_lex.specs.declared.limits.Limits.{Limits}
 use Rattle.imap_node.specs.Nodes.{HasLoggedOut, IsGoing, NodeState, with_session_closed}
@@ -19,7 +20,9 @@ use Rattle.imap_connection.specs.declared.turn.Turn.TheVariants.{Got, Sent}
 use Rattle.imap_connection.specs.Endings.{bye_text_of}
 use Rattle.imap_connection.specs.NodePorts.{NodeSession, login_by}
 use Rattle.imap_connection.specs.declared.end_of_conversation.Ended.{Ended}
-use Rattle.imap_connection.specs.declared.end_of_conversation.Ended.TheVariants.{Logout, PeerClosed, Framing, ReadFailed}
+use Rattle.imap_connection.specs.declared.end_of_conversation.Ended.TheVariants.{Logout, PeerClosed}
+use Rattle.imap_connection.specs.declared.end_of_conversation.Ended.TheVariants.{Framing}
+use Rattle.imap_connection.specs.declared.end_of_conversation.Ended.TheVariants.{ReadFailed}
 
 -- The octets that a conversation's turns send, one after another.
 abbrev pub text_of_turn : Turn → List ℕ
@@ -31,7 +34,8 @@ text_sent turns = flat_map text_of_turn turns
 
 -- The session with this number is open, has not logged out, and idles with this tag or doesn't
 -- idle.
-pub record IsOpenSession {O : Type 0} (port : NodeSession O) (n : ℕ) (idling : Option (List ℕ)) : Type 0 where
+pub record IsOpenSession {O : Type 0} (port : NodeSession O) (n : ℕ) (idling : Option (List ℕ)) :
+    Type 0 where
   pub session : port.session ≡ Some n
   pub going : IsGoing port.node n
   pub idles : idling_at port.node n ≡ idling
@@ -69,14 +73,24 @@ items_of all = map (λ (came : ItemAt). came.item) all
 -- end of the items.
 abbrev pub Closes : Ended → NodeState → ℕ → List ItemsAt → List Turn → NodeState → Type 0
 Closes Logout first n given turns new =
-    (out : NodeState) × (last : NodeState) × HasLoggedOut out n × ConversesBetweenOthers first n given turns (with_session_closed out n) × SomeOtherSteps n out last × (new ≡ with_session_closed last n)
-Closes ended first n given turns new = (last : NodeState) × ConversesBetweenOthers first n given turns last × IsGoing last n × (new ≡ with_session_closed last n)
+    (out : NodeState)
+    × (last : NodeState)
+    × HasLoggedOut out n
+    × ConversesBetweenOthers first n given turns (with_session_closed out n)
+    × SomeOtherSteps n out last
+    × (new ≡ with_session_closed last n)
+Closes ended first n given turns new =
+    (last : NodeState)
+    × ConversesBetweenOthers first n given turns last
+    × IsGoing last n
+    × (new ≡ with_session_closed last n)
 
 -- A session is opened at a node for a user who becomes known by `auth`, and has the node's
 -- conversation over the items that these octets give, each at the moment and at the node to which
 -- it came; it is closed; and the text written is the greeting, what the turns send, and the BYE of
 -- the end.
-pub record TalksAtNode (old : NodeState) (auth : Auth) (limits : Limits) (octets : List ℕ) (ended : Ended) (said : List ℕ) (new : NodeState) : Type 0 where
+pub record TalksAtNode (old : NodeState) (auth : Auth) (limits : Limits) (octets : List ℕ)
+    (ended : Ended) (said : List ℕ) (new : NodeState) : Type 0 where
   pub session : ℕ
   pub first : NodeState
   pub opens : Opens old.sessions auth session first.sessions
@@ -85,4 +99,5 @@ pub record TalksAtNode (old : NodeState) (auth : Auth) (limits : Limits) (octets
   pub items : items_of came ≡ (cut_onward limits (Ok start) octets).0
   pub turns : List Turn
   pub closes : Closes ended first session (items_at_each_one came) turns new
-  pub said_is : said ≡ text_of_answer (Greeting (login_by auth)) ++ text_sent turns ++ bye_text_of ended
+  pub said_is : said
+      ≡ text_of_answer (Greeting (login_by auth)) ++ text_sent turns ++ bye_text_of ended

@@ -1,6 +1,7 @@
 -- The answers that a reply sends (RFC 9051, section 7).
 
-use Rattle.std.specs.Prelude.{ℕ, Bool, true, false, List, [], ◌∷◌, Option, Some, None, if◌then◌else◌}
+use Rattle.std.specs.Prelude.{ℕ, Bool, true, false, List, [], ◌∷◌, Option, Some, None}
+use Rattle.std.specs.Prelude.{if◌then◌else◌}
 use Rattle.imap_answers.specs.declared.answer.Answer.{Answer}
 use Rattle.imap_answers.specs.declared.answer.Answer.TheVariants as answers
 use Rattle.imap_answers.specs.declared.codes.Notice.TheVariants.{Closed}
@@ -15,7 +16,9 @@ use Rattle.imap_node.specs.declared.reply.Reply.TheVariants.{Done, Refused}
 -- The answers to a refused input: CLOSED first if a mailbox was left (RFC 9051, section 7.1), and
 -- the tagged line.
 abbrev pub refused_answers : List ℕ → Refusal → Bool → List Answer
-refused_answers tag why closed = if closed then answers.Tell Closed ∷ answers.Refused tag why ∷ [] else answers.Refused tag why ∷ []
+refused_answers tag why closed =
+    if closed then answers.Tell Closed ∷ answers.Refused tag why ∷ []
+    else answers.Refused tag why ∷ []
 
 -- The answers of a reply to the command or the IDLE with this tag, in the order in which they are
 -- sent.

@@ -42,9 +42,14 @@ IsRequest idling item request = ⊥
 abbrev pub Handles : NodeState → ℕ → ℕ → Request → List Answer → NodeState → Type 0
 Handles old session moment (Told answer) given new = (given ≡ answer ∷ []) × (new ≡ old)
 Handles old session moment (Command tagged) given new =
-    (reply : Reply) × Responds old session (inputs.Command moment tagged) reply new × (given ≡ answers_of tagged.tag reply)
+    (reply : Reply)
+    × Responds old session (inputs.Command moment tagged) reply new
+    × (given ≡ answers_of tagged.tag reply)
 Handles old session moment (Line tag line) given new =
-    (reply : Reply) × Responds old session (inputs.Line line) reply new × (is_without_memory reply ≡ false) × (given ≡ answers_of tag reply)
+    (reply : Reply)
+    × Responds old session (inputs.Line line) reply new
+    × (is_without_memory reply ≡ false)
+    × (given ≡ answers_of tag reply)
 
 -- The request is a line of IDLE.
 abbrev pub IsOfLine : Request → Type 0
@@ -55,8 +60,11 @@ IsOfLine _ = ⊥
 -- turns were added; or it is a line that was refused.
 abbrev pub Fails : TalkFaultKind → NodeState → ℕ → ℕ → Request → List Turn → NodeState → Type 0
 Fails kinds.NoMemory old session moment request front new =
-    ((front ≡ []) × (new ≡ old)) ⊎ ((given : List Answer) × Handles old session moment request given new × IsPrefixOf front (turns_of_answers given))
-Fails kinds.LineRefused old session moment request front new = IsOfLine request × (front ≡ turns_of_answers (answers.Bye reasons.NoMemory ∷ [])) × (new ≡ old)
+    ((front ≡ []) × (new ≡ old))
+    ⊎ ((given : List Answer) × Handles old session moment request given new
+    × IsPrefixOf front (turns_of_answers given))
+Fails kinds.LineRefused old session moment request front new =
+    IsOfLine request × (front ≡ turns_of_answers (answers.Bye reasons.NoMemory ∷ [])) × (new ≡ old)
 Fails (kinds.Framing why) old session moment request front new = ⊥
 
 -- The reason that a fault of the parser gives for a frame with a tag.
@@ -71,4 +79,5 @@ reason_for faults.NoMemory = refusals.NoMemory
 abbrev pub AnswersFault : ParseFault → List ℕ → Answer → Type 0
 AnswersFault why frame answer =
     ((HasTag frame → ⊥) × (answer ≡ answers.NoTag))
-    ⊎ ((tag : List ℕ) × (rest : List ℕ) × IsTagged frame tag rest × (answer ≡ answers.Refused tag (reason_for why)))
+    ⊎ ((tag : List ℕ) × (rest : List ℕ) × IsTagged frame tag rest
+    × (answer ≡ answers.Refused tag (reason_for why)))

@@ -1,7 +1,8 @@
 -- How a conversation takes one item: the request that it is, the call of the port, the answers, and
 -- how it ends the conversation.
 
-use Rattle.std.specs.Prelude.{◌≡◌, ◌⊎◌, ℕ, Bool, true, false, ◌&&◌, Option, Some, None, List, [], ◌∷◌, Result, Ok, Err, if◌then◌else◌}
+use Rattle.std.specs.Prelude.{◌≡◌, ◌⊎◌, ℕ, Bool, true, false, ◌&&◌, Option, Some, None, List, []}
+use Rattle.std.specs.Prelude.{◌∷◌, Result, Ok, Err, if◌then◌else◌}
 use Rattle.std.specs.List.{flat_map}
 use Rattle.imap_answers.specs.Printed.{text_of_answer}
 use Rattle.imap_answers.specs.declared.answer.Answer.{Answer}
@@ -38,7 +39,8 @@ is_logout _ = false
 
 -- The tag of the IDLE that a command and its reply begin.
 abbrev pub idling_after_reply : Tagged → Reply → Option (List ℕ)
-idling_after_reply tagged reply = if is_idle tagged.command && is_done reply then Some tagged.tag else None
+idling_after_reply tagged reply =
+    if is_idle tagged.command && is_done reply then Some tagged.tag else None
 
 -- A LOGOUT was answered OK.
 abbrev pub logs_out : Tagged → Reply → Bool
@@ -52,7 +54,8 @@ call_of (requests.Line tag line) = Some (asked.Line line)
 
 -- A brief command waits for its batch, and every other request is given to the port at once.
 abbrev pub IsAskingOf : Request → Asking → Type 0
-IsAskingOf request (Later tagged) = (request ≡ requests.Command tagged) × (is_brief tagged.command ≡ true)
+IsAskingOf request (Later tagged) =
+    (request ≡ requests.Command tagged) × (is_brief tagged.command ≡ true)
 IsAskingOf request (Now asked) = asked ≡ request
 
 -- Memory ran out before the port was called or anything was answered.
@@ -64,22 +67,42 @@ module _ {S : Type 0} (steps : S → PortCall → Result Reply PortFault → S �
   -- A session, which idles with this tag or doesn't idle, makes a request of the port; `given` are
   -- the answers, `after` is the tag of its IDLE afterwards, and `out` says whether it has logged
   -- out.
-  abbrev pub Handles : S → Option (List ℕ) → Request → List Answer → S → Option (List ℕ) → Bool → Type 0
-  Handles old idling (requests.Told answer) given new after out = (given ≡ answer ∷ []) × (new ≡ old) × (after ≡ idling) × (out ≡ false)
+  abbrev pub Handles : S → Option (List ℕ) → Request → List Answer → S → Option (List ℕ) → Bool
+      → Type 0
+  Handles old idling (requests.Told answer) given new after out =
+      (given ≡ answer ∷ []) × (new ≡ old) × (after ≡ idling) × (out ≡ false)
   Handles old idling (requests.Command tagged) given new after out =
-      (reply : Reply) × steps old (asked.Command tagged) (Ok reply) new × (given ≡ answers_of tagged.tag reply) × (after ≡ idling_after_reply tagged reply) × (out ≡ logs_out tagged reply)
+      (reply : Reply)
+      × steps old (asked.Command tagged) (Ok reply) new
+      × (given ≡ answers_of tagged.tag reply)
+      × (after ≡ idling_after_reply tagged reply)
+      × (out ≡ logs_out tagged reply)
   Handles old idling (requests.Line tag line) given new after out =
-      (reply : Reply) × steps old (asked.Line line) (Ok reply) new × (is_without_memory reply ≡ false) × (given ≡ answers_of tag reply) × (after ≡ None) × (out ≡ false)
+      (reply : Reply)
+      × steps old (asked.Line line) (Ok reply) new
+      × (is_without_memory reply ≡ false)
+      × (given ≡ answers_of tag reply)
+      × (after ≡ None)
+      × (out ≡ false)
 
   -- The port gives no reply, and nothing is answered.
   abbrev pub IsRefused : S → Request → Ended → List Answer → S → Type 0
   IsRefused old request ended given new =
-      (call : PortCall) × (fault : PortFault) × (call_of request ≡ Some call) × steps old call (Err fault) new × (ended ≡ ended_by fault) × (given ≡ [])
+      (call : PortCall)
+      × (fault : PortFault)
+      × (call_of request ≡ Some call)
+      × steps old call (Err fault) new
+      × (ended ≡ ended_by fault)
+      × (given ≡ [])
 
   -- A line of IDLE is refused because memory ran out, and nothing is answered.
   abbrev pub IsLineRefused : S → Request → Ended → List Answer → S → Type 0
   IsLineRefused old request ended given new =
-      (line : IdleLine) × (reply : Reply) × (call_of request ≡ Some (asked.Line line)) × steps old (asked.Line line) (Ok reply) new × (is_without_memory reply ≡ true)
+      (line : IdleLine)
+      × (reply : Reply)
+      × (call_of request ≡ Some (asked.Line line))
+      × steps old (asked.Line line) (Ok reply) new
+      × (is_without_memory reply ≡ true)
       × (ended ≡ NoMemory) × (given ≡ [])
 
   -- A request ends the conversation, after these answers: a LOGOUT was answered OK; memory ran out
@@ -87,22 +110,31 @@ module _ {S : Type 0} (steps : S → PortCall → Result Reply PortFault → S �
   -- reply.
   abbrev pub Stops : S → Option (List ℕ) → Request → Ended → List Answer → S → Type 0
   Stops old idling request ended given new =
-      ((ended ≡ Logout) × ((after : Option (List ℕ)) × Handles old idling request given new after true))
-      ⊎ (((ended ≡ NoMemory) × ((all : List Answer) × (after : Option (List ℕ)) × (out : Bool) × Handles old idling request all new after out × IsPrefixOf given all))
+      ((ended ≡ Logout)
+      × ((after : Option (List ℕ)) × Handles old idling request given new after true))
+      ⊎ (((ended ≡ NoMemory)
+      × ((all : List Answer) × (after : Option (List ℕ)) × (out : Bool)
+      × Handles old idling request all new after out × IsPrefixOf given all))
       ⊎ (IsLineRefused old request ended given new
       ⊎ IsRefused old request ended given new))
 
   -- Memory ran out before the port was called or anything was answered, or a request ends the
   -- conversation.
   abbrev pub Fails : S → Option (List ℕ) → Request → Ended → List Answer → S → Type 0
-  Fails old idling request ended given new = IsUnasked old ended given new ⊎ Stops old idling request ended given new
+  Fails old idling request ended given new =
+      IsUnasked old ended given new ⊎ Stops old idling request ended given new
 
   -- An item is answered.
   abbrev pub Takes : S → Option (List ℕ) → Item → List Answer → S → Option (List ℕ) → Bool → Type 0
-  Takes old idling item given new after out = (request : Request) × IsRequest idling item request × Handles old idling request given new after out
+  Takes old idling item given new after out =
+      (request : Request)
+      × IsRequest idling item request
+      × Handles old idling request given new after out
 
   -- The conversation ends at an item: memory ran out before the port was called; or its request
   -- ends it.
   abbrev pub StopsAt : S → Option (List ℕ) → Item → Ended → List Answer → S → Type 0
   StopsAt old idling item ended given new =
-      IsUnasked old ended given new ⊎ ((request : Request) × IsRequest idling item request × Stops old idling request ended given new)
+      IsUnasked old ended given new
+      ⊎ ((request : Request) × IsRequest idling item request
+      × Stops old idling request ended given new)

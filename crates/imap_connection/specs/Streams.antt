@@ -39,11 +39,13 @@ cut_by limits state piece = cut_at piece.moment (cut_onward limits state piece.o
 -- The items that these pieces complete, each at the moment of the piece that completes it.
 abbrev pub items_of : Limits → Result FrameProgress FrameFaultKind → List Piece → List TimedItem
 items_of limits state [] = []
-items_of limits state (piece ∷ pieces) = (cut_by limits state piece).0 ++ items_of limits (cut_by limits state piece).1 pieces
+items_of limits state (piece ∷ pieces) =
+    (cut_by limits state piece).0 ++ items_of limits (cut_by limits state piece).1 pieces
 
 -- What the octets of all pieces give.
 abbrev pub cut_of : Limits → Result FrameProgress FrameFaultKind → List Piece → TimedCut
-cut_of limits state pieces = (items_of limits state pieces, (cut_onward limits state (octets_in pieces)).1)
+cut_of limits state pieces =
+    (items_of limits state pieces, (cut_onward limits state (octets_in pieces)).1)
 
 -- The items without their moments.
 abbrev pub items_without_moments : List TimedItem → List Item
@@ -53,12 +55,14 @@ items_without_moments items = map (λ (came : TimedItem). came.item) items
 
 -- The calls of `talk` for a session, one for each of these pieces of input; the session continued
 -- after each.
-abbrev pub TalksOn : NodeState → ℕ → Limits → Result FrameProgress FrameFaultKind → List Piece → List Turn → NodeState → Result FrameProgress FrameFaultKind → Type 0
+abbrev pub TalksOn : NodeState → ℕ → Limits → Result FrameProgress FrameFaultKind → List Piece
+    → List Turn → NodeState → Result FrameProgress FrameFaultKind → Type 0
 TalksOn old session limits state [] turns new end = (turns ≡ []) × (new ≡ old) × (end ≡ state)
 TalksOn old session limits state (piece ∷ pieces) turns new end =
     (first : List Turn) × (mid : NodeState) × (between : Result FrameProgress FrameFaultKind)
     × Talks old session (cut_by limits state piece) first mid between × IsGoing mid session
-    × ((rest : List Turn) × (turns ≡ first ++ rest) × TalksOn mid session limits between pieces rest new end)
+    × ((rest : List Turn) × (turns ≡ first ++ rest)
+    × TalksOn mid session limits between pieces rest new end)
 
 -- The calls of `talk` for a session, one for each of these pieces of input: the node and the framer
 -- before the first, all their turns together, and the node and the framer after the last.
@@ -85,11 +89,17 @@ pub record Call : Type 0 where
 
 -- The call after a run, which may end the session by a LOGOUT.
 abbrev pub IsCallAfter : {P : Type 0} → Run P → Call → Type 0
-IsCallAfter run call = IsGoing run.new run.session × Talks run.new run.session (cut_by run.limits run.after call.piece) call.turns call.new call.after
+IsCallAfter run call =
+    IsGoing run.new run.session
+    × Talks run.new run.session (cut_by run.limits run.after call.piece) call.turns call.new
+    call.after
 
 -- The call after a run, which ends the connection for this reason.
 abbrev pub EndsAfter : {P : Type 0} → TalkFaultKind → Run P → Call → Type 0
-EndsAfter why run call = IsGoing run.new run.session × EndsTalk why run.new run.session run.after (cut_by run.limits run.after call.piece) call.turns call.new
+EndsAfter why run call =
+    IsGoing run.new run.session
+    × EndsTalk why run.new run.session run.after (cut_by run.limits run.after call.piece) call.turns
+    call.new
 
 -- What all pieces of a run give, and what they give with the piece of a further call.
 abbrev pub cut_in : Run Piece → TimedCut
@@ -104,11 +114,13 @@ octets_with run call = octets_in (run.pieces ++ call.piece ∷ [])
 
 -- ---- with deliveries and other sessions between
 
--- Another session at the node is opened; or one that is open sends a command or a line of IDLE, or is polled, or is closed.
+-- Another session at the node is opened; or one that is open sends a command or a line of IDLE, or
+-- is polled, or is closed.
 abbrev pub OtherSessionStep : ℕ → NodeState → NodeState → Type 0
 OtherSessionStep session old new =
     (other : ℕ) × (other ≢ session)
-    × (((auth : Auth) × Opens old.sessions auth other new.sessions × (new ≡ record old { sessions = new.sessions }))
+    × (((auth : Auth) × Opens old.sessions auth other new.sessions
+    × (new ≡ record old { sessions = new.sessions }))
     ⊎ (IsOpen old.sessions other
     × (((input : Input) × (reply : Reply) × Responds old other input reply new)
     ⊎ (new ≡ with_session_closed old other))))
@@ -116,12 +128,15 @@ OtherSessionStep session old new =
 -- What comes to a node besides the calls of this session: an operation of another replica is
 -- delivered, held operations are released, or another session takes a step.
 abbrev pub OtherStep : ℕ → NodeState → NodeState → Type 0
-OtherStep session old new = ((op : Op) × (arrival : Arrival) × Delivers old op arrival new) ⊎ (((count : ℕ) × Drains old count new) ⊎ OtherSessionStep session old new)
+OtherStep session old new =
+    ((op : Op) × (arrival : Arrival) × Delivers old op arrival new)
+    ⊎ (((count : ℕ) × Drains old count new) ⊎ OtherSessionStep session old new)
 
 -- A number of such steps, one after another.
 abbrev pub OtherSteps : ℕ → ℕ → NodeState → NodeState → Type 0
 OtherSteps session zero old new = new ≡ old
-OtherSteps session (suc n) old new = (mid : NodeState) × OtherStep session old mid × OtherSteps session n mid new
+OtherSteps session (suc n) old new =
+    (mid : NodeState) × OtherStep session old mid × OtherSteps session n mid new
 
 -- Any number of such steps, even none.
 abbrev pub SomeOtherSteps : ℕ → NodeState → NodeState → Type 0
@@ -138,16 +153,23 @@ octets_of_pieces visits = flat_map (λ (visit : PieceAt). visit.piece.octets) vi
 
 -- The calls of `talk` for a session, one for each of these pieces of input; operations of other
 -- replicas and other sessions came to the node before each, and the session continued after each.
-abbrev pub TalksBetweenOthers : NodeState → ℕ → Limits → Result FrameProgress FrameFaultKind → List PieceAt → List Turn → NodeState → Result FrameProgress FrameFaultKind → Type 0
-TalksBetweenOthers old session limits state [] turns new end = (turns ≡ []) × SomeOtherSteps session old new × (end ≡ state)
+abbrev pub TalksBetweenOthers : NodeState → ℕ → Limits → Result FrameProgress FrameFaultKind
+    → List PieceAt → List Turn → NodeState → Result FrameProgress FrameFaultKind → Type 0
+TalksBetweenOthers old session limits state [] turns new end =
+    (turns ≡ []) × SomeOtherSteps session old new × (end ≡ state)
 TalksBetweenOthers old session limits state (visit ∷ visits) turns new end =
     (first : List Turn) × (mid : NodeState) × (between : Result FrameProgress FrameFaultKind)
-    × SomeOtherSteps session old visit.node × Talks visit.node session (cut_by limits state visit.piece) first mid between × IsGoing mid session
-    × ((rest : List Turn) × (turns ≡ first ++ rest) × TalksBetweenOthers mid session limits between visits rest new end)
+    × SomeOtherSteps session old visit.node
+    × Talks visit.node session (cut_by limits state visit.piece) first mid between
+    × IsGoing mid session
+    × ((rest : List Turn) × (turns ≡ first ++ rest)
+    × TalksBetweenOthers mid session limits between visits rest new end)
 
 -- A run of such calls.
 abbrev pub IsRunBetweenOthers : Run PieceAt → Type 0
-IsRunBetweenOthers run = TalksBetweenOthers run.old run.session run.limits run.before run.pieces run.turns run.new run.after
+IsRunBetweenOthers run =
+    TalksBetweenOthers run.old run.session run.limits run.before run.pieces run.turns run.new
+    run.after
 
 -- The pieces of a run and of a further call.
 abbrev pub pieces_with : Run PieceAt → Call → List PieceAt
@@ -159,10 +181,12 @@ pub record ItemsAt : Type 0 where
   pub items : List TimedItem
 
 -- The items that each of these pieces completes.
-abbrev pub items_at_each : Limits → Result FrameProgress FrameFaultKind → List PieceAt → List ItemsAt
+abbrev pub items_at_each : Limits → Result FrameProgress FrameFaultKind → List PieceAt
+    → List ItemsAt
 items_at_each limits state [] = []
 items_at_each limits state (visit ∷ visits) =
-    record { node = visit.node; items = (cut_by limits state visit.piece).0 } ∷ items_at_each limits (cut_by limits state visit.piece).1 visits
+    record { node = visit.node; items = (cut_by limits state visit.piece).0 }
+    ∷ items_at_each limits (cut_by limits state visit.piece).1 visits
 
 -- All the items.
 abbrev pub items_in : List ItemsAt → List Item
@@ -175,6 +199,11 @@ items_in given = flat_map (λ (stretch : ItemsAt). items_without_moments stretch
 abbrev pub ConversesBetweenOthers : NodeState → ℕ → List ItemsAt → List Turn → NodeState → Type 0
 ConversesBetweenOthers old session [] turns new = (turns ≡ []) × SomeOtherSteps session old new
 ConversesBetweenOthers old session (stretch ∷ given) turns new =
-    (first : List Turn) × (mid : NodeState) × SomeOtherSteps session old stretch.node × Converses stretch.node session stretch.items first mid
-    × ((IsGoing mid session × ((rest : List Turn) × (turns ≡ first ++ rest) × ConversesBetweenOthers mid session given rest new))
+    (first : List Turn)
+    × (mid : NodeState)
+    × SomeOtherSteps session old stretch.node
+    × Converses stretch.node session stretch.items first mid
+    × ((IsGoing mid session
+    × ((rest : List Turn) × (turns ≡ first ++ rest)
+    × ConversesBetweenOthers mid session given rest new))
     ⊎ ((¬ IsGoing mid session) × (turns ≡ first) × (new ≡ mid)))

@@ -20,7 +20,8 @@ const MUCH: usize = 65_536;
 /// Adds answers to the text. `Err` if memory runs out; then some of the first answers were added.
 pub fn tell_all(text: &mut Vec<u8>, answers: &[Answer]) -> Result<(), AllocError>
     ensures ok { OnOk result (text.new.items ≡ text.old.items ++ texts answers.now) }
-    ensures err { OnErr result ((front : List Answer) × (text.new.items ≡ text.old.items ++ texts front) × IsPrefixOf front answers.now) }
+    ensures err { OnErr result ((front : List Answer)
+        × (text.new.items ≡ text.old.items ++ texts front) × IsPrefixOf front answers.now) }
 {
     for answer in answers {
         print(answer, text)?;
@@ -36,8 +37,11 @@ pub fn tell_reply(
     tag: &Octets,
     reply: &Reply,
 ) -> Result<(), AllocError>
-    ensures ok { OnOk result (text.new.items ≡ text.old.items ++ texts (answers_of tag.now reply.now)) }
-    ensures err { OnErr result ((front : List Answer) × (text.new.items ≡ text.old.items ++ texts front) × IsPrefixOf front (answers_of tag.now reply.now)) }
+    ensures ok { OnOk result
+        (text.new.items ≡ text.old.items ++ texts (answers_of tag.now reply.now)) }
+    ensures err { OnErr result ((front : List Answer)
+        × (text.new.items ≡ text.old.items ++ texts front)
+        × IsPrefixOf front (answers_of tag.now reply.now)) }
 {
     match reply {
         Reply::Done { answers, .. } => tell_all(text, answers.as_slice()),
@@ -54,8 +58,11 @@ fn tell_refusal(
     reason: Refusal,
     closed: bool,
 ) -> Result<(), AllocError>
-    ensures ok { OnOk result (text.new.items ≡ text.old.items ++ texts (refused_answers tag.now reason closed)) }
-    ensures err { OnErr result ((front : List Answer) × (text.new.items ≡ text.old.items ++ texts front) × IsPrefixOf front (refused_answers tag.now reason closed)) }
+    ensures ok { OnOk result
+        (text.new.items ≡ text.old.items ++ texts (refused_answers tag.now reason closed)) }
+    ensures err { OnErr result ((front : List Answer)
+        × (text.new.items ≡ text.old.items ++ texts front)
+        × IsPrefixOf front (refused_answers tag.now reason closed)) }
 {
     let Ok(tag) = tag.copy(alloc) else {
         return Err(AllocError);
@@ -78,9 +85,12 @@ fn tell_refusal(
 /// Writes the text that is held back; `false` if the device failed.
 pub fn write_held<K: Sink>(sink: &mut K, text: &mut Vec<u8>) -> bool
     requires { K.failures sink.old < 18446744073709551615 }
-    ensures said { MatchBool result (Said (K.taken sink.old) text.old.items [] (K.taken sink.new) text.new.items) (TookSome false (K.taken sink.old) text.old.items (K.taken sink.new)) }
+    ensures said { MatchBool result
+        (Said (K.taken sink.old) text.old.items [] (K.taken sink.new) text.new.items)
+        (TookSome false (K.taken sink.old) text.old.items (K.taken sink.new)) }
     ensures none { MatchBool result (text.new.items ≡ []) (text.new.items ≡ text.old.items) }
-    ensures failed { MatchBool result (K.failures sink.new ≡ K.failures sink.old) (K.failures sink.new ≡ K.failures sink.old + 1) }
+    ensures failed { MatchBool result (K.failures sink.new ≡ K.failures sink.old)
+        (K.failures sink.new ≡ K.failures sink.old + 1) }
 {
     if text.is_empty() {
         return true;
@@ -95,8 +105,11 @@ pub fn write_held<K: Sink>(sink: &mut K, text: &mut Vec<u8>) -> bool
 /// Writes the text that is held back if there is much of it; `false` if the device failed.
 pub fn write_much<K: Sink>(sink: &mut K, text: &mut Vec<u8>) -> bool
     requires { K.failures sink.old < 18446744073709551615 }
-    ensures said { MatchBool result (Said (K.taken sink.old) text.old.items [] (K.taken sink.new) text.new.items) (TookSome false (K.taken sink.old) text.old.items (K.taken sink.new)) }
-    ensures failed { MatchBool result (K.failures sink.new ≡ K.failures sink.old) (K.failures sink.new ≡ K.failures sink.old + 1) }
+    ensures said { MatchBool result
+        (Said (K.taken sink.old) text.old.items [] (K.taken sink.new) text.new.items)
+        (TookSome false (K.taken sink.old) text.old.items (K.taken sink.new)) }
+    ensures failed { MatchBool result (K.failures sink.new ≡ K.failures sink.old)
+        (K.failures sink.new ≡ K.failures sink.old + 1) }
 {
     if text.len() < MUCH {
         return true;

@@ -1,7 +1,8 @@
 //! Batches of brief commands that came one after another. They are given to the port at once, so
 //! that a replica is asked for all of them in one turn.
 
-ghost use Rattle.std.specs.Prelude.{◌≡◌, ◌≤◌, ◌++◌, ◌∷◌, [], true, length, List, Ok, OnOk, OnErr, IfErr};
+ghost use Rattle.std.specs.Prelude.{◌≡◌, ◌≤◌, ◌++◌, ◌∷◌, [], true, length, List, Ok, OnOk, OnErr};
+ghost use Rattle.std.specs.Prelude.{IfErr};
 ghost use Rattle.imap_answers.specs.declared.answer.Answer.{Answer};
 ghost use Rattle.imap_node.specs.declared.reply.Reply.{Reply};
 ghost use Rattle.imap_connection.specs.Batches.{Carries, Falters, answers_by, is_brief, tags_of};
@@ -35,7 +36,10 @@ impl Model for Batch {
 
     ghost view = { λ b. b.commands.items };
 
-    ghost invariant = { λ b. record { tags : b.tags.items ≡ tags_of b.commands.items; brief : are_brief b.commands.items ≡ true } };
+    ghost invariant = { λ b. record {
+      tags : b.tags.items ≡ tags_of b.commands.items;
+      brief : are_brief b.commands.items ≡ true;
+    } };
 }
 
 impl Batch {
@@ -71,9 +75,15 @@ impl Batch {
         port: &mut P,
         text: &mut Vec<u8>,
     ) -> Result<(), Ended>
-        ensures ok { OnOk result ((replies : List Reply) × Carries P.steps port.old self.old replies (Ok tt) port.new × (text.new.items ≡ text.old.items ++ texts (answers_by (tags_of self.old) replies)) × (self.new ≡ [])) }
-        ensures err { IfErr result (λ ended. (told : List Answer) × Falters P.steps port.old self.old ended told port.new × (text.new.items ≡ text.old.items ++ texts told)) }
-        ensures devices { IfErr result (λ ended. (failed_reads ended ≡ 0) × (failed_writes ended ≡ 0)) }
+        ensures ok { OnOk result ((replies : List Reply)
+            × Carries P.steps port.old self.old replies (Ok tt) port.new
+            × (text.new.items ≡ text.old.items ++ texts (answers_by (tags_of self.old) replies))
+            × (self.new ≡ [])) }
+        ensures err { IfErr result (λ ended. (told : List Answer)
+            × Falters P.steps port.old self.old ended told port.new
+            × (text.new.items ≡ text.old.items ++ texts told)) }
+        ensures devices { IfErr result
+            (λ ended. (failed_reads ended ≡ 0) × (failed_writes ended ≡ 0)) }
     {
         if self.commands.is_empty() {
             return Ok(());
@@ -102,8 +112,11 @@ fn tell_replies(
     text: &mut Vec<u8>,
 ) -> Result<(), AllocError>
     requires { length replies.now ≤ length tags.now }
-    ensures ok { OnOk result (text.new.items ≡ text.old.items ++ texts (answers_by tags.now replies.now)) }
-    ensures err { OnErr result ((front : List Answer) × (text.new.items ≡ text.old.items ++ texts front) × IsPrefixOf front (answers_by tags.now replies.now)) }
+    ensures ok { OnOk result
+        (text.new.items ≡ text.old.items ++ texts (answers_by tags.now replies.now)) }
+    ensures err { OnErr result ((front : List Answer)
+        × (text.new.items ≡ text.old.items ++ texts front)
+        × IsPrefixOf front (answers_by tags.now replies.now)) }
 {
     for i in 0..replies.len() {
         match tell_reply(alloc, text, &tags[i], &replies[i]) {

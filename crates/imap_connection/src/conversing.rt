@@ -1,13 +1,17 @@
 //! The conversation with a mail client, from greeting to end.
 
-ghost use Rattle.std.specs.Prelude.{◌≡◌, ◌<◌, ◌+◌, ◌++◌, ◌⊎◌, ℕ, [], List, Ok, None, OnOk, IfErr, IsOk, MatchBool};
+ghost use Rattle.std.specs.Prelude.{◌≡◌, ◌<◌, ◌+◌, ◌++◌, ◌⊎◌, ℕ, [], List, Ok, None, OnOk, IfErr};
+ghost use Rattle.std.specs.Prelude.{IsOk, MatchBool};
 ghost use Rattle.imap_answers.specs.Printed.{text_of_answer};
 ghost use Rattle.imap_answers.specs.declared.answer.Answer.TheVariants.{Greeting as Greets};
 ghost use Rattle.imap_lex.specs.Framing.{cut_onward, start};
 ghost use Rattle.imap_connection.specs.Devices.{Gave, Said, TookSome};
-ghost use Rattle.imap_connection.specs.Endings.{IsSaid, bye_text_of, failed, failed_reads, failed_writes};
-ghost use Rattle.imap_connection.specs.Conversing.{Converses, Ends, Halts, Holds, IsWritten, Leaves, Talked};
-ghost use Rattle.imap_connection.specs.declared.end_of_conversation.Ended.TheVariants.{ReadFailed, WriteFailed};
+ghost use Rattle.imap_connection.specs.Endings.{IsSaid, bye_text_of, failed, failed_reads};
+ghost use Rattle.imap_connection.specs.Endings.{failed_writes};
+ghost use Rattle.imap_connection.specs.Conversing.{Converses, Ends, Halts, Holds, IsWritten};
+ghost use Rattle.imap_connection.specs.Conversing.{Leaves, Talked};
+ghost use Rattle.imap_connection.specs.declared.end_of_conversation.Ended.TheVariants.{ReadFailed};
+ghost use Rattle.imap_connection.specs.declared.end_of_conversation.Ended.TheVariants.{WriteFailed};
 
 use crate::answer_writer::{write_held, write_much};
 use crate::batch::Batch;
@@ -51,8 +55,11 @@ pub fn converse<R: Wait, S: Source, K: Sink, P: Port>(
 ) -> Ended
     requires source { S.failures source.old < 18446744073709551615 }
     requires sink { K.failures sink.old < 18446744073709551615 }
-    ensures talked { Talked P.opens P.steps P.closes port.old port.new Limits.STANDARD (S.left source.old) (S.left source.new) (S.is_ended source.new) (K.taken sink.old) (K.taken sink.new) result }
-    ensures reads { ((result ≡ WriteFailed) → ⊥) → S.failures source.new ≡ S.failures source.old + failed_reads result }
+    ensures talked { Talked P.opens P.steps P.closes port.old port.new Limits.STANDARD
+        (S.left source.old) (S.left source.new) (S.is_ended source.new) (K.taken sink.old)
+        (K.taken sink.new) result }
+    ensures reads { ((result ≡ WriteFailed) → ⊥)
+        → S.failures source.new ≡ S.failures source.old + failed_reads result }
     ensures writes { K.failures sink.new ≡ K.failures sink.old + failed_writes result }
 {
     let login = match port.open(alloc) {
@@ -68,9 +75,13 @@ pub fn converse<R: Wait, S: Source, K: Sink, P: Port>(
 /// `WriteFailed` if the device failed.
 fn write_last<K: Sink>(sink: &mut K, text: &mut Vec<u8>, ended: Ended) -> Ended
     requires { failed_writes ended ≡ 0 → K.failures sink.old < 18446744073709551615 }
-    ensures written { failed_writes ended ≡ 0 → IsWritten ended (text.old.items ++ bye_text_of ended) result (K.taken sink.old) (K.taken sink.new) }
-    ensures failed { (ended ≡ WriteFailed) → (result ≡ WriteFailed) × (K.taken sink.new ≡ K.taken sink.old) }
-    ensures failures { K.failures sink.new + failed_writes ended ≡ K.failures sink.old + failed_writes result }
+    ensures written { failed_writes ended ≡ 0
+        → IsWritten ended (text.old.items ++ bye_text_of ended) result (K.taken sink.old)
+        (K.taken sink.new) }
+    ensures failed { (ended ≡ WriteFailed)
+        → (result ≡ WriteFailed) × (K.taken sink.new ≡ K.taken sink.old) }
+    ensures failures { K.failures sink.new + failed_writes ended
+        ≡ K.failures sink.old + failed_writes result }
 {
     if matches!(ended, Ended::WriteFailed) {
         return ended;
@@ -87,7 +98,8 @@ fn write_last<K: Sink>(sink: &mut K, text: &mut Vec<u8>, ended: Ended) -> Ended
 fn write_bye<K: Sink>(sink: &mut K, bye: &[u8]) -> bool
     requires { K.failures sink.old < 18446744073709551615 }
     ensures octets { TookSome result (K.taken sink.old) bye.now (K.taken sink.new) }
-    ensures failed { MatchBool result (K.failures sink.new ≡ K.failures sink.old) (K.failures sink.new ≡ K.failures sink.old + 1) }
+    ensures failed { MatchBool result (K.failures sink.new ≡ K.failures sink.old)
+        (K.failures sink.new ≡ K.failures sink.old + 1) }
 {
     if bye.is_empty() {
         return true;
@@ -107,8 +119,11 @@ fn hold_conversation<R: Wait, S: Source, K: Sink, P: Port>(
 ) -> (Ended, Vec<u8>)
     requires source { S.failures source.old < 18446744073709551615 }
     requires sink { K.failures sink.old < 18446744073709551615 }
-    ensures talked { (octets : List ℕ) × (said : List ℕ) × Gave (S.left source.old) octets (S.left source.new)
-        × Holds P.steps port.old login Limits.STANDARD octets result.0 (S.is_ended source.new) said port.new
+    ensures talked { (octets : List ℕ)
+        × (said : List ℕ)
+        × Gave (S.left source.old) octets (S.left source.new)
+        × Holds P.steps port.old login Limits.STANDARD octets result.0 (S.is_ended source.new) said
+        port.new
         × IsSaid result.0 (K.taken sink.old) [] said (K.taken sink.new) result.1.items }
     ensures reads { S.failures source.new ≡ S.failures source.old + failed_reads result.0 }
     ensures writes { K.failures sink.new ≡ K.failures sink.old + failed_writes result.0 }
@@ -149,9 +164,13 @@ fn answer_all<R: Wait, S: Source, K: Sink, P: Port>(
     requires sink { K.failures sink.old < 18446744073709551615 }
     requires framer { talk.old.framer ≡ record { limits = Limits.STANDARD; state = Ok start } }
     requires idling { talk.old.idling ≡ None }
-    ensures talked { (octets : List ℕ) × (said : List ℕ) × Gave (S.left source.old) octets (S.left source.new)
-        × Ends P.steps port.old (cut_onward Limits.STANDARD (Ok start) octets) result (S.is_ended source.new) said port.new
-        × IsSaid result (K.taken sink.old) talk.old.text.items said (K.taken sink.new) talk.new.text.items }
+    ensures talked { (octets : List ℕ)
+        × (said : List ℕ)
+        × Gave (S.left source.old) octets (S.left source.new)
+        × Ends P.steps port.old (cut_onward Limits.STANDARD (Ok start) octets) result
+        (S.is_ended source.new) said port.new
+        × IsSaid result (K.taken sink.old) talk.old.text.items said (K.taken sink.new)
+        talk.new.text.items }
     ensures reads { S.failures source.new ≡ S.failures source.old + failed_reads result }
     ensures writes { K.failures sink.new ≡ K.failures sink.old + failed_writes result }
 {
@@ -185,11 +204,19 @@ fn answer_piece<K: Sink, P: Port>(
     requires going { IsOk talk.old.framer.state }
     requires sink { K.failures sink.old < 18446744073709551615 }
     ensures limits { talk.new.framer.limits ≡ talk.old.framer.limits }
-    ensures ok { OnOk result ((said : List ℕ) × Converses P.steps port.old talk.old.idling (cut_onward talk.old.framer.limits talk.old.framer.state piece.now).0 said port.new talk.new.idling
+    ensures ok { OnOk result ((said : List ℕ)
+        × Converses P.steps port.old talk.old.idling
+        (cut_onward talk.old.framer.limits talk.old.framer.state piece.now).0 said port.new
+        talk.new.idling
         × Said (K.taken sink.old) talk.old.text.items said (K.taken sink.new) talk.new.text.items) }
-    ensures state { OnOk result ((talk.new.framer.state ≡ (cut_onward talk.old.framer.limits talk.old.framer.state piece.now).1) × IsOk talk.new.framer.state) }
-    ensures err { IfErr result (λ ended. (said : List ℕ) × Halts P.steps port.old talk.old.idling (cut_onward talk.old.framer.limits talk.old.framer.state piece.now) ended said port.new
-        × IsSaid ended (K.taken sink.old) talk.old.text.items said (K.taken sink.new) talk.new.text.items) }
+    ensures state { OnOk result ((talk.new.framer.state
+        ≡ (cut_onward talk.old.framer.limits talk.old.framer.state piece.now).1)
+        × IsOk talk.new.framer.state) }
+    ensures err { IfErr result (λ ended. (said : List ℕ)
+        × Halts P.steps port.old talk.old.idling
+        (cut_onward talk.old.framer.limits talk.old.framer.state piece.now) ended said port.new
+        × IsSaid ended (K.taken sink.old) talk.old.text.items said (K.taken sink.new)
+        talk.new.text.items) }
     ensures devices { IfErr result (λ ended. failed_reads ended ≡ 0) }
     ensures failures { K.failures sink.new ≡ K.failures sink.old + failed result }
 {
@@ -222,9 +249,11 @@ fn take_all<K: Sink, P: Port>(
     text: &mut Vec<u8>,
 ) -> Result<(), Ended>
     requires { K.failures sink.old < 18446744073709551615 }
-    ensures ok { OnOk result ((said : List ℕ) × Converses P.steps port.old idling.old items.now said port.new idling.new
+    ensures ok { OnOk result
+        ((said : List ℕ) × Converses P.steps port.old idling.old items.now said port.new idling.new
         × Said (K.taken sink.old) text.old.items said (K.taken sink.new) text.new.items) }
-    ensures err { IfErr result (λ ended. (said : List ℕ) × Leaves P.steps port.old idling.old items.now ended said port.new
+    ensures err { IfErr result
+        (λ ended. (said : List ℕ) × Leaves P.steps port.old idling.old items.now ended said port.new
         × IsSaid ended (K.taken sink.old) text.old.items said (K.taken sink.new) text.new.items) }
     ensures devices { IfErr result (λ ended. failed_reads ended ≡ 0) }
     ensures failures { K.failures sink.new ≡ K.failures sink.old + failed result }

@@ -4,7 +4,8 @@ ghost use Rattle.std.specs.Prelude.{◌≡◌, ◌++◌, ◌∷◌, [], ℕ, Lis
 ghost use Rattle.std.specs.Fmt.{decimal};
 ghost use Rattle.std.specs.List.{flat_map};
 ghost use Rattle.crdt_ops.specs.Sets.{folders_of, subscribed_names_of};
-ghost use Rattle.crdt_ops.specs.DumpLines.{folder_line, folder_lines, op_line, state_text, subscription_line};
+ghost use Rattle.crdt_ops.specs.DumpLines.{folder_line, folder_lines, op_line, state_text};
+ghost use Rattle.crdt_ops.specs.DumpLines.{subscription_line};
 ghost use Rattle.imap_connection.specs.Dumps.{IsDump, op_lines_by, own_line};
 
 use crdt_ops::{SoundOp, push_messages, push_name_line, write_op};
@@ -21,7 +22,9 @@ use tags_clocks::ReplicaId;
 ///
 /// Cost: it looks through all operations once for each replica that issued some of them.
 pub fn write_dump(alloc: Global, node: &Node, out: &mut Vec<u8>) -> Result<(), AllocError>
-    ensures ok { OnOk result ((text : List ℕ) × IsDump node.now.state.start.replica node.now.state.applied text × (out.new.items ≡ out.old.items ++ text)) }
+    ensures ok { OnOk result ((text : List ℕ)
+        × IsDump node.now.state.start.replica node.now.state.applied text
+        × (out.new.items ≡ out.old.items ++ text)) }
     ensures err { OnErr result (out.new.items ≡ out.old.items) }
 {
     let replica = node.replica();
@@ -38,7 +41,10 @@ fn dump(
     ops: &[SoundOp],
     entries: &[(ReplicaId, u32)],
 ) -> Result<Vec<u8>, AllocError>
-    ensures { IfOk result (λ text. text.items ≡ codes "dump " ++ decimal replica.now.start.replica ++ 10 ∷ [] ++ flat_map (op_lines_by ops.now) entries.now ++ state_text replica.now.applied ++ codes "end" ++ 10 ∷ []) }
+    ensures { IfOk result (λ text. text.items
+        ≡ codes "dump " ++ decimal replica.now.start.replica ++ 10 ∷ []
+        ++ flat_map (op_lines_by ops.now) entries.now ++ state_text replica.now.applied
+        ++ codes "end" ++ 10 ∷ []) }
 {
     let mut text = Vec::new(alloc);
     push_head(replica.id(), &mut text)?;
@@ -49,7 +55,8 @@ fn dump(
 }
 
 fn push_head(replica: ReplicaId, text: &mut Vec<u8>) -> Result<(), AllocError>
-    ensures { OnOk result (text.new.items ≡ text.old.items ++ (codes "dump " ++ decimal replica ++ 10 ∷ [])) }
+    ensures { OnOk result
+        (text.new.items ≡ text.old.items ++ (codes "dump " ++ decimal replica ++ 10 ∷ [])) }
 {
     text.extend_from_slice(b"dump ")?;
     let mut buffer = Buffer::new();
@@ -65,7 +72,8 @@ fn push_ops(
     replicas: &[(ReplicaId, u32)],
     text: &mut Vec<u8>,
 ) -> Result<(), AllocError>
-    ensures { OnOk result (text.new.items ≡ text.old.items ++ flat_map (op_lines_by ops.now) replicas.now) }
+    ensures { OnOk result
+        (text.new.items ≡ text.old.items ++ flat_map (op_lines_by ops.now) replicas.now) }
 {
     for (replica, _) in replicas {
         push_ops_by(alloc, ops, *replica, text)?;
@@ -122,7 +130,9 @@ fn push_state(alloc: Global, replica: &ReplicaState, text: &mut Vec<u8>) -> Resu
 
 /// The lines of the folders, each with those of its messages.
 fn push_folders(alloc: Global, replica: &ReplicaState, text: &mut Vec<u8>) -> Result<(), AllocError>
-    ensures { OnOk result (text.new.items ≡ text.old.items ++ flat_map (folder_lines replica.now.applied) (folders_of replica.now.applied)) }
+    ensures { OnOk result (text.new.items
+        ≡ text.old.items
+        ++ flat_map (folder_lines replica.now.applied) (folders_of replica.now.applied)) }
 {
     let folders = replica.folders(alloc)?;
     for folder in folders.iter() {
@@ -137,7 +147,8 @@ fn push_folder(
     folder: &Name,
     text: &mut Vec<u8>,
 ) -> Result<(), AllocError>
-    ensures { OnOk result (text.new.items ≡ text.old.items ++ folder_lines replica.now.applied folder.now) }
+    ensures { OnOk result
+        (text.new.items ≡ text.old.items ++ folder_lines replica.now.applied folder.now) }
 {
     push_folder_line(alloc, replica, folder, text)?;
     let messages = replica.messages(alloc, folder)?;
@@ -150,7 +161,8 @@ fn push_folder_line(
     folder: &Name,
     text: &mut Vec<u8>,
 ) -> Result<(), AllocError>
-    ensures { OnOk result (text.new.items ≡ text.old.items ++ folder_line replica.now.applied folder.now) }
+    ensures { OnOk result
+        (text.new.items ≡ text.old.items ++ folder_line replica.now.applied folder.now) }
 {
     let tags = replica.tags(alloc, folder)?;
     push_name_line(alloc, b"folder ", folder, &tags, text)
@@ -162,7 +174,10 @@ fn push_subscriptions(
     replica: &ReplicaState,
     text: &mut Vec<u8>,
 ) -> Result<(), AllocError>
-    ensures { OnOk result (text.new.items ≡ text.old.items ++ flat_map (subscription_line replica.now.applied) (subscribed_names_of replica.now.applied)) }
+    ensures { OnOk result (text.new.items
+        ≡ text.old.items
+        ++ flat_map (subscription_line replica.now.applied)
+        (subscribed_names_of replica.now.applied)) }
 {
     let names = replica.subscribed_names(alloc)?;
     for name in names.iter() {
@@ -177,7 +192,8 @@ fn push_subscription(
     name: &Name,
     text: &mut Vec<u8>,
 ) -> Result<(), AllocError>
-    ensures { OnOk result (text.new.items ≡ text.old.items ++ subscription_line replica.now.applied name.now) }
+    ensures { OnOk result
+        (text.new.items ≡ text.old.items ++ subscription_line replica.now.applied name.now) }
 {
     let tags = replica.subscription_tags(alloc, name)?;
     push_name_line(alloc, b"subscribed ", name, &tags, text)

@@ -84,7 +84,9 @@ impl Others for Deliveries {
     ghost use Rattle.std.specs.Prelude.{◌≡◌};
     ghost use Rattle.imap_connection.specs.NodePorts.{LastIsHanded};
 
-    ghost comes = { λ d n node moment mid e. (moment ≡ d.moment) × (e.moment ≡ d.moment) × LastIsHanded d.ops.items node mid e.ops.items };
+    ghost comes = { λ d n node moment mid e. (moment ≡ d.moment)
+        × (e.moment ≡ d.moment)
+        × LastIsHanded d.ops.items node mid e.ops.items };
 
     fn come(&mut self, alloc: Global, _session: SessionNo, node: &mut Node) -> Moment {
         if let Some(op) = self.ops.pop() {

@@ -1,6 +1,8 @@
 //! The three sides of a conversation: the source and the sink of octets, and the session's port.
 
-ghost use Rattle.std.specs.Prelude.{◌≡◌, ◌≤◌, ◌<◌, ◌+◌, ℕ, List, length, take, vec_capacity, [], Bool, true, IfSome, IfNone, MatchBool, MatchOption, Option, Result};
+ghost use Rattle.std.specs.Prelude.{◌≡◌, ◌≤◌, ◌<◌, ◌+◌, ℕ, List, length, take, vec_capacity, []};
+ghost use Rattle.std.specs.Prelude.{Bool, true, IfSome, IfNone, MatchBool, MatchOption, Option};
+ghost use Rattle.std.specs.Prelude.{Result};
 ghost use Rattle.imap_connection.specs.Devices.{Gave, TookSome};
 
 use crate::fault::PortFault;
@@ -26,10 +28,12 @@ pub trait Source {
         requires room { 0 < length piece.old }
         requires count { failures self.old < 18446744073709551615 }
         ensures count { IfSome result (λ n. n ≤ length piece.old) }
-        ensures octets { IfSome result (λ n. Gave (left self.old) (take n piece.new) (left self.new)) }
+        ensures octets { IfSome result
+            (λ n. Gave (left self.old) (take n piece.new) (left self.new)) }
         ensures end { IfSome result (λ n. n ≡ 0 → is_ended self.new ≡ true) }
         ensures same { IfNone result (left self.new ≡ left self.old) }
-        ensures failed { MatchOption result (failures self.new ≡ failures self.old + 1) (λ n. failures self.new ≡ failures self.old) };
+        ensures failed { MatchOption result (failures self.new ≡ failures self.old + 1)
+            (λ n. failures self.new ≡ failures self.old) };
 }
 
 /// A sink of octets.
@@ -44,7 +48,8 @@ pub trait Sink {
     fn write(&mut self, octets: &[u8]) -> bool
         requires { failures self.old < 18446744073709551615 }
         ensures octets { TookSome result (taken self.old) octets.now (taken self.new) }
-        ensures failed { MatchBool result (failures self.new ≡ failures self.old) (failures self.new ≡ failures self.old + 1) };
+        ensures failed { MatchBool result (failures self.new ≡ failures self.old)
+            (failures self.new ≡ failures self.old + 1) };
 }
 
 /// One session of a replica.

@@ -15,7 +15,11 @@ ghost use Rattle.imap_node.specs.Nodes.{IsGoing, NodeState, with_session_closed}
 ghost use Rattle.imap_connection.specs.Conversation.{Converses, turns_of_answers};
 ghost use Rattle.imap_connection.specs.Dumps.{IsDump};
 ghost use Rattle.imap_connection.specs.FaultAnswers.{IsFaultAnswer, IsLiteralAnswer};
-ghost use Rattle.imap_connection.specs.Streams.{Call, ConversesBetweenOthers, EndsAfter, IsCallAfter, IsRun, IsRunBetweenOthers, Piece, Run, PieceAt, cut_in, cut_with, items_in, items_of, octets_of_pieces, octets_in, octets_with, items_at_each, items_without_moments, pieces_with};
+ghost use Rattle.imap_connection.specs.Streams.{Call, ConversesBetweenOthers, EndsAfter};
+ghost use Rattle.imap_connection.specs.Streams.{IsCallAfter, IsRun, IsRunBetweenOthers, Piece, Run};
+ghost use Rattle.imap_connection.specs.Streams.{PieceAt, cut_in, cut_with, items_in, items_of};
+ghost use Rattle.imap_connection.specs.Streams.{octets_of_pieces, octets_in, octets_with};
+ghost use Rattle.imap_connection.specs.Streams.{items_at_each, items_without_moments, pieces_with};
 ghost use Rattle.imap_connection.specs.Talks.{EndsTalk, bye_of};
 ghost use Rattle.imap_connection.specs.declared.turn.TalkFaultKind.TheVariants.{Framing};
 ghost use Rattle.imap_connection.specs.declared.turn.TalkFaultKind.{TalkFaultKind};
@@ -26,10 +30,15 @@ ghost use Rattle.imap_connection.specs.declared.turn.Turn.{Turn};
 /// over the items of all these octets. Each item comes at the moment of the piece that completes
 /// it.
 pub fn pieces_are_one_stream()
-    ensures going { (run : Run Piece) → IsRun run → Converses run.old run.session (cut_in run).0 run.turns run.new × (run.after ≡ (cut_in run).1) }
-    ensures last { (run : Run Piece) (call : Call) → IsRun run → IsCallAfter run call → Converses run.old run.session (cut_with run call).0 (run.turns ++ call.turns) call.new }
-    ensures items { (limits : Limits) (state : Result FrameProgress FrameFaultKind) (pieces : List Piece)
-        → items_without_moments (items_of limits state pieces) ≡ (cut_onward limits state (octets_in pieces)).0 }
+    ensures going { (run : Run Piece) → IsRun run
+        → Converses run.old run.session (cut_in run).0 run.turns run.new
+        × (run.after ≡ (cut_in run).1) }
+    ensures last { (run : Run Piece) (call : Call) → IsRun run → IsCallAfter run call
+        → Converses run.old run.session (cut_with run call).0 (run.turns ++ call.turns) call.new }
+    ensures items { (limits : Limits) (state : Result FrameProgress FrameFaultKind)
+        (pieces : List Piece)
+        → items_without_moments (items_of limits state pieces)
+        ≡ (cut_onward limits state (octets_in pieces)).0 }
 {}
 
 /// A connection whose octets are these commands, lines, refused command beginnings and this rest,
@@ -37,12 +46,17 @@ pub fn pieces_are_one_stream()
 /// piece that completes it: each is answered in its order, and nothing else is. The last piece may
 /// have ended the session by a LOGOUT.
 pub fn commands_are_answered()
-    ensures going { (run : Run Piece) (items : List Item) (rest : List ℕ) → run.before ≡ Ok start → IsRun run
+    ensures going { (run : Run Piece) (items : List Item) (rest : List ℕ) → run.before ≡ Ok start
+        → IsRun run
         → AreFrames run.limits (octets_in run.pieces) items rest
-        → Converses run.old run.session (cut_in run).0 run.turns run.new × (items_without_moments (cut_in run).0 ≡ items) }
-    ensures last { (run : Run Piece) (call : Call) (items : List Item) (rest : List ℕ) → run.before ≡ Ok start → IsRun run → IsCallAfter run call
+        → Converses run.old run.session (cut_in run).0 run.turns run.new
+        × (items_without_moments (cut_in run).0 ≡ items) }
+    ensures last { (run : Run Piece) (call : Call) (items : List Item) (rest : List ℕ)
+        → run.before ≡ Ok start → IsRun run
+        → IsCallAfter run call
         → AreFrames run.limits (octets_with run call) items rest
-        → Converses run.old run.session (cut_with run call).0 (run.turns ++ call.turns) call.new × (items_without_moments (cut_with run call).0 ≡ items) }
+        → Converses run.old run.session (cut_with run call).0 (run.turns ++ call.turns) call.new
+        × (items_without_moments (cut_with run call).0 ≡ items) }
 {}
 
 /// If a fault of the framer, or memory running out, ends a connection, it doesn't matter in which
@@ -51,13 +65,21 @@ pub fn commands_are_answered()
 /// octet for a reason that a BYE names, the turns are the conversation over exactly the items
 /// before that octet, and that BYE as the last; the session, which was open until then, is closed.
 pub fn faults_end_the_stream()
-    ensures ends { (run : Run Piece) (call : Call) (why : TalkFaultKind) → IsRun run → EndsAfter why run call
-        → EndsTalk why run.old run.session run.before (cut_with run call) (run.turns ++ call.turns) call.new }
-    ensures frames { (run : Run Piece) (call : Call) (items : List Item) (why : FrameFaultKind) (bye : Answer) → bye_of why ≡ Some bye
+    ensures ends { (run : Run Piece) (call : Call) (why : TalkFaultKind) → IsRun run
+        → EndsAfter why run call
+        → EndsTalk why run.old run.session run.before (cut_with run call) (run.turns ++ call.turns)
+        call.new }
+    ensures frames { (run : Run Piece) (call : Call) (items : List Item) (why : FrameFaultKind)
+        (bye : Answer) → bye_of why ≡ Some bye
         → run.before ≡ Ok start → IsRun run → EndsAfter (Framing why) run call
         → FailsAt run.limits (octets_with run call) items why
-        → (before : List Turn) × (last : NodeState) × Converses run.old run.session (cut_with run call).0 before last × (items_without_moments (cut_with run call).0 ≡ items)
-        × IsGoing last run.session × (run.turns ++ call.turns ≡ before ++ turns_of_answers (bye ∷ [])) × (call.new ≡ with_session_closed last run.session) }
+        → (before : List Turn)
+        × (last : NodeState)
+        × Converses run.old run.session (cut_with run call).0 before last
+        × (items_without_moments (cut_with run call).0 ≡ items)
+        × IsGoing last run.session
+        × (run.turns ++ call.turns ≡ before ++ turns_of_answers (bye ∷ []))
+        × (call.new ≡ with_session_closed last run.session) }
 {}
 
 /// Operations of other replicas may come to the node between the pieces of a session's input, and
@@ -70,29 +92,47 @@ pub fn faults_end_the_stream()
 /// the session, which was open until then, is closed.
 pub fn others_come_between()
     ensures going { (run : Run PieceAt) → IsRunBetweenOthers run
-        → ConversesBetweenOthers run.old run.session (items_at_each run.limits run.before run.pieces) run.turns run.new
+        → ConversesBetweenOthers run.old run.session
+        (items_at_each run.limits run.before run.pieces) run.turns run.new
         × (run.after ≡ (cut_onward run.limits run.before (octets_of_pieces run.pieces)).1) }
     ensures last { (run : Run PieceAt) (call : Call) → IsRunBetweenOthers run → IsCallAfter run call
-        → ConversesBetweenOthers run.old run.session (items_at_each run.limits run.before (pieces_with run call)) (run.turns ++ call.turns) call.new }
-    ensures items { (limits : Limits) (state : Result FrameProgress FrameFaultKind) (visits : List PieceAt)
-        → items_in (items_at_each limits state visits) ≡ (cut_onward limits state (octets_of_pieces visits)).0 }
+        → ConversesBetweenOthers run.old run.session
+        (items_at_each run.limits run.before (pieces_with run call)) (run.turns ++ call.turns)
+        call.new }
+    ensures items { (limits : Limits) (state : Result FrameProgress FrameFaultKind)
+        (visits : List PieceAt)
+        → items_in (items_at_each limits state visits)
+        ≡ (cut_onward limits state (octets_of_pieces visits)).0 }
     ensures frames { (limits : Limits) (visits : List PieceAt) (items : List Item) (rest : List ℕ)
         → AreFrames limits (octets_of_pieces visits) items rest
         → items_in (items_at_each limits (Ok start) visits) ≡ items }
-    ensures fault { (run : Run PieceAt) (call : Call) (why : FrameFaultKind) (bye : Answer) → bye_of why ≡ Some bye → IsRunBetweenOthers run → EndsAfter (Framing why) run call
+    ensures fault { (run : Run PieceAt) (call : Call) (why : FrameFaultKind) (bye : Answer)
+        → bye_of why ≡ Some bye → IsRunBetweenOthers run
+        → EndsAfter (Framing why) run call
         → ((cut_onward run.limits run.before (octets_of_pieces (pieces_with run call))).1 ≡ Err why)
-        × ((before : List Turn) × (last : NodeState) × ConversesBetweenOthers run.old run.session (items_at_each run.limits run.before (pieces_with run call)) before last
-        × IsGoing last run.session × (run.turns ++ call.turns ≡ before ++ turns_of_answers (bye ∷ [])) × (call.new ≡ with_session_closed last run.session)) }
+        × ((before : List Turn) × (last : NodeState)
+        × ConversesBetweenOthers run.old run.session
+        (items_at_each run.limits run.before (pieces_with run call)) before last
+        × IsGoing last run.session
+        × (run.turns ++ call.turns ≡ before ++ turns_of_answers (bye ∷ []))
+        × (call.new ≡ with_session_closed last run.session)) }
 {}
 
 /// A replica has one dump: what `write_dump` writes of it is the one text that `IsDump` admits.
 pub fn one_dump()
-    ensures { (replica : ℕ) (applied : List Op) (text other : List ℕ) → IsDump replica applied text → IsDump replica applied other → text ≡ other }
+    ensures { (replica : ℕ) (applied : List Op) (text other : List ℕ)
+        → IsDump replica applied text
+        → IsDump replica applied other
+        → text ≡ other }
 {}
 
 /// A frame that spells no command, and a command beginning that is refused for its literal, get an
 /// answer that can be printed, so that the reader of answers reads it back.
 pub fn faults_can_be_printed()
-    ensures faults { (frame : List ℕ) (answer : Answer) → IsFaultAnswer frame answer → IsPrintable answer }
-    ensures literals { (front : List ℕ) (answer : Answer) → IsLiteralAnswer front answer → IsPrintable answer }
+    ensures faults { (frame : List ℕ) (answer : Answer)
+        → IsFaultAnswer frame answer
+        → IsPrintable answer }
+    ensures literals { (front : List ℕ) (answer : Answer)
+        → IsLiteralAnswer front answer
+        → IsPrintable answer }
 {}

@@ -28,14 +28,20 @@ impl<O: Others> Model for NodePort<O> {
 
     ghost Value = { NodeSession O };
 
-    ghost view = { λ p. record { node = p.node.state; auth = p.auth; session = p.session; others = p.others } };
+    ghost view = { λ p. record {
+      node = p.node.state;
+      auth = p.auth;
+      session = p.session;
+      others = p.others;
+    } };
 }
 
 impl<O: Others> NodePort<O> {
     /// A session that can be opened at this node once, for a user who becomes known by `auth`, and
     /// the others who come to the node.
     pub fn new(node: Node, auth: Auth, others: O) -> NodePort<O>
-        ensures { result ≡ record { node = node.state; auth = Some auth; session = None; others = others } }
+        ensures { result
+            ≡ record { node = node.state; auth = Some auth; session = None; others = others } }
     {
         NodePort {
             node,
@@ -54,7 +60,8 @@ impl<O: Others> NodePort<O> {
 
     /// The session, if it is open.
     fn open_session(&self) -> Option<SessionNo>
-        ensures some { IfSome result (λ n. (self.now.session ≡ Some n) × IsOpen self.now.node.sessions n) }
+        ensures some { IfSome result
+            (λ n. (self.now.session ≡ Some n) × IsOpen self.now.node.sessions n) }
         ensures none { IfNone result (IsAway self.now) }
     {
         let session = self.session?;

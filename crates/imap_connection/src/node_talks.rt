@@ -19,8 +19,15 @@ use crate::interleaving::Others;
 /// greeting, what the turns of that conversation send, and the BYE of the end. The session is
 /// closed then.
 pub fn nodes_converse<O: Others>()
-    ensures { (old new : NodeSession O) (limits : Limits) (left rest before after : List ℕ) (at_end : Bool) (ended : Ended) → IsWhole ended
-        → Talked NodeOpens (NodeSteps O.comes) (NodeCloses O.comes) old new limits (Some left) (Some rest) at_end (Some before) (Some after) ended
-        → (auth : Auth) × (octets : List ℕ) × (said : List ℕ) × (old.auth ≡ Some auth) × (left ≡ octets ++ rest) × (after ≡ before ++ said)
+    ensures { (old new : NodeSession O) (limits : Limits) (left rest before after : List ℕ)
+        (at_end : Bool) (ended : Ended) → IsWhole ended
+        → Talked NodeOpens (NodeSteps O.comes) (NodeCloses O.comes) old new limits (Some left)
+        (Some rest) at_end (Some before) (Some after) ended
+        → (auth : Auth)
+        × (octets : List ℕ)
+        × (said : List ℕ)
+        × (old.auth ≡ Some auth)
+        × (left ≡ octets ++ rest)
+        × (after ≡ before ++ said)
         × TalksAtNode old.node auth limits octets ended said new.node }
 {}

@@ -3,7 +3,8 @@
 
 ghost use Rattle.std.specs.Prelude.{◌≡◌, IfOk, None};
 ghost use Rattle.std.specs.Option.{option_copied};
-ghost use Rattle.imap_lex.specs.declared.item.Item.TheVariants.{Frame as FrameItem, Refused as RefusedItem};
+ghost use Rattle.imap_lex.specs.declared.item.Item.TheVariants.{Frame as FrameItem};
+ghost use Rattle.imap_lex.specs.declared.item.Item.TheVariants.{Refused as RefusedItem};
 ghost use Rattle.imap_connection.specs.FaultAnswers.{IsLiteralAnswer};
 ghost use Rattle.imap_connection.specs.RequestSteps.{AnswersFault, IsRequest, reason_for};
 

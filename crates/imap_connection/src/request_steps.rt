@@ -1,13 +1,16 @@
 //! What `converse` does with one item of the framer: the calls of the port, and the answers.
 
-ghost use Rattle.std.specs.Prelude.{◌≡◌, ◌++◌, ◌∷◌, [], true, false, Some, None, List, ℕ, Option, OnOk, IfErr, if◌then◌else◌};
+ghost use Rattle.std.specs.Prelude.{◌≡◌, ◌++◌, ◌∷◌, [], true, false, Some, None, List, ℕ, Option};
+ghost use Rattle.std.specs.Prelude.{OnOk, IfErr, if◌then◌else◌};
 ghost use Rattle.imap_answers.specs.declared.answer.Answer.{Answer};
 ghost use Rattle.imap_node.specs.Commands.{is_idle};
 ghost use Rattle.imap_connection.specs.Endings.{failed_reads, failed_writes};
 ghost use Rattle.imap_lex.specs.declared.item.Item.{Item};
 ghost use Rattle.imap_connection.specs.Conversing.{Going, Leaves};
-ghost use Rattle.imap_connection.specs.Requests.{Fails, Handles, IsAskingOf, is_done, is_logout, texts};
-ghost use Rattle.imap_connection.specs.declared.end_of_conversation.Ended.TheVariants.{Logout, NoMemory};
+ghost use Rattle.imap_connection.specs.Requests.{Fails, Handles, IsAskingOf, is_done, is_logout};
+ghost use Rattle.imap_connection.specs.Requests.{texts};
+ghost use Rattle.imap_connection.specs.declared.end_of_conversation.Ended.TheVariants.{Logout};
+ghost use Rattle.imap_connection.specs.declared.end_of_conversation.Ended.TheVariants.{NoMemory};
 ghost use Rattle.imap_connection.specs.declared.request.Request.TheVariants as requests;
 
 use crate::answer_writer::tell_reply;
@@ -35,10 +38,16 @@ pub fn take_item<P: Port>(
     item: &Item,
     text: &mut Vec<u8>,
 ) -> Result<(), Ended>
-    ensures ok { (first : P) (from : Option (List ℕ)) (items : List Item) (said : List ℕ) → Going P.steps first from items said port.old idling.old batch.old
-        → OnOk result ((more : List ℕ) × Going P.steps first from (items ++ item.now ∷ []) (said ++ more) port.new idling.new batch.new × (text.new.items ≡ text.old.items ++ more)) }
-    ensures err { (first : P) (from : Option (List ℕ)) (items : List Item) (said : List ℕ) → Going P.steps first from items said port.old idling.old batch.old
-        → IfErr result (λ ended. (more : List ℕ) × Leaves P.steps first from (items ++ item.now ∷ []) ended (said ++ more) port.new × (text.new.items ≡ text.old.items ++ more)) }
+    ensures ok { (first : P) (from : Option (List ℕ)) (items : List Item) (said : List ℕ)
+        → Going P.steps first from items said port.old idling.old batch.old
+        → OnOk result ((more : List ℕ)
+        × Going P.steps first from (items ++ item.now ∷ []) (said ++ more) port.new idling.new
+        batch.new × (text.new.items ≡ text.old.items ++ more)) }
+    ensures err { (first : P) (from : Option (List ℕ)) (items : List Item) (said : List ℕ)
+        → Going P.steps first from items said port.old idling.old batch.old
+        → IfErr result (λ ended. (more : List ℕ)
+        × Leaves P.steps first from (items ++ item.now ∷ []) ended (said ++ more) port.new
+        × (text.new.items ≡ text.old.items ++ more)) }
     ensures devices { IfErr result (λ ended. (failed_reads ended ≡ 0) × (failed_writes ended ≡ 0)) }
 {
     let Ok(request) = request_of(alloc, idling.as_ref(), item) else {
@@ -92,8 +101,12 @@ fn take_request<P: Port>(
     request: Request,
     text: &mut Vec<u8>,
 ) -> Result<(), Ended>
-    ensures ok { OnOk result ((given : List Answer) × Handles P.steps port.old idling.old request given port.new idling.new false × (text.new.items ≡ text.old.items ++ texts given)) }
-    ensures err { IfErr result (λ ended. (given : List Answer) × Fails P.steps port.old idling.old request ended given port.new × (text.new.items ≡ text.old.items ++ texts given)) }
+    ensures ok { OnOk result ((given : List Answer)
+        × Handles P.steps port.old idling.old request given port.new idling.new false
+        × (text.new.items ≡ text.old.items ++ texts given)) }
+    ensures err { IfErr result (λ ended. (given : List Answer)
+        × Fails P.steps port.old idling.old request ended given port.new
+        × (text.new.items ≡ text.old.items ++ texts given)) }
     ensures devices { IfErr result (λ ended. (failed_reads ended ≡ 0) × (failed_writes ended ≡ 0)) }
 {
     match request {
@@ -124,8 +137,12 @@ fn take_command<P: Port>(
     tagged: Tagged,
     text: &mut Vec<u8>,
 ) -> Result<(), Ended>
-    ensures ok { OnOk result ((given : List Answer) × Handles P.steps port.old idling.old (requests.Command tagged) given port.new idling.new false × (text.new.items ≡ text.old.items ++ texts given)) }
-    ensures err { IfErr result (λ ended. (given : List Answer) × Fails P.steps port.old idling.old (requests.Command tagged) ended given port.new × (text.new.items ≡ text.old.items ++ texts given)) }
+    ensures ok { OnOk result ((given : List Answer)
+        × Handles P.steps port.old idling.old (requests.Command tagged) given port.new idling.new
+        false × (text.new.items ≡ text.old.items ++ texts given)) }
+    ensures err { IfErr result (λ ended. (given : List Answer)
+        × Fails P.steps port.old idling.old (requests.Command tagged) ended given port.new
+        × (text.new.items ≡ text.old.items ++ texts given)) }
     ensures devices { IfErr result (λ ended. (failed_reads ended ≡ 0) × (failed_writes ended ≡ 0)) }
 {
     // The command moves into the call, and its tag is needed after it.
@@ -193,8 +210,12 @@ fn take_line<P: Port>(
     line: IdleLine,
     text: &mut Vec<u8>,
 ) -> Result<(), Ended>
-    ensures ok { OnOk result ((given : List Answer) × Handles P.steps port.old idling.old (requests.Line tag line) given port.new idling.new false × (text.new.items ≡ text.old.items ++ texts given)) }
-    ensures err { IfErr result (λ ended. (given : List Answer) × Fails P.steps port.old idling.old (requests.Line tag line) ended given port.new × (text.new.items ≡ text.old.items ++ texts given)) }
+    ensures ok { OnOk result ((given : List Answer)
+        × Handles P.steps port.old idling.old (requests.Line tag line) given port.new idling.new
+        false × (text.new.items ≡ text.old.items ++ texts given)) }
+    ensures err { IfErr result (λ ended. (given : List Answer)
+        × Fails P.steps port.old idling.old (requests.Line tag line) ended given port.new
+        × (text.new.items ≡ text.old.items ++ texts given)) }
     ensures devices { IfErr result (λ ended. (failed_reads ended ≡ 0) × (failed_writes ended ≡ 0)) }
 {
     *idling = None;

@@ -1,17 +1,21 @@
 //! A connection's input, piece by piece, and its turns.
 
-ghost use Rattle.std.specs.Prelude.{◌≡◌, ◌++◌, ◌⊎◌, ◌∷◌, [], ◌↔◌, List, Ok, Err, IsErr, IfOk, IfErr, OnOk, IsTrue};
+ghost use Rattle.std.specs.Prelude.{◌≡◌, ◌++◌, ◌⊎◌, ◌∷◌, [], ◌↔◌, List, Ok, Err, IsErr, IfOk};
+ghost use Rattle.std.specs.Prelude.{IfErr, OnOk, IsTrue};
 ghost use Rattle.std.specs.Option.{option_copied};
 ghost use Rattle.imap_answers.specs.declared.answer.Answer.{Answer};
 ghost use Rattle.imap_lex.specs.Framing.{cut_onward};
 ghost use Rattle.imap_lex.specs.declared.fault.FrameFaultKind.{FrameFaultKind};
 ghost use Rattle.imap_node.specs.Nodes.{HasLoggedOut, IsGoing};
 ghost use Rattle.imap_node.specs.Sessions.{IsOpen};
-ghost use Rattle.imap_connection.specs.Conversation.{BreaksOff, Converses, StopsAt, TakesItemAt, turns_of_answers, item_at, items_at, turns_of};
+ghost use Rattle.imap_connection.specs.Conversation.{BreaksOff, Converses, StopsAt, TakesItemAt};
+ghost use Rattle.imap_connection.specs.Conversation.{turns_of_answers, item_at, items_at, turns_of};
 ghost use Rattle.imap_connection.specs.RequestSteps.{Fails, Handles};
 ghost use Rattle.imap_connection.specs.Replies.{idling_at};
-ghost use Rattle.imap_connection.specs.Talks.{BreaksPoll, EndsTalk, Polls, EndsWithBye, EndsAtRefusedLine, Talks, cut_at, bye_of};
-ghost use Rattle.imap_connection.specs.declared.request.Request.TheVariants.{Command as CommandRequest, Line as LineRequest};
+ghost use Rattle.imap_connection.specs.Talks.{BreaksPoll, EndsTalk, Polls, EndsWithBye};
+ghost use Rattle.imap_connection.specs.Talks.{EndsAtRefusedLine, Talks, cut_at, bye_of};
+ghost use Rattle.imap_connection.specs.declared.request.Request.TheVariants.{Command as CommandRequest};
+ghost use Rattle.imap_connection.specs.declared.request.Request.TheVariants.{Line as LineRequest};
 ghost use Rattle.imap_connection.specs.declared.turn.TalkFaultKind.TheVariants as kinds;
 ghost use Rattle.imap_connection.specs.declared.turn.Turn.{Turn};
 
@@ -45,9 +49,14 @@ pub fn talk(
     piece: &[u8],
 ) -> Result<Vec<Turn>, TalkFault>
     requires { IsGoing node.old.state session }
-    ensures ok { IfOk result (λ turns. Talks node.old.state session (cut_at moment (cut_onward framer.old.limits framer.old.state piece.now)) turns.items node.new.state framer.new.state) }
-    ensures err { IfErr result (λ fault. EndsTalk fault.why node.old.state session framer.old.state (cut_at moment (cut_onward framer.old.limits framer.old.state piece.now)) fault.turns.items node.new.state) }
-    ensures failed { IfErr result (λ fault. (why : FrameFaultKind) → fault.why ≡ kinds.Framing why → IsErr framer.new.state) }
+    ensures ok { IfOk result (λ turns. Talks node.old.state session
+        (cut_at moment (cut_onward framer.old.limits framer.old.state piece.now)) turns.items
+        node.new.state framer.new.state) }
+    ensures err { IfErr result (λ fault. EndsTalk fault.why node.old.state session framer.old.state
+        (cut_at moment (cut_onward framer.old.limits framer.old.state piece.now)) fault.turns.items
+        node.new.state) }
+    ensures failed { IfErr result
+        (λ fault. (why : FrameFaultKind) → fault.why ≡ kinds.Framing why → IsErr framer.new.state) }
     ensures limits { framer.new.limits ≡ framer.old.limits }
 {
     let mut turns = Vec::new(alloc);
@@ -81,7 +90,8 @@ pub fn poll_turns(
 ) -> Result<Vec<Turn>, TalkFault>
     requires { IsOpen node.old.state.sessions session }
     ensures ok { IfOk result (λ turns. Polls node.old.state session turns.items node.new.state) }
-    ensures err { IfErr result (λ fault. (fault.why ≡ kinds.NoMemory) × BreaksPoll node.old.state session fault.turns.items node.new.state) }
+    ensures err { IfErr result (λ fault. (fault.why ≡ kinds.NoMemory)
+        × BreaksPoll node.old.state session fault.turns.items node.new.state) }
 {
     let mut turns = Vec::new(alloc);
     let reply = node.poll(alloc, session);
@@ -108,8 +118,11 @@ fn take_all(
     turns: &mut Vec<Turn>,
 ) -> Result<(), TalkFaultKind>
     requires { IsGoing node.old.state session }
-    ensures ok { OnOk result ((more : List Turn) × (turns.new.items ≡ turns.old.items ++ more) × Converses node.old.state session (items_at moment items.now) more node.new.state) }
-    ensures err { IfErr result (λ why. (more : List Turn) × (turns.new.items ≡ turns.old.items ++ more) × BreaksOff why node.old.state session (items_at moment items.now) more node.new.state) }
+    ensures ok { OnOk result ((more : List Turn) × (turns.new.items ≡ turns.old.items ++ more)
+        × Converses node.old.state session (items_at moment items.now) more node.new.state) }
+    ensures err { IfErr result (λ why. (more : List Turn)
+        × (turns.new.items ≡ turns.old.items ++ more)
+        × BreaksOff why node.old.state session (items_at moment items.now) more node.new.state) }
 {
     for item in items {
         if let Err(why) = take_item(alloc, node, session, moment, item, turns) {
@@ -134,8 +147,12 @@ fn take_item(
     turns: &mut Vec<Turn>,
 ) -> Result<(), TalkFaultKind>
     requires { IsGoing node.old.state session }
-    ensures ok { OnOk result ((given : List Answer) × TakesItemAt node.old.state session (item_at moment item.now) given node.new.state × (turns.new.items ≡ turns.old.items ++ turns_of item.now given)) }
-    ensures err { IfErr result (λ why. (more : List Turn) × (turns.new.items ≡ turns.old.items ++ more) × StopsAt why node.old.state session (item_at moment item.now) more node.new.state) }
+    ensures ok { OnOk result ((given : List Answer)
+        × TakesItemAt node.old.state session (item_at moment item.now) given node.new.state
+        × (turns.new.items ≡ turns.old.items ++ turns_of item.now given)) }
+    ensures err { IfErr result (λ why. (more : List Turn)
+        × (turns.new.items ≡ turns.old.items ++ more)
+        × StopsAt why node.old.state session (item_at moment item.now) more node.new.state) }
     ensures open { IsGoing node.new.state session ⊎ HasLoggedOut node.new.state session }
 {
     let Ok(()) = show(alloc, turns, item) else {
@@ -160,7 +177,8 @@ fn tag_of_idling(node: &Node, session: SessionNo) -> Option<&Octets>
 /// Adds one answer; `NoMemory`, and no change, if memory runs out.
 fn send_one(alloc: Global, turns: &mut Vec<Turn>, answer: Answer) -> Result<(), TalkFaultKind>
     ensures ok { OnOk result (turns.new.items ≡ turns.old.items ++ turns_of_answers (answer ∷ [])) }
-    ensures err { IfErr result (λ why. (why ≡ kinds.NoMemory) × (turns.new.items ≡ turns.old.items)) }
+    ensures err { IfErr result
+        (λ why. (why ≡ kinds.NoMemory) × (turns.new.items ≡ turns.old.items)) }
 {
     let sent = send(alloc, turns, &answer);
     drop(answer);
@@ -180,8 +198,12 @@ fn take_request(
     turns: &mut Vec<Turn>,
 ) -> Result<(), TalkFaultKind>
     requires { IsGoing node.old.state session }
-    ensures ok { OnOk result ((given : List Answer) × Handles node.old.state session moment request given node.new.state × (turns.new.items ≡ turns.old.items ++ turns_of_answers given)) }
-    ensures err { IfErr result (λ why. (front : List Turn) × (turns.new.items ≡ turns.old.items ++ front) × Fails why node.old.state session moment request front node.new.state) }
+    ensures ok { OnOk result ((given : List Answer)
+        × Handles node.old.state session moment request given node.new.state
+        × (turns.new.items ≡ turns.old.items ++ turns_of_answers given)) }
+    ensures err { IfErr result (λ why. (front : List Turn)
+        × (turns.new.items ≡ turns.old.items ++ front)
+        × Fails why node.old.state session moment request front node.new.state) }
     ensures open { IsGoing node.new.state session ⊎ HasLoggedOut node.new.state session }
 {
     match request {
@@ -201,8 +223,12 @@ fn take_command(
     turns: &mut Vec<Turn>,
 ) -> Result<(), TalkFaultKind>
     requires { IsGoing node.old.state session }
-    ensures ok { OnOk result ((given : List Answer) × Handles node.old.state session moment (CommandRequest tagged) given node.new.state × (turns.new.items ≡ turns.old.items ++ turns_of_answers given)) }
-    ensures err { IfErr result (λ why. (front : List Turn) × (turns.new.items ≡ turns.old.items ++ front) × Fails why node.old.state session moment (CommandRequest tagged) front node.new.state) }
+    ensures ok { OnOk result ((given : List Answer)
+        × Handles node.old.state session moment (CommandRequest tagged) given node.new.state
+        × (turns.new.items ≡ turns.old.items ++ turns_of_answers given)) }
+    ensures err { IfErr result (λ why. (front : List Turn)
+        × (turns.new.items ≡ turns.old.items ++ front)
+        × Fails why node.old.state session moment (CommandRequest tagged) front node.new.state) }
     ensures open { IsGoing node.new.state session ⊎ HasLoggedOut node.new.state session }
 {
     // The command moves into the call, and the answer to a refused one bears its tag.
@@ -227,8 +253,12 @@ fn take_line(
     turns: &mut Vec<Turn>,
 ) -> Result<(), TalkFaultKind>
     requires { IsGoing node.old.state session }
-    ensures ok { OnOk result ((given : List Answer) × Handles node.old.state session 0 (LineRequest tag line) given node.new.state × (turns.new.items ≡ turns.old.items ++ turns_of_answers given)) }
-    ensures err { IfErr result (λ why. (front : List Turn) × (turns.new.items ≡ turns.old.items ++ front) × Fails why node.old.state session 0 (LineRequest tag line) front node.new.state) }
+    ensures ok { OnOk result ((given : List Answer)
+        × Handles node.old.state session 0 (LineRequest tag line) given node.new.state
+        × (turns.new.items ≡ turns.old.items ++ turns_of_answers given)) }
+    ensures err { IfErr result (λ why. (front : List Turn)
+        × (turns.new.items ≡ turns.old.items ++ front)
+        × Fails why node.old.state session 0 (LineRequest tag line) front node.new.state) }
     ensures open { IsGoing node.new.state session ⊎ HasLoggedOut node.new.state session }
 {
     let reply = node.done(alloc, session, line);

@@ -1,7 +1,8 @@
 //! What a client sent, and the answers to it, as turns.
 
 ghost use Rattle.std.specs.Prelude.{◌≡◌, ◌++◌, ◌∷◌, [], List, OnOk, OnErr};
-ghost use Rattle.imap_connection.specs.Conversation.{IsPrefixOf, turns_of_item, turns_of_answers, turn_of_answer};
+ghost use Rattle.imap_connection.specs.Conversation.{IsPrefixOf, turns_of_item, turns_of_answers};
+ghost use Rattle.imap_connection.specs.Conversation.{turn_of_answer};
 ghost use Rattle.imap_connection.specs.Replies.{answers_of, polled_answers, refused_answers};
 ghost use Rattle.imap_connection.specs.declared.turn.Turn.TheVariants.{Got as GotTurn};
 ghost use Rattle.imap_connection.specs.declared.turn.Turn.{Turn};
@@ -49,7 +50,8 @@ pub fn send(alloc: Global, turns: &mut Vec<Turn>, answer: &Answer) -> Result<(),
 /// Adds answers to the turns. `Err` if memory runs out; then some of the first answers were added.
 pub fn send_all(alloc: Global, turns: &mut Vec<Turn>, answers: &[Answer]) -> Result<(), AllocError>
     ensures ok { OnOk result (turns.new.items ≡ turns.old.items ++ turns_of_answers answers.now) }
-    ensures err { OnErr result ((front : List Turn) × (turns.new.items ≡ turns.old.items ++ front) × IsPrefixOf front (turns_of_answers answers.now)) }
+    ensures err { OnErr result ((front : List Turn) × (turns.new.items ≡ turns.old.items ++ front)
+        × IsPrefixOf front (turns_of_answers answers.now)) }
 {
     for answer in answers {
         send(alloc, turns, answer)?;
@@ -65,8 +67,10 @@ pub fn send_reply(
     tag: Octets,
     reply: Reply,
 ) -> Result<(), AllocError>
-    ensures ok { OnOk result (turns.new.items ≡ turns.old.items ++ turns_of_answers (answers_of tag reply)) }
-    ensures err { OnErr result ((front : List Turn) × (turns.new.items ≡ turns.old.items ++ front) × IsPrefixOf front (turns_of_answers (answers_of tag reply))) }
+    ensures ok { OnOk result
+        (turns.new.items ≡ turns.old.items ++ turns_of_answers (answers_of tag reply)) }
+    ensures err { OnErr result ((front : List Turn) × (turns.new.items ≡ turns.old.items ++ front)
+        × IsPrefixOf front (turns_of_answers (answers_of tag reply))) }
 {
     match reply {
         Reply::Done { answers, .. } => send_all(alloc, turns, answers.as_slice()),
@@ -83,8 +87,10 @@ fn send_refusal(
     reason: Refusal,
     closed: bool,
 ) -> Result<(), AllocError>
-    ensures ok { OnOk result (turns.new.items ≡ turns.old.items ++ turns_of_answers (refused_answers tag reason closed)) }
-    ensures err { OnErr result ((front : List Turn) × (turns.new.items ≡ turns.old.items ++ front) × IsPrefixOf front (turns_of_answers (refused_answers tag reason closed))) }
+    ensures ok { OnOk result (turns.new.items
+        ≡ turns.old.items ++ turns_of_answers (refused_answers tag reason closed)) }
+    ensures err { OnErr result ((front : List Turn) × (turns.new.items ≡ turns.old.items ++ front)
+        × IsPrefixOf front (turns_of_answers (refused_answers tag reason closed))) }
 {
     let refused = Answer::Refused { tag, reason };
     if !closed {
@@ -105,8 +111,10 @@ fn send_refusal(
 /// Adds the answers of a reply to a poll; none if it was refused. `Err` if memory runs out; then
 /// some of the first answers were added.
 pub fn send_polled(alloc: Global, turns: &mut Vec<Turn>, reply: Reply) -> Result<(), AllocError>
-    ensures ok { OnOk result (turns.new.items ≡ turns.old.items ++ turns_of_answers (polled_answers reply)) }
-    ensures err { OnErr result ((front : List Turn) × (turns.new.items ≡ turns.old.items ++ front) × IsPrefixOf front (turns_of_answers (polled_answers reply))) }
+    ensures ok { OnOk result
+        (turns.new.items ≡ turns.old.items ++ turns_of_answers (polled_answers reply)) }
+    ensures err { OnErr result ((front : List Turn) × (turns.new.items ≡ turns.old.items ++ front)
+        × IsPrefixOf front (turns_of_answers (polled_answers reply))) }
 {
     match reply {
         Reply::Done { answers, .. } => send_all(alloc, turns, answers.as_slice()),

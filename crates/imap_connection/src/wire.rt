@@ -85,7 +85,8 @@ impl<T: Write> Sink for Wire<T> {
 /// Writes the octets. Returns how many the device took: all, or those before it failed.
 fn send<T: Write>(device: &mut T, octets: &[u8]) -> usize
     ensures bound { result ≤ length octets.now }
-    ensures taken { Appends (T.contents device.old) (T.contents device.new) (take result octets.now) }
+    ensures taken { Appends (T.contents device.old) (T.contents device.new)
+        (take result octets.now) }
 {
     let mut sent = 0;
     'writes: for _ in 0..u64::MAX {

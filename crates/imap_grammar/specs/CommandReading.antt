@@ -2,18 +2,25 @@
 -- `imap_syntax` says which frame spells which command (RFC 9051, section 9); `parse` is proved to
 -- answer that.
 
-use Rattle.std.specs.Prelude.{◌≡◌, ℕ, Bool, true, false, ◌==◌, nat_lt, List, [], ◌∷◌, codes, length, take, drop, Option, Some, None, Result, Err, if◌then◌else◌}
+use Rattle.std.specs.Prelude.{◌≡◌, ℕ, Bool, true, false, ◌==◌, nat_lt, List, [], ◌∷◌, codes, length}
+use Rattle.std.specs.Prelude.{take, drop, Option, Some, None, Result, Err, if◌then◌else◌}
 use Rattle.std.specs.Option.{unwrap_or}
 use Rattle.imap_types.specs.declared.sequence_set.SequenceRange.{SequenceRange}
 use Rattle.imap_types.specs.declared.flags.Flags.{Flags}
 use Rattle.imap_types.specs.DateTimeTests.{is_date_time}
-use Rattle.imap_grammar.specs.Reading.{Gives, after, after_word, before, both, fetched_at, flag_group_at, flags_of, is_nil, listed_at, literal_at, made, mailbox_at, modifier_at, named, named_at, no_flags, parens_at, peeked_at, run_at, set_at, spaced, span, stored_at, text_at, zeroed, ◌>>=◌}
+use Rattle.imap_grammar.specs.Reading.{Gives, after, after_word, before, both, fetched_at}
+use Rattle.imap_grammar.specs.Reading.{flag_group_at, flags_of, is_nil, listed_at, literal_at, made}
+use Rattle.imap_grammar.specs.Reading.{mailbox_at, modifier_at, named, named_at, no_flags}
+use Rattle.imap_grammar.specs.Reading.{parens_at, peeked_at, run_at, set_at, spaced, span}
+use Rattle.imap_grammar.specs.Reading.{stored_at, text_at, zeroed, ◌>>=◌}
 use Rattle.imap_syntax.specs.declared.flags.Flag.{Flag}
 use Rattle.imap_syntax.specs.declared.fetch.FetchItem.{FetchItem}
 use Rattle.imap_syntax.specs.declared.store.StoreAction.{StoreAction}
 use Rattle.imap_syntax.specs.Strings.{is_in}
-use Rattle.imap_syntax.specs.Words.{command_word, command_words, status_word, status_items, store_actions, store_word, uid_words}
-use Rattle.imap_syntax.specs.declared.octet_class.OctetClass.TheVariants.{Tag, Atom, Astring, Pattern}
+use Rattle.imap_syntax.specs.Words.{command_word, command_words, status_word, status_items}
+use Rattle.imap_syntax.specs.Words.{store_actions, store_word, uid_words}
+use Rattle.imap_syntax.specs.declared.octet_class.OctetClass.TheVariants.{Tag, Atom, Astring}
+use Rattle.imap_syntax.specs.declared.octet_class.OctetClass.TheVariants.{Pattern}
 use Rattle.imap_syntax.specs.declared.command.Command.{Command}
 use Rattle.imap_syntax.specs.declared.command.Command.TheVariants as commands
 use Rattle.imap_syntax.specs.declared.command.Tagged.{Tagged}
@@ -27,7 +34,9 @@ use Rattle.imap_grammar.specs.KeyReading.{search_at}
 
 -- LOGIN: a user and a password.
 abbrev pub login_at : List ℕ → Option (Command × List ℕ)
-login_at = made (λ parts. commands.Login parts.0 parts.1) (spaced (both (text_at Astring) (spaced (text_at Astring))))
+login_at =
+    made (λ parts. commands.Login parts.0 parts.1)
+    (spaced (both (text_at Astring) (spaced (text_at Astring))))
 
 -- ENABLE: names of extensions.
 abbrev pub enable_at : List ℕ → Option (Command × List ℕ)
@@ -37,7 +46,10 @@ enable_at = made commands.Enable (spaced (listed_at 32 (run_at Atom)))
 abbrev pub condstore_at : List ℕ → Option (Bool × List ℕ)
 condstore_at [] = Some (false, [])
 condstore_at (octet ∷ octets) =
-    if octet == 32 then (after (40 ∷ []) octets >>= λ inner. after_word (codes "CONDSTORE") inner >>= λ behind. after (41 ∷ []) behind >>= λ rest. Some (true, rest))
+    if octet
+    == 32 then (after (40 ∷ []) octets
+    >>= λ inner. after_word (codes "CONDSTORE") inner
+    >>= λ behind. after (41 ∷ []) behind >>= λ rest. Some (true, rest))
     else Some (false, octet ∷ octets)
 
 -- The mailbox of SELECT or EXAMINE, and whether CONDSTORE follows.
@@ -67,7 +79,8 @@ abbrev pub options_inner_at : List ℕ → Option (Bool × List ℕ)
 options_inner_at [] = None
 options_inner_at (octet ∷ octets) =
     if octet == 41 then Some (false, octets)
-    else (after_word (codes "SUBSCRIBED") (octet ∷ octets) >>= λ behind. after (41 ∷ []) behind >>= λ rest. Some (true, rest))
+    else (after_word (codes "SUBSCRIBED") (octet ∷ octets)
+    >>= λ behind. after (41 ∷ []) behind >>= λ rest. Some (true, rest))
 
 -- `(SUBSCRIBED)` or `()`.
 abbrev pub options_at : List ℕ → Option (Bool × List ℕ)
@@ -76,20 +89,30 @@ options_at octets = after (40 ∷ []) octets >>= options_inner_at
 -- The selection options of LIST and a space, or nothing.
 abbrev pub selection_at : List ℕ → Option (Bool × List ℕ)
 selection_at [] = Some (false, [])
-selection_at (octet ∷ octets) = if octet == 40 then before options_at (after (32 ∷ [])) (octet ∷ octets) else Some (false, octet ∷ octets)
+selection_at (octet ∷ octets) =
+    if octet == 40 then before options_at (after (32 ∷ [])) (octet ∷ octets)
+    else Some (false, octet ∷ octets)
 
 -- A space, RETURN and the return options of LIST, or nothing.
 abbrev pub returns_at : List ℕ → Option (Bool × List ℕ)
 returns_at [] = Some (false, [])
 returns_at (octet ∷ octets) =
-    if octet == 32 then (after_word (codes "RETURN") octets >>= spaced options_at) else Some (false, octet ∷ octets)
+    if octet == 32 then (after_word (codes "RETURN") octets >>= spaced options_at)
+    else Some (false, octet ∷ octets)
 
 -- LIST: selection options, a reference, a pattern and return options.
 abbrev pub list_parts_at : List ℕ → Option ((Bool × (List ℕ × (List ℕ × Bool))) × List ℕ)
-list_parts_at = spaced (both selection_at (both (text_at Astring) (spaced (both (text_at Pattern) returns_at))))
+list_parts_at =
+    spaced (both selection_at (both (text_at Astring) (spaced (both (text_at Pattern) returns_at))))
 
 abbrev pub list_of : Bool × (List ℕ × (List ℕ × Bool)) → Command
-list_of parts = commands.ListNames (record { subscribed_only = parts.0; reference = parts.1.0; pattern = parts.1.1.0; return_subscribed = parts.1.1.1 })
+list_of parts =
+    commands.ListNames (record {
+      subscribed_only = parts.0;
+      reference = parts.1.0;
+      pattern = parts.1.1.0;
+      return_subscribed = parts.1.1.1;
+    })
 
 abbrev pub list_at : List ℕ → Option (Command × List ℕ)
 list_at = made list_of list_parts_at
@@ -98,7 +121,9 @@ list_at = made list_of list_parts_at
 abbrev pub date_time_at : List ℕ → Option (List ℕ × List ℕ)
 date_time_at octets =
     if nat_lt (length octets) 28 then None
-    else (if is_date_time (zeroed (take 28 octets)) then Some (zeroed (take 28 octets), drop 28 octets) else None)
+    else (if is_date_time (zeroed (take 28 octets))
+    then Some (zeroed (take 28 octets), drop 28 octets)
+    else None)
 
 -- The flags of a group, or no flags if there is no group.
 abbrev pub flags_given : Option (List Flag) → Flags
@@ -118,31 +143,39 @@ literal_text_at [] = None
 literal_text_at (octet ∷ octets) = if octet == 123 then literal_at octets else None
 
 -- APPEND: a mailbox, flags, a date-time and a literal.
-abbrev pub append_parts_at : List ℕ → Option ((List ℕ × (Flags × (Option (List ℕ) × List ℕ))) × List ℕ)
-append_parts_at = spaced (both mailbox_at (both append_flags_at (both append_date_at (spaced literal_text_at))))
+abbrev pub append_parts_at : List ℕ
+    → Option ((List ℕ × (Flags × (Option (List ℕ) × List ℕ))) × List ℕ)
+append_parts_at =
+    spaced (both mailbox_at (both append_flags_at (both append_date_at (spaced literal_text_at))))
 
 abbrev pub append_of : List ℕ × (Flags × (Option (List ℕ) × List ℕ)) → Command
-append_of parts = commands.Append (record { name = parts.0; flags = parts.1.0; date = parts.1.1.0; text = parts.1.1.1 })
+append_of parts =
+    commands.Append
+    (record { name = parts.0; flags = parts.1.0; date = parts.1.1.0; text = parts.1.1.1 })
 
 abbrev pub append_at : List ℕ → Option (Command × List ℕ)
 append_at = made append_of append_parts_at
 
 -- STATUS: a mailbox and items.
 abbrev pub status_at : List ℕ → Option (Command × List ℕ)
-status_at = made (λ parts. commands.Status parts.0 parts.1) (spaced (both mailbox_at (spaced (parens_at (listed_at 32 (named_at status_word status_items))))))
+status_at =
+    made (λ parts. commands.Status parts.0 parts.1) (spaced
+    (both mailbox_at (spaced (parens_at (listed_at 32 (named_at status_word status_items))))))
 
 -- COPY and MOVE: a set of messages and the destination mailbox.
 abbrev pub copied_at : List ℕ → Option ((List SequenceRange × List ℕ) × List ℕ)
 copied_at = spaced (both set_at (spaced mailbox_at))
 
 abbrev pub copy_of : Bool → List SequenceRange × List ℕ → Command
-copy_of by_uid parts = commands.Copy (record { by_uid = by_uid; messages = parts.0; name = parts.1 })
+copy_of by_uid parts =
+    commands.Copy (record { by_uid = by_uid; messages = parts.0; name = parts.1 })
 
 abbrev pub copy_at : Bool → List ℕ → Option (Command × List ℕ)
 copy_at by_uid = made (copy_of by_uid) copied_at
 
 abbrev pub move_of : Bool → List SequenceRange × List ℕ → Command
-move_of by_uid parts = commands.Move (record { by_uid = by_uid; messages = parts.0; name = parts.1 })
+move_of by_uid parts =
+    commands.Move (record { by_uid = by_uid; messages = parts.0; name = parts.1 })
 
 abbrev pub move_at : Bool → List ℕ → Option (Command × List ℕ)
 move_at by_uid = made (move_of by_uid) copied_at
@@ -151,21 +184,35 @@ abbrev pub uid_expunge_at : List ℕ → Option (Command × List ℕ)
 uid_expunge_at = made commands.UidExpunge (spaced set_at)
 
 -- FETCH: a set of messages, items and CHANGEDSINCE.
-abbrev pub fetch_parts_at : List ℕ → Option ((List SequenceRange × (List FetchItem × Option ℕ)) × List ℕ)
-fetch_parts_at = spaced (both set_at (spaced (both fetched_at (modifier_at (codes "CHANGEDSINCE")))))
+abbrev pub fetch_parts_at : List ℕ
+    → Option ((List SequenceRange × (List FetchItem × Option ℕ)) × List ℕ)
+fetch_parts_at =
+    spaced (both set_at (spaced (both fetched_at (modifier_at (codes "CHANGEDSINCE")))))
 
 abbrev pub fetch_of : Bool → List SequenceRange × (List FetchItem × Option ℕ) → Command
-fetch_of by_uid parts = commands.Fetch (record { by_uid = by_uid; messages = parts.0; items = parts.1.0; changed_since = parts.1.1 })
+fetch_of by_uid parts =
+    commands.Fetch
+    (record { by_uid = by_uid; messages = parts.0; items = parts.1.0; changed_since = parts.1.1 })
 
 abbrev pub fetch_at : Bool → List ℕ → Option (Command × List ℕ)
 fetch_at by_uid = made (fetch_of by_uid) fetch_parts_at
 
 -- STORE: a set of messages, UNCHANGEDSINCE, an action and flags.
-abbrev pub store_parts_at : List ℕ → Option ((List SequenceRange × (Option ℕ × (StoreAction × Flags))) × List ℕ)
-store_parts_at = spaced (both set_at (both (modifier_at (codes "UNCHANGEDSINCE")) (spaced (both (named_at store_word store_actions) (spaced stored_at)))))
+abbrev pub store_parts_at : List ℕ
+    → Option ((List SequenceRange × (Option ℕ × (StoreAction × Flags))) × List ℕ)
+store_parts_at =
+    spaced (both set_at (both (modifier_at (codes "UNCHANGEDSINCE"))
+    (spaced (both (named_at store_word store_actions) (spaced stored_at)))))
 
 abbrev pub store_of : Bool → List SequenceRange × (Option ℕ × (StoreAction × Flags)) → Command
-store_of by_uid parts = commands.Store (record { by_uid = by_uid; messages = parts.0; unchanged_since = parts.1.0; action = parts.1.1.0; flags = parts.1.1.1 })
+store_of by_uid parts =
+    commands.Store (record {
+      by_uid = by_uid;
+      messages = parts.0;
+      unchanged_since = parts.1.0;
+      action = parts.1.1.0;
+      flags = parts.1.1.1;
+    })
 
 abbrev pub store_at : Bool → List ℕ → Option (Command × List ℕ)
 store_at by_uid = made (store_of by_uid) store_parts_at
@@ -182,7 +229,8 @@ uid_arguments_at _ octets = None
 
 -- UID: a command's word and its arguments.
 abbrev pub uid_at : List ℕ → Option (Command × List ℕ)
-uid_at octets = spaced (named_at command_word uid_words) octets >>= λ own. uid_arguments_at own.0 own.1
+uid_at octets =
+    spaced (named_at command_word uid_words) octets >>= λ own. uid_arguments_at own.0 own.1
 
 -- The arguments of the command with this word; none if this server doesn't support the command.
 abbrev pub arguments_at : CommandWord → List ℕ → Option (Command × List ℕ)
@@ -226,11 +274,13 @@ word_at octets = named command_word command_words (span (is_in Atom) octets).0
 -- The arguments and CRLF, after which nothing may follow.
 abbrev pub ended_at : CommandWord → List ℕ → Option Command
 ended_at found octets =
-    arguments_at found octets >>= λ this. after (13 ∷ 10 ∷ []) this.1 >>= λ rest. if is_nil rest then Some this.0 else None
+    arguments_at found octets
+    >>= λ this. after (13 ∷ 10 ∷ []) this.1 >>= λ rest. if is_nil rest then Some this.0 else None
 
 -- The command with its tag.
 abbrev pub tagged_at : List ℕ → CommandWord → List ℕ → Option Tagged
-tagged_at tag found octets = ended_at found octets >>= λ this. Some (record { tag = tag; command = this })
+tagged_at tag found octets =
+    ended_at found octets >>= λ this. Some (record { tag = tag; command = this })
 
 -- The result of parsing a frame with this tag, by the command's word after it, if any.
 abbrev pub AnswersWord : Result Tagged ParseFault → List ℕ → Option CommandWord → List ℕ → Type 0

@@ -2,7 +2,8 @@
 
 ghost use Rattle.std.specs.Prelude.{◌≡◌, length};
 ghost use Rattle.imap_grammar.specs.Reading.{Gives, both, literal_at, spaced, zeroed};
-ghost use Rattle.imap_grammar.specs.CommandReading.{append_at, append_date_at, append_flags_at, date_time_at, literal_text_at};
+ghost use Rattle.imap_grammar.specs.CommandReading.{append_at, append_date_at, append_flags_at};
+ghost use Rattle.imap_grammar.specs.CommandReading.{date_time_at, literal_text_at};
 
 use crate::fault::ParseFault;
 use crate::flags::{collect_flags, flag_group};
@@ -41,7 +42,8 @@ fn message(
     alloc: Global,
     octets: &[u8],
 ) -> Result<((Flags, (Option<DateTime>, Text)), &[u8]), ParseFault>
-    ensures { Gives (λ x. (x.0, x.1.now)) result (both append_flags_at (both append_date_at (spaced literal_text_at)) octets.now) }
+    ensures { Gives (λ x. (x.0, x.1.now)) result
+        (both append_flags_at (both append_date_at (spaced literal_text_at)) octets.now) }
 {
     let (flags, rest) = append_flags(alloc, octets)?;
     match dated_text(alloc, rest) {
@@ -55,7 +57,8 @@ fn message(
 
 /// Reads the message's date-time, if any, and its text.
 fn dated_text(alloc: Global, octets: &[u8]) -> Result<((Option<DateTime>, Text), &[u8]), ParseFault>
-    ensures { Gives (λ x. (x.0, x.1.now)) result (both append_date_at (spaced literal_text_at) octets.now) }
+    ensures { Gives (λ x. (x.0, x.1.now)) result
+        (both append_date_at (spaced literal_text_at) octets.now) }
 {
     let (date, rest) = append_date(octets)?;
     let (text, rest) = literal_text(alloc, space(rest)?)?;

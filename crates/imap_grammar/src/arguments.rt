@@ -2,7 +2,11 @@
 
 ghost use Rattle.std.specs.Prelude.{◌≡◌};
 ghost use Rattle.imap_grammar.specs.Reading.{Gives, listed_at, named_at, parens_at, spaced};
-ghost use Rattle.imap_grammar.specs.CommandReading.{arguments_at, condstore_at, copied_at, copy_at, create_at, delete_at, enable_at, examine_at, login_at, move_at, opened_at, select_at, status_at, subscribe_at, uid_arguments_at, uid_at, uid_expunge_at, unsubscribe_at};
+ghost use Rattle.imap_grammar.specs.CommandReading.{arguments_at, condstore_at, copied_at, copy_at};
+ghost use Rattle.imap_grammar.specs.CommandReading.{create_at, delete_at, enable_at, examine_at};
+ghost use Rattle.imap_grammar.specs.CommandReading.{login_at, move_at, opened_at, select_at};
+ghost use Rattle.imap_grammar.specs.CommandReading.{status_at, subscribe_at, uid_arguments_at};
+ghost use Rattle.imap_grammar.specs.CommandReading.{uid_at, uid_expunge_at, unsubscribe_at};
 ghost use Rattle.imap_syntax.specs.Words.{command_word, status_items, status_word, uid_words};
 
 use crate::append::append;
@@ -191,7 +195,8 @@ fn status(alloc: Global, octets: &[u8]) -> Result<(Command, &[u8]), ParseFault>
 
 /// Reads ` (item item ..)`.
 fn status_items(alloc: Global, octets: &[u8]) -> Result<(Vec<StatusItem>, &[u8]), ParseFault>
-    ensures { Gives (λ x. (x.0.items, x.1.now)) result (spaced (parens_at (listed_at 32 (named_at status_word status_items))) octets.now) }
+    ensures { Gives (λ x. (x.0.items, x.1.now)) result
+        (spaced (parens_at (listed_at 32 (named_at status_word status_items))) octets.now) }
 {
     let rest = skip(space(octets)?, b"(")?;
     let (items, rest) = element_list::<StatusItems>(alloc, b' ', rest)?;

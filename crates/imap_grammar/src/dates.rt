@@ -2,7 +2,8 @@
 
 ghost use Rattle.std.specs.Prelude.{◌≡◌, ◌<◌, ◌≤◌, ◌-◌, ◌^◌, IfOk};
 ghost use Rattle.imap_types.specs.DateTimes.{month_of};
-ghost use Rattle.imap_grammar.specs.Reading.{Gives, date_at, date_text_at, digits_at, month_name_at};
+ghost use Rattle.imap_grammar.specs.Reading.{Gives, date_at, date_text_at, digits_at};
+ghost use Rattle.imap_grammar.specs.Reading.{month_name_at};
 
 use crate::fault::ParseFault;
 use crate::numbers::saturating_number;

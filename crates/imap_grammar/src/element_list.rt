@@ -49,7 +49,8 @@ fn next<E: ListElement>(
     separator: u8,
     octets: &[u8],
 ) -> Result<Option<(E::Value, &[u8])>, ParseFault>
-    ensures { Gives (λ x. option_map (λ y. (y.0, y.1.now)) x) result (next_at separator E.read_at octets.now) }
+    ensures { Gives (λ x. option_map (λ y. (y.0, y.1.now)) x) result
+        (next_at separator E.read_at octets.now) }
 {
     match octets {
         [] => Ok(None),

@@ -1,7 +1,9 @@
 //! The arguments of FETCH (RFC 9051, section 6.4.5; RFC 7162, section 3.1.4).
 
 ghost use Rattle.std.specs.Prelude.{◌≡◌, ◌⊎◌, IfOk};
-ghost use Rattle.imap_grammar.specs.Reading.{Gives, alone_at, body_at, bracketed_at, fetched_at, field_names_at, item_at, item_behind_at, named_at, partial_at, section_at, section_behind_at};
+ghost use Rattle.imap_grammar.specs.Reading.{Gives, alone_at, body_at, bracketed_at, fetched_at};
+ghost use Rattle.imap_grammar.specs.Reading.{field_names_at, item_at, item_behind_at, named_at};
+ghost use Rattle.imap_grammar.specs.Reading.{partial_at, section_at, section_behind_at};
 ghost use Rattle.imap_grammar.specs.CommandReading.{fetch_at};
 ghost use Rattle.imap_syntax.specs.Words.{fetch_word, fetch_words, section_word, section_words};
 ghost use Rattle.imap_syntax.specs.Items.{fast_items};

@@ -1,7 +1,9 @@
 //! Flags of messages (RFC 9051, section 9, flag).
 
 ghost use Rattle.std.specs.Prelude.{◌≡◌, IfOk, OnOk};
-ghost use Rattle.imap_grammar.specs.Reading.{Gives, flag_at, flag_group_at, flags_of, maybe_flags_at, named_at, no_flags, stored_at, stored_texts_at, with_flag};
+ghost use Rattle.imap_grammar.specs.Reading.{Gives, flag_at, flag_group_at, flags_of};
+ghost use Rattle.imap_grammar.specs.Reading.{maybe_flags_at, named_at, no_flags, stored_at};
+ghost use Rattle.imap_grammar.specs.Reading.{stored_texts_at, with_flag};
 ghost use Rattle.imap_syntax.specs.Words.{system_flags, system_word};
 
 use crate::element_list::{ListElement, element_list};

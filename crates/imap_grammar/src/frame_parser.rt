@@ -6,7 +6,9 @@ ghost use Rattle.imap_syntax.specs.Faults.{HasTag, IsTagged, NamesCommand};
 ghost use Rattle.imap_grammar.specs.Reading.{Gives};
 ghost use Rattle.imap_grammar.specs.CommandReading.{AnswersTag, ended_at, tag_at};
 ghost use Rattle.imap_syntax.specs.declared.command.Tagged.{Tagged};
-ghost use Rattle.imap_grammar.specs.declared.fault.ParseFault.TheVariants.{BadSyntax, NoMemory, NoTag, NotInProfile, UnknownCommand};
+ghost use Rattle.imap_grammar.specs.declared.fault.ParseFault.TheVariants.{BadSyntax, NoMemory};
+ghost use Rattle.imap_grammar.specs.declared.fault.ParseFault.TheVariants.{NoTag, NotInProfile};
+ghost use Rattle.imap_grammar.specs.declared.fault.ParseFault.TheVariants.{UnknownCommand};
 
 use crate::arguments::arguments;
 use crate::fault::ParseFault;
@@ -25,16 +27,20 @@ pub fn parse(alloc: Global, frame: &[u8]) -> Result<Tagged, ParseFault>
     // A command that is read is one that the frame spells.
     ensures found { IfOk result (λ tagged. IsSpelled tagged frame.now) }
     // A command that the frame spells is read, unless memory runs out.
-    ensures only { (tagged : Tagged) → IsSpelled tagged frame.now → (result ≡ Ok tagged) ⊎ (result ≡ Err NoMemory) }
+    ensures only { (tagged : Tagged)
+        → IsSpelled tagged frame.now
+        → (result ≡ Ok tagged) ⊎ (result ≡ Err NoMemory) }
     ensures no_tag { (result ≡ Err NoTag) ↔ (HasTag frame.now → ⊥) }
-    ensures unknown { (result ≡ Err UnknownCommand) ↔ (HasTag frame.now × (NamesCommand frame.now → ⊥)) }
+    ensures unknown { (result ≡ Err UnknownCommand)
+        ↔ (HasTag frame.now × (NamesCommand frame.now → ⊥)) }
 {
     parse_frame(alloc, frame)
 }
 
 /// The tag of a frame; `None` if the frame doesn't begin with a tag and a space.
 pub fn tag_of(frame: &[u8]) -> Option<&[u8]>
-    ensures { MatchOption result (HasTag frame.now → ⊥) (λ tag. (rest : List ℕ) × IsTagged frame.now tag.now rest) }
+    ensures { MatchOption result (HasTag frame.now → ⊥)
+        (λ tag. (rest : List ℕ) × IsTagged frame.now tag.now rest) }
 {
     match split_tag(frame) {
         Some((tag, _)) => Some(tag),
@@ -44,7 +50,8 @@ pub fn tag_of(frame: &[u8]) -> Option<&[u8]>
 
 /// No frame spells two commands.
 pub fn one_reading()
-    ensures { (this that : Tagged) (frame : List ℕ) → IsSpelled this frame → IsSpelled that frame → this ≡ that }
+    ensures { (this that : Tagged) (frame : List ℕ) → IsSpelled this frame → IsSpelled that frame
+        → this ≡ that }
 {}
 
 /// Reads the tag of a frame, its command's word, and the rest.

@@ -2,7 +2,8 @@
 //! 3.1.5).
 
 ghost use Rattle.std.specs.Prelude.{◌≡◌, ◌⊎◌, ◌++◌, ◌∷◌, [], IfOk, OnOk, option_map};
-ghost use Rattle.imap_grammar.specs.KeyReading.{below_at, keys_at, leaf_at, level_at, numbers_at, worded_at};
+ghost use Rattle.imap_grammar.specs.KeyReading.{below_at, keys_at, leaf_at, level_at, numbers_at};
+ghost use Rattle.imap_grammar.specs.KeyReading.{worded_at};
 ghost use Rattle.imap_syntax.specs.KeyWords.{key_word, key_words};
 ghost use Rattle.imap_grammar.specs.Reading.{Gives, made, named_at, next_at, number_at, spaced};
 ghost use Rattle.imap_grammar.specs.declared.fault.ParseFault.TheVariants.{BadSyntax, NotInProfile};
@@ -199,7 +200,8 @@ fn key_of_word(
     word: SearchKeyWord,
     octets: &[u8],
 ) -> Result<(Vec<SearchStep>, &[u8]), ParseFault>
-    ensures { Gives (λ x. (x.0.items, x.1.now)) result (worded_at (below_at levels) word octets.now) }
+    ensures { Gives (λ x. (x.0.items, x.1.now)) result
+        (worded_at (below_at levels) word octets.now) }
 {
     match word {
         SearchKeyWord::Not => {
@@ -235,7 +237,8 @@ fn leaf_key(
     word: SearchKeyWord,
     octets: &[u8],
 ) -> Result<(Vec<SearchStep>, &[u8]), ParseFault>
-    ensures { Gives (λ x. (x.0.items, x.1.now)) result (made (λ test. Test test ∷ []) (leaf_at word) octets.now) }
+    ensures { Gives (λ x. (x.0.items, x.1.now)) result
+        (made (λ test. Test test ∷ []) (leaf_at word) octets.now) }
 {
     let (test, rest) = leaf(alloc, word, octets)?;
     Ok((alone(alloc, test)?, rest))
@@ -289,7 +292,8 @@ fn next_key(
     levels: usize,
     octets: &[u8],
 ) -> Result<Option<(Vec<SearchStep>, &[u8])>, ParseFault>
-    ensures { Gives (λ x. option_map (λ y. (y.0.items, y.1.now)) x) result (next_at 32 (below_at levels) octets.now) }
+    ensures { Gives (λ x. option_map (λ y. (y.0.items, y.1.now)) x) result
+        (next_at 32 (below_at levels) octets.now) }
 {
     match octets {
         [] => Ok(None),
@@ -381,7 +385,8 @@ fn smaller(octets: &[u8]) -> Result<(SearchTest, &[u8]), ParseFault>
 
 /// Reads a space and a number of octets.
 fn size(octets: &[u8]) -> Result<(u64, &[u8]), ParseFault>
-    ensures { Gives (λ x. (x.0, x.1.now)) result (spaced (number_at 9223372036854775807) octets.now) }
+    ensures { Gives (λ x. (x.0, x.1.now)) result
+        (spaced (number_at 9223372036854775807) octets.now) }
 {
     number(space(octets)?, GREATEST)
 }

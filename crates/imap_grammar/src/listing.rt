@@ -2,7 +2,8 @@
 
 ghost use Rattle.std.specs.Prelude.{◌≡◌, codes};
 ghost use Rattle.imap_grammar.specs.Reading.{Gives, after_word, text_at};
-ghost use Rattle.imap_grammar.specs.CommandReading.{list_at, options_at, options_inner_at, returns_at, selection_at};
+ghost use Rattle.imap_grammar.specs.CommandReading.{list_at, options_at, options_inner_at};
+ghost use Rattle.imap_grammar.specs.CommandReading.{returns_at, selection_at};
 ghost use Rattle.imap_syntax.specs.declared.octet_class.OctetClass.TheVariants.{Pattern};
 
 use crate::fault::ParseFault;

@@ -2,7 +2,8 @@
 //! support (RFC 7162, section 3.1).
 
 ghost use Rattle.std.specs.Prelude.{◌≡◌, ◌<◌, ◌-◌, ◌^◌, ◌⊎◌, codes};
-ghost use Rattle.imap_grammar.specs.Reading.{Gives, after_word, modifier_at, modifier_group_at, peeks};
+ghost use Rattle.imap_grammar.specs.Reading.{Gives, after_word, modifier_at, modifier_group_at};
+ghost use Rattle.imap_grammar.specs.Reading.{peeks};
 ghost use Rattle.imap_grammar.specs.declared.fault.ParseFault.TheVariants.{BadSyntax, NotInProfile};
 
 use crate::fault::ParseFault;

@@ -1,7 +1,9 @@
 //! The arguments of SEARCH (RFC 9051, section 6.4.4).
 
 ghost use Rattle.std.specs.Prelude.{◌≡◌};
-ghost use Rattle.imap_grammar.specs.KeyReading.{below_at, charset_at, charset_name_at, is_charset, keys_at, maybe_options_at, returned_at, returned_group_at, search_at};
+ghost use Rattle.imap_grammar.specs.KeyReading.{below_at, charset_at, charset_name_at, is_charset};
+ghost use Rattle.imap_grammar.specs.KeyReading.{keys_at, maybe_options_at, returned_at};
+ghost use Rattle.imap_grammar.specs.KeyReading.{returned_group_at, search_at};
 ghost use Rattle.imap_syntax.specs.KeyWords.{option_word, search_options};
 ghost use Rattle.imap_grammar.specs.Reading.{Gives, named_at};
 

@@ -104,7 +104,8 @@ fn store_change(
     alloc: Global,
     octets: &[u8],
 ) -> Result<((Option<u64>, (StoreAction, Flags)), &[u8]), ParseFault>
-    ensures { Gives (λ x. (x.0, x.1.now)) result (both (modifier_at (codes "UNCHANGEDSINCE")) (spaced (both (named_at store_word store_actions) (spaced stored_at))) octets.now) }
+    ensures { Gives (λ x. (x.0, x.1.now)) result (both (modifier_at (codes "UNCHANGEDSINCE"))
+        (spaced (both (named_at store_word store_actions) (spaced stored_at))) octets.now) }
 {
     let (unchanged_since, rest) = unchanged_since(octets)?;
     let (action, rest) = store_action(space(rest)?)?;

@@ -2,7 +2,8 @@
 
 ghost use Rattle.std.specs.Prelude.{◌≡◌, ◌<◌, ◌≤◌, ◌-◌, ◌^◌, length, min, true, false};
 ghost use Rattle.imap_syntax.specs.Strings.{is_quotable, number_of};
-ghost use Rattle.imap_grammar.specs.Reading.{Gives, both, literal_at, mailbox_at, octets_at, quoted_at, run_at, spaced, text_at, after_plus};
+ghost use Rattle.imap_grammar.specs.Reading.{Gives, both, literal_at, mailbox_at, octets_at};
+ghost use Rattle.imap_grammar.specs.Reading.{quoted_at, run_at, spaced, text_at, after_plus};
 ghost use Rattle.imap_syntax.specs.declared.octet_class.OctetClass.TheVariants.{Astring};
 
 use crate::fault::ParseFault;
@@ -36,7 +37,8 @@ pub fn spaced_text(alloc: Global, octets: &[u8]) -> Result<(Octets, &[u8]), Pars
 
 /// Reads two astrings, each after a space.
 pub fn spaced_texts(alloc: Global, octets: &[u8]) -> Result<((Octets, Octets), &[u8]), ParseFault>
-    ensures { Gives (λ x. (x.0, x.1.now)) result (spaced (both (text_at Astring) (spaced (text_at Astring))) octets.now) }
+    ensures { Gives (λ x. (x.0, x.1.now)) result
+        (spaced (both (text_at Astring) (spaced (text_at Astring))) octets.now) }
 {
     let (first, rest) = spaced_text(alloc, octets)?;
     let (second, rest) = spaced_text(alloc, rest)?;

@@ -1,9 +1,11 @@
 -- The commands of a stream, and the octet that makes a fault (RFC 9051, sections 2.2 and 4.3).
 
-use Rattle.std.specs.Prelude.{◌≡◌, ◌≢◌, ℕ, ◌+◌, ◌<◌, ◌≤◌, Bool, true, false, List, [], ◌∷◌, ◌++◌, ◌⊎◌, length, sum_by}
+use Rattle.std.specs.Prelude.{◌≡◌, ◌≢◌, ℕ, ◌+◌, ◌<◌, ◌≤◌, Bool, true, false, List, [], ◌∷◌, ◌++◌}
+use Rattle.std.specs.Prelude.{◌⊎◌, length, sum_by}
 use Rattle.std.specs.List.{flat_map}
 use Rattle.imap_lex.specs.declared.fault.FrameFaultKind.{FrameFaultKind}
-use Rattle.imap_lex.specs.declared.fault.FrameFaultKind.TheVariants.{LineTooLong, LiteralTooLong, NulByte, NoMemory, Failed}
+use Rattle.imap_lex.specs.declared.fault.FrameFaultKind.TheVariants.{LineTooLong, LiteralTooLong}
+use Rattle.imap_lex.specs.declared.fault.FrameFaultKind.TheVariants.{NulByte, NoMemory, Failed}
 use Rattle.imap_lex.specs.declared.item.Item.{Item}
 use Rattle.imap_lex.specs.declared.item.Item.TheVariants.{Ready, Frame, Refused}
 use Rattle.imap_lex.specs.declared.limits.Limits.{Limits}
@@ -124,11 +126,13 @@ IsRest limits text items = IsOpenLine limits text items ⊎ IsOpenLiteral limits
 -- Commands and refused beginnings of commands, each with the items that it gives.
 abbrev pub AreCommands : Limits → List (List ℕ × List Item) → Type 0
 AreCommands limits [] = Unit {0}
-AreCommands limits (c ∷ cs) = (IsFrame limits c.0 c.1 ⊎ IsRefusedFront limits c.0 c.1) × AreCommands limits cs
+AreCommands limits (c ∷ cs) =
+    (IsFrame limits c.0 c.1 ⊎ IsRefusedFront limits c.0 c.1) × AreCommands limits cs
 
 -- The stream is made of commands and refused beginnings, one after another, and a rest that is less
 -- than a command; these are the items that they give.
-pub record AreFrames (limits : Limits) (stream : List ℕ) (items : List Item) (rest : List ℕ) : Type 0 where
+pub record AreFrames (limits : Limits) (stream : List ℕ) (items : List Item) (rest : List ℕ) :
+    Type 0 where
   pub commands : List (List ℕ × List Item)
   pub last : List Item
   pub are_commands : AreCommands limits commands
@@ -165,7 +169,8 @@ MakesFault limits rest octet NoMemory = ⊥
 MakesFault limits rest octet Failed = ⊥
 
 -- The first octet of the stream that makes a fault makes this one; the items are those before it.
-pub record FailsAt (limits : Limits) (stream : List ℕ) (items : List Item) (why : FrameFaultKind) : Type 0 where
+pub record FailsAt (limits : Limits) (stream : List ℕ) (items : List Item) (why : FrameFaultKind) :
+    Type 0 where
   pub front : List ℕ
   pub octet : ℕ
   pub behind : List ℕ

@@ -1,10 +1,13 @@
 -- How a stream is read octet by octet: what the framer computes. Frames says what it means (RFC
 -- 9051, sections 2.2 and 4.3).
 
-use Rattle.std.specs.Prelude.{◌≡◌, ℕ, ◌+◌, ◌-◌, Bool, true, false, not, ◌&&◌, ◌==◌, nat_lt, nat_le, List, [], ◌∷◌, ◌++◌, length, slice_index, Option, Some, None, Result, Ok, Err, IsOk, IsErr, if◌then◌else◌, option_to_list}
+use Rattle.std.specs.Prelude.{◌≡◌, ℕ, ◌+◌, ◌-◌, Bool, true, false, not, ◌&&◌, ◌==◌, nat_lt, nat_le}
+use Rattle.std.specs.Prelude.{List, [], ◌∷◌, ◌++◌, length, slice_index, Option, Some, None, Result}
+use Rattle.std.specs.Prelude.{Ok, Err, IsOk, IsErr, if◌then◌else◌, option_to_list}
 use Rattle.std.specs.List.{list_any}
 use Rattle.imap_lex.specs.declared.fault.FrameFaultKind.{FrameFaultKind}
-use Rattle.imap_lex.specs.declared.fault.FrameFaultKind.TheVariants.{LineTooLong, LiteralTooLong, NulByte, NoMemory, Failed}
+use Rattle.imap_lex.specs.declared.fault.FrameFaultKind.TheVariants.{LineTooLong, LiteralTooLong}
+use Rattle.imap_lex.specs.declared.fault.FrameFaultKind.TheVariants.{NulByte, NoMemory, Failed}
 use Rattle.imap_lex.specs.declared.item.Item.{Item}
 use Rattle.imap_lex.specs.declared.item.Item.TheVariants.{Ready, Frame, Refused}
 use Rattle.imap_lex.specs.declared.limits.Limits.{Limits}
@@ -38,7 +41,16 @@ Outcome = Result (Option Item × FrameProgress) FrameFaultKind
 abbrev pub after_ending : FrameProgress → LineEffect → Outcome
 after_ending p Whole = Ok (Some (Frame (p.front ++ p.line)), start)
 after_ending p (Literal n plus) =
-    Ok (ready_item plus, record { front = p.front ++ p.line; line = []; outside = p.outside; announced = p.announced + n; awaited = n })
+    Ok (
+      ready_item plus,
+      record {
+        front = p.front ++ p.line;
+        line = [];
+        outside = p.outside;
+        announced = p.announced + n;
+        awaited = n;
+      },
+    )
 after_ending p (TooLong true) = Err LiteralTooLong
 after_ending p (TooLong false) = Ok (Some (Refused (p.front ++ p.line)), start)
 
@@ -54,7 +66,8 @@ with_octet p octet = record p { line = p.line ++ octet ∷ []; outside = p.outsi
 abbrev pub after_line_octet : Limits → FrameProgress → ℕ → Outcome
 after_line_octet limits p octet =
     if nat_le limits.line p.outside then Err LineTooLong
-    else (if is_end p.line octet then after_ending (with_octet p octet) (line_effect_of (p.line ++ octet ∷ []) (limits.literals - p.announced))
+    else (if is_end p.line octet then after_ending (with_octet p octet)
+    (line_effect_of (p.line ++ octet ∷ []) (limits.literals - p.announced))
     else Ok (None, with_octet p octet))
 
 -- The result of any octet: NUL is a fault, and an announced octet belongs to its literal whatever
@@ -62,7 +75,8 @@ after_line_octet limits p octet =
 abbrev pub after_octet : Limits → FrameProgress → ℕ → Outcome
 after_octet limits p octet =
     if octet == 0 then Err NulByte
-    else (if nat_lt 0 p.awaited then Ok (None, record p { front = p.front ++ octet ∷ []; awaited = p.awaited - 1 })
+    else (if nat_lt 0 p.awaited then Ok
+    (None, record p { front = p.front ++ octet ∷ []; awaited = p.awaited - 1 })
     else after_line_octet limits p octet)
 
 -- Whether an octet is NUL.
@@ -103,7 +117,9 @@ after_octet_of limits (Err why) octet = ([], Err why)
 -- The cut of these octets, from this progress or fault.
 abbrev pub cut_onward : Limits → Result FrameProgress FrameFaultKind → List ℕ → Cut
 cut_onward limits state [] = ([], state)
-cut_onward limits state (octet ∷ octets) = with_items (after_octet_of limits state octet).0 (cut_onward limits (after_octet_of limits state octet).1 octets)
+cut_onward limits state (octet ∷ octets) =
+    with_items (after_octet_of limits state octet).0
+    (cut_onward limits (after_octet_of limits state octet).1 octets)
 
 -- A framer between two pieces of input.
 pub record FramerState : Type 0 where
@@ -130,17 +146,22 @@ Faults Failed items cut = ⊥
 
 -- The state after a failed feed: `Failed` exactly if it had failed before, which changes nothing;
 -- else the new fault, for good.
-abbrev pub FaultsNow : FrameFaultKind → List Item → Result FrameProgress FrameFaultKind → Result FrameProgress FrameFaultKind → Cut → Type 0
+abbrev pub FaultsNow : FrameFaultKind → List Item → Result FrameProgress FrameFaultKind
+    → Result FrameProgress FrameFaultKind → Cut → Type 0
 FaultsNow Failed items old new cut = IsErr old × (items ≡ []) × (new ≡ old)
 FaultsNow NoMemory items old new cut = IsOk old × (new ≡ Err NoMemory) × Faults NoMemory items cut
-FaultsNow LineTooLong items old new cut = IsOk old × (new ≡ Err LineTooLong) × Faults LineTooLong items cut
-FaultsNow LiteralTooLong items old new cut = IsOk old × (new ≡ Err LiteralTooLong) × Faults LiteralTooLong items cut
+FaultsNow LineTooLong items old new cut =
+    IsOk old × (new ≡ Err LineTooLong) × Faults LineTooLong items cut
+FaultsNow LiteralTooLong items old new cut =
+    IsOk old × (new ≡ Err LiteralTooLong) × Faults LiteralTooLong items cut
 FaultsNow NulByte items old new cut = IsOk old × (new ≡ Err NulByte) × Faults NulByte items cut
 
 -- The cut of pieces, one after another.
 abbrev pub cut_of_pieces : Limits → Result FrameProgress FrameFaultKind → List (List ℕ) → Cut
 cut_of_pieces limits state [] = ([], state)
-cut_of_pieces limits state (piece ∷ pieces) = with_items (cut_onward limits state piece).0 (cut_of_pieces limits (cut_onward limits state piece).1 pieces)
+cut_of_pieces limits state (piece ∷ pieces) =
+    with_items (cut_onward limits state piece).0
+    (cut_of_pieces limits (cut_onward limits state piece).1 pieces)
 
 -- The octets that were read of the next command.
 abbrev pub octets_so_far : FrameProgress → List ℕ

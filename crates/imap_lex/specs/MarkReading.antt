@@ -1,7 +1,8 @@
 -- How the mark at a line's end is read: what the framer computes. Marks says what it means (RFC
 -- 9051, section 4.3).
 
-use Rattle.std.specs.Prelude.{ℕ, ◌^◌, Bool, true, false, ◌==◌, nat_lt, nat_le, List, [], ◌∷◌, take, drop, Option, Some, None, if◌then◌else◌}
+use Rattle.std.specs.Prelude.{ℕ, ◌^◌, Bool, true, false, ◌==◌, nat_lt, nat_le, List, [], ◌∷◌, take}
+use Rattle.std.specs.Prelude.{drop, Option, Some, None, if◌then◌else◌}
 use Rattle.std.specs.Char.{is_ascii_digit}
 use Rattle.std.specs.List.{prefix_len}
 use Rattle.std.specs.Str.{bytes_eq}
@@ -13,7 +14,8 @@ use Rattle.imap_lex.specs.Marks.{value_of}
 -- Whether the mark that these octets close is `{n+}`; none if they don't close a mark.
 abbrev pub closing_at : List ℕ → Option Bool
 closing_at text =
-    if bytes_eq text (125 ∷ 13 ∷ 10 ∷ []) then Some false else (if bytes_eq text (43 ∷ 125 ∷ 13 ∷ 10 ∷ []) then Some true else None)
+    if bytes_eq text (125 ∷ 13 ∷ 10 ∷ []) then Some false
+    else (if bytes_eq text (43 ∷ 125 ∷ 13 ∷ 10 ∷ []) then Some true else None)
 
 -- The mark of this number, if it is closed.
 abbrev pub mark_of_number : ℕ → Option Bool → Option (ℕ × Bool)
@@ -28,7 +30,9 @@ digits_at text = prefix_len is_ascii_digit text
 -- whether it is `{n+}`.
 abbrev pub mark_behind : List ℕ → Option (ℕ × Bool)
 mark_behind text =
-    if digits_at text == 0 then None else mark_of_number (value_of 0 (take (digits_at text) text)) (closing_at (drop (digits_at text) text))
+    if digits_at text == 0 then None
+    else mark_of_number (value_of 0 (take (digits_at text) text))
+    (closing_at (drop (digits_at text) text))
 
 -- The first mark, or the other if there is no first.
 abbrev pub or_else : Option (ℕ × Bool) → Option (ℕ × Bool) → Option (ℕ × Bool)
@@ -39,17 +43,20 @@ or_else (Some mark) other = Some mark
 -- inside.
 abbrev pub mark_at : List ℕ → Option (ℕ × Bool)
 mark_at [] = None
-mark_at (octet ∷ octets) = if octet == 123 then or_else (mark_behind octets) (mark_at octets) else mark_at octets
+mark_at (octet ∷ octets) =
+    if octet == 123 then or_else (mark_behind octets) (mark_at octets) else mark_at octets
 
 -- The mark as the program represents it: a number that 64 bits can't hold is above any limit.
 abbrev pub fit_to_limit : Option (ℕ × Bool) → Option Mark
 fit_to_limit None = None
-fit_to_limit (Some mark) = Some (record { octets = if nat_lt mark.0 (2 ^ 64) then Some mark.0 else None; plus = mark.1 })
+fit_to_limit (Some mark) =
+    Some (record { octets = if nat_lt mark.0 (2 ^ 64) then Some mark.0 else None; plus = mark.1 })
 
 -- What the end of a line with this mark means, if literals may have `room` further octets.
 abbrev pub line_effect_by : Option (ℕ × Bool) → ℕ → LineEffect
 line_effect_by None room = Whole
-line_effect_by (Some mark) room = if nat_le mark.0 room then Literal mark.0 mark.1 else TooLong mark.1
+line_effect_by (Some mark) room =
+    if nat_le mark.0 room then Literal mark.0 mark.1 else TooLong mark.1
 
 -- What the end of this line means.
 abbrev pub line_effect_of : List ℕ → ℕ → LineEffect

@@ -20,8 +20,10 @@ pub(crate) fn cut_piece(
     items: &mut Vec<Item>,
     piece: &[u8],
 ) -> Result<(), FrameFaultKind>
-    ensures ok { OnOk result (with_items items.old.items (cut_onward limits (Ok progress.old) piece.now) ≡ (items.new.items, Ok progress.new)) }
-    ensures err { IfErr result (λ why. Faults why items.new.items (with_items items.old.items (cut_onward limits (Ok progress.old) piece.now))) }
+    ensures ok { OnOk result (with_items items.old.items
+        (cut_onward limits (Ok progress.old) piece.now) ≡ (items.new.items, Ok progress.new)) }
+    ensures err { IfErr result (λ why. Faults why items.new.items
+        (with_items items.old.items (cut_onward limits (Ok progress.old) piece.now))) }
 {
     let mut rest = piece;
     while !rest.is_empty() {
@@ -40,9 +42,12 @@ fn cut_front<'a>(
     piece: &'a [u8],
 ) -> Result<&'a [u8], FrameFaultKind>
     requires { 0 < length piece.now }
-    ensures ok { IfOk result (λ rest. with_items items.old.items (cut_onward limits (Ok progress.old) piece.now) ≡ with_items items.new.items (cut_onward limits (Ok progress.new) rest.now)) }
+    ensures ok { IfOk result (λ rest. with_items items.old.items
+        (cut_onward limits (Ok progress.old) piece.now)
+        ≡ with_items items.new.items (cut_onward limits (Ok progress.new) rest.now)) }
     ensures shorter { IfOk result (λ rest. length rest.now < length piece.now) }
-    ensures err { IfErr result (λ why. Faults why items.new.items (with_items items.old.items (cut_onward limits (Ok progress.old) piece.now))) }
+    ensures err { IfErr result (λ why. Faults why items.new.items
+        (with_items items.old.items (cut_onward limits (Ok progress.old) piece.now))) }
 {
     let literal = progress.awaited_octets().min(piece.len());
     if literal > 0 {

@@ -52,9 +52,11 @@ impl Framer {
     /// every later call returns `Failed`.
     pub fn feed(&mut self, alloc: Global, piece: &[u8]) -> Result<Vec<Item>, FrameFault>
         ensures limits { self.new.limits ≡ self.old.limits }
-        ensures ok { IfOk result (λ items. cut_onward self.old.limits self.old.state piece.now ≡ (items.items, self.new.state)) }
+        ensures ok { IfOk result (λ items. cut_onward self.old.limits self.old.state piece.now
+            ≡ (items.items, self.new.state)) }
         ensures going { OnOk result (IsOk self.new.state) }
-        ensures err { IfErr result (λ fault. FaultsNow fault.why fault.items.items self.old.state self.new.state (cut_onward self.old.limits self.old.state piece.now)) }
+        ensures err { IfErr result (λ fault. FaultsNow fault.why fault.items.items self.old.state
+            self.new.state (cut_onward self.old.limits self.old.state piece.now)) }
     {
         let mut items = Vec::new(alloc);
         if self.fault.is_some() {

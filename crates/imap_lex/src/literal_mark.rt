@@ -4,7 +4,8 @@ ghost use Rattle.std.specs.Prelude.{◌≡◌, ◌+◌, ◌-◌, ◌*◌, ◌<�
 ghost use Rattle.std.specs.Char.{is_ascii_digit};
 ghost use Rattle.std.specs.List.{prefix_len};
 ghost use Rattle.imap_lex.specs.Marks.{value_of};
-ghost use Rattle.imap_lex.specs.MarkReading.{closing_at, fit_to_limit, mark_behind, mark_at, line_effect_of};
+ghost use Rattle.imap_lex.specs.MarkReading.{closing_at, fit_to_limit, mark_behind, mark_at};
+ghost use Rattle.imap_lex.specs.MarkReading.{line_effect_of};
 
 /// What the end of a line means.
 #[derive(Clone, Copy)]

@@ -1,6 +1,7 @@
 //! What was read of the next command.
 
-ghost use Rattle.std.specs.Prelude.{◌≡◌, ◌⊎◌, ◌+◌, ◌-◌, ◌^◌, ◌<◌, ◌≤◌, ◌++◌, true, false, length, IfOk, IfErr, OnOk, Ok, Err};
+ghost use Rattle.std.specs.Prelude.{◌≡◌, ◌⊎◌, ◌+◌, ◌-◌, ◌^◌, ◌<◌, ◌≤◌, ◌++◌, true, false, length};
+ghost use Rattle.std.specs.Prelude.{IfOk, IfErr, OnOk, Ok, Err};
 ghost use Rattle.imap_lex.specs.declared.fault.FrameFaultKind.TheVariants.{NoMemory, NulByte};
 
 use crate::fault::FrameFaultKind;
@@ -31,12 +32,19 @@ impl Model for FrameProgress {
 
     ghost Value = { FrameProgress };
 
-    ghost view = { λ p. record { front = p.front.items; line = p.line.items; outside = p.outside; announced = p.announced; awaited = p.awaited } };
+    ghost view = { λ p. record {
+      front = p.front.items;
+      line = p.line.items;
+      outside = p.outside;
+      announced = p.announced;
+      awaited = p.awaited;
+    } };
 }
 
 impl FrameProgress {
     ghost use Rattle.imap_lex.specs.MarkReading.{line_effect_of};
-    ghost use Rattle.imap_lex.specs.Framing.{start, has_nul, after_literal, after_octet, after_line_octet, after_ending, with_octets};
+    ghost use Rattle.imap_lex.specs.Framing.{start, has_nul, after_literal, after_octet};
+    ghost use Rattle.imap_lex.specs.Framing.{after_line_octet, after_ending, with_octets};
 
     /// Nothing was read.
     pub(crate) fn new(alloc: Global) -> FrameProgress
@@ -61,8 +69,10 @@ impl FrameProgress {
     /// Takes the next octets of a literal, all at once. After an `Err` the progress can't be used.
     pub(crate) fn take_literal(&mut self, octets: &[u8]) -> Result<(), FrameFaultKind>
         requires { length octets.now ≤ self.old.awaited }
-        ensures ok { OnOk result ((has_nul octets.now ≡ false) × (self.new ≡ after_literal self.old octets.now)) }
-        ensures err { IfErr result (λ why. (why ≡ NoMemory) ⊎ ((why ≡ NulByte) × (has_nul octets.now ≡ true))) }
+        ensures ok { OnOk result
+            ((has_nul octets.now ≡ false) × (self.new ≡ after_literal self.old octets.now)) }
+        ensures err { IfErr result
+            (λ why. (why ≡ NoMemory) ⊎ ((why ≡ NulByte) × (has_nul octets.now ≡ true))) }
     {
         if octets.contains(&0) {
             return Err(FrameFaultKind::NulByte);
@@ -101,7 +111,8 @@ impl FrameProgress {
     ) -> Result<Option<Item>, FrameFaultKind>
         requires { self.old.awaited ≡ 0 }
         ensures ok { IfOk result (λ item. after_octet limits self.old octet ≡ Ok (item, self.new)) }
-        ensures err { IfErr result (λ why. (why ≡ NoMemory) ⊎ (after_octet limits self.old octet ≡ Err why)) }
+        ensures err { IfErr result
+            (λ why. (why ≡ NoMemory) ⊎ (after_octet limits self.old octet ≡ Err why)) }
     {
         if octet == 0 {
             return Err(FrameFaultKind::NulByte);
@@ -116,8 +127,10 @@ impl FrameProgress {
         limits: Limits,
         octet: u8,
     ) -> Result<Option<Item>, FrameFaultKind>
-        ensures ok { IfOk result (λ item. after_line_octet limits self.old octet ≡ Ok (item, self.new)) }
-        ensures err { IfErr result (λ why. (why ≡ NoMemory) ⊎ (after_line_octet limits self.old octet ≡ Err why)) }
+        ensures ok { IfOk result
+            (λ item. after_line_octet limits self.old octet ≡ Ok (item, self.new)) }
+        ensures err { IfErr result
+            (λ why. (why ≡ NoMemory) ⊎ (after_line_octet limits self.old octet ≡ Err why)) }
     {
         if self.outside >= limits.line {
             return Err(FrameFaultKind::LineTooLong);
@@ -133,8 +146,12 @@ impl FrameProgress {
 
     /// Ends the line that was read, whose last octets are CRLF.
     fn end_line(&mut self, alloc: Global, limits: Limits) -> Result<Option<Item>, FrameFaultKind>
-        ensures ok { IfOk result (λ item. after_ending self.old (line_effect_of self.old.line (limits.literals - self.old.announced)) ≡ Ok (item, self.new)) }
-        ensures err { IfErr result (λ why. (why ≡ NoMemory) ⊎ (after_ending self.old (line_effect_of self.old.line (limits.literals - self.old.announced)) ≡ Err why)) }
+        ensures ok { IfOk result (λ item. after_ending self.old
+            (line_effect_of self.old.line (limits.literals - self.old.announced))
+            ≡ Ok (item, self.new)) }
+        ensures err { IfErr result (λ why. (why ≡ NoMemory)
+            ⊎ (after_ending self.old
+            (line_effect_of self.old.line (limits.literals - self.old.announced)) ≡ Err why)) }
     {
         match read_line_effect(&self.line, limits.literals.saturating_sub(self.announced)) {
             LineEffect::Whole => Ok(Some(Item::Frame(self.finish(alloc)?))),
@@ -156,7 +173,8 @@ impl FrameProgress {
 
     /// Returns the octets that were read, and starts with the next command.
     fn finish(&mut self, alloc: Global) -> Result<Frame, FrameFaultKind>
-        ensures ok { IfOk result (λ frame. (frame ≡ self.old.front ++ self.old.line) × (self.new ≡ start)) }
+        ensures ok { IfOk result
+            (λ frame. (frame ≡ self.old.front ++ self.old.line) × (self.new ≡ start)) }
         ensures err { IfErr result (λ why. why ≡ NoMemory) }
     {
         let FrameProgress { front, line, .. } = mem::replace(self, FrameProgress::new(alloc));

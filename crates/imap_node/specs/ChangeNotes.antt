@@ -23,26 +23,34 @@ pub record MailboxSnapshot : Type 0 where
 
 -- `ahead` is the mailbox `name` before the operations: its UIDVALIDITY, its UIDNEXT, and UIDs below
 -- that outside of which rows don't change, as long as the UIDVALIDITY doesn't.
-pub record IsSnapshotOf (start : Counters) (before ops : List Op) (name : List ℕ) (ahead : MailboxSnapshot) : Type 0 where
+pub record IsSnapshotOf (start : Counters) (before ops : List Op) (name : List ℕ)
+    (ahead : MailboxSnapshot) : Type 0 where
   pub name_is : ahead.name ≡ name
   pub uidvalidity : ahead.uidvalidity ≡ uidvalidity_of start name before
   pub uidnext : ahead.uidnext ≡ uidnext_of start name before
-  pub stay : IsApplied (before ++ ops) → uidvalidity_of start name (before ++ ops) ≡ uidvalidity_of start name before → RowsStayExcept ahead.touched ahead.uidnext (listing start name before) (listing start name (before ++ ops))
+  pub stay : IsApplied (before ++ ops)
+      → uidvalidity_of start name (before ++ ops) ≡ uidvalidity_of start name before
+      → RowsStayExcept ahead.touched ahead.uidnext (listing start name before)
+      (listing start name (before ++ ops))
 
 -- If the UIDVALIDITY didn't change, the notes name each touched UID and each UID from `first` up to
 -- `uidnext`; otherwise they name every UID.
 abbrev pub TellsOf : Option ℕ → Option ℕ → ℕ → ℕ → List ℕ → List Note → Type 0
 TellsOf before now first uidnext touched notes =
-    (((before ≡ now) × ((uid : ℕ) → IsIn uid touched → is_noted notes uid ≡ true) × ((uid : ℕ) → first ≤ uid → uid < uidnext → is_noted notes uid ≡ true))
+    (((before ≡ now) × ((uid : ℕ) → IsIn uid touched → is_noted notes uid ≡ true)
+    × ((uid : ℕ) → first ≤ uid → uid < uidnext → is_noted notes uid ≡ true))
     ⊎ ((uid : ℕ) → is_noted notes uid ≡ true))
 
 -- Each of these mailboxes has notes that name what the operations change in it.
 abbrev pub AreNamed : Counters → List Op → List Op → List MailboxNotes → Type 0
-AreNamed start before ops folders = (folder : MailboxNotes) → IsIn folder folders → NotesNameIn start before (before ++ ops) folder.name folder.notes
+AreNamed start before ops folders =
+    (folder : MailboxNotes) → IsIn folder folders
+    → NotesNameIn start before (before ++ ops) folder.name folder.notes
 
 -- The mailbox `name` is among the new ones, the old ones still are, and if the old ones' notes name
 -- what the operations change, so do the new ones'.
-pub record AreNotesSoFar (start : Counters) (before ops : List Op) (name : List ℕ) (old new : List MailboxNotes) : Type 0 where
+pub record AreNotesSoFar (start : Counters) (before ops : List Op) (name : List ℕ)
+    (old new : List MailboxNotes) : Type 0 where
   pub own : is_named new name ≡ true
   pub kept : (other : List ℕ) → is_named old other ≡ true → is_named new other ≡ true
   pub named : AreNamed start before ops old → AreNamed start before ops new

@@ -1,10 +1,12 @@
 -- What each command issues, names and reports, the sync after it and its tagged line, one line per
 -- command (RFC 9051, section 6; RFC 7162; RFC 2177).
 
-use Rattle.std.specs.Prelude.{◌≡◌, ◌==◌, ℕ, Bool, true, false, not, ◌&&◌, List, [], ◌∷◌, Option, Some, None, is_some, Result, Ok, Err, if◌then◌else◌}
+use Rattle.std.specs.Prelude.{◌≡◌, ◌==◌, ℕ, Bool, true, false, not, ◌&&◌, List, [], ◌∷◌, Option}
+use Rattle.std.specs.Prelude.{Some, None, is_some, Result, Ok, Err, if◌then◌else◌}
 use Rattle.crdt_ops.specs.declared.kind.Kind.{Kind}
 use Rattle.crdt_ops.specs.declared.op.Op.{Op}
-use Rattle.crdt_ops.specs.Sets.{delete_set_of, folders_of, subscribed_names_of, subscription_tags_of}
+use Rattle.crdt_ops.specs.Sets.{delete_set_of, folders_of, subscribed_names_of}
+use Rattle.crdt_ops.specs.Sets.{subscription_tags_of}
 use Rattle.imap_answers.specs.declared.answer.Answer.{Answer}
 use Rattle.imap_answers.specs.declared.answer.Answer.TheVariants.{Tell}
 use Rattle.imap_answers.specs.declared.codes.Notice.TheVariants.{HighestModSeq}
@@ -14,27 +16,35 @@ use Rattle.imap_answers.specs.declared.fixed_words.Refusal.{Refusal}
 use Rattle.imap_answers.specs.declared.fixed_words.Refusal.TheVariants.{NotNow}
 use Rattle.imap_commands.specs.Appending.{append_report, append_intent}
 use Rattle.imap_commands.specs.Arguments.{SearchArgs}
-use Rattle.imap_commands.specs.SimpleCommands.{IsListReport, capability_report, idle_report, logout_report, namespace_report, status_report, status_intent}
+use Rattle.imap_commands.specs.SimpleCommands.{IsListReport, capability_report, idle_report}
+use Rattle.imap_commands.specs.SimpleCommands.{logout_report, namespace_report, status_report}
+use Rattle.imap_commands.specs.SimpleCommands.{status_intent}
 use Rattle.imap_commands.specs.Copying.{copy_report, copy_intent, move_report, move_intent}
-use Rattle.imap_commands.specs.Enabling.{asks_condstore, enable_report, fetch_asks_modseq, search_asks_modseq, status_asks_modseq}
+use Rattle.imap_commands.specs.Enabling.{asks_condstore, enable_report, fetch_asks_modseq}
+use Rattle.imap_commands.specs.Enabling.{search_asks_modseq, status_asks_modseq}
 use Rattle.imap_commands.specs.Login.{login_intent}
-use Rattle.imap_commands.specs.Expunging.{close_intent, expunge_intent, uid_expunge_report, uid_expunge_intent}
+use Rattle.imap_commands.specs.Expunging.{close_intent, expunge_intent, uid_expunge_report}
+use Rattle.imap_commands.specs.Expunging.{uid_expunge_intent}
 use Rattle.imap_commands.specs.Fetching.{fetch_report, fetch_intent}
-use Rattle.imap_commands.specs.NamedMessages.{NamedMessages, messages_named_by, no_messages_named, messages_stored_by}
-use Rattle.imap_commands.specs.Mailboxes.{create_intent, created_name, delete_intent, subscribe_intent, unsubscribe_intent}
+use Rattle.imap_commands.specs.NamedMessages.{NamedMessages, messages_named_by, no_messages_named}
+use Rattle.imap_commands.specs.NamedMessages.{messages_stored_by}
+use Rattle.imap_commands.specs.Mailboxes.{create_intent, created_name, delete_intent}
+use Rattle.imap_commands.specs.Mailboxes.{subscribe_intent, unsubscribe_intent}
 use Rattle.imap_commands.specs.Searching.{IsSearchReport, search_intent}
 use Rattle.imap_commands.specs.Selecting.{IsSelectReport, select_intent}
 use Rattle.imap_commands.specs.Storing.{store_report, store_intent}
 use Rattle.imap_commands.specs.Report.{CommandReport, empty_report}
 use Rattle.imap_commands.specs.declared.session.Credentials.{Credentials}
 use Rattle.imap_commands.specs.declared.session.State.{State}
-use Rattle.imap_commands.specs.declared.session.State.TheVariants.{NotAuthenticated, Authenticated, Selected, LoggedOut}
+use Rattle.imap_commands.specs.declared.session.State.TheVariants.{NotAuthenticated, Authenticated}
+use Rattle.imap_commands.specs.declared.session.State.TheVariants.{Selected, LoggedOut}
 use Rattle.imap_syntax.specs.declared.command.Command.{Command}
 use Rattle.imap_syntax.specs.declared.command.Command.TheVariants as commands
 use Rattle.session_view.specs.ViewState.{ViewState}
 use Rattle.session_view.specs.declared.view_entry.SyncKind.{SyncKind}
 use Rattle.session_view.specs.declared.view_entry.SyncKind.TheVariants.{Full, Partial}
-use Rattle.imap_node.specs.Mailboxes.{is_subscribed, copy_target_in, mailbox_in, counters_of, rows_for, validity_of}
+use Rattle.imap_node.specs.Mailboxes.{is_subscribed, copy_target_in, mailbox_in, counters_of}
+use Rattle.imap_node.specs.Mailboxes.{rows_for, validity_of}
 use Rattle.uid_projection.specs.declared.first_numbers.Counters.{Counters}
 use Rattle.uid_projection.specs.Incarnations.{folder_exists, uidvalidity_of}
 use Rattle.uid_projection.specs.UidsAndModSeqs.{highest_modseq_of, uidnext_of}
@@ -63,7 +73,8 @@ abbrev pub when_known : {X : Type 0} → State → Result X Refusal → Result X
 when_known state want = if is_known state then want else Err NotNow
 
 -- A result only in a session that has selected a mailbox.
-abbrev pub when_selected : {X : Type 0} → State → (ViewState → Bool → Result X Refusal) → Result X Refusal
+abbrev pub when_selected : {X : Type 0} → State → (ViewState → Bool → Result X Refusal)
+    → Result X Refusal
 when_selected (Selected view read_only) want = want view read_only
 when_selected _ want = Err NotNow
 
@@ -71,37 +82,70 @@ when_selected _ want = Err NotNow
 
 -- What a command issues after the operations `ops`, or the first reason to refuse it. The stamp is
 -- the date-time of the command's moment.
-abbrev pub command_intent : Counters → List Op → List ℕ → State → Command → Result (List Kind) Refusal
+abbrev pub command_intent : Counters → List Op → List ℕ → State → Command
+    → Result (List Kind) Refusal
 command_intent start ops stamp state commands.Capability = Ok []
 command_intent start ops stamp state commands.Noop = Ok []
 command_intent start ops stamp state commands.Logout = Ok []
-command_intent start ops stamp state (commands.Login user password) = when_new state (λ credentials. login_intent credentials user password)
+command_intent start ops stamp state (commands.Login user password) =
+    when_new state (λ credentials. login_intent credentials user password)
 command_intent start ops stamp state (commands.Enable names) = when_known state (Ok [])
-command_intent start ops stamp state (commands.Select name condstore) = when_known state (select_intent (folder_exists name ops))
-command_intent start ops stamp state (commands.Examine name condstore) = when_known state (select_intent (folder_exists name ops))
-command_intent start ops stamp state (commands.Create name) = when_known state (create_intent (folder_exists (created_name name) ops) name)
-command_intent start ops stamp state (commands.Delete name) = when_known state (delete_intent (folder_exists name ops) (delete_set_of ops name) name)
-command_intent start ops stamp state (commands.Subscribe name) = when_known state (subscribe_intent (is_subscribed name ops) name)
-command_intent start ops stamp state (commands.Unsubscribe name) = when_known state (unsubscribe_intent (subscription_tags_of ops name) name)
+command_intent start ops stamp state (commands.Select name condstore) =
+    when_known state (select_intent (folder_exists name ops))
+command_intent start ops stamp state (commands.Examine name condstore) =
+    when_known state (select_intent (folder_exists name ops))
+command_intent start ops stamp state (commands.Create name) =
+    when_known state (create_intent (folder_exists (created_name name) ops) name)
+command_intent start ops stamp state (commands.Delete name) =
+    when_known state (delete_intent (folder_exists name ops) (delete_set_of ops name) name)
+command_intent start ops stamp state (commands.Subscribe name) =
+    when_known state (subscribe_intent (is_subscribed name ops) name)
+command_intent start ops stamp state (commands.Unsubscribe name) =
+    when_known state (unsubscribe_intent (subscription_tags_of ops name) name)
 command_intent start ops stamp state (commands.ListNames asked) = when_known state (Ok [])
 command_intent start ops stamp state commands.Namespace = when_known state (Ok [])
-command_intent start ops stamp state (commands.Status name items) = when_known state (status_intent (folder_exists name ops))
-command_intent start ops stamp state (commands.Append asked) = when_known state (append_intent (folder_exists asked.name ops) stamp (record { name = asked.name; flags = asked.flags; date = asked.date; text = asked.text }))
+command_intent start ops stamp state (commands.Status name items) =
+    when_known state (status_intent (folder_exists name ops))
+command_intent start ops stamp state (commands.Append asked) =
+    when_known state (append_intent (folder_exists asked.name ops) stamp
+    (record { name = asked.name; flags = asked.flags; date = asked.date; text = asked.text }))
 command_intent start ops stamp state commands.Idle = when_known state (Ok [])
-command_intent start ops stamp state commands.Close = when_selected state (λ view read_only. close_intent (mailbox_in start ops view read_only))
-command_intent start ops stamp state commands.Unselect = when_selected state (λ view read_only. Ok [])
-command_intent start ops stamp state commands.Expunge = when_selected state (λ view read_only. expunge_intent (mailbox_in start ops view read_only))
+command_intent start ops stamp state commands.Close =
+    when_selected state (λ view read_only. close_intent (mailbox_in start ops view read_only))
+command_intent start ops stamp state commands.Unselect =
+    when_selected state (λ view read_only. Ok [])
+command_intent start ops stamp state commands.Expunge =
+    when_selected state (λ view read_only. expunge_intent (mailbox_in start ops view read_only))
 command_intent start ops stamp state (commands.UidExpunge uids) =
-    when_selected state (λ view read_only. uid_expunge_intent (mailbox_in start ops view read_only) uids)
-command_intent start ops stamp state (commands.Search asked) = when_selected state (λ view read_only. search_intent view.entries asked.steps)
+    when_selected state
+    (λ view read_only. uid_expunge_intent (mailbox_in start ops view read_only) uids)
+command_intent start ops stamp state (commands.Search asked) =
+    when_selected state (λ view read_only. search_intent view.entries asked.steps)
 command_intent start ops stamp state (commands.Fetch asked) =
-    when_selected state (λ view read_only. fetch_intent (mailbox_in start ops view read_only) (record { by_uid = asked.by_uid; messages = asked.messages; items = asked.items; changed_since = asked.changed_since }))
+    when_selected state (λ view read_only. fetch_intent (mailbox_in start ops view read_only)
+    (record {
+      by_uid = asked.by_uid;
+      messages = asked.messages;
+      items = asked.items;
+      changed_since = asked.changed_since;
+    }))
 command_intent start ops stamp state (commands.Store asked) =
-    when_selected state (λ view read_only. store_intent (mailbox_in start ops view read_only) (record { by_uid = asked.by_uid; messages = asked.messages; unchanged_since = asked.unchanged_since; action = asked.action; flags = asked.flags }))
+    when_selected state (λ view read_only. store_intent (mailbox_in start ops view read_only)
+    (record {
+      by_uid = asked.by_uid;
+      messages = asked.messages;
+      unchanged_since = asked.unchanged_since;
+      action = asked.action;
+      flags = asked.flags;
+    }))
 command_intent start ops stamp state (commands.Copy asked) =
-    when_selected state (λ view read_only. copy_intent (mailbox_in start ops view read_only) (record { by_uid = asked.by_uid; messages = asked.messages; destination = asked.name }) (folder_exists asked.name ops))
+    when_selected state (λ view read_only. copy_intent (mailbox_in start ops view read_only)
+    (record { by_uid = asked.by_uid; messages = asked.messages; destination = asked.name })
+    (folder_exists asked.name ops))
 command_intent start ops stamp state (commands.Move asked) =
-    when_selected state (λ view read_only. move_intent (mailbox_in start ops view read_only) (record { by_uid = asked.by_uid; messages = asked.messages; destination = asked.name }) (folder_exists asked.name ops))
+    when_selected state (λ view read_only. move_intent (mailbox_in start ops view read_only)
+    (record { by_uid = asked.by_uid; messages = asked.messages; destination = asked.name })
+    (folder_exists asked.name ops))
 
 -- The commands that name messages of the selected mailbox and report on them.
 abbrev pub names_messages : Command → Bool
@@ -125,12 +169,26 @@ messages_named_if_selected _ find = no_messages_named
 
 -- The messages that a command names, after the operations `ops` and before its own.
 abbrev pub messages_named_by_command : Counters → List Op → State → Command → NamedMessages
-messages_named_by_command start ops state (commands.UidExpunge uids) = messages_named_if_selected state (λ view read_only. messages_named_by true uids view.entries)
-messages_named_by_command start ops state (commands.Fetch asked) = messages_named_if_selected state (λ view read_only. messages_named_by asked.by_uid asked.messages view.entries)
+messages_named_by_command start ops state (commands.UidExpunge uids) =
+    messages_named_if_selected state (λ view read_only. messages_named_by true uids view.entries)
+messages_named_by_command start ops state (commands.Fetch asked) =
+    messages_named_if_selected state
+    (λ view read_only. messages_named_by asked.by_uid asked.messages view.entries)
 messages_named_by_command start ops state (commands.Store asked) =
-    messages_named_if_selected state (λ view read_only. messages_stored_by (mailbox_in start ops view read_only) (record { by_uid = asked.by_uid; messages = asked.messages; unchanged_since = asked.unchanged_since; action = asked.action; flags = asked.flags }))
-messages_named_by_command start ops state (commands.Copy asked) = messages_named_if_selected state (λ view read_only. messages_named_by asked.by_uid asked.messages view.entries)
-messages_named_by_command start ops state (commands.Move asked) = messages_named_if_selected state (λ view read_only. messages_named_by asked.by_uid asked.messages view.entries)
+    messages_named_if_selected state (λ view read_only. messages_stored_by
+    (mailbox_in start ops view read_only) (record {
+      by_uid = asked.by_uid;
+      messages = asked.messages;
+      unchanged_since = asked.unchanged_since;
+      action = asked.action;
+      flags = asked.flags;
+    }))
+messages_named_by_command start ops state (commands.Copy asked) =
+    messages_named_if_selected state
+    (λ view read_only. messages_named_by asked.by_uid asked.messages view.entries)
+messages_named_by_command start ops state (commands.Move asked) =
+    messages_named_if_selected state
+    (λ view read_only. messages_named_by asked.by_uid asked.messages view.entries)
 messages_named_by_command start ops state _ = no_messages_named
 
 -- A report on the selected mailbox; empty if no mailbox is selected.
@@ -148,42 +206,77 @@ command_report start before after state modseq commands.Idle = idle_report
 command_report start before after state modseq (commands.Enable names) = enable_report names
 command_report start before after state modseq (commands.Status name items) =
     status_report name items (counters_of start name after) (listing start name after)
-command_report start before after state modseq (commands.Append asked) = append_report (validity_of start asked.name after) (uidnext_of start asked.name before)
+command_report start before after state modseq (commands.Append asked) =
+    append_report (validity_of start asked.name after) (uidnext_of start asked.name before)
 command_report start before after state modseq (commands.UidExpunge uids) =
-    report_if_selected state (λ view read_only. uid_expunge_report (mailbox_in start before view read_only) uids)
+    report_if_selected state
+    (λ view read_only. uid_expunge_report (mailbox_in start before view read_only) uids)
 command_report start before after state modseq (commands.Fetch asked) =
-    report_if_selected state (λ view read_only. fetch_report (mailbox_in start before view read_only) (rows_for start after view) modseq (record { by_uid = asked.by_uid; messages = asked.messages; items = asked.items; changed_since = asked.changed_since }))
+    report_if_selected state (λ view read_only. fetch_report
+    (mailbox_in start before view read_only) (rows_for start after view) modseq
+    (record {
+      by_uid = asked.by_uid;
+      messages = asked.messages;
+      items = asked.items;
+      changed_since = asked.changed_since;
+    }))
 command_report start before after state modseq (commands.Store asked) =
-    report_if_selected state (λ view read_only. store_report (mailbox_in start before view read_only) (rows_for start after view) modseq (record { by_uid = asked.by_uid; messages = asked.messages; unchanged_since = asked.unchanged_since; action = asked.action; flags = asked.flags }))
+    report_if_selected state (λ view read_only. store_report
+    (mailbox_in start before view read_only) (rows_for start after view) modseq
+    (record {
+      by_uid = asked.by_uid;
+      messages = asked.messages;
+      unchanged_since = asked.unchanged_since;
+      action = asked.action;
+      flags = asked.flags;
+    }))
 command_report start before after state modseq (commands.Copy asked) =
-    report_if_selected state (λ view read_only. copy_report (mailbox_in start before view read_only) (record { by_uid = asked.by_uid; messages = asked.messages; destination = asked.name }) (copy_target_in start before after asked.name))
+    report_if_selected state (λ view read_only. copy_report (mailbox_in start before view read_only)
+    (record { by_uid = asked.by_uid; messages = asked.messages; destination = asked.name })
+    (copy_target_in start before after asked.name))
 command_report start before after state modseq (commands.Move asked) =
-    report_if_selected state (λ view read_only. move_report (mailbox_in start before view read_only) (record { by_uid = asked.by_uid; messages = asked.messages; destination = asked.name }) (copy_target_in start before after asked.name))
+    report_if_selected state (λ view read_only. move_report (mailbox_in start before view read_only)
+    (record { by_uid = asked.by_uid; messages = asked.messages; destination = asked.name })
+    (copy_target_in start before after asked.name))
 command_report start before after state modseq _ = empty_report
 
-abbrev pub IsSearchReportIfSelected : Counters → List Op → State → List ℕ → SearchArgs → CommandReport → Type 0
-IsSearchReportIfSelected start ops (Selected view read_only) tag asked told = IsSearchReport (mailbox_in start ops view read_only) tag asked told
+abbrev pub IsSearchReportIfSelected : Counters → List Op → State → List ℕ → SearchArgs
+    → CommandReport → Type 0
+IsSearchReportIfSelected start ops (Selected view read_only) tag asked told =
+    IsSearchReport (mailbox_in start ops view read_only) tag asked told
 IsSearchReportIfSelected start ops _ tag asked told = told ≡ empty_report
 
 -- `told` is a command's own report. For SELECT, EXAMINE, LIST and SEARCH it is the one report that
 -- their rules allow.
-abbrev pub IsCommandReport : Counters → List Op → List Op → State → Bool → List ℕ → Command → CommandReport → Type 0
+abbrev pub IsCommandReport : Counters → List Op → List Op → State → Bool → List ℕ → Command
+    → CommandReport → Type 0
 IsCommandReport start before after state modseq tag (commands.Select name condstore) told =
-    IsSelectReport (is_selected state) false name (counters_of start name after) (listing start name after) told
+    IsSelectReport (is_selected state) false name (counters_of start name after)
+    (listing start name after) told
 IsCommandReport start before after state modseq tag (commands.Examine name condstore) told =
-    IsSelectReport (is_selected state) true name (counters_of start name after) (listing start name after) told
+    IsSelectReport (is_selected state) true name (counters_of start name after)
+    (listing start name after) told
 IsCommandReport start before after state modseq tag (commands.ListNames asked) told =
-    IsListReport (record { subscribed_only = asked.subscribed_only; return_subscribed = asked.return_subscribed }) asked.reference asked.pattern (folders_of before) (subscribed_names_of before) told
+    IsListReport
+    (record {
+      subscribed_only = asked.subscribed_only;
+      return_subscribed = asked.return_subscribed;
+    })
+    asked.reference asked.pattern (folders_of before) (subscribed_names_of before) told
 IsCommandReport start before after state modseq tag (commands.Search asked) told =
-    IsSearchReportIfSelected start after state tag (record { by_uid = asked.by_uid; options = asked.options; steps = asked.steps }) told
-IsCommandReport start before after state modseq tag command told = told ≡ command_report start before after state modseq command
+    IsSearchReportIfSelected start after state tag
+    (record { by_uid = asked.by_uid; options = asked.options; steps = asked.steps }) told
+IsCommandReport start before after state modseq tag command told =
+    told ≡ command_report start before after state modseq command
 
 -- The state after a command, before its answers are replayed. A newly selected mailbox shows no
 -- messages yet.
 abbrev pub state_after_command : Counters → List Op → State → Command → State
 state_after_command start ops state (commands.Login user password) = Authenticated
-state_after_command start ops state (commands.Select name condstore) = Selected (record { name = name; uidvalidity = validity_of start name ops; entries = [] }) false
-state_after_command start ops state (commands.Examine name condstore) = Selected (record { name = name; uidvalidity = validity_of start name ops; entries = [] }) true
+state_after_command start ops state (commands.Select name condstore) =
+    Selected (record { name = name; uidvalidity = validity_of start name ops; entries = [] }) false
+state_after_command start ops state (commands.Examine name condstore) =
+    Selected (record { name = name; uidvalidity = validity_of start name ops; entries = [] }) true
 state_after_command start ops state commands.Logout = LoggedOut
 state_after_command start ops state commands.Unselect = Authenticated
 state_after_command start ops state commands.Close = Authenticated
@@ -263,17 +356,22 @@ word_of (commands.Move asked) = if asked.by_uid then words.UidMove else words.Mo
 -- HIGHESTMODSEQ of a view's mailbox, if its incarnation hasn't ended.
 abbrev pub highest_answer : ℕ → Option ℕ → ℕ → List Answer
 highest_answer uidvalidity None highest = []
-highest_answer uidvalidity (Some now) highest = if now == uidvalidity then Tell (HighestModSeq highest) ∷ [] else []
+highest_answer uidvalidity (Some now) highest =
+    if now == uidvalidity then Tell (HighestModSeq highest) ∷ [] else []
 
 abbrev pub highest_answer_of : Counters → List Op → State → List Answer
-highest_answer_of start ops (Selected view read_only) = highest_answer view.uidvalidity (uidvalidity_of start view.name ops) (highest_modseq_of view.name ops)
+highest_answer_of start ops (Selected view read_only) =
+    highest_answer view.uidvalidity (uidvalidity_of start view.name ops)
+    (highest_modseq_of view.name ops)
 highest_answer_of start ops _ = []
 
 -- A command turns mod-sequences on that were off. SELECT and EXAMINE are left out, since they
 -- report HIGHESTMODSEQ anyway.
 abbrev pub enables_condstore : Bool → Command → Bool
-enables_condstore condstore command = not condstore && (is_enabling command && not (is_selecting command))
+enables_condstore condstore command =
+    not condstore && (is_enabling command && not (is_selecting command))
 
 -- What such a command sends first while a mailbox is selected.
 abbrev pub condstore_answer : Counters → List Op → State → Bool → Command → List Answer
-condstore_answer start ops state condstore command = if enables_condstore condstore command then highest_answer_of start ops state else []
+condstore_answer start ops state condstore command =
+    if enables_condstore condstore command then highest_answer_of start ops state else []

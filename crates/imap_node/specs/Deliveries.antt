@@ -42,4 +42,5 @@ StallsAt node why = StallsFor id_of clock_of Exhausts (received_ops node) why
 -- least id. Its sessions stay as they are.
 pub record Drains (old : NodeState) (count : ℕ) (new : NodeState) : Type 0 where
   pub sessions : new.sessions ≡ old.sessions
-  pub released : AreReleasedInTurn id_of clock_of Exhausts count (received_ops old) (received_ops new)
+  pub released : AreReleasedInTurn id_of clock_of Exhausts count (received_ops old)
+      (received_ops new)

@@ -28,12 +28,17 @@ pub record IsOlderView (start : Counters) (ops : List Op) (view : ViewState) : T
   pub back : List Op
   pub split : ops ≡ front ++ back
   pub there : uidvalidity_of start view.name front ≡ Some view.uidvalidity
-  pub has : uidvalidity_of start view.name ops ≡ Some view.uidvalidity → (row : ListedMessage) → IsIn row (listing start view.name front) → IsIn row.uid (uids_of view.entries)
-  pub below : uidvalidity_of start view.name ops ≡ Some view.uidvalidity → (uid : ℕ) → IsIn uid (uids_of view.entries) → uid < uidnext_of start view.name front
+  pub has : uidvalidity_of start view.name ops ≡ Some view.uidvalidity → (row : ListedMessage)
+      → IsIn row (listing start view.name front)
+      → IsIn row.uid (uids_of view.entries)
+  pub below : uidvalidity_of start view.name ops ≡ Some view.uidvalidity → (uid : ℕ)
+      → IsIn uid (uids_of view.entries)
+      → uid < uidnext_of start view.name front
 
 -- The view of each session goes back so.
 abbrev pub AreOlderViews : Counters → List Op → Places → Type 0
-AreOlderViews start ops places = (n : ℕ) (view : ViewState) → view_at places n ≡ Some view → IsOlderView start ops view
+AreOlderViews start ops places =
+    (n : ℕ) (view : ViewState) → view_at places n ≡ Some view → IsOlderView start ops view
 
 -- A full sync.
 abbrev pub is_full : Option SyncKind → Bool

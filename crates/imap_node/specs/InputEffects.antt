@@ -19,11 +19,13 @@ use Rattle.imap_node.specs.Mailboxes.{rows_for}
 use Rattle.uid_projection.specs.declared.first_numbers.Counters.{Counters}
 
 -- The messages of a view after a sync, and what the sync sends; nothing if there is no sync.
-abbrev pub entries_after_sync : Option SyncKind → List ListedMessage → List ViewEntry → List ViewEntry
+abbrev pub entries_after_sync : Option SyncKind → List ListedMessage → List ViewEntry
+    → List ViewEntry
 entries_after_sync None rows view = view
 entries_after_sync (Some kind) rows view = view_after_sync kind rows view
 
-abbrev pub answers_of_sync : Option SyncKind → Bool → List ListedMessage → List ViewEntry → List Answer
+abbrev pub answers_of_sync : Option SyncKind → Bool → List ListedMessage → List ViewEntry
+    → List Answer
 answers_of_sync None modseq rows view = []
 answers_of_sync (Some kind) modseq rows view = sync_answers kind modseq rows view
 
@@ -52,26 +54,39 @@ state_or state moved = unwrap_or moved state
 
 abbrev pub effect_from : State → EffectDraft → InputEffect
 effect_from state draft =
-    record { silent = draft.silent; own = draft.own; sync = draft.sync; modseq = draft.modseq; state = state_or state draft.moved; tail = draft.tail }
+    record {
+      silent = draft.silent;
+      own = draft.own;
+      sync = draft.sync;
+      modseq = draft.modseq;
+      state = state_or state draft.moved;
+      tail = draft.tail;
+    }
 
 -- What is sent after a command's own answers, and the state then.
 pub record SyncResult : Type 0 where
   pub answers : List Answer
   pub state : State
 
-abbrev pub sync_result : Counters → List Op → Option SyncKind → Bool → State → List SilentFlags → List Answer → SyncResult
+abbrev pub sync_result : Counters → List Op → Option SyncKind → Bool → State → List SilentFlags
+    → List Answer → SyncResult
 sync_result start ops sync modseq (Selected view read_only) silent own =
     let rows = rows_for start ops view in
     let seen = view_after_reply rows view.entries silent own in
-    record { answers = answers_of_sync sync modseq rows seen; state = Selected (record view { entries = entries_after_sync sync rows seen }) read_only }
+    record {
+      answers = answers_of_sync sync modseq rows seen;
+      state = Selected (record view { entries = entries_after_sync sync rows seen }) read_only;
+    }
 sync_result start ops sync modseq state silent own = record { answers = []; state = state }
 
 abbrev pub sync_result_of : Counters → List Op → InputEffect → SyncResult
-sync_result_of start ops course = sync_result start ops course.sync course.modseq course.state course.silent course.own
+sync_result_of start ops course =
+    sync_result start ops course.sync course.modseq course.state course.silent course.own
 
 -- All answers: the input's own, the sync's, and the last ones.
 abbrev pub answers_of_effect : Counters → List Op → InputEffect → List Answer
-answers_of_effect start ops course = course.own ++ ((sync_result_of start ops course).answers ++ course.tail)
+answers_of_effect start ops course =
+    course.own ++ ((sync_result_of start ops course).answers ++ course.tail)
 
 -- What comes before a sync, and the kind of the sync: flags that are set silently, and a command's
 -- own answers.
@@ -82,7 +97,8 @@ pub record SyncInput : Type 0 where
   pub modseq : Bool
 
 abbrev pub sync_result_after : Counters → List Op → State → SyncInput → SyncResult
-sync_result_after start ops state front = sync_result start ops front.sync front.modseq state front.silent front.own
+sync_result_after start ops state front =
+    sync_result start ops front.sync front.modseq state front.silent front.own
 
 -- The answer expunges a message, or reports a message's items.
 abbrev pub is_altering : Answer → Bool

@@ -21,19 +21,36 @@ validity_of start name ops = unwrap_or (uidvalidity_of start name ops) 0
 
 -- The counters of an existing mailbox, which SELECT and STATUS report.
 abbrev pub counters_of : Counters → List ℕ → List Op → MailboxCounters
-counters_of start name ops = record { uidnext = uidnext_of start name ops; uidvalidity = validity_of start name ops; highest_modseq = highest_modseq_of name ops }
+counters_of start name ops =
+    record {
+      uidnext = uidnext_of start name ops;
+      uidvalidity = validity_of start name ops;
+      highest_modseq = highest_modseq_of name ops;
+    }
 
 -- The rows of a view's mailbox, in the view's own incarnation; none if that has ended.
 abbrev pub rows_for : Counters → List Op → ViewState → List ListedMessage
-rows_for start ops view = rows_under view.uidvalidity (uidvalidity_of start view.name ops) (listing start view.name ops)
+rows_for start ops view =
+    rows_under view.uidvalidity (uidvalidity_of start view.name ops) (listing start view.name ops)
 
 -- The mailbox of a session with this view.
 abbrev pub mailbox_in : Counters → List Op → ViewState → Bool → OpenMailbox
-mailbox_in start ops view read_only = record { name = view.name; rows = rows_for start ops view; view = view.entries; read_only = read_only }
+mailbox_in start ops view read_only =
+    record {
+      name = view.name;
+      rows = rows_for start ops view;
+      view = view.entries;
+      read_only = read_only;
+    }
 
 -- A COPY's destination, given the operations before the command and those with its own.
 abbrev pub copy_target_in : Counters → List Op → List Op → List ℕ → CopyTarget
-copy_target_in start before after name = record { uidvalidity = validity_of start name after; uidnext = uidnext_of start name before; rows = listing start name after }
+copy_target_in start before after name =
+    record {
+      uidvalidity = validity_of start name after;
+      uidnext = uidnext_of start name before;
+      rows = listing start name after;
+    }
 
 -- The list has an id.
 abbrev pub are_some : List OpId → Bool

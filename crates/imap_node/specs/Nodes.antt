@@ -29,7 +29,8 @@ first_numbers name = record { replica = name; uid = 1; k = 1 }
 -- A replica that joined with these operations: they are its list, as if each had been delivered to
 -- it. It holds nothing and has no sessions.
 abbrev pub joined_node : ℕ → List Op → NodeState
-joined_node name ops = record { start = first_numbers name; applied = ops; held = []; sessions = [] }
+joined_node name ops =
+    record { start = first_numbers name; applied = ops; held = []; sessions = [] }
 
 -- A node, with the room that was made in it.
 pub record NodeWithRoom : Type 0 where
@@ -55,7 +56,8 @@ pub record IsReady (replica : ReplicaWithRoom) (ops : List Op) : Type 0 where
 
 -- What a replica received.
 abbrev pub replica_received : ReplicaWithRoom → ReceivedOps Counters Op
-replica_received replica = record { start = replica.start; applied = replica.applied; held = replica.held }
+replica_received replica =
+    record { start = replica.start; applied = replica.applied; held = replica.held }
 
 -- The session idles: it awaits a DONE, and nothing else.
 abbrev pub IsIdling : Session → Type 0
@@ -67,11 +69,15 @@ Idles node n = (session : Session) × (session_at node.sessions n ≡ Some sessi
 
 -- The session's LOGOUT was answered OK.
 abbrev pub HasLoggedOut : NodeState → ℕ → Type 0
-HasLoggedOut node n = (session : Session) × (session_at node.sessions n ≡ Some session) × (session.state ≡ LoggedOut)
+HasLoggedOut node n =
+    (session : Session) × (session_at node.sessions n ≡ Some session) × (session.state ≡ LoggedOut)
 
 -- The session is open and has not logged out.
 abbrev pub IsGoing : NodeState → ℕ → Type 0
-IsGoing node n = (session : Session) × (session_at node.sessions n ≡ Some session) × ((session.state ≡ LoggedOut) → ⊥)
+IsGoing node n =
+    (session : Session)
+    × (session_at node.sessions n ≡ Some session)
+    × ((session.state ≡ LoggedOut) → ⊥)
 
 -- The node with this session closed.
 abbrev pub with_session_closed : NodeState → ℕ → NodeState

@@ -25,21 +25,26 @@ pub record IsNext (replica : ℕ) (applied : List Op) (op : Op) : Type 0 where
 
 -- Operations of these kinds, in their order, each of which comes next after those applied and those
 -- before it.
-pub record AreNext (replica : ℕ) (applied : List Op) (kinds : List Kind) (ops : List Op) : Type 0 where
+pub record AreNext (replica : ℕ) (applied : List Op) (kinds : List Kind) (ops : List Op) :
+    Type 0 where
   pub of_kinds : map (λ (o : Op). o.kind) ops ≡ kinds
-  pub next : (front : List Op) (op : Op) (back : List Op) → ops ≡ front ++ op ∷ back → IsNext replica (applied ++ front) op
+  pub next : (front : List Op) (op : Op) (back : List Op) → ops ≡ front ++ op ∷ back
+      → IsNext replica (applied ++ front) op
 
 -- The replica's own numbers, which end at 4,294,967,295, don't suffice for operations of these
 -- kinds.
 abbrev pub OwnNumbersEnd : ℕ → List Op → List Kind → Type 0
 OwnNumbersEnd replica applied kinds =
-    (clock : List (ℕ × ℕ)) × IsClockOf id_of applied clock × (4294967295 < count_of clock replica + length kinds)
+    (clock : List (ℕ × ℕ))
+    × IsClockOf id_of applied clock
+    × (4294967295 < count_of clock replica + length kinds)
 
 -- Operations of these kinds find a counter used up: the replica's own numbers, a folder's UIDs or
 -- the UIDVALIDITYs.
 abbrev pub IsUsedUp : Counters → List Op → List Kind → Type 0
 IsUsedUp start applied kinds =
-    OwnNumbersEnd start.replica applied kinds ⊎ ((ops : List Op) × AreNext start.replica applied kinds ops × Exhausts start applied ops)
+    OwnNumbersEnd start.replica applied kinds
+    ⊎ ((ops : List Op) × AreNext start.replica applied kinds ops × Exhausts start applied ops)
 
 -- These operations can be applied after the list, and find no counter used up.
 pub record CanFollow (start : Counters) (applied ops : List Op) : Type 0 where
@@ -48,7 +53,8 @@ pub record CanFollow (start : Counters) (applied ops : List Op) : Type 0 where
 
 -- Why operations of these kinds can't be made ready.
 abbrev pub IsNotReady : Counters → List Op → List Kind → Refusal → Type 0
-IsNotReady start applied kinds why = (why ≡ NoMemory) ⊎ ((why ≡ NumberUsedUp) × IsUsedUp start applied kinds)
+IsNotReady start applied kinds why =
+    (why ≡ NoMemory) ⊎ ((why ≡ NumberUsedUp) × IsUsedUp start applied kinds)
 
 -- The replica may issue an operation of this kind: its name and flags are lawful, it doesn't delete
 -- INBOX, and it names only what was applied.

@@ -1,6 +1,7 @@
 -- What `plan` works out, and what `commit` then does: a session's next step, and the node after it.
 
-use Rattle.std.specs.Prelude.{◌≡◌, ℕ, List, [], ◌++◌, Option, Some, None, Result, Ok, Err, if◌then◌else◌}
+use Rattle.std.specs.Prelude.{◌≡◌, ℕ, List, [], ◌++◌, Option, Some, None, Result, Ok, Err}
+use Rattle.std.specs.Prelude.{if◌then◌else◌}
 use Rattle.causal_inbox.specs.Inbox.{AreIssued}
 use Rattle.crdt_ops.specs.declared.kind.Kind.{Kind}
 use Rattle.crdt_ops.specs.declared.op.Op.{Op}
@@ -19,29 +20,34 @@ use Rattle.imap_node.specs.SessionFeeds.{AreChangeNotes}
 use Rattle.imap_node.specs.SessionChanges.{CanChangeSession, changed_session}
 use Rattle.imap_node.specs.Nodes.{NodeWithRoom, NodeState}
 use Rattle.imap_node.specs.Operations.{AreNext, clock_of, id_of}
-use Rattle.imap_node.specs.Responses.{IsNodeAfter, IsStamp, Responds, IsInputEffect, answers_closed, ends_idling, leaves_mailbox, session_after, input_intent}
+use Rattle.imap_node.specs.Responses.{IsNodeAfter, IsStamp, Responds, IsInputEffect, answers_closed}
+use Rattle.imap_node.specs.Responses.{ends_idling, leaves_mailbox, session_after, input_intent}
 use Rattle.imap_node.specs.Rooms.{HasRoomFor}
 use Rattle.imap_node.specs.Sessions.{IsOpen, without_idle, session_at, unselected, with_session}
 use Rattle.uid_projection.specs.declared.first_numbers.Counters.{Counters}
 use Rattle.uid_projection.specs.Exhaustion.{Exhausts}
 
 -- The answers, the silent flags and the change of the session are those of an input's effect.
-pub record IsPreparedReply (start : Counters) (before after : List Op) (session : Session) (input : Input) (answered : PreparedReply) : Type 0 where
+pub record IsPreparedReply (start : Counters) (before after : List Op) (session : Session)
+    (input : Input) (answered : PreparedReply) : Type 0 where
   pub course : InputEffect
   pub taken : IsInputEffect start before after session input course
   pub answers : answered.answers ≡ answers_of_effect start after course
   pub silent : answered.silent ≡ course.silent
-  pub becomes : changed_session session answered.going ≡ session_after start after session input course
+  pub becomes : changed_session session answered.going
+      ≡ session_after start after session input course
 
 -- The input can be carried out, and this is its reply, with the operations that it issues.
-pub record IsPreparedInput (start : Counters) (applied : List Op) (session : Session) (input : Input) (prepared : PreparedInput) : Type 0 where
+pub record IsPreparedInput (start : Counters) (applied : List Op) (session : Session)
+    (input : Input) (prepared : PreparedInput) : Type 0 where
   pub stamp : List ℕ
   pub stamped : IsStamp input stamp
   pub kinds : List Kind
   pub wanted : input_intent start applied stamp session.state input ≡ Ok kinds
   pub next : AreNext start.replica applied kinds prepared.ops
   pub lasts : Exhausts start applied prepared.ops → ⊥
-  pub answered : IsPreparedReply start applied (applied ++ prepared.ops) session input prepared.answered
+  pub answered : IsPreparedReply start applied (applied ++ prepared.ops) session input
+      prepared.answered
   pub copies : prepared.copies ≡ prepared.ops
 
 -- A session after a step, and the place that holds it.
@@ -67,8 +73,11 @@ pub record IsPlanned (node : NodeWithRoom) (plan : Plan) : Type 0 where
   pub is_open : IsOpen node.state.sessions plan.number
   pub issued : AreIssued id_of clock_of node.state.applied plan.ops
   pub room : (plan.ops ≡ [] → ⊥) → HasRoomFor node.state.applied node.room plan.ops
-  pub change_notes : AreChangeNotes node.state.start node.state.applied (node.state.applied ++ plan.ops) plan.change_notes
-  pub can : (session : Session) → session_at node.state.sessions plan.number ≡ Some session → CanStep node.state.start (node.state.applied ++ plan.ops) session plan.next
+  pub change_notes : AreChangeNotes node.state.start node.state.applied
+      (node.state.applied ++ plan.ops) plan.change_notes
+  pub can : (session : Session)
+      → session_at node.state.sessions plan.number ≡ Some session
+      → CanStep node.state.start (node.state.applied ++ plan.ops) session plan.next
 
 -- The session after a plan is committed.
 abbrev pub planned_session : NodeState → Plan → Option Session
@@ -76,21 +85,38 @@ planned_session node plan = place_after_step (session_at node.sessions plan.numb
 
 -- The node after a plan is committed.
 abbrev pub CommitsTo : NodeState → Plan → NodeState → Type 0
-CommitsTo old plan new = IsNodeAfter old plan.ops (with_session old.sessions plan.number (planned_session old plan)) new
+CommitsTo old plan new =
+    IsNodeAfter old plan.ops (with_session old.sessions plan.number (planned_session old plan)) new
 
 -- The plan's reply is what the node replies, once the plan is committed.
 abbrev pub IsPlanOf : NodeState → ℕ → Input → Plan → Type 0
-IsPlanOf old n input plan = (new : NodeState) → CommitsTo old plan new → Responds old n input plan.reply new
+IsPlanOf old n input plan =
+    (new : NodeState) → CommitsTo old plan new → Responds old n input plan.reply new
 
 -- The next step of a session whose input is refused.
 abbrev pub step_of_refusal : State → Input → Refusal → SessionStep
-step_of_refusal state input why = if leaves_mailbox state input then Leaves else (if ends_idling input why then Wakes else Stays)
+step_of_refusal state input why =
+    if leaves_mailbox state input then Leaves else (if ends_idling input why then Wakes else Stays)
 
 -- The plan of an input that can be carried out.
 abbrev pub plan_of_prepared : ℕ → PreparedInput → Plan
-plan_of_prepared n p = record { number = n; reply = Done p.answered.answers p.answered.silent p.copies; ops = p.ops; change_notes = p.change_notes; next = Goes p.answered.going }
+plan_of_prepared n p =
+    record {
+      number = n;
+      reply = Done p.answered.answers p.answered.silent p.copies;
+      ops = p.ops;
+      change_notes = p.change_notes;
+      next = Goes p.answered.going;
+    }
 
 -- The plan for an outcome of `prepare_for`.
 abbrev pub plan_by : ℕ → State → Input → Result PreparedInput Refusal → Plan
 plan_by n state input (Ok p) = plan_of_prepared n p
-plan_by n state input (Err why) = record { number = n; reply = Refused why (answers_closed state input why); ops = []; change_notes = []; next = step_of_refusal state input why }
+plan_by n state input (Err why) =
+    record {
+      number = n;
+      reply = Refused why (answers_closed state input why);
+      ops = [];
+      change_notes = [];
+      next = step_of_refusal state input why;
+    }

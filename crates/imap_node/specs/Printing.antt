@@ -33,7 +33,8 @@ pub record IsAnswerableIn (session : Session) : Type 0 where
   pub idling : Where IsTag session.idling
 
 -- All answers can be printed, and the session afterwards can be answered again.
-pub record IsAnsweredWell (old : Places) (n : ℕ) (answers : List Answer) (new : Places) : Type 0 where
+pub record IsAnsweredWell (old : Places) (n : ℕ) (answers : List Answer) (new : Places) :
+    Type 0 where
   pub printable : Each IsPrintable answers
   pub next : Session
   pub sessions : new ≡ with_session old n (Some next)

@@ -37,23 +37,31 @@ view_at places n = view_in (session_at places n)
 -- The view on which the answers of a command that is carried out, or of any input, are replayed: an
 -- empty one of a newly selected mailbox; none after CLOSE, UNSELECT and LOGOUT (RFC 9051, sections
 -- 6.1.3, 6.3.2, 6.4.1 and 6.4.2); else the view before.
-abbrev pub replay_base_of_command : Counters → List Op → Option ViewState → Command → Option ViewState
-replay_base_of_command start ops view (commands.Select name condstore) = Some (record { name = name; uidvalidity = validity_of start name ops; entries = [] })
-replay_base_of_command start ops view (commands.Examine name condstore) = Some (record { name = name; uidvalidity = validity_of start name ops; entries = [] })
+abbrev pub replay_base_of_command : Counters → List Op → Option ViewState → Command
+    → Option ViewState
+replay_base_of_command start ops view (commands.Select name condstore) =
+    Some (record { name = name; uidvalidity = validity_of start name ops; entries = [] })
+replay_base_of_command start ops view (commands.Examine name condstore) =
+    Some (record { name = name; uidvalidity = validity_of start name ops; entries = [] })
 replay_base_of_command start ops view commands.Logout = None
 replay_base_of_command start ops view commands.Unselect = None
 replay_base_of_command start ops view commands.Close = None
 replay_base_of_command start ops view _ = view
 
 abbrev pub replay_base_of : Counters → List Op → Option ViewState → Input → Option ViewState
-replay_base_of start ops view (inputs.Command moment tagged) = replay_base_of_command start ops view tagged.command
+replay_base_of start ops view (inputs.Command moment tagged) =
+    replay_base_of_command start ops view tagged.command
 replay_base_of start ops view (inputs.Line line) = view
 replay_base_of start ops view inputs.Poll = view
 
 -- A view with silent flags and answers replayed, over what its mailbox has now.
-abbrev pub view_after_replies : Counters → List Op → Option ViewState → List SilentFlags → List Answer → Option ViewState
+abbrev pub view_after_replies : Counters → List Op → Option ViewState → List SilentFlags
+    → List Answer → Option ViewState
 view_after_replies start ops None silent answers = None
-view_after_replies start ops (Some view) silent answers = Some (record view { entries = view_after_reply (rows_for start ops view) view.entries silent answers })
+view_after_replies start ops (Some view) silent answers =
+    Some (record view {
+      entries = view_after_reply (rows_for start ops view) view.entries silent answers;
+    })
 
 -- A SELECT or an EXAMINE, which leaves the selected mailbox even if it is refused (RFC 9051,
 -- section 6.3.2).
@@ -64,10 +72,13 @@ selects inputs.Poll = false
 
 -- A view after the reply to an input, given these operations: its silent flags and answers,
 -- replayed.
-abbrev pub view_after_input : Counters → List Op → Option ViewState → Input → Reply → Option ViewState
-view_after_input start ops view input (Done answers silent issued) = view_after_replies start ops (replay_base_of start ops view input) silent answers
+abbrev pub view_after_input : Counters → List Op → Option ViewState → Input → Reply
+    → Option ViewState
+view_after_input start ops view input (Done answers silent issued) =
+    view_after_replies start ops (replay_base_of start ops view input) silent answers
 view_after_input start ops view input (Refused why closed) = if selects input then None else view
 
 -- The UIDs of each session's view ascend strictly (RFC 9051, section 2.3.1.1).
 abbrev pub ViewsAscend : Places → Type 0
-ViewsAscend places = (n : ℕ) (view : ViewState) → view_at places n ≡ Some view → AreRising 1 view.entries
+ViewsAscend places =
+    (n : ℕ) (view : ViewState) → view_at places n ≡ Some view → AreRising 1 view.entries

@@ -21,7 +21,9 @@ IsNoop input tag = (moment : ℕ) × (input ≡ Command moment (record { tag = t
 
 -- Nothing is unsent of the selected mailbox, if one is selected.
 abbrev pub HasNothing : State → Pending → Type 0
-HasNothing state pending = (view : ViewState) → view_of state ≡ Some view → IsSettled (record { pending = pending; change_notes = [] }) view
+HasNothing state pending =
+    (view : ViewState) → view_of state ≡ Some view
+    → IsSettled (record { pending = pending; change_notes = [] }) view
 
 abbrev pub IsAtRest : State → Pending → Input → List ℕ → Type 0
 IsAtRest state pending input tag = IsNoop input tag × HasNothing state pending

@@ -24,7 +24,8 @@ entries_with view (Some change) = entries_after_change view change
 
 -- A state with its view changed.
 abbrev pub state_with : State → Option ViewChange → State
-state_with (Selected view read_only) change = Selected (record view { entries = entries_with view.entries change }) read_only
+state_with (Selected view read_only) change =
+    Selected (record view { entries = entries_with view.entries change }) read_only
 state_with state change = state
 
 -- A state after a change.
@@ -34,7 +35,12 @@ changed_state state (Stays change) = state_with state change
 
 -- A session after a change.
 abbrev pub changed_session : Session → SessionChange → Session
-changed_session session going = record { state = changed_state session.state going.onward; condstore = going.condstore; idling = going.idling }
+changed_session session going =
+    record {
+      state = changed_state session.state going.onward;
+      condstore = going.condstore;
+      idling = going.idling;
+    }
 
 -- The change of a view, if there is one, and of a state, can be made without further memory.
 abbrev pub CanChangeView : State → Option ViewChange → Type 0
@@ -48,18 +54,21 @@ CanChangeState state (Stays change) = CanChangeView state change
 -- What the change of a view leaves noted names all that is still unsent after these operations, if
 -- the change says so.
 abbrev pub ChangeLeaves : Counters → List Op → State → Option ViewChange → Type 0
-ChangeLeaves start ops (Selected view read_only) (Some change) = IsChangeTo (rows_for start ops view) view.entries change
+ChangeLeaves start ops (Selected view read_only) (Some change) =
+    IsChangeTo (rows_for start ops view) view.entries change
 ChangeLeaves start ops state change = Unit {0}
 
 -- If `all` is set, the new state's view shows all that its mailbox has after these operations.
 abbrev pub ShowsAll : Counters → List Op → State → Bool → Type 0
-ShowsAll start ops state all = all ≡ true → (view : ViewState) → view_of state ≡ Some view → IsCurrent start ops view
+ShowsAll start ops state all =
+    all ≡ true → (view : ViewState) → view_of state ≡ Some view → IsCurrent start ops view
 
 abbrev pub LeavesNoted : Counters → List Op → State → StateChange → Type 0
 LeavesNoted start ops state (Moves next all) = ShowsAll start ops next all
 LeavesNoted start ops state (Stays change) = ChangeLeaves start ops state change
 
 -- A session can make this change after these operations.
-pub record CanChangeSession (start : Counters) (ops : List Op) (state : State) (onward : StateChange) : Type 0 where
+pub record CanChangeSession (start : Counters) (ops : List Op) (state : State)
+    (onward : StateChange) : Type 0 where
   pub make : CanChangeState state onward
   pub leaves : LeavesNoted start ops state onward

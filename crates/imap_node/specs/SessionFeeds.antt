@@ -2,7 +2,8 @@
 -- operations changed in each mailbox.
 
 use Rattle.std.specs.List.{list_any}
-use Rattle.std.specs.Prelude.{◌≡◌, ℕ, ◌-◌, Bool, false, List, [], ◌∷◌, ◌++◌, slice_index_or, bytes_eq, Option, Some, if◌then◌else◌}
+use Rattle.std.specs.Prelude.{◌≡◌, ℕ, ◌-◌, Bool, false, List, [], ◌∷◌, ◌++◌, slice_index_or}
+use Rattle.std.specs.Prelude.{bytes_eq, Option, Some, if◌then◌else◌}
 use Rattle.crdt_ops.specs.declared.op.Op.{Op}
 use Rattle.idle_feed.specs.Feeds.{FeedState, Pending, missed_pending}
 use Rattle.imap_node.specs.Mailboxes.{rows_for}
@@ -35,11 +36,15 @@ IsNotedFor start ops pending view = NotesAllOf pending (rows_for start ops view)
 -- The feed of each session names every row that differs in the session's view, or says that some
 -- was missed.
 abbrev pub AreAllNoted : Counters → List Op → Places → List FeedState → Type 0
-AreAllNoted start ops places feeds = (n : ℕ) (view : ViewState) → view_at places n ≡ Some view → IsNotedFor start ops (pending_at feeds n) view
+AreAllNoted start ops places feeds =
+    (n : ℕ) (view : ViewState)
+    → view_at places n ≡ Some view
+    → IsNotedFor start ops (pending_at feeds n) view
 
 -- The view agrees with its mailbox's listing in every message.
 abbrev pub IsCurrent : Counters → List Op → ViewState → Type 0
-IsCurrent start ops view = (uid : ℕ) → flags_at uid view.entries ≡ flags_at uid (entries_of (rows_for start ops view))
+IsCurrent start ops view =
+    (uid : ℕ) → flags_at uid view.entries ≡ flags_at uid (entries_of (rows_for start ops view))
 
 -- ---- change notes: what operations changed
 
@@ -51,23 +56,32 @@ pub record MailboxNotes : Type 0 where
 -- What they changed in the mailbox `name`; nothing if it isn't listed.
 abbrev pub notes_in : List MailboxNotes → List ℕ → List Note
 notes_in [] name = []
-notes_in (folder ∷ folders) name = if bytes_eq folder.name name then folder.notes else notes_in folders name
+notes_in (folder ∷ folders) name =
+    if bytes_eq folder.name name then folder.notes else notes_in folders name
 
 -- The notes name what differs between two moments in the mailbox `name`, in each of its
 -- incarnations.
 abbrev pub NotesNameIn : Counters → List Op → List Op → List ℕ → List Note → Type 0
 NotesNameIn start before after name notes =
     (uidvalidity : ℕ)
-    → NoteAllChanges notes (rows_under uidvalidity (uidvalidity_of start name after) (listing start name after)) (entries_of (rows_under uidvalidity (uidvalidity_of start name before) (listing start name before)))
+    → NoteAllChanges notes
+    (rows_under uidvalidity (uidvalidity_of start name after) (listing start name after))
+    (entries_of
+    (rows_under uidvalidity (uidvalidity_of start name before) (listing start name before)))
 
 -- The change notes name what differs between two moments in any mailbox.
 abbrev pub AreChangeNotes : Counters → List Op → List Op → List MailboxNotes → Type 0
-AreChangeNotes start before after news = (name : List ℕ) → NotesNameIn start before after name (notes_in news name)
+AreChangeNotes start before after news =
+    (name : List ℕ) → NotesNameIn start before after name (notes_in news name)
 
 -- What a session must still be sent, before and after change notes are added: if it named what
 -- differed before the operations, it names what differs after them.
-pub record IsFeedAfterNotes (news : List MailboxNotes) (place : Option Session) (old new : Pending) : Type 0 where
-  pub noted : (start : Counters) (before after : List Op) (view : ViewState) → AreChangeNotes start before after news → view_in place ≡ Some view → IsNotedFor start before old view → IsNotedFor start after new view
+pub record IsFeedAfterNotes (news : List MailboxNotes) (place : Option Session) (old new : Pending)
+    : Type 0 where
+  pub noted : (start : Counters) (before after : List Op) (view : ViewState)
+      → AreChangeNotes start before after news → view_in place ≡ Some view
+      → IsNotedFor start before old view
+      → IsNotedFor start after new view
 
 -- What a session must still be sent, and what operations changed.
 pub record UnsentChanges : Type 0 where
@@ -88,4 +102,6 @@ is_named folders name = list_any (λ folder. bytes_eq folder.name name) folders
 
 -- These mailboxes, with the mailbox `name` added if it isn't listed; everything in it may differ.
 abbrev pub with_all_differing : List MailboxNotes → List ℕ → List MailboxNotes
-with_all_differing folders name = if is_named folders name then folders else folders ++ record { name = name; notes = Ended ∷ [] } ∷ []
+with_all_differing folders name =
+    if is_named folders name then folders
+    else folders ++ record { name = name; notes = Ended ∷ [] } ∷ []

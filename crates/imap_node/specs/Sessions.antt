@@ -1,6 +1,7 @@
 -- The sessions of a replica, by their numbers.
 
-use Rattle.std.specs.Prelude.{◌≡◌, ◌≢◌, ℕ, ◌-◌, ◌<◌, ◌==◌, false, List, slice_index_or, slice_set, Option, Some, None, IsSome, IsNone, if◌then◌else◌}
+use Rattle.std.specs.Prelude.{◌≡◌, ◌≢◌, ℕ, ◌-◌, ◌<◌, ◌==◌, false, List, slice_index_or, slice_set}
+use Rattle.std.specs.Prelude.{Option, Some, None, IsSome, IsNone, if◌then◌else◌}
 use Rattle.std.specs.Option.{option_map}
 use Rattle.imap_commands.specs.declared.session.Session.{Session}
 use Rattle.imap_commands.specs.declared.session.State.TheVariants.{Authenticated, NotAuthenticated}
@@ -42,7 +43,8 @@ OthersStay old n new = (m : ℕ) → m ≢ n → session_at new m ≡ session_at
 -- A session at its beginning: the user is known already, or must log in.
 abbrev pub new_session : Auth → Session
 new_session Preauth = record { state = Authenticated; condstore = false; idling = None }
-new_session (Password credentials) = record { state = NotAuthenticated credentials; condstore = false; idling = None }
+new_session (Password credentials) =
+    record { state = NotAuthenticated credentials; condstore = false; idling = None }
 
 -- A session is opened with the least number that no open session has, and nothing else changes.
 pub record Opens (old : Places) (auth : Auth) (n : ℕ) (new : Places) : Type 0 where

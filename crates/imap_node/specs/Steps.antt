@@ -19,13 +19,15 @@ IsFull node = (n : ℕ) → 0 < n → n ≤ 1024 → IsOpen node.sessions n
 -- A session is opened with the least number that isn't open; or nothing changes, since all numbers
 -- are open, or memory ran out.
 abbrev pub OpensAt : NodeState → Auth → Result ℕ OpenFault → NodeState → Type 0
-OpensAt old auth (Ok n) new = Opens old.sessions auth n new.sessions × (new ≡ record old { sessions = new.sessions })
+OpensAt old auth (Ok n) new =
+    Opens old.sessions auth n new.sessions × (new ≡ record old { sessions = new.sessions })
 OpensAt old auth (Err TooManySessions) new = IsFull old × (new ≡ old)
 OpensAt old auth (Err NoMemory) new = new ≡ old
 
 -- An operation is received; or it is refused, and nothing changes.
 abbrev pub DeliversAt : NodeState → Op → Result Delivered DeliverFault → NodeState → Type 0
-DeliversAt old op (Ok delivered) new = Delivers old op delivered.arrival new × (IsTrue delivered.stalled ↔ HoldsRipe new)
+DeliversAt old op (Ok delivered) new =
+    Delivers old op delivered.arrival new × (IsTrue delivered.stalled ↔ HoldsRipe new)
 DeliversAt old op (Err fault) new = IsRefusedAt old op fault × (new ≡ old)
 
 -- Held operations whose causes were applied are applied, one after another.

@@ -3,7 +3,8 @@
 ghost use Rattle.std.specs.Prelude.{◌≡◌, ◌⊎◌, ◌≤◌, ◌<◌, ◌++◌, ◌∷◌, ℕ, List, [], true, IfOk, OnOk};
 ghost use Rattle.crdt_ops.specs.declared.op.Op.{Op};
 ghost use Rattle.crdt_ops.specs.Tags.{name_of};
-ghost use Rattle.imap_node.specs.SessionFeeds.{AreChangeNotes, NotesNameIn, is_named, notes_in, with_all_differing};
+ghost use Rattle.imap_node.specs.SessionFeeds.{AreChangeNotes, NotesNameIn, is_named, notes_in};
+ghost use Rattle.imap_node.specs.SessionFeeds.{with_all_differing};
 ghost use Rattle.imap_node.specs.ChangeNotes.{AreNotesSoFar, IsSnapshotOf, TellsOf};
 ghost use Rattle.imap_node.specs.Nodes.{IsReady};
 ghost use Rattle.merge_laws.specs.Orders.{IsIn};
@@ -121,7 +122,12 @@ impl Model for MailboxSnapshot {
 
     ghost Value = { MailboxSnapshot };
 
-    ghost view = { λ a. record { name = a.name; uidvalidity = a.uidvalidity; uidnext = a.uidnext; touched = a.touched.items } };
+    ghost view = { λ a. record {
+      name = a.name;
+      uidvalidity = a.uidvalidity;
+      uidnext = a.uidnext;
+      touched = a.touched.items;
+    } };
 }
 
 impl MailboxSnapshot {
@@ -133,7 +139,8 @@ impl MailboxSnapshot {
         name: &Name,
         ops: &[SoundOp],
     ) -> Result<MailboxSnapshot, AllocError>
-        ensures { IfOk result (λ ahead. IsSnapshotOf replica.now.start replica.now.applied ops.now name.now ahead) }
+        ensures { IfOk result
+            (λ ahead. IsSnapshotOf replica.now.start replica.now.applied ops.now name.now ahead) }
     {
         let (uidvalidity, uidnext) = replica.numbers(name);
         Ok(MailboxSnapshot {
@@ -160,8 +167,12 @@ impl MailboxSnapshot {
         uidnext: u32,
     ) -> Result<MailboxNotes, AllocError>
         ensures name { IfOk result (λ folder. folder.name ≡ self.name) }
-        ensures notes { (start : Counters) (before ops : List Op) → IsApplied (before ++ ops) → IsSnapshotOf start before ops self.name self → uidvalidity ≡ uidvalidity_of start self.name (before ++ ops) → uidnext ≡ uidnext_of start self.name (before ++ ops)
-            → IfOk result (λ folder. NotesNameIn start before (before ++ ops) self.name folder.notes) }
+        ensures notes { (start : Counters) (before ops : List Op) → IsApplied (before ++ ops)
+            → IsSnapshotOf start before ops self.name self
+            → uidvalidity ≡ uidvalidity_of start self.name (before ++ ops)
+            → uidnext ≡ uidnext_of start self.name (before ++ ops)
+            → IfOk result
+            (λ folder. NotesNameIn start before (before ++ ops) self.name folder.notes) }
     {
         let Self {
             name,
@@ -216,7 +227,8 @@ fn all_may_differ(alloc: Global) -> Result<Vec<Note>, AllocError>
 
 /// Notes the messages with these UIDs as changed.
 fn push_changed_notes(uids: &[u32], notes: &mut Vec<Note>) -> Result<(), AllocError>
-    ensures { OnOk result ((uid : ℕ) → ((is_noted notes.old.items uid ≡ true) ⊎ IsIn uid uids.now) → is_noted notes.new.items uid ≡ true) }
+    ensures { OnOk result ((uid : ℕ) → ((is_noted notes.old.items uid ≡ true) ⊎ IsIn uid uids.now)
+        → is_noted notes.new.items uid ≡ true) }
 {
     for uid in uids {
         notes.push(Note::Changed { uid: *uid })?;
@@ -226,7 +238,9 @@ fn push_changed_notes(uids: &[u32], notes: &mut Vec<Note>) -> Result<(), AllocEr
 
 /// Notes the messages with the UIDs from `first` up to, and without, `end` as new.
 fn push_new(first: u32, end: u32, notes: &mut Vec<Note>) -> Result<(), AllocError>
-    ensures { OnOk result ((uid : ℕ) → ((is_noted notes.old.items uid ≡ true) ⊎ ((first ≤ uid) × (uid < end))) → is_noted notes.new.items uid ≡ true) }
+    ensures { OnOk result ((uid : ℕ)
+        → ((is_noted notes.old.items uid ≡ true) ⊎ ((first ≤ uid) × (uid < end)))
+        → is_noted notes.new.items uid ≡ true) }
 {
     for uid in first..end {
         notes.push(Note::New { uid })?;
@@ -242,7 +256,8 @@ pub fn change_notes_of_issue(
     ops: &[SoundOp],
 ) -> Result<ChangeNotes, AllocError>
     requires { IsReady replica.now ops.now }
-    ensures { IfOk result (λ change_notes. AreChangeNotes replica.now.start replica.now.applied (replica.now.applied ++ ops.now) change_notes) }
+    ensures { IfOk result (λ change_notes. AreChangeNotes replica.now.start replica.now.applied
+        (replica.now.applied ++ ops.now) change_notes) }
 {
     let mut folders = Vec::new(alloc);
     for op in ops {
@@ -261,7 +276,8 @@ fn push_notes_of_op(
     folders: &mut Vec<MailboxNotes>,
 ) -> Result<(), AllocError>
     requires { IsReady replica.now ops.now }
-    ensures { OnOk result (AreNotesSoFar replica.now.start replica.now.applied ops.now (name_of kind.now) folders.old.items folders.new.items) }
+    ensures { OnOk result (AreNotesSoFar replica.now.start replica.now.applied ops.now
+        (name_of kind.now) folders.old.items folders.new.items) }
 {
     let name = kind.name();
     if is_named(folders, name) {
@@ -280,7 +296,8 @@ fn notes_of_mailbox(
 ) -> Result<MailboxNotes, AllocError>
     requires { IsReady replica.now ops.now }
     ensures name { IfOk result (λ folder. folder.name ≡ name.now) }
-    ensures notes { IfOk result (λ folder. NotesNameIn replica.now.start replica.now.applied (replica.now.applied ++ ops.now) name.now folder.notes) }
+    ensures notes { IfOk result (λ folder. NotesNameIn replica.now.start replica.now.applied
+        (replica.now.applied ++ ops.now) name.now folder.notes) }
 {
     let ahead = MailboxSnapshot::before_ops(alloc, replica, name, ops)?;
     ahead.notes(
@@ -297,7 +314,9 @@ pub fn snapshot_of(
     ops: &[SoundOp],
 ) -> Result<MailboxSnapshot, AllocError>
     requires { (op : Op) × (ops.now ≡ op ∷ []) }
-    ensures { (op : Op) → ops.now ≡ op ∷ [] → IfOk result (λ ahead. IsSnapshotOf replica.now.start replica.now.applied (op ∷ []) (name_of op.kind) ahead) }
+    ensures { (op : Op) → ops.now ≡ op ∷ []
+        → IfOk result (λ ahead. IsSnapshotOf replica.now.start replica.now.applied (op ∷ [])
+        (name_of op.kind) ahead) }
 {
     let kind = &ops[0].op().kind;
     MailboxSnapshot::before_ops(alloc, replica, kind.name(), ops)
@@ -310,7 +329,11 @@ pub fn change_notes_of_delivery(
     replica: &ReplicaState,
     ahead: MailboxSnapshot,
 ) -> Result<ChangeNotes, AllocError>
-    ensures { (before : List Op) (op : Op) → IsSnapshotOf replica.now.start before (op ∷ []) (name_of op.kind) ahead → replica.now.applied ≡ before ++ op ∷ [] → IfOk result (λ change_notes. AreChangeNotes replica.now.start before replica.now.applied change_notes) }
+    ensures { (before : List Op) (op : Op)
+        → IsSnapshotOf replica.now.start before (op ∷ []) (name_of op.kind) ahead
+        → replica.now.applied ≡ before ++ op ∷ []
+        → IfOk result
+        (λ change_notes. AreChangeNotes replica.now.start before replica.now.applied change_notes) }
 {
     let _list = replica.op_list();
     let uidvalidity = replica.uidvalidity(ahead.name());
@@ -324,7 +347,8 @@ pub fn change_notes_of_delivery(
 /// Change notes that say of each mailbox named by `ops` that everything in it may differ; for
 /// operations that were applied without a snapshot. `Err` if memory runs out.
 pub fn coarse_change_notes(alloc: Global, ops: &[SoundOp]) -> Result<ChangeNotes, AllocError>
-    ensures { IfOk result (λ change_notes. (start : Counters) (list : List Op) → IsApplied (list ++ ops.now) → AreChangeNotes start list (list ++ ops.now) change_notes) }
+    ensures { IfOk result (λ change_notes. (start : Counters) (list : List Op)
+        → IsApplied (list ++ ops.now) → AreChangeNotes start list (list ++ ops.now) change_notes) }
 {
     let mut folders = Vec::new(alloc);
     for op in ops {
@@ -340,7 +364,8 @@ fn push_folder(
     kind: &Kind,
     folders: &mut Vec<MailboxNotes>,
 ) -> Result<(), AllocError>
-    ensures { OnOk result (folders.new.items ≡ with_all_differing folders.old.items (name_of kind.now)) }
+    ensures { OnOk result
+        (folders.new.items ≡ with_all_differing folders.old.items (name_of kind.now)) }
 {
     let name = kind.name();
     if is_named(folders, name) {

@@ -2,8 +2,10 @@
 //! with one line per command.
 
 ghost use Rattle.std.specs.Prelude.{◌≡◌};
-ghost use Rattle.imap_node.specs.Commands.{sync_kind_by, is_enabling, is_idle, is_selected, is_selecting, sync_of, word_of};
-ghost use Rattle.imap_node.specs.Responses.{answers_closed, condstore_after, ends_idling, condstore_is_on, leaves_mailbox};
+ghost use Rattle.imap_node.specs.Commands.{sync_kind_by, is_enabling, is_idle, is_selected};
+ghost use Rattle.imap_node.specs.Commands.{is_selecting, sync_of, word_of};
+ghost use Rattle.imap_node.specs.Responses.{answers_closed, condstore_after, ends_idling};
+ghost use Rattle.imap_node.specs.Responses.{condstore_is_on, leaves_mailbox};
 
 use crate::input::Input;
 use imap_answers::{CompletedWord, Refusal};

@@ -5,8 +5,11 @@ ghost use Rattle.std.specs.Option.{option_map};
 ghost use Rattle.crdt_ops.specs.declared.op.Op.{Op};
 ghost use Rattle.idle_feed.specs.Feeds.{missed_pending};
 ghost use Rattle.imap_commands.specs.declared.session.Session.{Session};
-ghost use Rattle.imap_node.specs.SessionFeeds.{AreAllNoted, IsFeedAfterNotes, AreChangeNotes, IsNotedFor, pending_at};
-ghost use Rattle.imap_node.specs.SessionChanges.{CanChangeView, CanChangeState, ChangeLeaves, LeavesNoted, changed_session, changed_state, state_with};
+ghost use Rattle.imap_node.specs.SessionFeeds.{AreAllNoted, IsFeedAfterNotes, AreChangeNotes};
+ghost use Rattle.imap_node.specs.SessionFeeds.{IsNotedFor, pending_at};
+ghost use Rattle.imap_node.specs.SessionChanges.{CanChangeView, CanChangeState, ChangeLeaves};
+ghost use Rattle.imap_node.specs.SessionChanges.{LeavesNoted, changed_session, changed_state};
+ghost use Rattle.imap_node.specs.SessionChanges.{state_with};
 ghost use Rattle.imap_node.specs.Replays.{view_of};
 ghost use Rattle.imap_node.specs.Sessions.{IsOpen, session_at, with_changed};
 ghost use Rattle.session_view.specs.ViewState.{ViewState};
@@ -91,14 +94,18 @@ impl Feeds {
     /// Adds change notes to the feeds of the sessions whose mailboxes they name. Takes no memory; a
     /// feed that lacks room for its notes misses them.
     pub fn note(&mut self, sessions: &Sessions, change_notes: &ChangeNotes)
-        ensures { (start : Counters) (before after : List Op) → AreChangeNotes start before after change_notes.now → AreAllNoted start before sessions.now self.old → AreAllNoted start after sessions.now self.new }
+        ensures { (start : Counters) (before after : List Op)
+            → AreChangeNotes start before after change_notes.now
+            → AreAllNoted start before sessions.now self.old
+            → AreAllNoted start after sessions.now self.new }
     {
         note_in(&sessions.places, change_notes, &mut self.feeds);
     }
 
     /// Drops all feeds, so that each session's next sync compares its whole view.
     pub fn miss_all(&mut self)
-        ensures { (start : Counters) (ops : List Op) (sessions : List (Option Session)) → AreAllNoted start ops sessions self.new }
+        ensures { (start : Counters) (ops : List Op) (sessions : List (Option Session))
+            → AreAllNoted start ops sessions self.new }
     {
         self.feeds.clear();
     }
@@ -107,9 +114,16 @@ impl Feeds {
     /// it. Takes no memory.
     pub fn advance(&mut self, sessions: &mut Sessions, session: SessionNo, going: SessionChange)
         requires opened { IsOpen sessions.old session }
-        requires can { (s : Session) → session_at sessions.old session ≡ Some s → CanChangeState s.state going.onward }
-        ensures sessions { sessions.new ≡ with_changed sessions.old session (λ s. changed_session s going) }
-        ensures noted { (start : Counters) (ops : List Op) → ((s : Session) → session_at sessions.old session ≡ Some s → LeavesNoted start ops s.state going.onward) → AreAllNoted start ops sessions.old self.old → AreAllNoted start ops sessions.new self.new }
+        requires can { (s : Session)
+            → session_at sessions.old session ≡ Some s
+            → CanChangeState s.state going.onward }
+        ensures sessions { sessions.new
+            ≡ with_changed sessions.old session (λ s. changed_session s going) }
+        ensures noted { (start : Counters) (ops : List Op)
+            → ((s : Session) → session_at sessions.old session ≡ Some s
+            → LeavesNoted start ops s.state going.onward)
+            → AreAllNoted start ops sessions.old self.old
+            → AreAllNoted start ops sessions.new self.new }
     {
         go_in(&mut sessions.places, &mut self.feeds, session, going);
     }
@@ -117,8 +131,12 @@ impl Feeds {
 
 /// Whether a session in this state may have unsent changes: notes in its feed, or missed ones.
 pub fn may_be_told(state: &State, feed: &Feed) -> bool
-    ensures missed { result ≡ false → (view : ViewState) → view_of state.now ≡ Some view → feed.now.pending.missed ≡ false }
-    ensures none { result ≡ false → (view : ViewState) → view_of state.now ≡ Some view → feed.now.pending.notes ≡ [] }
+    ensures missed { result ≡ false → (view : ViewState)
+        → view_of state.now ≡ Some view
+        → feed.now.pending.missed ≡ false }
+    ensures none { result ≡ false → (view : ViewState)
+        → view_of state.now ≡ Some view
+        → feed.now.pending.notes ≡ [] }
 {
     match state {
         State::Selected { .. } => match feed.notes() {
@@ -183,7 +201,10 @@ fn ready_at(place: &Option<Session>, change_notes: &ChangeNotes, feed: &mut Feed
 }
 
 fn note_in(places: &[Option<Session>], change_notes: &ChangeNotes, feeds: &mut Vec<Feed>)
-    ensures { (start : Counters) (before after : List Op) → AreChangeNotes start before after change_notes.now → AreAllNoted start before places.now feeds.old.items → AreAllNoted start after places.now feeds.new.items }
+    ensures { (start : Counters) (before after : List Op)
+        → AreChangeNotes start before after change_notes.now
+        → AreAllNoted start before places.now feeds.old.items
+        → AreAllNoted start after places.now feeds.new.items }
 {
     for place in 0..feeds.len() {
         note_at(places, place, change_notes, &mut feeds[place]);
@@ -192,7 +213,8 @@ fn note_in(places: &[Option<Session>], change_notes: &ChangeNotes, feeds: &mut V
 
 /// Adds the change notes of its mailbox to the feed of the session at this place, if there is one.
 fn note_at(places: &[Option<Session>], place: usize, change_notes: &ChangeNotes, feed: &mut Feed)
-    ensures { IsFeedAfterNotes change_notes.now (slice_index_or places.now place None) feed.old.pending feed.new.pending }
+    ensures { IsFeedAfterNotes change_notes.now (slice_index_or places.now place None)
+        feed.old.pending feed.new.pending }
 {
     if let Some(place) = places.get(place) {
         note_one(place, change_notes, feed);
@@ -217,9 +239,16 @@ fn go_in(
     going: SessionChange,
 )
     requires opened { IsOpen places.old.items session }
-    requires can { (s : Session) → session_at places.old.items session ≡ Some s → CanChangeState s.state going.onward }
-    ensures sessions { places.new.items ≡ with_changed places.old.items session (λ s. changed_session s going) }
-    ensures noted { (start : Counters) (ops : List Op) → ((s : Session) → session_at places.old.items session ≡ Some s → LeavesNoted start ops s.state going.onward) → AreAllNoted start ops places.old.items feeds.old.items → AreAllNoted start ops places.new.items feeds.new.items }
+    requires can { (s : Session)
+        → session_at places.old.items session ≡ Some s
+        → CanChangeState s.state going.onward }
+    ensures sessions { places.new.items
+        ≡ with_changed places.old.items session (λ s. changed_session s going) }
+    ensures noted { (start : Counters) (ops : List Op)
+        → ((s : Session) → session_at places.old.items session ≡ Some s
+        → LeavesNoted start ops s.state going.onward)
+        → AreAllNoted start ops places.old.items feeds.old.items
+        → AreAllNoted start ops places.new.items feeds.new.items }
 {
     let place = session.get() - 1;
     if place >= places.len() {
@@ -237,7 +266,12 @@ fn go_in(
 fn go(place: &mut Option<Session>, feed: &mut Feed, going: SessionChange)
     requires { (s : Session) → place.old ≡ Some s → CanChangeState s.state going.onward }
     ensures place { place.new ≡ option_map (λ s. changed_session s going) place.old }
-    ensures noted { (start : Counters) (ops : List Op) (s : Session) → place.old ≡ Some s → LeavesNoted start ops s.state going.onward → ((view : ViewState) → view_of s.state ≡ Some view → IsNotedFor start ops feed.old.pending view) → (view : ViewState) → view_of (changed_state s.state going.onward) ≡ Some view → IsNotedFor start ops feed.new.pending view }
+    ensures noted { (start : Counters) (ops : List Op) (s : Session) → place.old ≡ Some s
+        → LeavesNoted start ops s.state going.onward
+        → ((view : ViewState) → view_of s.state ≡ Some view
+        → IsNotedFor start ops feed.old.pending view) → (view : ViewState)
+        → view_of (changed_state s.state going.onward) ≡ Some view
+        → IsNotedFor start ops feed.new.pending view }
 {
     match place {
         Some(session) => {
@@ -258,7 +292,12 @@ fn go(place: &mut Option<Session>, feed: &mut Feed, going: SessionChange)
 fn go_on(state: &mut State, feed: &mut Feed, onward: StateChange)
     requires { CanChangeState state.old onward }
     ensures state { state.new ≡ changed_state state.old onward }
-    ensures noted { (start : Counters) (ops : List Op) → LeavesNoted start ops state.old onward → ((view : ViewState) → view_of state.old ≡ Some view → IsNotedFor start ops feed.old.pending view) → (view : ViewState) → view_of state.new ≡ Some view → IsNotedFor start ops feed.new.pending view }
+    ensures noted { (start : Counters) (ops : List Op)
+        → LeavesNoted start ops state.old onward
+        → ((view : ViewState) → view_of state.old ≡ Some view
+        → IsNotedFor start ops feed.old.pending view) → (view : ViewState)
+        → view_of state.new ≡ Some view
+        → IsNotedFor start ops feed.new.pending view }
 {
     match onward {
         StateChange::Moves {
@@ -279,7 +318,12 @@ fn go_on(state: &mut State, feed: &mut Feed, onward: StateChange)
 fn change_in(state: &mut State, feed: &mut Feed, change: Option<ViewChange>)
     requires { CanChangeView state.old change }
     ensures state { state.new ≡ state_with state.old change }
-    ensures noted { (start : Counters) (ops : List Op) → ChangeLeaves start ops state.old change → ((view : ViewState) → view_of state.old ≡ Some view → IsNotedFor start ops feed.old.pending view) → (view : ViewState) → view_of state.new ≡ Some view → IsNotedFor start ops feed.new.pending view }
+    ensures noted { (start : Counters) (ops : List Op)
+        → ChangeLeaves start ops state.old change
+        → ((view : ViewState) → view_of state.old ≡ Some view
+        → IsNotedFor start ops feed.old.pending view) → (view : ViewState)
+        → view_of state.new ≡ Some view
+        → IsNotedFor start ops feed.new.pending view }
 {
     let Some(change) = change else {
         return;

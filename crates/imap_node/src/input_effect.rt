@@ -2,12 +2,16 @@
 
 ghost use Rattle.std.specs.Prelude.{◌≡◌, ◌++◌, ◌∷◌, [], IfOk, OnOk, Some};
 ghost use Rattle.imap_answers.specs.declared.answer.Answer.TheVariants.{Completed};
-ghost use Rattle.imap_node.specs.Commands.{messages_named_by_command, highest_answer_of, highest_answer, condstore_answer, enables_condstore};
+ghost use Rattle.imap_node.specs.Commands.{messages_named_by_command, highest_answer_of};
+ghost use Rattle.imap_node.specs.Commands.{highest_answer, condstore_answer, enables_condstore};
 ghost use Rattle.imap_commands.specs.declared.session.State.{State};
 ghost use Rattle.imap_node.specs.InputEffects.{IsListingFor, effect_from, state_or};
 ghost use Rattle.std.specs.Option.{option_map};
 ghost use Rattle.imap_node.specs.Nodes.{IsReady};
-ghost use Rattle.imap_node.specs.Responses.{IsCommandEffect, IsInputEffect, tag_of_idle, condstore_after, messages_named_by_input, tagged_lines_of_idle, idling_after, sync_effect, tagged_lines_of, report_effect};
+ghost use Rattle.imap_node.specs.Responses.{IsCommandEffect, IsInputEffect, tag_of_idle};
+ghost use Rattle.imap_node.specs.Responses.{condstore_after, messages_named_by_input};
+ghost use Rattle.imap_node.specs.Responses.{tagged_lines_of_idle, idling_after, sync_effect};
+ghost use Rattle.imap_node.specs.Responses.{tagged_lines_of, report_effect};
 
 use crate::command_tables::{is_enabling, is_idle, is_on, is_selecting, sync_of, word_of};
 use crate::input::Input;
@@ -47,7 +51,14 @@ impl Model for EffectDraft {
 
     ghost Value = { EffectDraft };
 
-    ghost view = { λ c. record { silent = c.silent.items; own = c.own.items; sync = c.sync; modseq = c.modseq; moved = c.moved; tail = c.tail.items } };
+    ghost view = { λ c. record {
+      silent = c.silent.items;
+      own = c.own.items;
+      sync = c.sync;
+      modseq = c.modseq;
+      moved = c.moved;
+      tail = c.tail.items;
+    } };
 }
 
 /// The effect of an input after its operations, using the messages that it named before them.
@@ -61,9 +72,14 @@ pub fn draft_effect(
     found: &NamedMessages,
 ) -> Result<EffectDraft, AllocError>
     requires ready { IsReady replica.now ops.now }
-    requires made { IsListingFor replica.now.start (replica.now.applied ++ ops.now) session.now.state (option_map (λ rows. rows.now) made) }
-    requires found { found.now ≡ messages_named_by_input replica.now.start replica.now.applied session.now.state input.now }
-    ensures { IfOk result (λ course. IsInputEffect replica.now.start replica.now.applied (replica.now.applied ++ ops.now) session.now input.now (effect_from session.now.state course)) }
+    requires made { IsListingFor replica.now.start (replica.now.applied ++ ops.now)
+        session.now.state (option_map (λ rows. rows.now) made) }
+    requires found { found.now
+        ≡ messages_named_by_input replica.now.start replica.now.applied session.now.state
+        input.now }
+    ensures { IfOk result (λ course. IsInputEffect replica.now.start replica.now.applied
+        (replica.now.applied ++ ops.now) session.now input.now
+        (effect_from session.now.state course)) }
 {
     match input {
         Input::Command { tagged, .. } => draft_command_effect(
@@ -80,7 +96,8 @@ fn draft_sync_effect(
     session: &Session,
     tail: Vec<Answer>,
 ) -> Result<EffectDraft, AllocError>
-    ensures { IfOk result (λ course. effect_from session.now.state course ≡ sync_effect session.now tail.items) }
+    ensures { IfOk result
+        (λ course. effect_from session.now.state course ≡ sync_effect session.now tail.items) }
 {
     Ok(EffectDraft {
         silent: Vec::new(alloc),
@@ -128,9 +145,14 @@ fn draft_command_effect(
     found: &NamedMessages,
 ) -> Result<EffectDraft, AllocError>
     requires ready { IsReady replica.now ops.now }
-    requires made { IsListingFor replica.now.start (replica.now.applied ++ ops.now) session.now.state (option_map (λ rows. rows.now) made) }
-    requires found { found.now ≡ messages_named_by_command replica.now.start replica.now.applied session.now.state tagged.now.command }
-    ensures { IfOk result (λ course. IsCommandEffect replica.now.start replica.now.applied (replica.now.applied ++ ops.now) session.now tagged.now (effect_from session.now.state course)) }
+    requires made { IsListingFor replica.now.start (replica.now.applied ++ ops.now)
+        session.now.state (option_map (λ rows. rows.now) made) }
+    requires found { found.now
+        ≡ messages_named_by_command replica.now.start replica.now.applied session.now.state
+        tagged.now.command }
+    ensures { IfOk result (λ course. IsCommandEffect replica.now.start replica.now.applied
+        (replica.now.applied ++ ops.now) session.now tagged.now
+        (effect_from session.now.state course)) }
 {
     let modseq = is_on(session, &tagged.command);
     let first = notice(alloc, replica, ops, session, &tagged.command)?;
@@ -157,7 +179,10 @@ fn draft_report_effect(
     modseq: bool,
     tagged: &Tagged,
 ) -> Result<EffectDraft, AllocError>
-    ensures { IfOk result (λ course. (state : State) → effect_from state course ≡ report_effect first.items told (state_or state moved) modseq tagged.now.tag tagged.now.command) }
+    ensures { IfOk result (λ course. (state : State)
+        → effect_from state course
+        ≡ report_effect first.items told (state_or state moved) modseq tagged.now.tag
+        tagged.now.command) }
 {
     let (own, silent, code) = told.into_parts();
     match effect_with_answers(alloc, first, own, code, tagged) {
@@ -186,7 +211,8 @@ fn effect_with_answers(
     tagged: &Tagged,
 ) -> Result<(Vec<Answer>, Vec<Answer>), AllocError>
     ensures own { IfOk result (λ s. s.0.items ≡ first.items ++ own.items) }
-    ensures tail { IfOk result (λ s. s.1.items ≡ tagged_lines_of tagged.now.tag tagged.now.command code) }
+    ensures tail { IfOk result
+        (λ s. s.1.items ≡ tagged_lines_of tagged.now.tag tagged.now.command code) }
 {
     let own = match append_answers(first, own) {
         Ok(own) => own,
@@ -243,7 +269,9 @@ fn notice(
     command: &Command,
 ) -> Result<Vec<Answer>, AllocError>
     requires { IsReady replica.now ops.now }
-    ensures { IfOk result (λ first. first.items ≡ condstore_answer replica.now.start (replica.now.applied ++ ops.now) session.now.state session.now.condstore command.now) }
+    ensures { IfOk result (λ first. first.items
+        ≡ condstore_answer replica.now.start (replica.now.applied ++ ops.now) session.now.state
+        session.now.condstore command.now) }
 {
     if !enables_condstore(session, command) {
         return Ok(Vec::new(alloc));
@@ -264,7 +292,8 @@ fn highest_of(
     state: &State,
 ) -> Result<Vec<Answer>, AllocError>
     requires { IsReady replica.now ops.now }
-    ensures { IfOk result (λ first. first.items ≡ highest_answer_of replica.now.start (replica.now.applied ++ ops.now) state.now) }
+    ensures { IfOk result (λ first. first.items
+        ≡ highest_answer_of replica.now.start (replica.now.applied ++ ops.now) state.now) }
 {
     match state {
         State::Selected { view, .. } => highest_answer(
@@ -283,7 +312,8 @@ fn highest_answer(
     uidvalidity: Option<u32>,
     modseq: u64,
 ) -> Result<Vec<Answer>, AllocError>
-    ensures { IfOk result (λ first. first.items ≡ highest_answer view.now.uidvalidity uidvalidity modseq) }
+    ensures { IfOk result
+        (λ first. first.items ≡ highest_answer view.now.uidvalidity uidvalidity modseq) }
 {
     let mut first = Vec::with_capacity(alloc, 1)?;
     if let Some(now) = uidvalidity {

@@ -8,13 +8,15 @@ ghost use Rattle.imap_commands.specs.SimpleCommands.{status_intent};
 ghost use Rattle.imap_commands.specs.Login.{login_intent};
 ghost use Rattle.imap_commands.specs.NamedMessages.{no_messages_named};
 ghost use Rattle.imap_commands.specs.Gives.{GivesOrLacksMemory};
-ghost use Rattle.imap_commands.specs.Mailboxes.{create_intent, created_name, delete_intent, subscribe_intent, unsubscribe_intent};
+ghost use Rattle.imap_commands.specs.Mailboxes.{create_intent, created_name, delete_intent};
+ghost use Rattle.imap_commands.specs.Mailboxes.{subscribe_intent, unsubscribe_intent};
 ghost use Rattle.imap_commands.specs.Searching.{search_intent};
 ghost use Rattle.imap_commands.specs.Selecting.{select_intent};
 ghost use Rattle.imap_commands.specs.declared.session.State.TheVariants.{Selected};
 ghost use Rattle.crdt_ops.specs.declared.kind.Kind.{Kind};
 ghost use Rattle.crdt_ops.specs.Sets.{delete_set_of, subscription_tags_of};
-ghost use Rattle.imap_node.specs.Commands.{asks_mailbox, messages_named_by_command, is_known, command_intent, when_known, when_new, when_selected};
+ghost use Rattle.imap_node.specs.Commands.{asks_mailbox, messages_named_by_command, is_known};
+ghost use Rattle.imap_node.specs.Commands.{command_intent, when_known, when_new, when_selected};
 ghost use Rattle.imap_node.specs.Mailboxes.{are_some, is_subscribed, mailbox_in};
 ghost use Rattle.imap_node.specs.Responses.{messages_named_by_input, input_intent};
 ghost use Rattle.session_view.specs.ViewState.{ViewState};
@@ -45,8 +47,10 @@ pub fn input_intent(
     state: &State,
     input: &Input,
 ) -> Result<Intent, Refusal>
-    ensures gives { GivesOrLacksMemory (λ wanted. wanted.kinds.items) result (input_intent replica.now.start replica.now.applied stamp.now state.now input.now) }
-    ensures found { IfOk result (λ wanted. wanted.found ≡ messages_named_by_input replica.now.start replica.now.applied state.now input.now) }
+    ensures gives { GivesOrLacksMemory (λ wanted. wanted.kinds.items) result
+        (input_intent replica.now.start replica.now.applied stamp.now state.now input.now) }
+    ensures found { IfOk result (λ wanted. wanted.found
+        ≡ messages_named_by_input replica.now.start replica.now.applied state.now input.now) }
 {
     match input {
         Input::Command { tagged, .. } => command_intent(
@@ -71,7 +75,9 @@ fn intent_without_messages(
     alloc: Global,
     kinds: Result<Vec<Kind>, Refusal>,
 ) -> Result<Intent, Refusal>
-    ensures gives { (want : Result (List Kind) Refusal) → GivesOrLacksMemory (λ kinds. kinds.items) kinds want → GivesOrLacksMemory (λ wanted. wanted.kinds.items) result want }
+    ensures gives { (want : Result (List Kind) Refusal)
+        → GivesOrLacksMemory (λ kinds. kinds.items) kinds want
+        → GivesOrLacksMemory (λ wanted. wanted.kinds.items) result want }
     ensures found { IfOk result (λ wanted. wanted.found ≡ no_messages_named) }
 {
     match kinds {
@@ -91,8 +97,10 @@ fn command_intent(
     state: &State,
     command: &Command,
 ) -> Result<Intent, Refusal>
-    ensures gives { GivesOrLacksMemory (λ wanted. wanted.kinds.items) result (command_intent replica.now.start replica.now.applied stamp.now state.now command.now) }
-    ensures found { IfOk result (λ wanted. wanted.found ≡ messages_named_by_command replica.now.start replica.now.applied state.now command.now) }
+    ensures gives { GivesOrLacksMemory (λ wanted. wanted.kinds.items) result
+        (command_intent replica.now.start replica.now.applied stamp.now state.now command.now) }
+    ensures found { IfOk result (λ wanted. wanted.found
+        ≡ messages_named_by_command replica.now.start replica.now.applied state.now command.now) }
 {
     match command {
         Command::Capability => intent_without_messages(alloc, Ok(Vec::new(alloc))),
@@ -180,7 +188,8 @@ fn no_kinds_if_known(alloc: Global, state: &State) -> Result<Vec<Kind>, Refusal>
 
 /// No operations, if a mailbox is selected.
 fn no_kinds_if_selected(alloc: Global, state: &State) -> Result<Vec<Kind>, Refusal>
-    ensures { GivesOrLacksMemory (λ kinds. kinds.items) result (when_selected state.now (λ view read_only. Ok [])) }
+    ensures { GivesOrLacksMemory (λ kinds. kinds.items) result
+        (when_selected state.now (λ view read_only. Ok [])) }
 {
     match state {
         State::Selected { .. } => Ok(Vec::new(alloc)),
@@ -194,7 +203,8 @@ fn intent_to_login(
     user: &Octets,
     password: &Octets,
 ) -> Result<Vec<Kind>, Refusal>
-    ensures { GivesOrLacksMemory (λ kinds. kinds.items) result (when_new state.now (λ credentials. login_intent credentials user.now password.now)) }
+    ensures { GivesOrLacksMemory (λ kinds. kinds.items) result
+        (when_new state.now (λ credentials. login_intent credentials user.now password.now)) }
 {
     match state {
         State::NotAuthenticated { credentials } => login_intent(alloc, credentials, user, password),
@@ -208,7 +218,8 @@ fn intent_to_select(
     state: &State,
     name: &Name,
 ) -> Result<Vec<Kind>, Refusal>
-    ensures { GivesOrLacksMemory (λ kinds. kinds.items) result (when_known state.now (select_intent (folder_exists name.now replica.now.applied))) }
+    ensures { GivesOrLacksMemory (λ kinds. kinds.items) result
+        (when_known state.now (select_intent (folder_exists name.now replica.now.applied))) }
 {
     if !is_known(state) {
         return Err(Refusal::NotNow);
@@ -222,7 +233,8 @@ fn intent_to_status(
     state: &State,
     name: &Name,
 ) -> Result<Vec<Kind>, Refusal>
-    ensures { GivesOrLacksMemory (λ kinds. kinds.items) result (when_known state.now (status_intent (folder_exists name.now replica.now.applied))) }
+    ensures { GivesOrLacksMemory (λ kinds. kinds.items) result
+        (when_known state.now (status_intent (folder_exists name.now replica.now.applied))) }
 {
     if !is_known(state) {
         return Err(Refusal::NotNow);
@@ -236,7 +248,8 @@ fn intent_to_create(
     state: &State,
     name: &Name,
 ) -> Result<Vec<Kind>, Refusal>
-    ensures { GivesOrLacksMemory (λ kinds. kinds.items) result (when_known state.now (create_intent (folder_exists (created_name name.now) replica.now.applied) name.now)) }
+    ensures { GivesOrLacksMemory (λ kinds. kinds.items) result (when_known state.now
+        (create_intent (folder_exists (created_name name.now) replica.now.applied) name.now)) }
 {
     if !is_known(state) {
         return Err(Refusal::NotNow);
@@ -251,7 +264,9 @@ fn intent_to_delete(
     state: &State,
     name: &Name,
 ) -> Result<Vec<Kind>, Refusal>
-    ensures { GivesOrLacksMemory (λ kinds. kinds.items) result (when_known state.now (delete_intent (folder_exists name.now replica.now.applied) (delete_set_of replica.now.applied name.now) name.now)) }
+    ensures { GivesOrLacksMemory (λ kinds. kinds.items) result (when_known state.now
+        (delete_intent (folder_exists name.now replica.now.applied)
+        (delete_set_of replica.now.applied name.now) name.now)) }
 {
     if !is_known(state) {
         return Err(Refusal::NotNow);
@@ -266,7 +281,8 @@ fn intent_to_subscribe(
     state: &State,
     name: &Name,
 ) -> Result<Vec<Kind>, Refusal>
-    ensures { GivesOrLacksMemory (λ kinds. kinds.items) result (when_known state.now (subscribe_intent (is_subscribed name.now replica.now.applied) name.now)) }
+    ensures { GivesOrLacksMemory (λ kinds. kinds.items) result (when_known state.now
+        (subscribe_intent (is_subscribed name.now replica.now.applied) name.now)) }
 {
     if !is_known(state) {
         return Err(Refusal::NotNow);
@@ -296,7 +312,8 @@ fn intent_to_unsubscribe(
     state: &State,
     name: &Name,
 ) -> Result<Vec<Kind>, Refusal>
-    ensures { GivesOrLacksMemory (λ kinds. kinds.items) result (when_known state.now (unsubscribe_intent (subscription_tags_of replica.now.applied name.now) name.now)) }
+    ensures { GivesOrLacksMemory (λ kinds. kinds.items) result (when_known state.now
+        (unsubscribe_intent (subscription_tags_of replica.now.applied name.now) name.now)) }
 {
     if !is_known(state) {
         return Err(Refusal::NotNow);
@@ -311,7 +328,8 @@ fn intent_to_append(
     state: &State,
     asked: &AppendArgs<'_>,
 ) -> Result<Vec<Kind>, Refusal>
-    ensures { GivesOrLacksMemory (λ kinds. kinds.items) result (when_known state.now (append_intent (folder_exists asked.now.name replica.now.applied) stamp.now asked.now)) }
+    ensures { GivesOrLacksMemory (λ kinds. kinds.items) result (when_known state.now
+        (append_intent (folder_exists asked.now.name replica.now.applied) stamp.now asked.now)) }
 {
     if !is_known(state) {
         return Err(Refusal::NotNow);
@@ -324,7 +342,8 @@ fn intent_to_search(
     state: &State,
     steps: &[SearchStep],
 ) -> Result<Vec<Kind>, Refusal>
-    ensures { GivesOrLacksMemory (λ kinds. kinds.items) result (when_selected state.now (λ view read_only. search_intent view.entries steps.now)) }
+    ensures { GivesOrLacksMemory (λ kinds. kinds.items) result
+        (when_selected state.now (λ view read_only. search_intent view.entries steps.now)) }
 {
     let State::Selected { view, .. } = state else {
         return Err(Refusal::NotNow);
@@ -340,8 +359,11 @@ fn selected_intent(
     command: &Command,
 ) -> Result<Intent, Refusal>
     requires { asks_mailbox command.now ≡ true }
-    ensures gives { (stamp : List ℕ) → GivesOrLacksMemory (λ wanted. wanted.kinds.items) result (command_intent replica.now.start replica.now.applied stamp state.now command.now) }
-    ensures found { IfOk result (λ wanted. wanted.found ≡ messages_named_by_command replica.now.start replica.now.applied state.now command.now) }
+    ensures gives { (stamp : List ℕ)
+        → GivesOrLacksMemory (λ wanted. wanted.kinds.items) result
+        (command_intent replica.now.start replica.now.applied stamp state.now command.now) }
+    ensures found { IfOk result (λ wanted. wanted.found
+        ≡ messages_named_by_command replica.now.start replica.now.applied state.now command.now) }
 {
     let State::Selected { view, read_only } = state else {
         return Err(Refusal::NotNow);
@@ -360,8 +382,15 @@ fn mailbox_intent(
     command: &Command,
 ) -> Result<Intent, Refusal>
     requires { asks_mailbox command.now ≡ true }
-    ensures gives { (stamp : List ℕ) (view : ViewState) (read_only : Bool) → mailbox.now ≡ mailbox_in replica.now.start replica.now.applied view read_only → GivesOrLacksMemory (λ wanted. wanted.kinds.items) result (command_intent replica.now.start replica.now.applied stamp (Selected view read_only) command.now) }
-    ensures found { (view : ViewState) (read_only : Bool) → mailbox.now ≡ mailbox_in replica.now.start replica.now.applied view read_only → IfOk result (λ wanted. wanted.found ≡ messages_named_by_command replica.now.start replica.now.applied (Selected view read_only) command.now) }
+    ensures gives { (stamp : List ℕ) (view : ViewState) (read_only : Bool)
+        → mailbox.now ≡ mailbox_in replica.now.start replica.now.applied view read_only
+        → GivesOrLacksMemory (λ wanted. wanted.kinds.items) result (command_intent replica.now.start
+        replica.now.applied stamp (Selected view read_only) command.now) }
+    ensures found { (view : ViewState) (read_only : Bool)
+        → mailbox.now ≡ mailbox_in replica.now.start replica.now.applied view read_only
+        → IfOk result (λ wanted. wanted.found
+        ≡ messages_named_by_command replica.now.start replica.now.applied (Selected view read_only)
+        command.now) }
 {
     match command {
         Command::Close => intent_without_messages(alloc, close_intent(alloc, mailbox)),

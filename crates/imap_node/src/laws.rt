@@ -28,31 +28,50 @@ ghost use Rattle.uid_projection.specs.declared.first_numbers.Counters.{Counters}
 /// What a reply issued is sound, bears the node's name, has the next numbers, and has ids that no
 /// applied operation has. The node's list grew at its end by exactly these operations.
 pub fn issued_are_sound_and_new()
-    ensures { (old new : NodeState) (n : ℕ) (input : Input) (reply : Reply) → IsApplied old.applied → Responds old n input reply new → Issues old (issued_by reply) new }
+    ensures { (old new : NodeState) (n : ℕ) (input : Input) (reply : Reply) → IsApplied old.applied
+        → Responds old n input reply new
+        → Issues old (issued_by reply) new }
 {}
 
 /// A reply's silent flags and answers, replayed on what the session saw before, give what it sees
 /// after: for a command, a line in IDLE and a poll, carried out or refused.
 pub fn replies_replay()
-    ensures { (old new : NodeState) (n : ℕ) (input : Input) (reply : Reply) → Responds old n input reply new → view_at new.sessions n ≡ view_after_input new.start new.applied (view_at old.sessions n) input reply }
+    ensures { (old new : NodeState) (n : ℕ) (input : Input) (reply : Reply)
+        → Responds old n input reply new
+        → view_at new.sessions n
+        ≡ view_after_input new.start new.applied (view_at old.sessions n) input reply }
 {}
 
 /// An input changes no other session. Nor does closing a session, which has no view afterwards.
 pub fn other_sessions_stay()
-    ensures inputs { (old new : NodeState) (n : ℕ) (input : Input) (reply : Reply) → Responds old n input reply new → OthersStay old.sessions n new.sessions }
-    ensures closes { (old : NodeState) (n : ℕ) → IsOpen old.sessions n → OthersStay old.sessions n (with_session_closed old n).sessions }
-    ensures ended { (old : NodeState) (n : ℕ) → IsOpen old.sessions n → view_at (with_session_closed old n).sessions n ≡ None }
+    ensures inputs { (old new : NodeState) (n : ℕ) (input : Input) (reply : Reply)
+        → Responds old n input reply new
+        → OthersStay old.sessions n new.sessions }
+    ensures closes { (old : NodeState) (n : ℕ) → IsOpen old.sessions n
+        → OthersStay old.sessions n (with_session_closed old n).sessions }
+    ensures ended { (old : NodeState) (n : ℕ) → IsOpen old.sessions n
+        → view_at (with_session_closed old n).sessions n ≡ None }
 {}
 
 /// The UIDs of each session's view ascend, whatever happens: inputs, sessions that are opened and
 /// closed, operations of other replicas.
 pub fn views_ascend()
     ensures begins { ViewsAscend [] }
-    ensures inputs { (old new : NodeState) (n : ℕ) (input : Input) (reply : Reply) → 1 ≤ old.start.uid → IsApplied old.applied → Responds old n input reply new → ViewsAscend old.sessions → ViewsAscend new.sessions }
-    ensures opens { (old new : Places) (auth : Auth) (n : ℕ) → Opens old auth n new → ViewsAscend old → ViewsAscend new }
-    ensures closes { (old : NodeState) (n : ℕ) → IsOpen old.sessions n → ViewsAscend old.sessions → ViewsAscend (with_session_closed old n).sessions }
-    ensures deliveries { (old new : NodeState) (op : Op) (came : Arrival) → Delivers old op came new → ViewsAscend old.sessions → ViewsAscend new.sessions }
-    ensures drains { (old new : NodeState) (count : ℕ) → Drains old count new → ViewsAscend old.sessions → ViewsAscend new.sessions }
+    ensures inputs { (old new : NodeState) (n : ℕ) (input : Input) (reply : Reply)
+        → 1 ≤ old.start.uid → IsApplied old.applied
+        → Responds old n input reply new → ViewsAscend old.sessions
+        → ViewsAscend new.sessions }
+    ensures opens { (old new : Places) (auth : Auth) (n : ℕ) → Opens old auth n new
+        → ViewsAscend old
+        → ViewsAscend new }
+    ensures closes { (old : NodeState) (n : ℕ) → IsOpen old.sessions n → ViewsAscend old.sessions
+        → ViewsAscend (with_session_closed old n).sessions }
+    ensures deliveries { (old new : NodeState) (op : Op) (came : Arrival) → Delivers old op came new
+        → ViewsAscend old.sessions
+        → ViewsAscend new.sessions }
+    ensures drains { (old new : NodeState) (count : ℕ) → Drains old count new
+        → ViewsAscend old.sessions
+        → ViewsAscend new.sessions }
 {}
 
 /// Each session's view goes back to an earlier moment of its mailbox's incarnation, whatever
@@ -60,27 +79,58 @@ pub fn views_ascend()
 /// has grown, in any way.
 pub fn views_go_back()
     ensures begins { (start : Counters) → AreOlderViews start [] [] }
-    ensures inputs { (old new : NodeState) (n : ℕ) (input : Input) (reply : Reply) → 1 ≤ old.start.uid → IsApplied old.applied → ViewsAscend old.sessions → AreOlderViews old.start old.applied old.sessions
+    ensures inputs { (old new : NodeState) (n : ℕ) (input : Input) (reply : Reply)
+        → 1 ≤ old.start.uid → IsApplied old.applied → ViewsAscend old.sessions
+        → AreOlderViews old.start old.applied old.sessions
         → Responds old n input reply new → AreOlderViews new.start new.applied new.sessions }
-    ensures opens { (start : Counters) (ops : List Op) (old new : Places) (auth : Auth) (n : ℕ) → Opens old auth n new → AreOlderViews start ops old → AreOlderViews start ops new }
-    ensures closes { (start : Counters) (ops : List Op) (old : NodeState) (n : ℕ) → IsOpen old.sessions n → AreOlderViews start ops old.sessions → AreOlderViews start ops (with_session_closed old n).sessions }
-    ensures grows { (old new : NodeState) → new.start ≡ old.start → new.sessions ≡ old.sessions → HasGrown old.applied new.applied → IsApplied new.applied → AreOlderViews old.start old.applied old.sessions → AreOlderViews new.start new.applied new.sessions }
-    ensures deliveries { (old new : NodeState) (op : Op) (came : Arrival) → IsApplied new.applied → Delivers old op came new → AreOlderViews old.start old.applied old.sessions → AreOlderViews new.start new.applied new.sessions }
-    ensures drains { (old new : NodeState) (count : ℕ) → IsApplied new.applied → Drains old count new → AreOlderViews old.start old.applied old.sessions → AreOlderViews new.start new.applied new.sessions }
+    ensures opens { (start : Counters) (ops : List Op) (old new : Places) (auth : Auth) (n : ℕ)
+        → Opens old auth n new
+        → AreOlderViews start ops old
+        → AreOlderViews start ops new }
+    ensures closes { (start : Counters) (ops : List Op) (old : NodeState) (n : ℕ)
+        → IsOpen old.sessions n
+        → AreOlderViews start ops old.sessions
+        → AreOlderViews start ops (with_session_closed old n).sessions }
+    ensures grows { (old new : NodeState) → new.start ≡ old.start
+        → new.sessions ≡ old.sessions
+        → HasGrown old.applied new.applied → IsApplied new.applied
+        → AreOlderViews old.start old.applied old.sessions
+        → AreOlderViews new.start new.applied new.sessions }
+    ensures deliveries { (old new : NodeState) (op : Op) (came : Arrival) → IsApplied new.applied
+        → Delivers old op came new
+        → AreOlderViews old.start old.applied old.sessions
+        → AreOlderViews new.start new.applied new.sessions }
+    ensures drains { (old new : NodeState) (count : ℕ) → IsApplied new.applied
+        → Drains old count new
+        → AreOlderViews old.start old.applied old.sessions
+        → AreOlderViews new.start new.applied new.sessions }
 {}
 
 /// After a full sync, and after a SELECT or an EXAMINE, a session sees exactly what its mailbox
 /// lists, flags included, and nothing if its mailbox's incarnation has ended.
 pub fn full_syncs_show_listing()
-    ensures { (old new : NodeState) (n : ℕ) (input : Input) (answers : List Answer) (silent : List SilentFlags) (issued : List Op) (view : ViewState) → 1 ≤ old.start.uid → IsApplied old.applied → ViewsAscend old.sessions
-        → AreOlderViews old.start old.applied old.sessions → Responds old n input (Done answers silent issued) new → tells_all input ≡ true → view_at new.sessions n ≡ Some view → view.entries ≡ entries_of (rows_for new.start new.applied view) }
+    ensures { (old new : NodeState) (n : ℕ) (input : Input) (answers : List Answer)
+        (silent : List SilentFlags) (issued : List Op) (view : ViewState) → 1 ≤ old.start.uid
+        → IsApplied old.applied
+        → ViewsAscend old.sessions
+        → AreOlderViews old.start old.applied old.sessions
+        → Responds old n input (Done answers silent issued) new → tells_all input ≡ true
+        → view_at new.sessions n ≡ Some view
+        → view.entries ≡ entries_of (rows_for new.start new.applied view) }
 {}
 
 /// No operation that a node has applied found a counter used up: neither one that it issued, nor
 /// one that a delivery or a drain released.
 pub fn counters_last()
     ensures begins { (start : Counters) → IsLasting start [] }
-    ensures inputs { (old new : NodeState) (n : ℕ) (input : Input) (reply : Reply) → IsLasting old.start old.applied → Responds old n input reply new → IsLasting new.start new.applied }
-    ensures deliveries { (old new : NodeState) (op : Op) (came : Arrival) → IsApplied new.applied → IsLasting old.start old.applied → Delivers old op came new → IsLasting new.start new.applied }
-    ensures drains { (old new : NodeState) (count : ℕ) → IsApplied new.applied → IsLasting old.start old.applied → Drains old count new → IsLasting new.start new.applied }
+    ensures inputs { (old new : NodeState) (n : ℕ) (input : Input) (reply : Reply)
+        → IsLasting old.start old.applied
+        → Responds old n input reply new
+        → IsLasting new.start new.applied }
+    ensures deliveries { (old new : NodeState) (op : Op) (came : Arrival) → IsApplied new.applied
+        → IsLasting old.start old.applied → Delivers old op came new
+        → IsLasting new.start new.applied }
+    ensures drains { (old new : NodeState) (count : ℕ) → IsApplied new.applied
+        → IsLasting old.start old.applied → Drains old count new
+        → IsLasting new.start new.applied }
 {}

@@ -1,9 +1,12 @@
 //! A replica with its sessions.
 
-ghost use Rattle.std.specs.Prelude.{◌≡◌, ◌≢◌, ◌↔◌, ℕ, ◌<◌, ◌≤◌, ◌++◌, false, List, [], Err, IfOk, IsNone, IsSome, IsTrue, MatchResult, None, OnErr, Some, length, take, ◌∷◌, ◌+◌};
+ghost use Rattle.std.specs.Prelude.{◌≡◌, ◌≢◌, ◌↔◌, ℕ, ◌<◌, ◌≤◌, ◌++◌, false, List, [], Err, IfOk};
+ghost use Rattle.std.specs.Prelude.{IsNone, IsSome, IsTrue, MatchResult, None, OnErr, Some, length};
+ghost use Rattle.std.specs.Prelude.{take, ◌∷◌, ◌+◌};
 ghost use Rattle.std.specs.Option.{option_copied};
 ghost use Rattle.causal_inbox.specs.Inbox.{AreIssued, IsClockOf, held_limit, uncovered_ops};
-ghost use Rattle.crdt_ops.specs.Sets.{delete_set_of, folder_tags_of, folders_of, messages_of, subscribed_names_of, subscription_tags_of};
+ghost use Rattle.crdt_ops.specs.Sets.{delete_set_of, folder_tags_of, folders_of, messages_of};
+ghost use Rattle.crdt_ops.specs.Sets.{subscribed_names_of, subscription_tags_of};
 ghost use Rattle.crdt_ops.specs.declared.op.Op.{Op};
 ghost use Rattle.folder_state.specs.Contents.{IsMadeBy};
 ghost use Rattle.folder_state.specs.Tables.{contents_of};
@@ -12,7 +15,8 @@ ghost use Rattle.crdt_ops.specs.Tags.{name_of};
 ghost use Rattle.imap_node.specs.SessionFeeds.{AreAllNoted, IsCurrent, pending_at};
 ghost use Rattle.imap_node.specs.ChangeNotes.{IsSnapshotOf};
 ghost use Rattle.imap_node.specs.Operations.{clock_of, id_of};
-ghost use Rattle.imap_node.specs.Plans.{CanStep, plan_of_prepared, step_of_refusal, place_after_step, plan_by};
+ghost use Rattle.imap_node.specs.Plans.{CanStep, plan_of_prepared, step_of_refusal};
+ghost use Rattle.imap_node.specs.Plans.{place_after_step, plan_by};
 ghost use Rattle.imap_node.specs.Replays.{view_at};
 ghost use Rattle.imap_node.specs.Responses.{AreHeldAfter};
 ghost use Rattle.imap_node.specs.Sessions.{IsOpen, session_at, with_session};
@@ -78,14 +82,23 @@ impl Model for Node {
 
     ghost coded = { Prim.hlevel (codes, hash_map_code, hash_set_code) };
 
-    ghost view = { λ n. record { state = record { start = n.replica.start; applied = n.replica.applied; held = n.replica.held; sessions = n.sessions }; room = n.replica.room } };
+    ghost view = { λ n. record {
+      state = record {
+        start = n.replica.start;
+        applied = n.replica.applied;
+        held = n.replica.held;
+        sessions = n.sessions;
+      };
+      room = n.replica.room;
+    } };
 
     ghost invariant = { λ n. AreAllNoted n.replica.start n.replica.applied n.sessions n.feeds };
 }
 
 impl Node {
     ghost use Rattle.crdt_ops.specs.Sound.{IsSound};
-    ghost use Rattle.imap_node.specs.Deliveries.{Delivers, Drains, HoldsRipe, IsOrderly, IsRefusedAt, StallsAt};
+    ghost use Rattle.imap_node.specs.Deliveries.{Delivers, Drains, HoldsRipe, IsOrderly};
+    ghost use Rattle.imap_node.specs.Deliveries.{IsRefusedAt, StallsAt};
     ghost use Rattle.imap_node.specs.Nodes.{Idles, with_session_closed};
     ghost use Rattle.imap_node.specs.Plans.{CommitsTo, IsPlanned, IsPlanOf};
     ghost use Rattle.imap_node.specs.Responses.{Responds};
@@ -98,7 +111,8 @@ impl Node {
     /// received nothing and has no sessions; `Err` if memory runs out.
     pub fn new(alloc: Global, start: Counters) -> Result<Node, AllocError>
         requires { 1 ≤ start.uid }
-        ensures { IfOk result (λ node. node.state ≡ record { start = start; applied = []; held = []; sessions = [] }) }
+        ensures { IfOk result (λ node. node.state
+            ≡ record { start = start; applied = []; held = []; sessions = [] }) }
     {
         Ok(Node {
             replica: ReplicaState::new(alloc, start)?,
@@ -138,7 +152,9 @@ impl Node {
     /// with the mailbox's listing in every message, or if it isn't open or has no mailbox selected.
     /// Cost: a look at its feed.
     pub fn may_be_behind(&self, session: SessionNo) -> bool
-        ensures { result ≡ false → (view : ViewState) → view_at self.now.state.sessions session ≡ Some view → IsCurrent self.now.state.start self.now.state.applied view }
+        ensures { result ≡ false → (view : ViewState)
+            → view_at self.now.state.sessions session ≡ Some view
+            → IsCurrent self.now.state.start self.now.state.applied view }
     {
         match self.session(session) {
             Some(found) => may_be_told(&found.state, self.feeds.feed_of(session)),
@@ -158,10 +174,16 @@ impl Node {
     /// `TooManySessions` exactly if all numbers from 1 to 1,024 are open, unless memory runs out;
     /// `NoMemory`.
     pub fn open(&mut self, auth: Auth) -> Result<SessionNo, OpenFault>
-        ensures ok { IfOk result (λ session. Opens self.old.state.sessions auth session self.new.state.sessions) }
-        ensures full { result ≡ Err TooManySessions → (n : ℕ) → 0 < n → n ≤ 1024 → IsOpen self.old.state.sessions n }
-        ensures room { ((n : ℕ) × (0 < n) × (n ≤ 1024) × IsNone (session_at self.old.state.sessions n)) → result ≢ Err TooManySessions }
-        ensures rest { self.new ≡ record self.old { state = record self.old.state { sessions = self.new.state.sessions } } }
+        ensures ok { IfOk result
+            (λ session. Opens self.old.state.sessions auth session self.new.state.sessions) }
+        ensures full { result ≡ Err TooManySessions → (n : ℕ) → 0 < n → n ≤ 1024
+            → IsOpen self.old.state.sessions n }
+        ensures room { ((n : ℕ) × (0 < n) × (n ≤ 1024)
+            × IsNone (session_at self.old.state.sessions n)) → result ≢ Err TooManySessions }
+        ensures rest { self.new
+            ≡ record self.old {
+              state = record self.old.state { sessions = self.new.state.sessions };
+            } }
         ensures err { OnErr result (self.new ≡ self.old) }
     {
         let session = self.sessions.open(auth)?;
@@ -202,7 +224,8 @@ impl Node {
         tagged: Tagged,
     ) -> Reply
         requires { IsOpen self.old.state.sessions session }
-        ensures { Responds self.old.state session (inputs.Command moment tagged) result self.new.state }
+        ensures { Responds self.old.state session (inputs.Command moment tagged) result
+            self.new.state }
     {
         let plan = self.plan(alloc, session, Input::Command { moment, tagged });
         self.commit(plan)
@@ -291,7 +314,9 @@ impl Node {
     /// Cost: it looks through the operations received, and once through those held for each
     /// operation that it applies.
     pub fn deliver(&mut self, alloc: Global, op: SoundOp) -> Result<Delivered, DeliverFault>
-        ensures answer { MatchResult result (λ d. Delivers self.old.state op d.arrival self.new.state) (λ e. IsRefusedAt self.old.state op e) }
+        ensures answer { MatchResult result
+            (λ d. Delivers self.old.state op d.arrival self.new.state)
+            (λ e. IsRefusedAt self.old.state op e) }
         ensures stalled { IfOk result (λ d. IsTrue d.stalled ↔ HoldsRipe self.new.state) }
         ensures err { OnErr result (self.new.state ≡ self.old.state) }
     {
@@ -360,14 +385,16 @@ impl Node {
     /// Copies of the operations applied that the clock doesn't cover, in their order; `Err` if
     /// memory runs out.
     pub fn ops_since(&self, alloc: Global, clock: &Clock) -> Result<Vec<SoundOp>, AllocError>
-        ensures { IfOk result (λ ops. ops.items ≡ uncovered_ops id_of clock.now self.now.state.applied) }
+        ensures { IfOk result
+            (λ ops. ops.items ≡ uncovered_ops id_of clock.now self.now.state.applied) }
     {
         self.replica.ops_since(alloc, clock)
     }
 
     /// The mailbox's listing; `Err` if memory runs out.
     pub fn listing(&self, alloc: Global, name: &Name) -> Result<Rows<'_>, AllocError>
-        ensures { IfOk result (λ rows. rows ≡ listing self.now.state.start name.now self.now.state.applied) }
+        ensures { IfOk result
+            (λ rows. rows ≡ listing self.now.state.start name.now self.now.state.applied) }
     {
         self.replica.rows(alloc, name)
     }
@@ -431,9 +458,16 @@ fn make_room(
 /// Takes the planned step of an open session.
 fn set_next(sessions: &mut Sessions, feeds: &mut Feeds, number: SessionNo, next: SessionStep)
     requires opened { IsOpen sessions.old number }
-    requires can { (start : Counters) × (ops : List Op) × ((s : Session) → session_at sessions.old number ≡ Some s → CanStep start ops s next) }
-    ensures sessions { sessions.new ≡ with_session sessions.old number (place_after_step (session_at sessions.old number) next) }
-    ensures noted { (start : Counters) (ops : List Op) → ((s : Session) → session_at sessions.old number ≡ Some s → CanStep start ops s next) → AreAllNoted start ops sessions.old feeds.old → AreAllNoted start ops sessions.new feeds.new }
+    requires can { (start : Counters)
+        × (ops : List Op)
+        × ((s : Session) → session_at sessions.old number ≡ Some s → CanStep start ops s next) }
+    ensures sessions { sessions.new
+        ≡ with_session sessions.old number
+        (place_after_step (session_at sessions.old number) next) }
+    ensures noted { (start : Counters) (ops : List Op)
+        → ((s : Session) → session_at sessions.old number ≡ Some s → CanStep start ops s next)
+        → AreAllNoted start ops sessions.old feeds.old
+        → AreAllNoted start ops sessions.new feeds.new }
 {
     match next {
         SessionStep::Stays => {}
@@ -454,8 +488,13 @@ fn note_delivered(
     feeds: &mut Feeds,
 )
     requires count { count ≤ length replica.now.applied }
-    requires ahead { IfOk ahead (λ a. (op : Op) × IsSnapshotOf replica.now.start (take count replica.now.applied) (op ∷ []) (name_of op.kind) a × (length replica.now.applied ≡ count + 1 → replica.now.applied ≡ take count replica.now.applied ++ op ∷ [])) }
-    ensures { AreAllNoted replica.now.start (take count replica.now.applied) sessions.now feeds.old → AreAllNoted replica.now.start replica.now.applied sessions.now feeds.new }
+    requires ahead { IfOk ahead (λ a. (op : Op)
+        × IsSnapshotOf replica.now.start (take count replica.now.applied) (op ∷ [])
+        (name_of op.kind) a
+        × (length replica.now.applied ≡ count + 1
+        → replica.now.applied ≡ take count replica.now.applied ++ op ∷ [])) }
+    ensures { AreAllNoted replica.now.start (take count replica.now.applied) sessions.now feeds.old
+        → AreAllNoted replica.now.start replica.now.applied sessions.now feeds.new }
 {
     if replica.op_list().len() - count == 1 {
         if let Ok(ahead) = ahead {
@@ -481,7 +520,9 @@ fn note_since(
     feeds: &mut Feeds,
 )
     requires { count ≤ length replica.now.applied }
-    ensures { (start : Counters) → AreAllNoted start (take count replica.now.applied) sessions.now feeds.old → AreAllNoted start replica.now.applied sessions.now feeds.new }
+    ensures { (start : Counters)
+        → AreAllNoted start (take count replica.now.applied) sessions.now feeds.old
+        → AreAllNoted start replica.now.applied sessions.now feeds.new }
 {
     let ops = replica.op_list();
     if count == ops.len() {

@@ -5,7 +5,8 @@ ghost use Rattle.causal_inbox.specs.Inbox.{AreIssued};
 ghost use Rattle.imap_commands.specs.Gives.{GivesOrLacksMemory};
 ghost use Rattle.imap_commands.specs.declared.session.Session.{Session};
 ghost use Rattle.std.specs.Option.{option_map};
-ghost use Rattle.imap_node.specs.InputEffects.{IsListingFor, answers_of_effect, effect_from, sync_result_after, sync_result_of, state_or};
+ghost use Rattle.imap_node.specs.InputEffects.{IsListingFor, answers_of_effect, effect_from};
+ghost use Rattle.imap_node.specs.InputEffects.{sync_result_after, sync_result_of, state_or};
 ghost use Rattle.imap_node.specs.SessionFeeds.{AreAllNoted, AreChangeNotes, IsNotedFor};
 ghost use Rattle.imap_node.specs.SessionChanges.{CanChangeSession, changed_state};
 ghost use Rattle.imap_node.specs.Nodes.{IsReady};
@@ -13,7 +14,8 @@ ghost use Rattle.imap_node.specs.Operations.{CanIssueAll, clock_of, id_of};
 ghost use Rattle.imap_node.specs.Plans.{IsPreparedReply, IsPreparedInput};
 ghost use Rattle.imap_node.specs.Resting.{IsAtRest, IsNoop, noop_at_rest};
 ghost use Rattle.imap_node.specs.Replays.{view_in, view_of};
-ghost use Rattle.imap_node.specs.Responses.{IsRefused, IsStamp, IsStampFor, messages_named_by_input, input_intent};
+ghost use Rattle.imap_node.specs.Responses.{IsRefused, IsStamp, IsStampFor};
+ghost use Rattle.imap_node.specs.Responses.{messages_named_by_input, input_intent};
 ghost use Rattle.imap_node.specs.Rooms.{HasRoomFor};
 ghost use Rattle.imap_node.specs.Sessions.{IsOpen, session_at};
 ghost use Rattle.session_view.specs.ViewState.{ViewState};
@@ -112,12 +114,22 @@ pub fn prepare_for(
     ensures start { replica.new.start ≡ replica.old.start }
     ensures applied { replica.new.applied ≡ replica.old.applied }
     ensures held { replica.new.held ≡ replica.old.held }
-    ensures room { IfOk result (λ p. (p.ops ≡ [] → ⊥) → HasRoomFor replica.new.applied replica.new.room p.ops) }
+    ensures room { IfOk result
+        (λ p. (p.ops ≡ [] → ⊥) → HasRoomFor replica.new.applied replica.new.room p.ops) }
     ensures issued { IfOk result (λ p. AreIssued id_of clock_of replica.old.applied p.ops) }
-    ensures news { IfOk result (λ p. AreChangeNotes replica.old.start replica.old.applied (replica.old.applied ++ p.ops) p.change_notes) }
-    ensures can { (s : Session) → session_at sessions.old number ≡ Some s → IfOk result (λ p. CanChangeSession replica.old.start (replica.old.applied ++ p.ops) s.state p.answered.going.onward) }
-    ensures ok { (s : Session) → session_at sessions.old number ≡ Some s → IfOk result (λ p. IsPreparedInput replica.old.start replica.old.applied s input.now p) }
-    ensures err { (s : Session) → session_at sessions.old number ≡ Some s → IfErr result (λ why. IsRefused replica.old.start replica.old.applied s.state input.now why) }
+    ensures news { IfOk result (λ p. AreChangeNotes replica.old.start replica.old.applied
+        (replica.old.applied ++ p.ops) p.change_notes) }
+    ensures can { (s : Session)
+        → session_at sessions.old number ≡ Some s
+        → IfOk result (λ p. CanChangeSession replica.old.start (replica.old.applied ++ p.ops)
+        s.state p.answered.going.onward) }
+    ensures ok { (s : Session)
+        → session_at sessions.old number ≡ Some s
+        → IfOk result (λ p. IsPreparedInput replica.old.start replica.old.applied s input.now p) }
+    ensures err { (s : Session)
+        → session_at sessions.old number ≡ Some s
+        → IfErr result
+        (λ why. IsRefused replica.old.start replica.old.applied s.state input.now why) }
 {
     let place = number.get() - 1;
     let places = &mut sessions.places;
@@ -142,17 +154,26 @@ fn prepare_at(
     input: &Input,
 ) -> Result<PreparedInput, Refusal>
     requires opened { IsSome place.old }
-    requires noted { (view : ViewState) → view_in place.old ≡ Some view → IsNotedFor replica.old.start replica.old.applied feed.now.pending view }
+    requires noted { (view : ViewState)
+        → view_in place.old ≡ Some view
+        → IsNotedFor replica.old.start replica.old.applied feed.now.pending view }
     ensures place { place.new ≡ place.old }
     ensures start { replica.new.start ≡ replica.old.start }
     ensures applied { replica.new.applied ≡ replica.old.applied }
     ensures held { replica.new.held ≡ replica.old.held }
-    ensures room { IfOk result (λ p. (p.ops ≡ [] → ⊥) → HasRoomFor replica.new.applied replica.new.room p.ops) }
+    ensures room { IfOk result
+        (λ p. (p.ops ≡ [] → ⊥) → HasRoomFor replica.new.applied replica.new.room p.ops) }
     ensures issued { IfOk result (λ p. AreIssued id_of clock_of replica.old.applied p.ops) }
-    ensures news { IfOk result (λ p. AreChangeNotes replica.old.start replica.old.applied (replica.old.applied ++ p.ops) p.change_notes) }
-    ensures can { (s : Session) → place.old ≡ Some s → IfOk result (λ p. CanChangeSession replica.old.start (replica.old.applied ++ p.ops) s.state p.answered.going.onward) }
-    ensures ok { (s : Session) → place.old ≡ Some s → IfOk result (λ p. IsPreparedInput replica.old.start replica.old.applied s input.now p) }
-    ensures err { (s : Session) → place.old ≡ Some s → IfErr result (λ why. IsRefused replica.old.start replica.old.applied s.state input.now why) }
+    ensures news { IfOk result (λ p. AreChangeNotes replica.old.start replica.old.applied
+        (replica.old.applied ++ p.ops) p.change_notes) }
+    ensures can { (s : Session) → place.old ≡ Some s
+        → IfOk result (λ p. CanChangeSession replica.old.start (replica.old.applied ++ p.ops)
+        s.state p.answered.going.onward) }
+    ensures ok { (s : Session) → place.old ≡ Some s
+        → IfOk result (λ p. IsPreparedInput replica.old.start replica.old.applied s input.now p) }
+    ensures err { (s : Session) → place.old ≡ Some s
+        → IfErr result
+        (λ why. IsRefused replica.old.start replica.old.applied s.state input.now why) }
 {
     match place {
         Some(session) => prepare(alloc, replica, session, feed, input),
@@ -168,17 +189,24 @@ fn prepare(
     feed: &Feed,
     input: &Input,
 ) -> Result<PreparedInput, Refusal>
-    requires noted { (view : ViewState) → view_of session.old.state ≡ Some view → IsNotedFor replica.old.start replica.old.applied feed.now.pending view }
+    requires noted { (view : ViewState)
+        → view_of session.old.state ≡ Some view
+        → IsNotedFor replica.old.start replica.old.applied feed.now.pending view }
     ensures session { session.new ≡ session.old }
     ensures start { replica.new.start ≡ replica.old.start }
     ensures applied { replica.new.applied ≡ replica.old.applied }
     ensures held { replica.new.held ≡ replica.old.held }
-    ensures room { IfOk result (λ p. (p.ops ≡ [] → ⊥) → HasRoomFor replica.new.applied replica.new.room p.ops) }
+    ensures room { IfOk result
+        (λ p. (p.ops ≡ [] → ⊥) → HasRoomFor replica.new.applied replica.new.room p.ops) }
     ensures issued { IfOk result (λ p. AreIssued id_of clock_of replica.old.applied p.ops) }
-    ensures news { IfOk result (λ p. AreChangeNotes replica.old.start replica.old.applied (replica.old.applied ++ p.ops) p.change_notes) }
-    ensures can { IfOk result (λ p. CanChangeSession replica.old.start (replica.old.applied ++ p.ops) session.old.state p.answered.going.onward) }
-    ensures ok { IfOk result (λ p. IsPreparedInput replica.old.start replica.old.applied session.old input.now p) }
-    ensures err { IfErr result (λ why. IsRefused replica.old.start replica.old.applied session.old.state input.now why) }
+    ensures news { IfOk result (λ p. AreChangeNotes replica.old.start replica.old.applied
+        (replica.old.applied ++ p.ops) p.change_notes) }
+    ensures can { IfOk result (λ p. CanChangeSession replica.old.start
+        (replica.old.applied ++ p.ops) session.old.state p.answered.going.onward) }
+    ensures ok { IfOk result
+        (λ p. IsPreparedInput replica.old.start replica.old.applied session.old input.now p) }
+    ensures err { IfErr result
+        (λ why. IsRefused replica.old.start replica.old.applied session.old.state input.now why) }
 {
     match tag_at_rest(alloc, session, feed, input) {
         Some(tag) => Ok(noop_at_rest(alloc, session, tag)?),
@@ -194,7 +222,9 @@ fn tag_at_rest<'a>(
     feed: &Feed,
     input: &'a Input,
 ) -> Option<&'a Octets>
-    ensures { (tag : List ℕ) → option_map (λ t. t.now) result ≡ Some tag → IsAtRest session.now.state feed.now.pending input.now tag }
+    ensures { (tag : List ℕ)
+        → option_map (λ t. t.now) result ≡ Some tag
+        → IsAtRest session.now.state feed.now.pending input.now tag }
 {
     let tag = noop_tag(input)?;
     let change_notes = ChangeNotes::none(alloc);
@@ -252,17 +282,24 @@ fn prepare_any(
     feed: &Feed,
     input: &Input,
 ) -> Result<PreparedInput, Refusal>
-    requires noted { (view : ViewState) → view_of session.old.state ≡ Some view → IsNotedFor replica.old.start replica.old.applied feed.now.pending view }
+    requires noted { (view : ViewState)
+        → view_of session.old.state ≡ Some view
+        → IsNotedFor replica.old.start replica.old.applied feed.now.pending view }
     ensures session { session.new ≡ session.old }
     ensures start { replica.new.start ≡ replica.old.start }
     ensures applied { replica.new.applied ≡ replica.old.applied }
     ensures held { replica.new.held ≡ replica.old.held }
-    ensures room { IfOk result (λ p. (p.ops ≡ [] → ⊥) → HasRoomFor replica.new.applied replica.new.room p.ops) }
+    ensures room { IfOk result
+        (λ p. (p.ops ≡ [] → ⊥) → HasRoomFor replica.new.applied replica.new.room p.ops) }
     ensures issued { IfOk result (λ p. AreIssued id_of clock_of replica.old.applied p.ops) }
-    ensures news { IfOk result (λ p. AreChangeNotes replica.old.start replica.old.applied (replica.old.applied ++ p.ops) p.change_notes) }
-    ensures can { IfOk result (λ p. CanChangeSession replica.old.start (replica.old.applied ++ p.ops) session.old.state p.answered.going.onward) }
-    ensures ok { IfOk result (λ p. IsPreparedInput replica.old.start replica.old.applied session.old input.now p) }
-    ensures err { IfErr result (λ why. IsRefused replica.old.start replica.old.applied session.old.state input.now why) }
+    ensures news { IfOk result (λ p. AreChangeNotes replica.old.start replica.old.applied
+        (replica.old.applied ++ p.ops) p.change_notes) }
+    ensures can { IfOk result (λ p. CanChangeSession replica.old.start
+        (replica.old.applied ++ p.ops) session.old.state p.answered.going.onward) }
+    ensures ok { IfOk result
+        (λ p. IsPreparedInput replica.old.start replica.old.applied session.old input.now p) }
+    ensures err { IfErr result
+        (λ why. IsRefused replica.old.start replica.old.applied session.old.state input.now why) }
 {
     let stamp = stamp_of(input);
     let Intent { kinds, found } = intent_within_numbers(alloc, replica, &stamp, session, input)?;
@@ -298,8 +335,11 @@ fn intent_within_numbers(
     session: &Session,
     input: &Input,
 ) -> Result<Intent, Refusal>
-    ensures gives { GivesOrLacksMemory (λ wanted. wanted.kinds.items) result (input_intent replica.now.start replica.now.applied stamp.now session.now.state input.now) }
-    ensures found { IfOk result (λ wanted. wanted.found ≡ messages_named_by_input replica.now.start replica.now.applied session.now.state input.now) }
+    ensures gives { GivesOrLacksMemory (λ wanted. wanted.kinds.items) result
+        (input_intent replica.now.start replica.now.applied stamp.now session.now.state input.now) }
+    ensures found { IfOk result (λ wanted. wanted.found
+        ≡ messages_named_by_input replica.now.start replica.now.applied session.now.state
+        input.now) }
     ensures can { IfOk result (λ wanted. CanIssueAll replica.now.applied wanted.kinds.items) }
 {
     let _list = replica.op_list();
@@ -318,14 +358,21 @@ fn prepared_reply(
     ops: Vec<SoundOp>,
 ) -> Result<PreparedInput, AllocError>
     requires ready { IsReady replica.now ops.items }
-    requires found { found.now ≡ messages_named_by_input replica.now.start replica.now.applied session.old.state input.now }
-    requires noted { (view : ViewState) → view_of session.old.state ≡ Some view → IsNotedFor replica.now.start replica.now.applied feed.now.pending view }
+    requires found { found.now
+        ≡ messages_named_by_input replica.now.start replica.now.applied session.old.state
+        input.now }
+    requires noted { (view : ViewState)
+        → view_of session.old.state ≡ Some view
+        → IsNotedFor replica.now.start replica.now.applied feed.now.pending view }
     ensures session { session.new ≡ session.old }
-    ensures answered { IfOk result (λ p. IsPreparedReply replica.now.start replica.now.applied (replica.now.applied ++ ops.items) session.old input.now p.answered) }
-    ensures can { IfOk result (λ p. CanChangeSession replica.now.start (replica.now.applied ++ ops.items) session.old.state p.answered.going.onward) }
+    ensures answered { IfOk result (λ p. IsPreparedReply replica.now.start replica.now.applied
+        (replica.now.applied ++ ops.items) session.old input.now p.answered) }
+    ensures can { IfOk result (λ p. CanChangeSession replica.now.start
+        (replica.now.applied ++ ops.items) session.old.state p.answered.going.onward) }
     ensures ops { IfOk result (λ p. p.ops ≡ ops.items) }
     ensures copies { IfOk result (λ p. p.copies ≡ ops.items) }
-    ensures news { IfOk result (λ p. AreChangeNotes replica.now.start replica.now.applied (replica.now.applied ++ ops.items) p.change_notes) }
+    ensures news { IfOk result (λ p. AreChangeNotes replica.now.start replica.now.applied
+        (replica.now.applied ++ ops.items) p.change_notes) }
 {
     let ops = ReadyOps::new(ops);
     let copies = shared_copies(alloc, ops.as_slice())?;
@@ -371,12 +418,19 @@ fn answers_to(
     ops: &[SoundOp],
 ) -> Result<PreparedReply, AllocError>
     requires ready { IsReady replica.now ops.now }
-    requires found { found.now ≡ messages_named_by_input replica.now.start replica.now.applied session.old.state input.now }
-    requires noted { (view : ViewState) → view_of session.old.state ≡ Some view → IsNotedFor replica.now.start replica.now.applied unsent.now.pending view }
-    requires news { AreChangeNotes replica.now.start replica.now.applied (replica.now.applied ++ ops.now) unsent.now.change_notes }
+    requires found { found.now
+        ≡ messages_named_by_input replica.now.start replica.now.applied session.old.state
+        input.now }
+    requires noted { (view : ViewState)
+        → view_of session.old.state ≡ Some view
+        → IsNotedFor replica.now.start replica.now.applied unsent.now.pending view }
+    requires news { AreChangeNotes replica.now.start replica.now.applied
+        (replica.now.applied ++ ops.now) unsent.now.change_notes }
     ensures session { session.new ≡ session.old }
-    ensures answered { IfOk result (λ a. IsPreparedReply replica.now.start replica.now.applied (replica.now.applied ++ ops.now) session.old input.now a) }
-    ensures can { IfOk result (λ a. CanChangeSession replica.now.start (replica.now.applied ++ ops.now) session.old.state a.going.onward) }
+    ensures answered { IfOk result (λ a. IsPreparedReply replica.now.start replica.now.applied
+        (replica.now.applied ++ ops.now) session.old input.now a) }
+    ensures can { IfOk result (λ a. CanChangeSession replica.now.start
+        (replica.now.applied ++ ops.now) session.old.state a.going.onward) }
 {
     let condstore = condstore_after(session, input);
     let idling = idling_after(alloc, session, input)?;
@@ -416,7 +470,8 @@ fn listing_behind<'a>(
     change_notes: &ChangeNotes,
 ) -> Result<Option<Rows<'a>>, AllocError>
     requires { IsReady replica.now ops.now }
-    ensures { IfOk result (λ made. IsListingFor replica.now.start (replica.now.applied ++ ops.now) state.now made) }
+    ensures { IfOk result
+        (λ made. IsListingFor replica.now.start (replica.now.applied ++ ops.now) state.now made) }
 {
     match state {
         State::Selected { view, .. } => {
@@ -447,14 +502,23 @@ fn reply_of_effect(
     course: EffectDraft,
 ) -> Result<ReplyParts, AllocError>
     requires ready { IsReady replica.now ops.now }
-    requires made { IsListingFor replica.now.start (replica.now.applied ++ ops.now) state.old (option_map (λ rows. rows.now) made) }
-    requires noted { (view : ViewState) → view_of state.old ≡ Some view → IsNotedFor replica.now.start replica.now.applied unsent.now.pending view }
-    requires news { AreChangeNotes replica.now.start replica.now.applied (replica.now.applied ++ ops.now) unsent.now.change_notes }
+    requires made { IsListingFor replica.now.start (replica.now.applied ++ ops.now) state.old
+        (option_map (λ rows. rows.now) made) }
+    requires noted { (view : ViewState)
+        → view_of state.old ≡ Some view
+        → IsNotedFor replica.now.start replica.now.applied unsent.now.pending view }
+    requires news { AreChangeNotes replica.now.start replica.now.applied
+        (replica.now.applied ++ ops.now) unsent.now.change_notes }
     ensures same { state.new ≡ state.old }
-    ensures answers { IfOk result (λ t. t.answers ≡ answers_of_effect replica.now.start (replica.now.applied ++ ops.now) (effect_from state.old course)) }
+    ensures answers { IfOk result (λ t. t.answers
+        ≡ answers_of_effect replica.now.start (replica.now.applied ++ ops.now)
+        (effect_from state.old course)) }
     ensures silent { IfOk result (λ t. t.silent ≡ course.silent) }
-    ensures onward { IfOk result (λ t. changed_state state.old t.onward ≡ (sync_result_of replica.now.start (replica.now.applied ++ ops.now) (effect_from state.old course)).state) }
-    ensures can { IfOk result (λ t. CanChangeSession replica.now.start (replica.now.applied ++ ops.now) state.old t.onward) }
+    ensures onward { IfOk result (λ t. changed_state state.old t.onward
+        ≡ (sync_result_of replica.now.start (replica.now.applied ++ ops.now)
+        (effect_from state.old course)).state) }
+    ensures can { IfOk result (λ t. CanChangeSession replica.now.start
+        (replica.now.applied ++ ops.now) state.old t.onward) }
 {
     let EffectDraft {
         silent,
@@ -526,13 +590,26 @@ fn sync_and_change(
     front: &SyncInput<'_>,
 ) -> Result<(Vec<Answer>, StateChange), AllocError>
     requires ready { IsReady applied.now.replica.now applied.now.ops.now }
-    requires made { IsListingFor applied.now.replica.now.start (applied.now.replica.now.applied ++ applied.now.ops.now) state.old (option_map (λ rows. rows.now) made) }
-    requires noted { (view : ViewState) → view_of state.old ≡ Some view → IsNotedFor applied.now.replica.now.start applied.now.replica.now.applied unsent.now.pending view }
-    requires news { AreChangeNotes applied.now.replica.now.start applied.now.replica.now.applied (applied.now.replica.now.applied ++ applied.now.ops.now) unsent.now.change_notes }
+    requires made { IsListingFor applied.now.replica.now.start
+        (applied.now.replica.now.applied ++ applied.now.ops.now) state.old
+        (option_map (λ rows. rows.now) made) }
+    requires noted { (view : ViewState)
+        → view_of state.old ≡ Some view
+        → IsNotedFor applied.now.replica.now.start applied.now.replica.now.applied
+        unsent.now.pending view }
+    requires news { AreChangeNotes applied.now.replica.now.start applied.now.replica.now.applied
+        (applied.now.replica.now.applied ++ applied.now.ops.now) unsent.now.change_notes }
     ensures same { state.new ≡ state.old }
-    ensures answers { IfOk result (λ e. e.0.items ≡ (sync_result_after applied.now.replica.now.start (applied.now.replica.now.applied ++ applied.now.ops.now) (state_or state.old moved) front.now).answers) }
-    ensures state { IfOk result (λ e. changed_state state.old e.1 ≡ (sync_result_after applied.now.replica.now.start (applied.now.replica.now.applied ++ applied.now.ops.now) (state_or state.old moved) front.now).state) }
-    ensures can { IfOk result (λ e. CanChangeSession applied.now.replica.now.start (applied.now.replica.now.applied ++ applied.now.ops.now) state.old e.1) }
+    ensures answers { IfOk result (λ e. e.0.items
+        ≡ (sync_result_after applied.now.replica.now.start
+        (applied.now.replica.now.applied ++ applied.now.ops.now) (state_or state.old moved)
+        front.now).answers) }
+    ensures state { IfOk result (λ e. changed_state state.old e.1
+        ≡ (sync_result_after applied.now.replica.now.start
+        (applied.now.replica.now.applied ++ applied.now.ops.now) (state_or state.old moved)
+        front.now).state) }
+    ensures can { IfOk result (λ e. CanChangeSession applied.now.replica.now.start
+        (applied.now.replica.now.applied ++ applied.now.ops.now) state.old e.1) }
 {
     match moved {
         Some(next) => {

@@ -25,8 +25,10 @@ ghost use Rattle.uid_projection.specs.declared.first_numbers.Counters.{Counters}
 
 /// What a node lists can be shown, and so can what a view's mailbox has now.
 pub fn listings_are_showable()
-    ensures listed { (start : Counters) (name : List ℕ) (ops : List Op) → IsPresentable start ops → AreShowable (listing start name ops) }
-    ensures viewed { (start : Counters) (ops : List Op) (view : ViewState) → IsPresentable start ops → AreShowable (rows_for start ops view) }
+    ensures listed { (start : Counters) (name : List ℕ) (ops : List Op) → IsPresentable start ops
+        → AreShowable (listing start name ops) }
+    ensures viewed { (start : Counters) (ops : List Op) (view : ViewState) → IsPresentable start ops
+        → AreShowable (rows_for start ops view) }
 {}
 
 /// Whatever a session sends, its answers can be printed, so that the reader of answers reads them
@@ -35,13 +37,27 @@ pub fn listings_are_showable()
 /// session afterwards can be answered again, even by a refusal. If a command is refused, its tagged
 /// line can be printed, and CLOSED before it.
 pub fn answers_are_printable()
-    ensures commands { (old new : NodeState) (n : ℕ) (session : Session) (answers : List Answer) (silent : List SilentFlags) (issued : List Op) → IsAnswerableIn session → IsPresentable old.start new.applied
-        → (moment : ℕ) (tagged : Tagged) (octets : List ℕ) → IsSpelled tagged octets → IsWide (length octets)
-        → CarriesOut old n session (inputs.Command moment tagged) answers silent issued new → IsAnsweredWell old.sessions n answers new.sessions }
-    ensures lines { (old new : NodeState) (n : ℕ) (session : Session) (answers : List Answer) (silent : List SilentFlags) (issued : List Op) → IsAnswerableIn session → IsPresentable old.start new.applied
-        → (line : IdleLine) → CarriesOut old n session (inputs.Line line) answers silent issued new → IsAnsweredWell old.sessions n answers new.sessions }
-    ensures polls { (old new : NodeState) (n : ℕ) (session : Session) (answers : List Answer) (silent : List SilentFlags) (issued : List Op) → IsAnswerableIn session → IsPresentable old.start new.applied
-        → CarriesOut old n session inputs.Poll answers silent issued new → IsAnsweredWell old.sessions n answers new.sessions }
-    ensures refusals { (tagged : Tagged) (octets : List ℕ) (why : Refusal) → IsSpelled tagged octets → IsWide (length octets) → Each IsPrintable (Tell Closed ∷ Refused tagged.tag why ∷ []) }
-    ensures left { (session : Session) (input : Input) (why : Refusal) → IsAnswerableIn session → IsAnswerableIn (session_after_refusal session input why) }
+    ensures commands { (old new : NodeState) (n : ℕ) (session : Session) (answers : List Answer)
+        (silent : List SilentFlags) (issued : List Op) → IsAnswerableIn session
+        → IsPresentable old.start new.applied
+        → (moment : ℕ) (tagged : Tagged) (octets : List ℕ) → IsSpelled tagged octets
+        → IsWide (length octets)
+        → CarriesOut old n session (inputs.Command moment tagged) answers silent issued new
+        → IsAnsweredWell old.sessions n answers new.sessions }
+    ensures lines { (old new : NodeState) (n : ℕ) (session : Session) (answers : List Answer)
+        (silent : List SilentFlags) (issued : List Op) → IsAnswerableIn session
+        → IsPresentable old.start new.applied
+        → (line : IdleLine)
+        → CarriesOut old n session (inputs.Line line) answers silent issued new
+        → IsAnsweredWell old.sessions n answers new.sessions }
+    ensures polls { (old new : NodeState) (n : ℕ) (session : Session) (answers : List Answer)
+        (silent : List SilentFlags) (issued : List Op) → IsAnswerableIn session
+        → IsPresentable old.start new.applied
+        → CarriesOut old n session inputs.Poll answers silent issued new
+        → IsAnsweredWell old.sessions n answers new.sessions }
+    ensures refusals { (tagged : Tagged) (octets : List ℕ) (why : Refusal) → IsSpelled tagged octets
+        → IsWide (length octets)
+        → Each IsPrintable (Tell Closed ∷ Refused tagged.tag why ∷ []) }
+    ensures left { (session : Session) (input : Input) (why : Refusal) → IsAnswerableIn session
+        → IsAnswerableIn (session_after_refusal session input why) }
 {}

@@ -1,11 +1,14 @@
 //! A replica's own next operations, made ready to be issued.
 
-ghost use Rattle.std.specs.Prelude.{◌≡◌, ◌↔◌, ◌++◌, ◌+◌, ◌<◌, ◌≤◌, ◌⊎◌, ℕ, List, false, IfOk, IfErr, OnOk, IsTrue, length};
+ghost use Rattle.std.specs.Prelude.{◌≡◌, ◌↔◌, ◌++◌, ◌+◌, ◌<◌, ◌≤◌, ◌⊎◌, ℕ, List, false, IfOk};
+ghost use Rattle.std.specs.Prelude.{IfErr, OnOk, IsTrue, length};
 ghost use Rattle.causal_inbox.specs.Inbox.{IsClockOf};
 ghost use Rattle.crdt_ops.specs.Sound.{IsSound};
 ghost use Rattle.crdt_ops.specs.declared.kind.Kind.{Kind};
-ghost use Rattle.imap_answers.specs.declared.fixed_words.Refusal.TheVariants.{NoMemory, NumberUsedUp};
-ghost use Rattle.imap_node.specs.Operations.{AreNext, CanIssueAll, CanIssueBy, IsNotReady, OwnNumbersEnd, id_of};
+ghost use Rattle.imap_answers.specs.declared.fixed_words.Refusal.TheVariants.{NoMemory};
+ghost use Rattle.imap_answers.specs.declared.fixed_words.Refusal.TheVariants.{NumberUsedUp};
+ghost use Rattle.imap_node.specs.Operations.{AreNext, CanIssueAll, CanIssueBy, IsNotReady};
+ghost use Rattle.imap_node.specs.Operations.{OwnNumbersEnd, id_of};
 ghost use Rattle.imap_node.specs.Nodes.{IsReady};
 ghost use Rattle.merge_laws.specs.Orders.{AreSound};
 ghost use Rattle.tags_clocks.specs.Clock.{count_of};
@@ -77,8 +80,10 @@ pub fn ready_next_ops(
     ensures applied { replica.new.applied ≡ replica.old.applied }
     ensures held { replica.new.held ≡ replica.old.held }
     ensures ready { IfOk result (λ ops. IsReady replica.new ops.items) }
-    ensures next { IfOk result (λ ops. AreNext replica.old.start.replica replica.old.applied kinds.items ops.items) }
-    ensures err { IfErr result (λ why. IsNotReady replica.old.start replica.old.applied kinds.items why) }
+    ensures next { IfOk result
+        (λ ops. AreNext replica.old.start.replica replica.old.applied kinds.items ops.items) }
+    ensures err { IfErr result
+        (λ why. IsNotReady replica.old.start replica.old.applied kinds.items why) }
 {
     if !has_numbers(replica, kinds.len()) {
         drop(kinds);
@@ -97,12 +102,14 @@ pub fn ready_next_ops(
 /// Makes room to issue operations that come next, if there are any.
 fn make_room(alloc: Global, replica: &mut ReplicaState, ops: &[SoundOp]) -> Result<(), Refusal>
     requires sound { AreSound IsSound ops.now }
-    requires next { (kinds : List Kind) × AreNext replica.old.start.replica replica.old.applied kinds ops.now }
+    requires next { (kinds : List Kind)
+        × AreNext replica.old.start.replica replica.old.applied kinds ops.now }
     ensures start { replica.new.start ≡ replica.old.start }
     ensures applied { replica.new.applied ≡ replica.old.applied }
     ensures held { replica.new.held ≡ replica.old.held }
     ensures ready { OnOk result (IsReady replica.new ops.now) }
-    ensures err { IfErr result (λ why. (why ≡ NoMemory) ⊎ ((why ≡ NumberUsedUp) × Exhausts replica.old.start replica.old.applied ops.now)) }
+    ensures err { IfErr result (λ why. (why ≡ NoMemory)
+        ⊎ ((why ≡ NumberUsedUp) × Exhausts replica.old.start replica.old.applied ops.now)) }
 {
     let _list = replica.op_list();
     if ops.is_empty() {
@@ -117,8 +124,11 @@ fn make_room(alloc: Global, replica: &mut ReplicaState, ops: &[SoundOp]) -> Resu
 
 /// Whether the replica's own numbers suffice for `count` further operations.
 fn has_numbers(replica: &ReplicaState, count: usize) -> bool
-    ensures yes { IsTrue result → (clock : List (ℕ × ℕ)) → IsClockOf id_of replica.now.applied clock → count_of clock replica.now.start.replica + count ≤ 4294967295 }
-    ensures no { result ≡ false → (kinds : List Kind) → count ≡ length kinds → OwnNumbersEnd replica.now.start.replica replica.now.applied kinds }
+    ensures yes { IsTrue result → (clock : List (ℕ × ℕ))
+        → IsClockOf id_of replica.now.applied clock
+        → count_of clock replica.now.start.replica + count ≤ 4294967295 }
+    ensures no { result ≡ false → (kinds : List Kind) → count ≡ length kinds
+        → OwnNumbersEnd replica.now.start.replica replica.now.applied kinds }
 {
     let given = replica.clock().get(replica.id());
     count <= (u32::MAX - given) as usize
@@ -131,8 +141,11 @@ fn next_ops(
     kinds: Vec<Kind>,
 ) -> Result<Vec<SoundOp>, AllocError>
     requires can { CanIssueAll replica.now.applied kinds.items }
-    requires numbers { (clock : List (ℕ × ℕ)) → IsClockOf id_of replica.now.applied clock → count_of clock replica.now.start.replica + length kinds.items ≤ 4294967295 }
-    ensures next { IfOk result (λ ops. AreNext replica.now.start.replica replica.now.applied kinds.items ops.items) }
+    requires numbers { (clock : List (ℕ × ℕ))
+        → IsClockOf id_of replica.now.applied clock
+        → count_of clock replica.now.start.replica + length kinds.items ≤ 4294967295 }
+    ensures next { IfOk result
+        (λ ops. AreNext replica.now.start.replica replica.now.applied kinds.items ops.items) }
     ensures sound { IfOk result (λ ops. AreSound IsSound ops.items) }
 {
     if kinds.is_empty() {

@@ -1,12 +1,15 @@
 //! A replica without its sessions: the operations that it received, and the tables that result from
 //! them.
 
-ghost use Rattle.std.specs.Prelude.{◌≡◌, ◌↔◌, ◌≤◌, ◌++◌, [], IfOk, OnOk, OnErr, IsTrue, Err, MatchResult};
+ghost use Rattle.std.specs.Prelude.{◌≡◌, ◌↔◌, ◌≤◌, ◌++◌, [], IfOk, OnOk, OnErr, IsTrue, Err};
+ghost use Rattle.std.specs.Prelude.{MatchResult};
 ghost use Rattle.causal_inbox.specs.Delivery.{Arrives, Refuses};
-ghost use Rattle.causal_inbox.specs.Inbox.{AreIssued, AreHeldStill, AreReleasedInTurn, IsClockOf, IsLawfulInbox, IsStalled, held_limit, uncovered_ops};
+ghost use Rattle.causal_inbox.specs.Inbox.{AreIssued, AreHeldStill, AreReleasedInTurn, IsClockOf};
+ghost use Rattle.causal_inbox.specs.Inbox.{IsLawfulInbox, IsStalled, held_limit, uncovered_ops};
 ghost use Rattle.causal_inbox.specs.Stalls.{StallsFor};
 ghost use Rattle.causal_inbox.specs.declared.delivery.IssueFault.TheVariants.{Exhausted as UsedUp};
-ghost use Rattle.crdt_ops.specs.Sets.{delete_set_of, folder_tags_of, folders_of, messages_of, subscribed_names_of, subscription_tags_of};
+ghost use Rattle.crdt_ops.specs.Sets.{delete_set_of, folder_tags_of, folders_of, messages_of};
+ghost use Rattle.crdt_ops.specs.Sets.{subscribed_names_of, subscription_tags_of};
 ghost use Rattle.crdt_ops.specs.Sound.{IsSound};
 ghost use Rattle.folder_state.specs.Contents.{IsMadeBy};
 ghost use Rattle.folder_state.specs.Tables.{contents_of};
@@ -57,7 +60,12 @@ impl Model for ReplicaState {
 
     ghost coded = { Prim.hlevel (codes, hash_map_code, hash_set_code) };
 
-    ghost view = { λ r. record { start = r.inbox.seen.start; applied = r.inbox.seen.applied; held = r.inbox.seen.held; room = r.inbox.room } };
+    ghost view = { λ r. record {
+      start = r.inbox.seen.start;
+      applied = r.inbox.seen.applied;
+      held = r.inbox.seen.held;
+      room = r.inbox.room;
+    } };
 }
 
 impl ReplicaState {
@@ -129,7 +137,8 @@ impl ReplicaState {
         ensures applied { self.new.applied ≡ self.old.applied }
         ensures held { self.new.held ≡ self.old.held }
         ensures room { OnOk result (HasRoomFor self.new.applied self.new.room ops.now) }
-        ensures exhausted { IsCausal id_of clock_of (self.old.applied ++ ops.now) → (result ≡ Err UsedUp) ↔ Exhausts self.old.start self.old.applied ops.now }
+        ensures exhausted { IsCausal id_of clock_of (self.old.applied ++ ops.now)
+            → (result ≡ Err UsedUp) ↔ Exhausts self.old.start self.old.applied ops.now }
     {
         self.inbox.ready(alloc, ops)
     }
@@ -148,8 +157,12 @@ impl ReplicaState {
     /// Receives an operation: applies it and those that waited for it, or holds it if it is early.
     /// An error leaves the replica as it was.
     pub fn deliver(&mut self, alloc: Global, op: SoundOp) -> Result<Delivered, DeliverFault>
-        ensures answer { MatchResult result (λ d. Arrives id_of clock_of Exhausts (replica_received self.old) op d.arrival (replica_received self.new)) (λ e. Refuses id_of clock_of Exhausts (replica_received self.old) op e) }
-        ensures stalled { IfOk result (λ d. IsTrue d.stalled ↔ IsStalled id_of clock_of (replica_received self.new)) }
+        ensures answer { MatchResult result
+            (λ d. Arrives id_of clock_of Exhausts (replica_received self.old) op d.arrival
+            (replica_received self.new))
+            (λ e. Refuses id_of clock_of Exhausts (replica_received self.old) op e) }
+        ensures stalled { IfOk result
+            (λ d. IsTrue d.stalled ↔ IsStalled id_of clock_of (replica_received self.new)) }
         ensures err { OnErr result (replica_received self.new ≡ replica_received self.old) }
     {
         self.inbox.deliver(alloc, op)
@@ -158,8 +171,10 @@ impl ReplicaState {
     /// Applies held operations whose causes were all applied, the least id first, until there is
     /// none or one is refused.
     pub fn drain(&mut self, alloc: Global) -> Drained
-        ensures released { AreReleasedInTurn id_of clock_of Exhausts result.applied (replica_received self.old) (replica_received self.new) }
-        ensures stalled { IsTrue result.stalled ↔ IsStalled id_of clock_of (replica_received self.new) }
+        ensures released { AreReleasedInTurn id_of clock_of Exhausts result.applied
+            (replica_received self.old) (replica_received self.new) }
+        ensures stalled { IsTrue result.stalled
+            ↔ IsStalled id_of clock_of (replica_received self.new) }
         ensures at_most { result.applied ≤ held_limit }
     {
         self.inbox.drain(alloc)
@@ -255,8 +270,13 @@ impl ReplicaState {
         name: &Name,
         ops: &[SoundOp],
     ) -> Result<Vec<u32>, AllocError>
-        ensures { IsApplied (self.now.applied ++ ops.now) → uidvalidity_of self.now.start name.now (self.now.applied ++ ops.now) ≡ uidvalidity_of self.now.start name.now self.now.applied
-            → IfOk result (λ uids. RowsStayExcept uids.items (uidnext_of self.now.start name.now self.now.applied) (listing self.now.start name.now self.now.applied) (listing self.now.start name.now (self.now.applied ++ ops.now))) }
+        ensures { IsApplied (self.now.applied ++ ops.now)
+            → uidvalidity_of self.now.start name.now (self.now.applied ++ ops.now)
+            ≡ uidvalidity_of self.now.start name.now self.now.applied
+            → IfOk result (λ uids. RowsStayExcept uids.items
+            (uidnext_of self.now.start name.now self.now.applied)
+            (listing self.now.start name.now self.now.applied)
+            (listing self.now.start name.now (self.now.applied ++ ops.now))) }
     {
         self.charts_now().touched_uids(alloc, name, ops)
     }
@@ -274,8 +294,10 @@ impl ReplicaState {
         alloc: Global,
         name: &Name,
     ) -> Result<(Option<u32>, Rows<'_>), AllocError>
-        ensures uidvalidity { IfOk result (λ numbered. numbered.0 ≡ uidvalidity_of self.now.start name.now self.now.applied) }
-        ensures rows { IfOk result (λ numbered. numbered.1 ≡ listing self.now.start name.now self.now.applied) }
+        ensures uidvalidity { IfOk result
+            (λ numbered. numbered.0 ≡ uidvalidity_of self.now.start name.now self.now.applied) }
+        ensures rows { IfOk result
+            (λ numbered. numbered.1 ≡ listing self.now.start name.now self.now.applied) }
     {
         self.charts_now()
             .numbered_rows(alloc, self.folders_now(), name)
@@ -323,7 +345,8 @@ impl ReplicaState {
         ops: &'a [SoundOp],
     ) -> Result<Rows<'a>, AllocError>
         requires { IsReady self.now ops.now }
-        ensures { IfOk result (λ rows. rows ≡ listing self.now.start name.now (self.now.applied ++ ops.now)) }
+        ensures { IfOk result
+            (λ rows. rows ≡ listing self.now.start name.now (self.now.applied ++ ops.now)) }
     {
         if ops.is_empty() {
             return self.rows(alloc, name);

@@ -11,9 +11,12 @@ ghost use Rattle.imap_commands.specs.Fetching.{fetch_report};
 ghost use Rattle.imap_commands.specs.NamedMessages.{messages_named_by, messages_stored_by};
 ghost use Rattle.imap_commands.specs.Selecting.{IsSelectReport};
 ghost use Rattle.imap_commands.specs.Storing.{store_report};
-ghost use Rattle.imap_node.specs.Commands.{IsSearchReportIfSelected, IsCommandReport, messages_named_by_command, messages_named_if_selected, is_selected, report_if_selected};
+ghost use Rattle.imap_node.specs.Commands.{IsSearchReportIfSelected, IsCommandReport};
+ghost use Rattle.imap_node.specs.Commands.{messages_named_by_command, messages_named_if_selected};
+ghost use Rattle.imap_node.specs.Commands.{is_selected, report_if_selected};
 ghost use Rattle.imap_node.specs.InputEffects.{IsListingFor};
-ghost use Rattle.imap_node.specs.Mailboxes.{copy_target_in, mailbox_in, counters_of, rows_for, validity_of};
+ghost use Rattle.imap_node.specs.Mailboxes.{copy_target_in, mailbox_in, counters_of, rows_for};
+ghost use Rattle.imap_node.specs.Mailboxes.{validity_of};
 ghost use Rattle.imap_node.specs.Nodes.{IsReady};
 ghost use Rattle.imap_types.specs.declared.sequence_set.SequenceRange.{SequenceRange};
 ghost use Rattle.uid_projection.specs.UidsAndModSeqs.{uidnext_of};
@@ -48,9 +51,13 @@ pub fn command_report(
     found: &NamedMessages,
 ) -> Result<CommandReport, AllocError>
     requires ready { IsReady replica.now ops.now }
-    requires made { IsListingFor replica.now.start (replica.now.applied ++ ops.now) state.now (option_map (λ rows. rows.now) made) }
-    requires found { found.now ≡ messages_named_by_command replica.now.start replica.now.applied state.now tagged.now.command }
-    ensures { IfOk result (λ told. IsCommandReport replica.now.start replica.now.applied (replica.now.applied ++ ops.now) state.now modseq tagged.now.tag tagged.now.command told) }
+    requires made { IsListingFor replica.now.start (replica.now.applied ++ ops.now) state.now
+        (option_map (λ rows. rows.now) made) }
+    requires found { found.now
+        ≡ messages_named_by_command replica.now.start replica.now.applied state.now
+        tagged.now.command }
+    ensures { IfOk result (λ told. IsCommandReport replica.now.start replica.now.applied
+        (replica.now.applied ++ ops.now) state.now modseq tagged.now.tag tagged.now.command told) }
 {
     let Tagged { tag, command } = tagged;
     match command {
@@ -139,7 +146,8 @@ pub fn rows_after<'a>(
     view: &View,
 ) -> Result<Rows<'a>, AllocError>
     requires { IsReady replica.now ops.now }
-    ensures { IfOk result (λ rows. rows ≡ rows_for replica.now.start (replica.now.applied ++ ops.now) view.now) }
+    ensures { IfOk result
+        (λ rows. rows ≡ rows_for replica.now.start (replica.now.applied ++ ops.now) view.now) }
 {
     let rows = replica.rows_after(alloc, view.name(), ops)?;
     Ok(view.rows_under(alloc, replica.uidvalidity_after(view.name(), ops), rows))
@@ -152,7 +160,8 @@ pub fn mailbox_before<'a>(
     view: &'a View,
     read_only: bool,
 ) -> Result<OpenMailbox<'a>, AllocError>
-    ensures { IfOk result (λ mailbox. mailbox ≡ mailbox_in replica.now.start replica.now.applied view.now read_only) }
+    ensures { IfOk result
+        (λ mailbox. mailbox ≡ mailbox_in replica.now.start replica.now.applied view.now read_only) }
 {
     let rows = rows_before(alloc, replica, view)?;
     Ok(OpenMailbox {
@@ -172,7 +181,8 @@ fn mailbox_after<'a>(
     read_only: bool,
 ) -> Result<OpenMailbox<'a>, AllocError>
     requires { IsReady replica.now ops.now }
-    ensures { IfOk result (λ mailbox. mailbox ≡ mailbox_in replica.now.start (replica.now.applied ++ ops.now) view.now read_only) }
+    ensures { IfOk result (λ mailbox. mailbox
+        ≡ mailbox_in replica.now.start (replica.now.applied ++ ops.now) view.now read_only) }
 {
     let rows = rows_after(alloc, replica, ops, view)?;
     Ok(OpenMailbox {
@@ -191,7 +201,9 @@ fn copy_target_of<'a>(
     name: &Name,
 ) -> Result<CopyTarget<'a>, AllocError>
     requires { IsReady replica.now ops.now }
-    ensures { IfOk result (λ landing. landing ≡ copy_target_in replica.now.start replica.now.applied (replica.now.applied ++ ops.now) name.now) }
+    ensures { IfOk result (λ landing. landing
+        ≡ copy_target_in replica.now.start replica.now.applied (replica.now.applied ++ ops.now)
+        name.now) }
 {
     let rows = replica.rows_after(alloc, name, ops)?;
     Ok(CopyTarget {
@@ -242,7 +254,9 @@ fn report_of_select(
     name: &Name,
 ) -> Result<CommandReport, AllocError>
     requires { IsReady replica.now ops.now }
-    ensures { IfOk result (λ told. IsSelectReport (is_selected state.now) read_only name.now (counters_of replica.now.start name.now (replica.now.applied ++ ops.now)) (listing replica.now.start name.now (replica.now.applied ++ ops.now)) told) }
+    ensures { IfOk result (λ told. IsSelectReport (is_selected state.now) read_only name.now
+        (counters_of replica.now.start name.now (replica.now.applied ++ ops.now))
+        (listing replica.now.start name.now (replica.now.applied ++ ops.now)) told) }
 {
     let rows = replica.rows_after(alloc, name, ops)?;
     let marks = counters_after(replica, ops, name);
@@ -257,7 +271,10 @@ fn report_of_status(
     items: &[StatusItem],
 ) -> Result<CommandReport, AllocError>
     requires { IsReady replica.now ops.now }
-    ensures { IfOk result (λ told. told ≡ status_report name.now items.now (counters_of replica.now.start name.now (replica.now.applied ++ ops.now)) (listing replica.now.start name.now (replica.now.applied ++ ops.now))) }
+    ensures { IfOk result (λ told. told
+        ≡ status_report name.now items.now
+        (counters_of replica.now.start name.now (replica.now.applied ++ ops.now))
+        (listing replica.now.start name.now (replica.now.applied ++ ops.now))) }
 {
     let rows = replica.rows_after(alloc, name, ops)?;
     let marks = counters_after(replica, ops, name);
@@ -271,7 +288,9 @@ fn report_of_append(
     name: &Name,
 ) -> CommandReport
     requires { IsReady replica.now ops.now }
-    ensures { result ≡ append_report (validity_of replica.now.start name.now (replica.now.applied ++ ops.now)) (uidnext_of replica.now.start name.now replica.now.applied) }
+    ensures { result
+        ≡ append_report (validity_of replica.now.start name.now (replica.now.applied ++ ops.now))
+        (uidnext_of replica.now.start name.now replica.now.applied) }
 {
     append_report(
         alloc,
@@ -287,7 +306,8 @@ fn report_of_list(
     reference: &Octets,
     pattern: &Octets,
 ) -> Result<CommandReport, AllocError>
-    ensures { IfOk result (λ told. IsListReport mode reference.now pattern.now (folders_of replica.now.applied) (subscribed_names_of replica.now.applied) told) }
+    ensures { IfOk result (λ told. IsListReport mode reference.now pattern.now
+        (folders_of replica.now.applied) (subscribed_names_of replica.now.applied) told) }
 {
     let folders = replica.folders(alloc)?;
     let subscriptions = replica.subscribed_names(alloc)?;
@@ -300,7 +320,13 @@ fn report_of_uid_expunge(
     state: &State,
     found: &NamedMessages,
 ) -> Result<CommandReport, AllocError>
-    ensures { (uids : List SequenceRange) → found.now ≡ messages_named_if_selected state.now (λ view read_only. messages_named_by true uids view.entries) → IfOk result (λ told. told ≡ report_if_selected state.now (λ view read_only. uid_expunge_report (mailbox_in replica.now.start replica.now.applied view read_only) uids)) }
+    ensures { (uids : List SequenceRange)
+        → found.now
+        ≡ messages_named_if_selected state.now
+        (λ view read_only. messages_named_by true uids view.entries)
+        → IfOk result (λ told. told
+        ≡ report_if_selected state.now (λ view read_only. uid_expunge_report
+        (mailbox_in replica.now.start replica.now.applied view read_only) uids)) }
 {
     let State::Selected { view, read_only } = state else {
         return Ok(CommandReport::empty(alloc));
@@ -318,7 +344,8 @@ fn report_of_search(
     asked: &SearchArgs<'_>,
 ) -> Result<CommandReport, AllocError>
     requires { IsReady replica.now ops.now }
-    ensures { IfOk result (λ told. IsSearchReportIfSelected replica.now.start (replica.now.applied ++ ops.now) state.now tag.now asked.now told) }
+    ensures { IfOk result (λ told. IsSearchReportIfSelected replica.now.start
+        (replica.now.applied ++ ops.now) state.now tag.now asked.now told) }
 {
     let State::Selected { view, read_only } = state else {
         return Ok(CommandReport::empty(alloc));
@@ -338,9 +365,15 @@ fn report_of_fetch(
     found: &NamedMessages,
 ) -> Result<CommandReport, AllocError>
     requires ready { IsReady replica.now ops.now }
-    requires made { IsListingFor replica.now.start (replica.now.applied ++ ops.now) state.now (option_map (λ rows. rows.now) made) }
-    requires found { found.now ≡ messages_named_if_selected state.now (λ view read_only. messages_named_by asked.now.by_uid asked.now.messages view.entries) }
-    ensures { IfOk result (λ told. told ≡ report_if_selected state.now (λ view read_only. fetch_report (mailbox_in replica.now.start replica.now.applied view read_only) (rows_for replica.now.start (replica.now.applied ++ ops.now) view) modseq asked.now)) }
+    requires made { IsListingFor replica.now.start (replica.now.applied ++ ops.now) state.now
+        (option_map (λ rows. rows.now) made) }
+    requires found { found.now
+        ≡ messages_named_if_selected state.now
+        (λ view read_only. messages_named_by asked.now.by_uid asked.now.messages view.entries) }
+    ensures { IfOk result (λ told. told
+        ≡ report_if_selected state.now (λ view read_only. fetch_report
+        (mailbox_in replica.now.start replica.now.applied view read_only)
+        (rows_for replica.now.start (replica.now.applied ++ ops.now) view) modseq asked.now)) }
 {
     let State::Selected { view, read_only } = state else {
         return Ok(CommandReport::empty(alloc));
@@ -367,9 +400,15 @@ fn report_of_store(
     found: &NamedMessages,
 ) -> Result<CommandReport, AllocError>
     requires ready { IsReady replica.now ops.now }
-    requires made { IsListingFor replica.now.start (replica.now.applied ++ ops.now) state.now (option_map (λ rows. rows.now) made) }
-    requires found { found.now ≡ messages_named_if_selected state.now (λ view read_only. messages_stored_by (mailbox_in replica.now.start replica.now.applied view read_only) asked.now) }
-    ensures { IfOk result (λ told. told ≡ report_if_selected state.now (λ view read_only. store_report (mailbox_in replica.now.start replica.now.applied view read_only) (rows_for replica.now.start (replica.now.applied ++ ops.now) view) modseq asked.now)) }
+    requires made { IsListingFor replica.now.start (replica.now.applied ++ ops.now) state.now
+        (option_map (λ rows. rows.now) made) }
+    requires found { found.now
+        ≡ messages_named_if_selected state.now (λ view read_only. messages_stored_by
+        (mailbox_in replica.now.start replica.now.applied view read_only) asked.now) }
+    ensures { IfOk result (λ told. told
+        ≡ report_if_selected state.now (λ view read_only. store_report
+        (mailbox_in replica.now.start replica.now.applied view read_only)
+        (rows_for replica.now.start (replica.now.applied ++ ops.now) view) modseq asked.now)) }
 {
     let State::Selected { view, read_only } = state else {
         return Ok(CommandReport::empty(alloc));
@@ -392,8 +431,14 @@ fn report_of_transfer(
     found: &NamedMessages,
 ) -> Result<CommandReport, AllocError>
     requires ready { IsReady replica.now ops.now }
-    requires found { found.now ≡ messages_named_if_selected state.now (λ view read_only. messages_named_by asked.now.by_uid asked.now.messages view.entries) }
-    ensures { IfOk result (λ told. told ≡ report_if_selected state.now (λ view read_only. (if moves then move_report else copy_report) (mailbox_in replica.now.start replica.now.applied view read_only) asked.now (copy_target_in replica.now.start replica.now.applied (replica.now.applied ++ ops.now) asked.now.destination))) }
+    requires found { found.now
+        ≡ messages_named_if_selected state.now
+        (λ view read_only. messages_named_by asked.now.by_uid asked.now.messages view.entries) }
+    ensures { IfOk result (λ told. told
+        ≡ report_if_selected state.now (λ view read_only. (if moves then move_report
+        else copy_report) (mailbox_in replica.now.start replica.now.applied view read_only)
+        asked.now (copy_target_in replica.now.start replica.now.applied
+        (replica.now.applied ++ ops.now) asked.now.destination))) }
 {
     let State::Selected { view, read_only } = state else {
         return Ok(CommandReport::empty(alloc));

@@ -1,9 +1,14 @@
 //! The sessions of a replica, by their numbers.
 
-ghost use Rattle.std.specs.Prelude.{◌≡◌, ◌≢◌, ◌+◌, ◌-◌, ◌<◌, ◌≤◌, ◌↔◌, ◌++◌, ◌∷◌, [], ℕ, IsTrue, IsNone, IsSome, None, Some, Err, IfOk, IfErr, OnOk, OnErr, SomeIff, length, max, ◌==◌, if◌then◌else◌, slice_index_or, slice_set};
+ghost use Rattle.std.specs.Prelude.{◌≡◌, ◌≢◌, ◌+◌, ◌-◌, ◌<◌, ◌≤◌, ◌↔◌, ◌++◌, ◌∷◌, [], ℕ, IsTrue};
+ghost use Rattle.std.specs.Prelude.{IsNone, IsSome, None, Some, Err, IfOk, IfErr, OnOk, OnErr};
+ghost use Rattle.std.specs.Prelude.{SomeIff, length, max, ◌==◌, if◌then◌else◌, slice_index_or};
+ghost use Rattle.std.specs.Prelude.{slice_set};
 ghost use Rattle.std.specs.Option.{option_copied, option_map};
-ghost use Rattle.imap_node.specs.Sessions.{IsOpen, without_idle, new_session, session_at, unselected, with_changed};
-ghost use Rattle.imap_node.specs.declared.sessions.OpenFault.TheVariants.{NoMemory, TooManySessions};
+ghost use Rattle.imap_node.specs.Sessions.{IsOpen, without_idle, new_session, session_at};
+ghost use Rattle.imap_node.specs.Sessions.{unselected, with_changed};
+ghost use Rattle.imap_node.specs.declared.sessions.OpenFault.TheVariants.{NoMemory};
+ghost use Rattle.imap_node.specs.declared.sessions.OpenFault.TheVariants.{TooManySessions};
 
 use imap_commands::{Credentials, Session, State};
 use std::alloc::Global;
@@ -132,8 +137,10 @@ impl Sessions {
     /// they were.
     pub fn open(&mut self, auth: Auth) -> Result<SessionNo, OpenFault>
         ensures ok { IfOk result (λ session. Opens self.old auth session self.new) }
-        ensures full { result ≡ Err TooManySessions → (n : ℕ) → 0 < n → n ≤ 1024 → IsOpen self.old n }
-        ensures room { ((n : ℕ) × (0 < n) × (n ≤ 1024) × IsNone (session_at self.old n)) → result ≢ Err TooManySessions }
+        ensures full { result ≡ Err TooManySessions → (n : ℕ) → 0 < n → n ≤ 1024
+            → IsOpen self.old n }
+        ensures room { ((n : ℕ) × (0 < n) × (n ≤ 1024) × IsNone (session_at self.old n))
+            → result ≢ Err TooManySessions }
         ensures err { OnErr result (self.new ≡ self.old) }
     {
         let vacant = vacant_place(&self.places);
@@ -253,9 +260,12 @@ fn open_in(
     requires within { vacant ≤ length places.old.items }
     requires bound { vacant < MAX_SESSIONS }
     ensures number { IfOk result (λ session. session ≡ vacant + 1) }
-    ensures ok { OnOk result ((k : ℕ) → slice_index_or places.new.items k None ≡ (if k == vacant then Some begun else slice_index_or places.old.items k None)) }
+    ensures ok { OnOk result ((k : ℕ)
+        → slice_index_or places.new.items k None
+        ≡ (if k == vacant then Some begun else slice_index_or places.old.items k None)) }
     ensures bound { length places.new.items ≤ max (length places.old.items) (vacant + 1) }
-    ensures err { IfErr result (λ fault. (fault ≡ NoMemory) × (places.new.items ≡ places.old.items)) }
+    ensures err { IfErr result
+        (λ fault. (fault ≡ NoMemory) × (places.new.items ≡ places.old.items)) }
 {
     let Some(session) = SessionNo::new(vacant + 1) else {
         unreachable!()
@@ -271,7 +281,8 @@ fn open_in(
 /// Appends a place.
 fn push_place(places: &mut Vec<Option<Session>>, place: Option<Session>) -> Result<(), OpenFault>
     ensures ok { OnOk result (places.new.items ≡ places.old.items ++ place ∷ []) }
-    ensures err { IfErr result (λ fault. (fault ≡ NoMemory) × (places.new.items ≡ places.old.items)) }
+    ensures err { IfErr result
+        (λ fault. (fault ≡ NoMemory) × (places.new.items ≡ places.old.items)) }
 {
     match places.push(place) {
         Ok(()) => Ok(()),

@@ -6,7 +6,9 @@ ghost use Rattle.imap_commands.specs.declared.session.State.TheVariants.{Selecte
 ghost use Rattle.imap_node.specs.Commands.{state_after_command};
 ghost use Rattle.mailbox_rows.specs.ListedMessage.{ListedMessage};
 ghost use Rattle.std.specs.Option.{option_map};
-ghost use Rattle.imap_node.specs.InputEffects.{IsFirstSight, IsListingFor, is_altering, answers_of_sync, sync_result_after, state_or, entries_after_sync};
+ghost use Rattle.imap_node.specs.InputEffects.{IsFirstSight, IsListingFor, is_altering};
+ghost use Rattle.imap_node.specs.InputEffects.{answers_of_sync, sync_result_after, state_or};
+ghost use Rattle.imap_node.specs.InputEffects.{entries_after_sync};
 ghost use Rattle.imap_node.specs.SessionFeeds.{AreChangeNotes, IsNotedFor, IsSettled};
 ghost use Rattle.imap_node.specs.SessionChanges.{CanChangeSession, ShowsAll, changed_state};
 ghost use Rattle.imap_node.specs.Mailboxes.{rows_for, validity_of};
@@ -47,7 +49,10 @@ pub fn state_after_command(
     command: &Command,
 ) -> Result<Option<State>, AllocError>
     requires { IsReady replica.now ops.now }
-    ensures { IfOk result (λ moved. (state : State) → state_or state moved ≡ state_after_command replica.now.start (replica.now.applied ++ ops.now) state command.now) }
+    ensures { IfOk result (λ moved. (state : State)
+        → state_or state moved
+        ≡ state_after_command replica.now.start (replica.now.applied ++ ops.now) state
+        command.now) }
 {
     match command {
         Command::Login { .. } => Ok(Some(State::Authenticated)),
@@ -68,7 +73,13 @@ fn selected_state(
     read_only: bool,
 ) -> Result<Option<State>, AllocError>
     requires { IsReady replica.now ops.now }
-    ensures { IfOk result (λ state. state ≡ Some (Selected (record { name = name.now; uidvalidity = validity_of replica.now.start name.now (replica.now.applied ++ ops.now); entries = [] }) read_only)) }
+    ensures { IfOk result (λ state. state
+        ≡ Some (Selected
+        (record {
+          name = name.now;
+          uidvalidity = validity_of replica.now.start name.now (replica.now.applied ++ ops.now);
+          entries = [];
+        }) read_only)) }
 {
     let uidvalidity = validity_after(replica, ops, name);
     Ok(Some(State::Selected {
@@ -95,7 +106,12 @@ impl<'a> Model for SyncInput<'a> {
 
     ghost Value = { SyncInput };
 
-    ghost view = { λ f. record { silent = f.silent.now; own = f.own.now; sync = f.sync; modseq = f.modseq } };
+    ghost view = { λ f. record {
+      silent = f.silent.now;
+      own = f.own.now;
+      sync = f.sync;
+      modseq = f.modseq;
+    } };
 }
 
 /// What a session must still be sent, and what an input's own operations changed.
@@ -112,7 +128,10 @@ impl<'a> Model for UnsentChanges<'a> {
 
     ghost Value = { UnsentChanges };
 
-    ghost view = { λ u. record { pending = u.feed.now.pending; change_notes = u.change_notes.now } };
+    ghost view = { λ u. record {
+      pending = u.feed.now.pending;
+      change_notes = u.change_notes.now;
+    } };
 }
 
 /// A replica, and an input's operations, which come after those that it applied.
@@ -144,9 +163,14 @@ pub fn sync_rebuilt_state(
     front: &SyncInput<'_>,
 ) -> Result<RebuiltState, AllocError>
     requires { IsReady replica.now ops.now }
-    ensures answers { IfOk result (λ anew. anew.answers.items ≡ (sync_result_after replica.now.start (replica.now.applied ++ ops.now) state front.now).answers) }
-    ensures state { IfOk result (λ anew. anew.state ≡ (sync_result_after replica.now.start (replica.now.applied ++ ops.now) state front.now).state) }
-    ensures shown { IfOk result (λ anew. ShowsAll replica.now.start (replica.now.applied ++ ops.now) anew.state anew.shows_all) }
+    ensures answers { IfOk result (λ anew. anew.answers.items
+        ≡ (sync_result_after replica.now.start (replica.now.applied ++ ops.now) state
+        front.now).answers) }
+    ensures state { IfOk result (λ anew. anew.state
+        ≡ (sync_result_after replica.now.start (replica.now.applied ++ ops.now) state
+        front.now).state) }
+    ensures shown { IfOk result (λ anew. ShowsAll replica.now.start (replica.now.applied ++ ops.now)
+        anew.state anew.shows_all) }
 {
     match state {
         State::Selected { view, read_only } => {
@@ -216,13 +240,24 @@ pub fn sync_in_place(
     front: &SyncInput<'_>,
 ) -> Result<(Vec<Answer>, StateChange), AllocError>
     requires ready { IsReady applied.now.replica.now applied.now.ops.now }
-    requires made { IsListingFor applied.now.replica.now.start (applied.now.replica.now.applied ++ applied.now.ops.now) state.old (option_map (λ rows. rows.now) made) }
-    requires noted { (view : ViewState) → view_of state.old ≡ Some view → IsNotedFor applied.now.replica.now.start applied.now.replica.now.applied unsent.now.pending view }
-    requires news { AreChangeNotes applied.now.replica.now.start applied.now.replica.now.applied (applied.now.replica.now.applied ++ applied.now.ops.now) unsent.now.change_notes }
+    requires made { IsListingFor applied.now.replica.now.start
+        (applied.now.replica.now.applied ++ applied.now.ops.now) state.old
+        (option_map (λ rows. rows.now) made) }
+    requires noted { (view : ViewState)
+        → view_of state.old ≡ Some view
+        → IsNotedFor applied.now.replica.now.start applied.now.replica.now.applied
+        unsent.now.pending view }
+    requires news { AreChangeNotes applied.now.replica.now.start applied.now.replica.now.applied
+        (applied.now.replica.now.applied ++ applied.now.ops.now) unsent.now.change_notes }
     ensures same { state.new ≡ state.old }
-    ensures answers { IfOk result (λ e. e.0.items ≡ (sync_result_after applied.now.replica.now.start (applied.now.replica.now.applied ++ applied.now.ops.now) state.old front.now).answers) }
-    ensures state { IfOk result (λ e. changed_state state.old e.1 ≡ (sync_result_after applied.now.replica.now.start (applied.now.replica.now.applied ++ applied.now.ops.now) state.old front.now).state) }
-    ensures can { IfOk result (λ e. CanChangeSession applied.now.replica.now.start (applied.now.replica.now.applied ++ applied.now.ops.now) state.old e.1) }
+    ensures answers { IfOk result (λ e. e.0.items
+        ≡ (sync_result_after applied.now.replica.now.start
+        (applied.now.replica.now.applied ++ applied.now.ops.now) state.old front.now).answers) }
+    ensures state { IfOk result (λ e. changed_state state.old e.1
+        ≡ (sync_result_after applied.now.replica.now.start
+        (applied.now.replica.now.applied ++ applied.now.ops.now) state.old front.now).state) }
+    ensures can { IfOk result (λ e. CanChangeSession applied.now.replica.now.start
+        (applied.now.replica.now.applied ++ applied.now.ops.now) state.old e.1) }
 {
     if are_shifting(front.own) {
         return rebuild_state(alloc, applied.replica, applied.ops, state, front);
@@ -270,13 +305,30 @@ fn plan_sync_of_view(
     form: SyncForm,
 ) -> Result<PlannedSync, AllocError>
     requires ready { IsReady applied.now.replica.now applied.now.ops.now }
-    requires made { (rows : List ListedMessage) → option_map (λ rows. rows.now) made ≡ Some rows → rows ≡ rows_for applied.now.replica.now.start (applied.now.replica.now.applied ++ applied.now.ops.now) view.old }
-    requires noted { IsNotedFor applied.now.replica.now.start applied.now.replica.now.applied unsent.now.pending view.old }
-    requires news { AreChangeNotes applied.now.replica.now.start applied.now.replica.now.applied (applied.now.replica.now.applied ++ applied.now.ops.now) unsent.now.change_notes }
+    requires made { (rows : List ListedMessage)
+        → option_map (λ rows. rows.now) made ≡ Some rows
+        → rows
+        ≡ rows_for applied.now.replica.now.start
+        (applied.now.replica.now.applied ++ applied.now.ops.now) view.old }
+    requires noted { IsNotedFor applied.now.replica.now.start applied.now.replica.now.applied
+        unsent.now.pending view.old }
+    requires news { AreChangeNotes applied.now.replica.now.start applied.now.replica.now.applied
+        (applied.now.replica.now.applied ++ applied.now.ops.now) unsent.now.change_notes }
     ensures same { view.new ≡ view.old }
-    ensures answers { IfOk result (λ plan. plan.answers.items ≡ sync_answers form.kind form.modseq (rows_for applied.now.replica.now.start (applied.now.replica.now.applied ++ applied.now.ops.now) view.old) (after_silent view.old.entries first.items)) }
-    ensures changed { IfOk result (λ plan. entries_after_change view.old.entries plan.change ≡ view_after_sync form.kind (rows_for applied.now.replica.now.start (applied.now.replica.now.applied ++ applied.now.ops.now) view.old) (after_silent view.old.entries first.items)) }
-    ensures change { IfOk result (λ plan. IsChangeTo (rows_for applied.now.replica.now.start (applied.now.replica.now.applied ++ applied.now.ops.now) view.old) view.old.entries plan.change) }
+    ensures answers { IfOk result (λ plan. plan.answers.items
+        ≡ sync_answers form.kind form.modseq
+        (rows_for applied.now.replica.now.start
+        (applied.now.replica.now.applied ++ applied.now.ops.now) view.old)
+        (after_silent view.old.entries first.items)) }
+    ensures changed { IfOk result (λ plan. entries_after_change view.old.entries plan.change
+        ≡ view_after_sync form.kind
+        (rows_for applied.now.replica.now.start
+        (applied.now.replica.now.applied ++ applied.now.ops.now) view.old)
+        (after_silent view.old.entries first.items)) }
+    ensures change { IfOk result (λ plan. IsChangeTo
+        (rows_for applied.now.replica.now.start
+        (applied.now.replica.now.applied ++ applied.now.ops.now) view.old) view.old.entries
+        plan.change) }
     ensures can { IfOk result (λ plan. CanCommit view.old.entries plan.change) }
 {
     let noted = NotedChanges {
@@ -307,9 +359,14 @@ fn rebuild_state(
     front: &SyncInput<'_>,
 ) -> Result<(Vec<Answer>, StateChange), AllocError>
     requires { IsReady replica.now ops.now }
-    ensures answers { IfOk result (λ e. e.0.items ≡ (sync_result_after replica.now.start (replica.now.applied ++ ops.now) state.now front.now).answers) }
-    ensures state { IfOk result (λ e. changed_state state.now e.1 ≡ (sync_result_after replica.now.start (replica.now.applied ++ ops.now) state.now front.now).state) }
-    ensures can { IfOk result (λ e. CanChangeSession replica.now.start (replica.now.applied ++ ops.now) state.now e.1) }
+    ensures answers { IfOk result (λ e. e.0.items
+        ≡ (sync_result_after replica.now.start (replica.now.applied ++ ops.now) state.now
+        front.now).answers) }
+    ensures state { IfOk result (λ e. changed_state state.now e.1
+        ≡ (sync_result_after replica.now.start (replica.now.applied ++ ops.now) state.now
+        front.now).state) }
+    ensures can { IfOk result
+        (λ e. CanChangeSession replica.now.start (replica.now.applied ++ ops.now) state.now e.1) }
 {
     let state = state.copy(alloc)?;
     let RebuiltState {
@@ -327,7 +384,9 @@ fn flags_before_sync(
     state: &State,
     front: &SyncInput<'_>,
 ) -> Result<Vec<SilentFlags>, AllocError>
-    ensures { IfOk result (λ first. (view : ViewState) → view_of state.now ≡ Some view → after_silent view.entries first.items ≡ after_silent view.entries (front.now.silent ++ all_fetched_flags front.now.own)) }
+    ensures { IfOk result (λ first. (view : ViewState) → view_of state.now ≡ Some view
+        → after_silent view.entries first.items
+        ≡ after_silent view.entries (front.now.silent ++ all_fetched_flags front.now.own)) }
 {
     match state {
         State::Selected { view, .. } => view.flags_before_sync(alloc, front.silent, front.own),
@@ -338,7 +397,9 @@ fn flags_before_sync(
 /// Whether a sync has nothing to send: there is no sync or no selected mailbox, or the mailbox has
 /// no notes, neither unsent ones nor those of the operations, and the feed missed none.
 pub fn is_settled(state: &State, unsent: &UnsentChanges<'_>, sync: Option<SyncKind>) -> bool
-    ensures { result ≡ true → (sync ≡ None) ⊎ ((view : ViewState) → view_of state.now ≡ Some view → IsSettled unsent.now view) }
+    ensures { result ≡ true
+        → (sync ≡ None)
+        ⊎ ((view : ViewState) → view_of state.now ≡ Some view → IsSettled unsent.now view) }
 {
     match (sync, state) {
         (Some(_), State::Selected { view, .. }) => shows_all(view, unsent),
@@ -364,8 +425,14 @@ fn answers_and_view(
     view: View,
     front: &SyncInput<'_>,
 ) -> Result<(Vec<Answer>, View), AllocError>
-    ensures answers { IfOk result (λ s. s.0.items ≡ answers_of_sync front.now.sync front.now.modseq rows.now (view_after_reply rows.now view.entries front.now.silent front.now.own)) }
-    ensures view { IfOk result (λ s. s.1 ≡ record view { entries = entries_after_sync front.now.sync rows.now (view_after_reply rows.now view.entries front.now.silent front.now.own) }) }
+    ensures answers { IfOk result (λ s. s.0.items
+        ≡ answers_of_sync front.now.sync front.now.modseq rows.now
+        (view_after_reply rows.now view.entries front.now.silent front.now.own)) }
+    ensures view { IfOk result (λ s. s.1
+        ≡ record view {
+          entries = entries_after_sync front.now.sync rows.now
+              (view_after_reply rows.now view.entries front.now.silent front.now.own);
+        }) }
 {
     let entries = replay_reply(alloc, rows, view.entries(), front.silent, front.own)?;
     let (entries, answers) = answers_and_state(alloc, front.sync, front.modseq, rows, entries)?;
@@ -380,9 +447,11 @@ fn answers_and_state(
     entries: ViewEntries,
 ) -> Result<(ViewEntries, Vec<Answer>), AllocError>
     requires { AreRising 1 entries.items }
-    ensures entries { IfOk result (λ s. s.0.items ≡ entries_after_sync sync rows.now entries.items) }
+    ensures entries { IfOk result
+        (λ s. s.0.items ≡ entries_after_sync sync rows.now entries.items) }
     ensures rising { IfOk result (λ s. AreRising 1 s.0.items) }
-    ensures answers { IfOk result (λ s. s.1.items ≡ answers_of_sync sync modseq rows.now entries.items) }
+    ensures answers { IfOk result
+        (λ s. s.1.items ≡ answers_of_sync sync modseq rows.now entries.items) }
 {
     match sync {
         None => Ok((entries, Vec::new(alloc))),

@@ -1,7 +1,8 @@
 -- What printing does to the octets before it: a text is appended, or joins a list of texts
 -- separated by spaces (RFC 9051, section 9).
 
-use Rattle.std.specs.Prelude.{◌≡◌, ℕ, Bool, true, false, ◌&&◌, List, [], ◌∷◌, ◌++◌, flat_map, length, take}
+use Rattle.std.specs.Prelude.{◌≡◌, ℕ, Bool, true, false, ◌&&◌, List, [], ◌∷◌, ◌++◌, flat_map}
+use Rattle.std.specs.Prelude.{length, take}
 use Rattle.imap_answers.specs.Strings.{separated_by}
 
 -- The new octets are the old ones and a text after them.
@@ -23,6 +24,7 @@ spaced true texts = separated_by 32 texts
 spaced false texts = flat_map (λ next. 32 ∷ next) texts
 
 -- The texts were appended as part of a list; `still` says whether the list is still empty.
-pub record Lists (is_first : Bool) (texts : List (List ℕ)) (old new : List ℕ) (still : Bool) : Type 0 where
+pub record Lists (is_first : Bool) (texts : List (List ℕ)) (old new : List ℕ) (still : Bool) :
+    Type 0 where
   pub still_is : still ≡ (is_first && has_none texts)
   pub text : new ≡ old ++ spaced is_first texts

@@ -9,7 +9,15 @@ use Rattle.imap_answers.specs.Strings.{separated_by}
 
 -- FETCH items that are only a message's flags.
 abbrev pub only_flags : Flags → FetchItems
-only_flags flags = record { uid = None; flags = Some flags; date = None; size = None; modseq = None; sections = [] }
+only_flags flags =
+    record {
+      uid = None;
+      flags = Some flags;
+      date = None;
+      size = None;
+      modseq = None;
+      sections = [];
+    }
 
 -- The text after the number, in a line of FETCH that sends only flags (RFC 9051, section 7.5.2).
 abbrev pub flags_end : Flags → List ℕ

@@ -1,7 +1,9 @@
 -- The reader's steps for strings, numbers and lists, as functions that the code equals.
 -- `text_of_answer` of `imap_answers` says what an answer's text is (RFC 9051, sections 7 and 9).
 
-use Rattle.std.specs.Prelude.{◌≡◌, ℕ, zero, suc, ◌+◌, ◌-◌, ◌*◌, Bool, true, false, ◌&&◌, not, ◌==◌, nat_le, List, [], ◌∷◌, ◌++◌, length, take, drop, min, codes, Option, Some, None, Result, Ok, Err, if◌then◌else◌}
+use Rattle.std.specs.Prelude.{◌≡◌, ℕ, zero, suc, ◌+◌, ◌-◌, ◌*◌, Bool, true, false, ◌&&◌, not, ◌==◌}
+use Rattle.std.specs.Prelude.{nat_le, List, [], ◌∷◌, ◌++◌, length, take, drop, min, codes, Option}
+use Rattle.std.specs.Prelude.{Some, None, Result, Ok, Err, if◌then◌else◌}
 use Rattle.imap_types.specs.DateTimes.{is_digit}
 use Rattle.imap_types.specs.Keywords.{is_astring_octet, is_atom_octet, is_tag_octet}
 use Rattle.imap_types.specs.Numbers.{are_runs_from, numbers_in}
@@ -61,7 +63,10 @@ is_in Atom octet = is_atom_octet octet
 abbrev pub number_from : ℕ → List ℕ → ℕ × List ℕ
 number_from value [] = (value, [])
 number_from value (b ∷ bs) =
-    if is_digit b then number_from (min (min (value * 10) 18446744073709551615 + (b - 48)) 18446744073709551615) bs else (value, b ∷ bs)
+    if is_digit b
+    then number_from (min (min (value * 10) 18446744073709551615 + (b - 48)) 18446744073709551615)
+    bs
+    else (value, b ∷ bs)
 
 -- The number, or the greatest of 32 bits if it is greater.
 abbrev pub small : ℕ → ℕ
@@ -77,7 +82,8 @@ abbrev pub quoted_from : Bool → List ℕ → Option (List ℕ × List ℕ)
 quoted_from escaped [] = None
 quoted_from true (b ∷ bs) = with_octet b (quoted_from false bs)
 quoted_from false (b ∷ bs) =
-    if b == 34 then Some ([], bs) else (if b == 92 then quoted_from true bs else with_octet b (quoted_from false bs))
+    if b == 34 then Some ([], bs)
+    else (if b == 92 then quoted_from true bs else with_octet b (quoted_from false bs))
 
 -- A string after its opening quote if that was skipped, else a string without quotes.
 abbrev pub string_or : Option (List ℕ) → List ℕ → Option (List ℕ × List ℕ)
@@ -90,7 +96,8 @@ string_at bytes = string_or (after (codes "\"") bytes) bytes
 
 -- The first `count` octets, if there are as many, and the rest.
 abbrev pub counted : ℕ → List ℕ → Option (List ℕ × List ℕ)
-counted count bytes = if nat_le count (length bytes) then Some (take count bytes, drop count bytes) else None
+counted count bytes =
+    if nat_le count (length bytes) then Some (take count bytes, drop count bytes) else None
 
 -- A literal.
 unfoldable pub literal_at : List ℕ → Option (List ℕ × List ℕ)
@@ -106,21 +113,26 @@ field_at bytes = or_else (literal_at bytes) (string_at bytes)
 -- A run from its first number: a second number if a `:` was skipped, else only the first.
 abbrev pub run_or : ℕ → Option (List ℕ) → List ℕ → Run × List ℕ
 run_or first None rest = (record { first = small first; last = small first }, rest)
-run_or first (Some more) rest = (record { first = small first; last = small (number_from 0 more).0 }, (number_from 0 more).1)
+run_or first (Some more) rest =
+    (record { first = small first; last = small (number_from 0 more).0 }, (number_from 0 more).1)
 
 -- A run of numbers: one number, or two with a `:` between.
 abbrev pub run_at : List ℕ → Run × List ℕ
-run_at bytes = run_or (number_from 0 bytes).0 (after (codes ":") (number_from 0 bytes).1) (number_from 0 bytes).1
+run_at bytes =
+    run_or (number_from 0 bytes).0 (after (codes ":") (number_from 0 bytes).1)
+    (number_from 0 bytes).1
 
 -- A run and the runs after it, if a comma was skipped, else only this run.
-abbrev pub runs_on : Run → Option (List ℕ) → List ℕ → (List ℕ → Option (List Run × List ℕ)) → Option (List Run × List ℕ)
+abbrev pub runs_on : Run → Option (List ℕ) → List ℕ → (List ℕ → Option (List Run × List ℕ))
+    → Option (List Run × List ℕ)
 runs_on run None rest go = Some (run ∷ [], rest)
 runs_on run (Some more) rest go = with_front (run ∷ []) (go more)
 
 -- At most `fuel` runs separated by commas.
 abbrev pub runs_at : ℕ → List ℕ → Option (List Run × List ℕ)
 runs_at zero bytes = None
-runs_at (suc fuel) bytes = runs_on (run_at bytes).0 (after (codes ",") (run_at bytes).1) (run_at bytes).1 (runs_at fuel)
+runs_at (suc fuel) bytes =
+    runs_on (run_at bytes).0 (after (codes ",") (run_at bytes).1) (run_at bytes).1 (runs_at fuel)
 
 -- The numbers of runs, if these are a set.
 abbrev pub numbers_where : Bool → List Run → List ℕ → Option (List ℕ × List ℕ)
@@ -159,7 +171,8 @@ abbrev pub item_at : Bool → List ℕ → List ℕ → Listed (Option ℕ)
 item_at is_first label bytes = item_or is_first (after (lead is_first label) bytes) bytes
 
 -- The words of a list from the next one on, if there is one.
-abbrev pub words_on : Option (List ℕ) → List ℕ → (List ℕ → Option (List (List ℕ) × List ℕ)) → Option (List (List ℕ) × List ℕ)
+abbrev pub words_on : Option (List ℕ) → List ℕ → (List ℕ → Option (List (List ℕ) × List ℕ))
+    → Option (List (List ℕ) × List ℕ)
 words_on None bytes go = Some ([], bytes)
 words_on (Some rest) bytes go =
     if length (span (is_in Atom) rest).0 == 0 then Some ([], bytes)
@@ -168,4 +181,5 @@ words_on (Some rest) bytes go =
 -- Fewer than `fuel` words of a list, up to octets that are no word.
 abbrev pub words_at : ℕ → Bool → List ℕ → Option (List (List ℕ) × List ℕ)
 words_at zero is_first bytes = None
-words_at (suc fuel) is_first bytes = words_on (after (lead is_first []) bytes) bytes (words_at fuel false)
+words_at (suc fuel) is_first bytes =
+    words_on (after (lead is_first []) bytes) bytes (words_at fuel false)

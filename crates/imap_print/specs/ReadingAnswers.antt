@@ -2,7 +2,8 @@
 -- `imap_answers` says what an answer's text is (RFC 9051, section 7); `read` is proved to invert
 -- it.
 
-use Rattle.std.specs.Prelude.{ℕ, zero, suc, ◌+◌, Bool, true, false, ◌&&◌, ◌==◌, List, [], ◌∷◌, length, codes, Option, Some, None, if◌then◌else◌}
+use Rattle.std.specs.Prelude.{ℕ, zero, suc, ◌+◌, Bool, true, false, ◌&&◌, ◌==◌, List, [], ◌∷◌}
+use Rattle.std.specs.Prelude.{length, codes, Option, Some, None, if◌then◌else◌}
 use Rattle.imap_types.specs.DateTimeTests.{is_date_time}
 use Rattle.imap_types.specs.Keywords.{are_keywords}
 use Rattle.imap_types.specs.declared.flags.Flags.{Flags}
@@ -20,10 +21,14 @@ use Rattle.imap_answers.specs.declared.fetch_items.SectionData.{SectionData}
 use Rattle.imap_answers.specs.declared.mailbox.SearchResults.{SearchResults}
 use Rattle.imap_answers.specs.declared.mailbox.StatusItems.{StatusItems}
 use Rattle.imap_print.specs.declared.scanner.ScanClass.TheVariants.{Tag}
-use Rattle.imap_print.specs.Reading.{◌>>=◌, Listed, after, counted, field_at, flag_at, followed, is_in, item_at, lead, literal_at, number_from, or_else, set_at, small, span, string_at, with_front, within, word_at, words_at}
+use Rattle.imap_print.specs.Reading.{◌>>=◌, Listed, after, counted, field_at, flag_at, followed}
+use Rattle.imap_print.specs.Reading.{is_in, item_at, lead, literal_at, number_from, or_else, set_at}
+use Rattle.imap_print.specs.Reading.{small, span, string_at, with_front, within, word_at, words_at}
 use Rattle.imap_answers.specs.Strings.{crlf}
-use Rattle.imap_print.specs.Tables.{all_attributes, bye_reasons, commands, continuations, enabled_words, logins, refusals}
-use Rattle.imap_answers.specs.Words.{attributes_text, bye_text, command_text, continuation_text, enabled_text, greeting_text, refusal_text}
+use Rattle.imap_print.specs.Tables.{all_attributes, bye_reasons, commands, continuations}
+use Rattle.imap_print.specs.Tables.{enabled_words, logins, refusals}
+use Rattle.imap_answers.specs.Words.{attributes_text, bye_text, command_text, continuation_text}
+use Rattle.imap_answers.specs.Words.{enabled_text, greeting_text, refusal_text}
 
 -- Flags of a list, and whether there are none.
 unfoldable pub flags_from : List ℕ → Option (Listed Flags)
@@ -35,7 +40,18 @@ flags_from bytes =
     let draft = flag_at seen.1 (codes "\\Draft") seen.2 in
     words_at (length bytes + 1) draft.1 draft.2 >>= λ words.
     (if are_keywords words.0
-    then Some (record { answered = answered.0; flagged = flagged.0; deleted = deleted.0; seen = seen.0; draft = draft.0; keywords = words.0 }, draft.1 && (length words.0 == 0), words.1)
+    then Some (
+      record {
+        answered = answered.0;
+        flagged = flagged.0;
+        deleted = deleted.0;
+        seen = seen.0;
+        draft = draft.0;
+        keywords = words.0;
+      },
+      draft.1 && (length words.0 == 0),
+      words.1,
+    )
     else None)
 
 -- Flags in parentheses.
@@ -103,11 +119,15 @@ permanent_notice_at bytes = do
 unfoldable pub notice_at : List ℕ → Option (Notice × List ℕ)
 notice_at bytes =
     behind (after (codes "[CLOSED]") bytes) (λ rest. Some (notice.Closed, rest))
-    (behind (after (codes "[UIDVALIDITY ") bytes) (λ rest. within (λ n. notice.UidValidity (small n)) (coded_at rest))
-    (behind (after (codes "[UIDNEXT ") bytes) (λ rest. within (λ n. notice.UidNext (small n)) (coded_at rest))
-    (behind (after (codes "[HIGHESTMODSEQ ") bytes) (λ rest. within (λ n. notice.HighestModSeq n) (coded_at rest))
+    (behind (after (codes "[UIDVALIDITY ") bytes)
+    (λ rest. within (λ n. notice.UidValidity (small n)) (coded_at rest))
+    (behind (after (codes "[UIDNEXT ") bytes)
+    (λ rest. within (λ n. notice.UidNext (small n)) (coded_at rest))
+    (behind (after (codes "[HIGHESTMODSEQ ") bytes)
+    (λ rest. within (λ n. notice.HighestModSeq n) (coded_at rest))
     (behind (after (codes "[PERMANENTFLAGS ") bytes) (λ rest. permanent_notice_at rest)
-    (behind (after (codes "[COPYUID ") bytes) (λ rest. within (λ c. notice.CopyUid c.0 c.1 c.2) (copied_at rest)) None)))))
+    (behind (after (codes "[COPYUID ") bytes)
+    (λ rest. within (λ c. notice.CopyUid c.0 c.1 c.2) (copied_at rest)) None)))))
 
 -- The UIDVALIDITY and the UID of APPENDUID.
 unfoldable pub appended_at : List ℕ → Option ((ℕ × ℕ) × List ℕ)
@@ -128,8 +148,10 @@ code_at bytes =
     behind (after (codes "[READ-WRITE]") bytes) (λ rest. Some (code.ReadWrite, rest))
     (behind (after (codes "[READ-ONLY]") bytes) (λ rest. Some (code.ReadOnly, rest))
     (behind (after (codes "[EXPUNGEISSUED]") bytes) (λ rest. Some (code.ExpungeIssued, rest))
-    (behind (after (codes "[APPENDUID ") bytes) (λ rest. within (λ a. code.AppendUid a.0 a.1) (appended_at rest))
-    (behind (after (codes "[COPYUID ") bytes) (λ rest. within (λ c. code.CopyUid c.0 c.1 c.2) (copied_at rest))
+    (behind (after (codes "[APPENDUID ") bytes)
+    (λ rest. within (λ a. code.AppendUid a.0 a.1) (appended_at rest))
+    (behind (after (codes "[COPYUID ") bytes)
+    (λ rest. within (λ c. code.CopyUid c.0 c.1 c.2) (copied_at rest))
     (behind (after (codes "[MODIFIED ") bytes) (λ rest. modified_at rest) None)))))
 
 -- A code and a space if a bracket comes next, else none.
@@ -155,8 +177,18 @@ status_items_at bytes =
     let unseen = item_at uidvalidity.1 (codes "UNSEEN ") uidvalidity.2 in
     let deleted = item_at unseen.1 (codes "DELETED ") unseen.2 in
     let size = item_at deleted.1 (codes "SIZE ") deleted.2 in
-    let modseq = item_at size.1 (codes "HIGHESTMODSEQ ") size.2 in
-    (record { messages = small_option messages.0; uidnext = small_option uidnext.0; uidvalidity = small_option uidvalidity.0; unseen = small_option unseen.0; deleted = small_option deleted.0; size = size.0; highest_modseq = modseq.0 }, modseq.2)
+    let modseq = item_at size.1 (codes "HIGHESTMODSEQ ") size.2 in (
+      record {
+        messages = small_option messages.0;
+        uidnext = small_option uidnext.0;
+        uidvalidity = small_option uidvalidity.0;
+        unseen = small_option unseen.0;
+        deleted = small_option deleted.0;
+        size = size.0;
+        highest_modseq = modseq.0;
+      },
+      modseq.2,
+    )
 
 -- All hits of a search, if their label was skipped, else none.
 abbrev pub all_or : Option (List ℕ) → List ℕ → Option (List ℕ × List ℕ)
@@ -171,27 +203,41 @@ results_at bytes =
     all_or (after (codes " ALL ") greatest.2) greatest.2 >>= λ all.
     (let count = item_at false (codes "COUNT ") all.1 in
     let modseq = item_at false (codes "MODSEQ ") count.2 in
-    Some (record { min = small_option least.0; max = small_option greatest.0; all = all.0; count = small_option count.0; modseq = modseq.0 }, modseq.2))
+    Some (
+      record {
+        min = small_option least.0;
+        max = small_option greatest.0;
+        all = all.0;
+        count = small_option count.0;
+        modseq = modseq.0;
+      },
+      modseq.2,
+    ))
 
 -- The next name of a header field.
 abbrev pub next_field_at : Bool → List ℕ → Option (List ℕ × List ℕ)
 next_field_at is_first bytes = after (lead is_first []) bytes >>= field_at
 
 -- No further names if the parenthesis was skipped, else the next name and those after it.
-abbrev pub fields_on : Bool → Option (List ℕ) → List ℕ → (List ℕ → Option (List (List ℕ) × List ℕ)) → Option (List (List ℕ) × List ℕ)
+abbrev pub fields_on : Bool → Option (List ℕ) → List ℕ → (List ℕ → Option (List (List ℕ) × List ℕ))
+    → Option (List (List ℕ) × List ℕ)
 fields_on is_first (Some rest) bytes go = Some ([], rest)
-fields_on is_first None bytes go = next_field_at is_first bytes >>= λ name. with_front (name.0 ∷ []) (go name.1)
+fields_on is_first None bytes go =
+    next_field_at is_first bytes >>= λ name. with_front (name.0 ∷ []) (go name.1)
 
 -- Fewer than `fuel` names of header fields, up to the closing parenthesis.
 abbrev pub fields_at : ℕ → Bool → List ℕ → Option (List (List ℕ) × List ℕ)
 fields_at zero is_first bytes = None
-fields_at (suc fuel) is_first bytes = fields_on is_first (after (codes ")") bytes) bytes (fields_at fuel false)
+fields_at (suc fuel) is_first bytes =
+    fields_on is_first (after (codes ")") bytes) bytes (fields_at fuel false)
 
 -- The name of a section.
 unfoldable pub section_at : List ℕ → Option (Section × List ℕ)
 section_at bytes =
-    behind (after (codes "HEADER.FIELDS (") bytes) (λ rest. within (λ names. section.Fields names) (fields_at (length rest + 1) true rest))
-    (behind (after (codes "HEADER.FIELDS.NOT (") bytes) (λ rest. within (λ names. section.FieldsNot names) (fields_at (length rest + 1) true rest))
+    behind (after (codes "HEADER.FIELDS (") bytes)
+    (λ rest. within (λ names. section.Fields names) (fields_at (length rest + 1) true rest))
+    (behind (after (codes "HEADER.FIELDS.NOT (") bytes)
+    (λ rest. within (λ names. section.FieldsNot names) (fields_at (length rest + 1) true rest))
     (behind (after (codes "HEADER") bytes) (λ rest. Some (section.Header, rest))
     (behind (after (codes "TEXT") bytes) (λ rest. Some (section.Text, rest))
     (Some (section.Whole, bytes)))))
@@ -199,7 +245,9 @@ section_at bytes =
 -- The offset of a partial range if its `<` was skipped, else none.
 abbrev pub origin_or : Option (List ℕ) → List ℕ → Option (Option ℕ × List ℕ)
 origin_or None bytes = Some (None, bytes)
-origin_or (Some digits) bytes = after (codes ">") (number_from 0 digits).1 >>= λ rest. Some (Some (small (number_from 0 digits).0), rest)
+origin_or (Some digits) bytes =
+    after (codes ">") (number_from 0 digits).1
+    >>= λ rest. Some (Some (small (number_from 0 digits).0), rest)
 
 -- What follows the name of a section: an offset, if any, and the octets.
 unfoldable pub data_at : List ℕ → Option ((Option ℕ × List ℕ) × List ℕ)
@@ -218,14 +266,16 @@ body_at bytes = do
   Some (record { section = section.0; origin = found.0.0; octets = found.0.1 }, found.1)
 
 -- A section and those after it if `BODY[` was skipped, else none.
-abbrev pub bodies_on : Option (List ℕ) → List ℕ → (List ℕ → Option (List SectionData × List ℕ)) → Option (List SectionData × List ℕ)
+abbrev pub bodies_on : Option (List ℕ) → List ℕ → (List ℕ → Option (List SectionData × List ℕ))
+    → Option (List SectionData × List ℕ)
 bodies_on None bytes go = Some ([], bytes)
 bodies_on (Some rest) bytes go = body_at rest >>= λ part. with_front (part.0 ∷ []) (go part.1)
 
 -- Fewer than `fuel` sections with their octets.
 abbrev pub bodies_at : ℕ → Bool → List ℕ → Option (List SectionData × List ℕ)
 bodies_at zero is_first bytes = None
-bodies_at (suc fuel) is_first bytes = bodies_on (after (lead is_first (codes "BODY[")) bytes) bytes (bodies_at fuel false)
+bodies_at (suc fuel) is_first bytes =
+    bodies_on (after (lead is_first (codes "BODY[")) bytes) bytes (bodies_at fuel false)
 
 -- The flags of a message, if their label was skipped.
 abbrev pub flags_or : Bool → Option (List ℕ) → List ℕ → Option (Listed (Option Flags))
@@ -246,7 +296,9 @@ date_or is_first (Some rest) bytes = date_at rest >>= λ date. Some (Some date.0
 -- The mod-sequence of a message, if its label was skipped.
 abbrev pub modseq_or : Bool → Option (List ℕ) → List ℕ → Option (Listed (Option ℕ))
 modseq_or is_first None bytes = Some (None, is_first, bytes)
-modseq_or is_first (Some digits) bytes = after (codes ")") (number_from 0 digits).1 >>= λ rest. Some (Some (number_from 0 digits).0, false, rest)
+modseq_or is_first (Some digits) bytes =
+    after (codes ")") (number_from 0 digits).1
+    >>= λ rest. Some (Some (number_from 0 digits).0, false, rest)
 
 -- The items of FETCH.
 unfoldable pub fetch_items_at : List ℕ → Option (FetchItems × List ℕ)
@@ -257,7 +309,17 @@ fetch_items_at bytes =
     (let size = item_at date.1 (codes "RFC822.SIZE ") date.2 in
     modseq_or size.1 (after (lead size.1 (codes "MODSEQ (")) size.2) size.2 >>= λ modseq.
     bodies_at (length modseq.2 + 1) modseq.1 modseq.2 >>= λ parts.
-    Some (record { uid = small_option uid.0; flags = flags.0; date = date.0; size = size.0; modseq = modseq.0; sections = parts.0 }, parts.1))
+    Some (
+      record {
+        uid = small_option uid.0;
+        flags = flags.0;
+        date = date.0;
+        size = size.0;
+        modseq = modseq.0;
+        sections = parts.0;
+      },
+      parts.1,
+    ))
 
 -- A name in LIST.
 unfoldable pub list_at : List ℕ → Option (Answer × List ℕ)
@@ -282,15 +344,18 @@ status_at bytes = do
 
 -- The results of the search with this tag, after the tag.
 abbrev pub search_from : List ℕ → Bool → List ℕ → Option (Answer × List ℕ)
-search_from tag by_uid bytes = within (λ results. answer.Search tag by_uid results) (results_at bytes)
+search_from tag by_uid bytes =
+    within (λ results. answer.Search tag by_uid results) (results_at bytes)
 
 -- The results of a search, from its tag on.
 unfoldable pub search_at : List ℕ → Option (Answer × List ℕ)
 search_at bytes =
     if length (span (is_in Tag) bytes).0 == 0 then None
     else
-    behind (after (codes "\") UID") (span (is_in Tag) bytes).1) (λ rest. search_from (span (is_in Tag) bytes).0 true rest)
-    (after (codes "\")") (span (is_in Tag) bytes).1 >>= λ rest. search_from (span (is_in Tag) bytes).0 false rest)
+    behind (after (codes "\") UID") (span (is_in Tag) bytes).1)
+    (λ rest. search_from (span (is_in Tag) bytes).0 true rest)
+    (after (codes "\")") (span (is_in Tag) bytes).1
+    >>= λ rest. search_from (span (is_in Tag) bytes).0 false rest)
 
 -- A message in FETCH, after its number.
 unfoldable pub fetch_at : ℕ → List ℕ → Option (Answer × List ℕ)
@@ -307,8 +372,10 @@ tell_at bytes = do
 -- An untagged answer that is one fixed text.
 unfoldable pub fixed_at : List ℕ → Option (Answer × List ℕ)
 fixed_at bytes =
-    behind (after (codes "CAPABILITY IMAP4rev2 IDLE CONDSTORE") bytes) (λ rest. Some (answer.Capability, rest))
-    (behind (after (codes "NAMESPACE ((\"\" \"/\")) NIL NIL") bytes) (λ rest. Some (answer.Namespace, rest))
+    behind (after (codes "CAPABILITY IMAP4rev2 IDLE CONDSTORE") bytes)
+    (λ rest. Some (answer.Capability, rest))
+    (behind (after (codes "NAMESPACE ((\"\" \"/\")) NIL NIL") bytes)
+    (λ rest. Some (answer.Namespace, rest))
     (behind (after (codes "BAD no tag") bytes) (λ rest. Some (answer.NoTag, rest))
     (followed answer.LiteralTooLong (after (codes "NO [LIMIT] literal too long") bytes))))
 
@@ -316,7 +383,8 @@ fixed_at bytes =
 unfoldable pub worded_at : List ℕ → Option (Answer × List ℕ)
 worded_at bytes =
     behind (after (codes "OK ") bytes) (λ rest. tell_at rest)
-    (behind (after (codes "FLAGS ") bytes) (λ rest. within (λ flags. answer.Flags flags) (flags_at rest))
+    (behind (after (codes "FLAGS ") bytes)
+    (λ rest. within (λ flags. answer.Flags flags) (flags_at rest))
     (behind (after (codes "LIST ") bytes) (λ rest. list_at rest)
     (behind (after (codes "STATUS ") bytes) (λ rest. status_at rest)
     (behind (after (codes "ESEARCH (TAG \"") bytes) (λ rest. search_at rest)
@@ -327,7 +395,8 @@ abbrev pub numbered_at : ℕ → List ℕ → List ℕ → Option (Answer × Lis
 numbered_at number rest bytes =
     behind (after (codes " EXISTS") rest) (λ closed. Some (answer.Exists (small number), closed))
     (behind (after (codes " EXPUNGE") rest) (λ closed. Some (answer.Expunge (small number), closed))
-    (behind (after (codes " FETCH (") rest) (λ items. fetch_at (small number) items) (worded_at bytes)))
+    (behind (after (codes " FETCH (") rest) (λ items. fetch_at (small number) items)
+    (worded_at bytes)))
 
 -- An untagged answer, after its `* `.
 unfoldable pub untagged_at : List ℕ → Option (Answer × List ℕ)
@@ -337,8 +406,10 @@ untagged_at bytes = numbered_at (number_from 0 bytes).0 (number_from 0 bytes).1 
 unfoldable pub star_at : List ℕ → Option (Answer × List ℕ)
 star_at bytes =
     or_else (within (λ login. answer.Greeting login) (word_at greeting_text logins bytes))
-    (or_else (within (λ awaited. answer.Continue awaited) (word_at continuation_text continuations bytes))
-    (or_else (within (λ extensions. answer.Enabled extensions) (word_at enabled_text enabled_words bytes))
+    (or_else
+    (within (λ awaited. answer.Continue awaited) (word_at continuation_text continuations bytes))
+    (or_else
+    (within (λ extensions. answer.Enabled extensions) (word_at enabled_text enabled_words bytes))
     (or_else (within (λ reason. answer.Bye reason) (word_at bye_text bye_reasons bytes))
     (after (codes "* ") bytes >>= untagged_at))))
 
@@ -363,7 +434,8 @@ completed_at tag bytes = do
 unfoldable pub tagged_at : List ℕ → List ℕ → Option (Answer × List ℕ)
 tagged_at tag bytes = do
   rest ← after (codes " ") bytes
-  behind (after (codes "OK ") rest) (λ more. completed_at tag more) (within (λ reason. answer.Refused tag reason) (word_at refusal_text refusals rest))
+  behind (after (codes "OK ") rest) (λ more. completed_at tag more)
+  (within (λ reason. answer.Refused tag reason) (word_at refusal_text refusals rest))
 
 -- An answer without its line end.
 unfoldable pub answer_at : List ℕ → Option (Answer × List ℕ)

@@ -30,24 +30,41 @@ continuations =
 -- The answers to ENABLE.
 abbrev pub enabled_words : List EnabledExtensions
 enabled_words =
-    enabled.CondstoreImap4Rev2 ∷ enabled.Imap4Rev2Condstore ∷ enabled.Condstore ∷ enabled.Imap4Rev2 ∷ enabled.Nothing ∷ []
+    enabled.CondstoreImap4Rev2 ∷ enabled.Imap4Rev2Condstore ∷ enabled.Condstore ∷ enabled.Imap4Rev2
+    ∷ enabled.Nothing ∷ []
 
 -- The reasons to end a connection.
 abbrev pub bye_reasons : List ByeReason
 bye_reasons =
-    bye.LoggingOut ∷ bye.LineTooLong ∷ bye.LiteralTooLong ∷ bye.NulInText ∷ bye.NoMemory ∷ bye.ReplicaChanged ∷ bye.TooManySessions ∷ []
+    bye.LoggingOut ∷ bye.LineTooLong ∷ bye.LiteralTooLong ∷ bye.NulInText ∷ bye.NoMemory
+    ∷ bye.ReplicaChanged ∷ bye.TooManySessions ∷ []
 
 -- The reasons to refuse a command.
 abbrev pub refusals : List Refusal
 refusals =
-    refusal.NoSuchMailbox ∷ refusal.NoDestination ∷ refusal.MailboxExists ∷ refusal.NameNotAllowed ∷ refusal.InboxStays ∷ refusal.NotInProfile ∷ refusal.LoginFailed ∷ refusal.ReadOnly ∷ refusal.TooManyKeywords ∷ refusal.TooManyVersions ∷ refusal.KeywordTooLong ∷ refusal.NumberUsedUp ∷ refusal.LiteralTooLong ∷ refusal.NoMemory ∷ refusal.UnknownCommand ∷ refusal.BadSyntax ∷ refusal.NotNow ∷ refusal.NoSuchMessage ∷ refusal.DoneExpected ∷ []
+    refusal.NoSuchMailbox ∷ refusal.NoDestination ∷ refusal.MailboxExists ∷ refusal.NameNotAllowed
+    ∷ refusal.InboxStays ∷ refusal.NotInProfile ∷ refusal.LoginFailed ∷ refusal.ReadOnly
+    ∷ refusal.TooManyKeywords ∷ refusal.TooManyVersions ∷ refusal.KeywordTooLong
+    ∷ refusal.NumberUsedUp ∷ refusal.LiteralTooLong ∷ refusal.NoMemory ∷ refusal.UnknownCommand
+    ∷ refusal.BadSyntax ∷ refusal.NotNow ∷ refusal.NoSuchMessage ∷ refusal.DoneExpected ∷ []
 
 -- The names of completed commands.
 abbrev pub commands : List CompletedWord
 commands =
-    command.Capability ∷ command.Noop ∷ command.Logout ∷ command.Login ∷ command.Enable ∷ command.Select ∷ command.Examine ∷ command.Create ∷ command.Delete ∷ command.Subscribe ∷ command.Unsubscribe ∷ command.List ∷ command.Namespace ∷ command.Status ∷ command.Append ∷ command.Idle ∷ command.Close ∷ command.Unselect ∷ command.Expunge ∷ command.Search ∷ command.Fetch ∷ command.Store ∷ command.Copy ∷ command.Move ∷ command.UidFetch ∷ command.UidStore ∷ command.UidSearch ∷ command.UidCopy ∷ command.UidMove ∷ command.UidExpunge ∷ []
+    command.Capability ∷ command.Noop ∷ command.Logout ∷ command.Login ∷ command.Enable
+    ∷ command.Select ∷ command.Examine ∷ command.Create ∷ command.Delete ∷ command.Subscribe
+    ∷ command.Unsubscribe ∷ command.List ∷ command.Namespace ∷ command.Status ∷ command.Append
+    ∷ command.Idle ∷ command.Close ∷ command.Unselect ∷ command.Expunge ∷ command.Search
+    ∷ command.Fetch ∷ command.Store ∷ command.Copy ∷ command.Move ∷ command.UidFetch
+    ∷ command.UidStore ∷ command.UidSearch ∷ command.UidCopy ∷ command.UidMove ∷ command.UidExpunge
+    ∷ []
 
 -- The attributes of names in LIST.
 abbrev pub all_attributes : List Attributes
 all_attributes =
-    record { state = state.There; subscribed = false } ∷ record { state = state.There; subscribed = true } ∷ record { state = state.NoSelect; subscribed = false } ∷ record { state = state.NoSelect; subscribed = true } ∷ record { state = state.NonExistent; subscribed = false } ∷ record { state = state.NonExistent; subscribed = true } ∷ []
+    record { state = state.There; subscribed = false }
+    ∷ record { state = state.There; subscribed = true }
+    ∷ record { state = state.NoSelect; subscribed = false }
+    ∷ record { state = state.NoSelect; subscribed = true }
+    ∷ record { state = state.NonExistent; subscribed = false }
+    ∷ record { state = state.NonExistent; subscribed = true } ∷ []

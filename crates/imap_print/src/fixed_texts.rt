@@ -2,8 +2,11 @@
 
 ghost use Rattle.std.specs.Prelude.{◌≡◌, ℕ, List, option_map};
 ghost use Rattle.imap_print.specs.Reading.{word_at};
-ghost use Rattle.imap_print.specs.Tables.{all_attributes, bye_reasons, commands, continuations, enabled_words, logins, refusals};
-ghost use Rattle.imap_answers.specs.Words.{attributes_text, bye_text, command_text, continuation_text, enabled_text, greeting_text, refusal_text};
+ghost use Rattle.imap_print.specs.Tables.{all_attributes, bye_reasons, commands, continuations};
+ghost use Rattle.imap_print.specs.Tables.{enabled_words, logins, refusals};
+ghost use Rattle.imap_answers.specs.Words.{attributes_text, bye_text, command_text};
+ghost use Rattle.imap_answers.specs.Words.{continuation_text, enabled_text, greeting_text};
+ghost use Rattle.imap_answers.specs.Words.{refusal_text};
 
 use crate::scanner::skip;
 use imap_answers::{
@@ -104,7 +107,8 @@ pub fn login_word(bytes: &[u8]) -> Option<(Login, &[u8])>
 
 /// The continuation request that the octets begin with, and the rest.
 pub fn continuation_word(bytes: &[u8]) -> Option<(Continuation, &[u8])>
-    ensures { option_map (λ x. (x.0, x.1.now)) result ≡ word_at continuation_text continuations bytes.now }
+    ensures { option_map (λ x. (x.0, x.1.now)) result
+        ≡ word_at continuation_text continuations bytes.now }
 {
     let candidates = [Continuation::Ready, Continuation::Idling];
     first_word(&candidates, bytes)
@@ -112,7 +116,8 @@ pub fn continuation_word(bytes: &[u8]) -> Option<(Continuation, &[u8])>
 
 /// The answer to ENABLE that the octets begin with, and the rest.
 pub fn enabled_word(bytes: &[u8]) -> Option<(EnabledExtensions, &[u8])>
-    ensures { option_map (λ x. (x.0, x.1.now)) result ≡ word_at enabled_text enabled_words bytes.now }
+    ensures { option_map (λ x. (x.0, x.1.now)) result
+        ≡ word_at enabled_text enabled_words bytes.now }
 {
     let candidates = [
         EnabledExtensions::CondstoreImap4Rev2,
@@ -209,7 +214,8 @@ pub fn command_word(bytes: &[u8]) -> Option<(CompletedWord, &[u8])>
 
 /// The attributes that the octets begin with, and the rest.
 pub fn attributes_word(bytes: &[u8]) -> Option<(Attributes, &[u8])>
-    ensures { option_map (λ x. (x.0, x.1.now)) result ≡ word_at (λ a. attributes_text a.state a.subscribed) all_attributes bytes.now }
+    ensures { option_map (λ x. (x.0, x.1.now)) result
+        ≡ word_at (λ a. attributes_text a.state a.subscribed) all_attributes bytes.now }
 {
     let candidates = [
         Attributes {

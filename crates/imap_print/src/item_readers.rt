@@ -3,7 +3,11 @@
 
 ghost use Rattle.std.specs.Prelude.{◌≡◌, true, codes, option_map};
 ghost use Rattle.imap_print.specs.Reading.{Gives, after, flag_at, item_at, lead};
-ghost use Rattle.imap_print.specs.ReadingAnswers.{bodies_at, body_at, data_at, date_at, date_or, fetch_items_at, fields_at, flags_at, flags_from, flags_or, modseq_or, next_field_at, origin_or, permanent_at, permanent_from, section_at, small_option, status_items_at};
+ghost use Rattle.imap_print.specs.ReadingAnswers.{bodies_at, body_at, data_at, date_at, date_or};
+ghost use Rattle.imap_print.specs.ReadingAnswers.{fetch_items_at, fields_at, flags_at, flags_from};
+ghost use Rattle.imap_print.specs.ReadingAnswers.{flags_or, modseq_or, next_field_at, origin_or};
+ghost use Rattle.imap_print.specs.ReadingAnswers.{permanent_at, permanent_from, section_at};
+ghost use Rattle.imap_print.specs.ReadingAnswers.{small_option, status_items_at};
 
 use crate::fault::ReadFault;
 use crate::scanner::{
@@ -206,7 +210,8 @@ fn section(alloc: Global, bytes: &[u8]) -> Result<(Section, &[u8]), ReadFault>
 
 /// Reads the offset of a partial range, if any.
 fn origin(bytes: &[u8]) -> Result<(Option<u32>, &[u8]), ReadFault>
-    ensures { Gives (λ x. (x.0, x.1.now)) result (origin_or (after (codes "<") bytes.now) bytes.now) }
+    ensures { Gives (λ x. (x.0, x.1.now)) result
+        (origin_or (after (codes "<") bytes.now) bytes.now) }
 {
     match skip(bytes, b"<") {
         None => Ok((None, bytes)),
@@ -283,7 +288,8 @@ fn flags_item(
     is_first: bool,
     bytes: &[u8],
 ) -> Result<(Option<Flags>, bool, &[u8]), ReadFault>
-    ensures { Gives (λ x. (x.0, x.1, x.2.now)) result (flags_or is_first (after (lead is_first (codes "FLAGS ")) bytes.now) bytes.now) }
+    ensures { Gives (λ x. (x.0, x.1, x.2.now)) result
+        (flags_or is_first (after (lead is_first (codes "FLAGS ")) bytes.now) bytes.now) }
 {
     match skip_text(is_first, b"FLAGS ", bytes) {
         None => Ok((None, is_first, bytes)),
@@ -310,7 +316,8 @@ fn date(bytes: &[u8]) -> Result<(DateTime, &[u8]), ReadFault>
 
 /// Reads the internal date of a message, if it comes next.
 fn date_item(is_first: bool, bytes: &[u8]) -> Result<(Option<DateTime>, bool, &[u8]), ReadFault>
-    ensures { Gives (λ x. (x.0, x.1, x.2.now)) result (date_or is_first (after (lead is_first (codes "INTERNALDATE ")) bytes.now) bytes.now) }
+    ensures { Gives (λ x. (x.0, x.1, x.2.now)) result
+        (date_or is_first (after (lead is_first (codes "INTERNALDATE ")) bytes.now) bytes.now) }
 {
     match skip_text(is_first, b"INTERNALDATE ", bytes) {
         None => Ok((None, is_first, bytes)),
@@ -323,7 +330,8 @@ fn date_item(is_first: bool, bytes: &[u8]) -> Result<(Option<DateTime>, bool, &[
 
 /// Reads the mod-sequence of a message, if it comes next.
 fn modseq_item(is_first: bool, bytes: &[u8]) -> Result<(Option<u64>, bool, &[u8]), ReadFault>
-    ensures { Gives (λ x. (x.0, x.1, x.2.now)) result (modseq_or is_first (after (lead is_first (codes "MODSEQ (")) bytes.now) bytes.now) }
+    ensures { Gives (λ x. (x.0, x.1, x.2.now)) result
+        (modseq_or is_first (after (lead is_first (codes "MODSEQ (")) bytes.now) bytes.now) }
 {
     match skip_text(is_first, b"MODSEQ (", bytes) {
         None => Ok((None, is_first, bytes)),

@@ -3,7 +3,14 @@
 
 ghost use Rattle.std.specs.Prelude.{codes};
 ghost use Rattle.imap_print.specs.Reading.{Gives, after, within};
-ghost use Rattle.imap_print.specs.ReadingAnswers.{all_or, answer_at, appended_at, code_at, code_before_at, coded_at, completed_at, copied_at, done_at, fetch_at, fixed_at, flags_at, last_set_at, line_at, list_at, modified_at, notice_at, permanent_notice_at, results_at, search_at, search_from, sets_at, star_at, status_at, status_list_at, tagged_at, tagged_done_at, tell_at, untagged_at, worded_at};
+ghost use Rattle.imap_print.specs.ReadingAnswers.{all_or, answer_at, appended_at, code_at};
+ghost use Rattle.imap_print.specs.ReadingAnswers.{code_before_at, coded_at, completed_at};
+ghost use Rattle.imap_print.specs.ReadingAnswers.{copied_at, done_at, fetch_at, fixed_at, flags_at};
+ghost use Rattle.imap_print.specs.ReadingAnswers.{last_set_at, line_at, list_at, modified_at};
+ghost use Rattle.imap_print.specs.ReadingAnswers.{notice_at, permanent_notice_at, results_at};
+ghost use Rattle.imap_print.specs.ReadingAnswers.{search_at, search_from, sets_at, star_at};
+ghost use Rattle.imap_print.specs.ReadingAnswers.{status_at, status_list_at, tagged_at};
+ghost use Rattle.imap_print.specs.ReadingAnswers.{tagged_done_at, tell_at, untagged_at, worded_at};
 ghost use Rattle.imap_answers.specs.declared.answer.Answer.TheVariants.{Flags};
 ghost use Rattle.imap_answers.specs.declared.codes.Code.TheVariants as code;
 ghost use Rattle.imap_answers.specs.declared.codes.Notice.TheVariants as notice;
@@ -138,7 +145,8 @@ fn fixed_answer(bytes: &[u8]) -> Result<(Answer, &[u8]), ReadFault>
 
 /// Reads the flags of a mailbox.
 fn mailbox_flags(alloc: Global, bytes: &[u8]) -> Result<(Answer, &[u8]), ReadFault>
-    ensures { Gives (λ x. (x.0, x.1.now)) result (within (λ flags. Flags flags) (flags_at bytes.now)) }
+    ensures { Gives (λ x. (x.0, x.1.now)) result
+        (within (λ flags. Flags flags) (flags_at bytes.now)) }
 {
     let (flags, rest) = flags(alloc, bytes)?;
     Ok((Answer::Flags { flags }, rest))
@@ -259,7 +267,8 @@ fn results(alloc: Global, bytes: &[u8]) -> Result<(SearchResults, &[u8]), ReadFa
 
 /// Reads all hits of a search, if they come next.
 fn all_hits(alloc: Global, bytes: &[u8]) -> Result<(NumberSet, &[u8]), ReadFault>
-    ensures { Gives (λ x. (x.0, x.1.now)) result (all_or (after (codes " ALL ") bytes.now) bytes.now) }
+    ensures { Gives (λ x. (x.0, x.1.now)) result
+        (all_or (after (codes " ALL ") bytes.now) bytes.now) }
 {
     match skip(bytes, b" ALL ") {
         None => Ok((NumberSet::new(alloc), bytes)),
@@ -434,7 +443,8 @@ fn permanent_notice(alloc: Global, bytes: &[u8]) -> Result<(Notice, &[u8]), Read
 
 /// Reads the UIDs of COPYUID in an untagged OK.
 fn copied_notice(alloc: Global, bytes: &[u8]) -> Result<(Notice, &[u8]), ReadFault>
-    ensures { Gives (λ x. (x.0, x.1.now)) result (within (λ c. notice.CopyUid c.0 c.1 c.2) (copied_at bytes.now)) }
+    ensures { Gives (λ x. (x.0, x.1.now)) result
+        (within (λ c. notice.CopyUid c.0 c.1 c.2) (copied_at bytes.now)) }
 {
     let ((uidvalidity, source, copies), rest) = copyuid_code(alloc, bytes)?;
     let notice = Notice::CopyUid {
@@ -485,7 +495,8 @@ fn code(alloc: Global, bytes: &[u8]) -> Result<(Code, &[u8]), ReadFault>
 
 /// Reads the UIDs of COPYUID in a tagged OK.
 fn copied_code(alloc: Global, bytes: &[u8]) -> Result<(Code, &[u8]), ReadFault>
-    ensures { Gives (λ x. (x.0, x.1.now)) result (within (λ c. code.CopyUid c.0 c.1 c.2) (copied_at bytes.now)) }
+    ensures { Gives (λ x. (x.0, x.1.now)) result
+        (within (λ c. code.CopyUid c.0 c.1 c.2) (copied_at bytes.now)) }
 {
     let ((uidvalidity, source, copies), rest) = copyuid_code(alloc, bytes)?;
     let code = Code::CopyUid {

@@ -2,10 +2,12 @@
 //! texts are the first of their list; the result says whether the next ones still are. An `Err`, if
 //! memory runs out, may leave part of a text.
 
-ghost use Rattle.std.specs.Prelude.{◌≡◌, ◌++◌, [], ◌∷◌, codes, map, true, if◌then◌else◌, IfOk, OnOk};
+ghost use Rattle.std.specs.Prelude.{◌≡◌, ◌++◌, [], ◌∷◌, codes, map, true, if◌then◌else◌, IfOk};
+ghost use Rattle.std.specs.Prelude.{OnOk};
 ghost use Rattle.imap_types.specs.Flags.{flag_texts, where_there};
 ghost use Rattle.imap_print.specs.Appending.{Appends, Lists};
-ghost use Rattle.imap_answers.specs.Printed.{body_text, date_item, fetch_texts, flags_item, modseq_item, status_texts};
+ghost use Rattle.imap_answers.specs.Printed.{body_text, date_item, fetch_texts, flags_item};
+ghost use Rattle.imap_answers.specs.Printed.{modseq_item, status_texts};
 ghost use Rattle.imap_answers.specs.Strings.{item};
 
 use crate::part_printers::{push_body, push_date, push_flags, push_modseq};
@@ -16,7 +18,8 @@ use std::alloc::AllocError;
 
 /// Appends the space before a text, unless it is the first.
 fn push_space(is_first: bool, out: &mut Vec<u8>) -> Result<(), AllocError>
-    ensures { OnOk result (Appends out.old.items out.new.items (if is_first then [] else codes " ")) }
+    ensures { OnOk result
+        (Appends out.old.items out.new.items (if is_first then [] else codes " ")) }
 {
     if is_first {
         return Ok(());
@@ -26,7 +29,8 @@ fn push_space(is_first: bool, out: &mut Vec<u8>) -> Result<(), AllocError>
 
 /// Appends one text of a list.
 fn push_word(is_first: bool, text: &[u8], out: &mut Vec<u8>) -> Result<bool, AllocError>
-    ensures { IfOk result (λ still. Lists is_first (text.now ∷ []) out.old.items out.new.items still) }
+    ensures { IfOk result
+        (λ still. Lists is_first (text.now ∷ []) out.old.items out.new.items still) }
 {
     push_space(is_first, out)?;
     push_text(text, out)?;
@@ -40,7 +44,8 @@ fn push_item(
     number: Option<u64>,
     out: &mut Vec<u8>,
 ) -> Result<bool, AllocError>
-    ensures { IfOk result (λ still. Lists is_first (item label.now number) out.old.items out.new.items still) }
+    ensures { IfOk result
+        (λ still. Lists is_first (item label.now number) out.old.items out.new.items still) }
 {
     match number {
         None => Ok(is_first),
@@ -59,7 +64,8 @@ fn push_flag(
     text: &[u8],
     out: &mut Vec<u8>,
 ) -> Result<bool, AllocError>
-    ensures { IfOk result (λ still. Lists is_first (where_there is_there text.now) out.old.items out.new.items still) }
+    ensures { IfOk result (λ still. Lists is_first (where_there is_there text.now) out.old.items
+        out.new.items still) }
 {
     if is_there {
         push_word(is_first, text, out)
@@ -81,7 +87,8 @@ fn push_keywords(is_first: bool, keywords: &[Octets], out: &mut Vec<u8>) -> Resu
 
 /// Appends flags in their order, and gives whether there are none.
 pub fn push_flag_texts(flags: &Flags, out: &mut Vec<u8>) -> Result<bool, AllocError>
-    ensures { IfOk result (λ still. Lists true (flag_texts flags.now) out.old.items out.new.items still) }
+    ensures { IfOk result
+        (λ still. Lists true (flag_texts flags.now) out.old.items out.new.items still) }
 {
     let still = push_flag(true, flags.answered, b"\\Answered", out)?;
     let still = push_flag(still, flags.flagged, b"\\Flagged", out)?;
@@ -94,7 +101,8 @@ pub fn push_flag_texts(flags: &Flags, out: &mut Vec<u8>) -> Result<bool, AllocEr
 
 /// Appends flags and then `\*`, the flag for any new keyword.
 pub fn push_flags_and_any(flags: &Flags, out: &mut Vec<u8>) -> Result<bool, AllocError>
-    ensures { IfOk result (λ still. Lists true (flag_texts flags.now ++ codes "\\*" ∷ []) out.old.items out.new.items still) }
+    ensures { IfOk result (λ still. Lists true (flag_texts flags.now ++ codes "\\*" ∷ [])
+        out.old.items out.new.items still) }
 {
     let still = push_flag_texts(flags, out)?;
     let still = push_word(still, b"\\*", out)?;
@@ -103,7 +111,8 @@ pub fn push_flags_and_any(flags: &Flags, out: &mut Vec<u8>) -> Result<bool, Allo
 
 /// Appends the items of STATUS (RFC 9051, section 7.3.3).
 pub fn push_status_items(items: &StatusItems, out: &mut Vec<u8>) -> Result<bool, AllocError>
-    ensures { IfOk result (λ still. Lists true (status_texts items.now) out.old.items out.new.items still) }
+    ensures { IfOk result
+        (λ still. Lists true (status_texts items.now) out.old.items out.new.items still) }
 {
     let still = push_item(true, b"MESSAGES ", wide(items.messages), out)?;
     let still = push_item(still, b"UIDNEXT ", wide(items.uidnext), out)?;
@@ -117,7 +126,8 @@ pub fn push_status_items(items: &StatusItems, out: &mut Vec<u8>) -> Result<bool,
 
 /// Appends the items of FETCH (RFC 9051, section 7.5.2).
 pub fn push_fetch_items(items: &FetchItems, out: &mut Vec<u8>) -> Result<bool, AllocError>
-    ensures { IfOk result (λ still. Lists true (fetch_texts items.now) out.old.items out.new.items still) }
+    ensures { IfOk result
+        (λ still. Lists true (fetch_texts items.now) out.old.items out.new.items still) }
 {
     let still = push_item(true, b"UID ", wide(items.uid), out)?;
     let still = push_flags_item(still, &items.flags, out)?;
@@ -134,7 +144,8 @@ fn push_flags_item(
     flags: &Option<Flags>,
     out: &mut Vec<u8>,
 ) -> Result<bool, AllocError>
-    ensures { IfOk result (λ still. Lists is_first (flags_item flags.now) out.old.items out.new.items still) }
+    ensures { IfOk result
+        (λ still. Lists is_first (flags_item flags.now) out.old.items out.new.items still) }
 {
     match flags {
         None => Ok(is_first),
@@ -152,7 +163,8 @@ fn push_date_item(
     date: &Option<DateTime>,
     out: &mut Vec<u8>,
 ) -> Result<bool, AllocError>
-    ensures { IfOk result (λ still. Lists is_first (date_item date.now) out.old.items out.new.items still) }
+    ensures { IfOk result
+        (λ still. Lists is_first (date_item date.now) out.old.items out.new.items still) }
 {
     match date {
         None => Ok(is_first),
@@ -170,7 +182,8 @@ fn push_modseq_item(
     modseq: Option<u64>,
     out: &mut Vec<u8>,
 ) -> Result<bool, AllocError>
-    ensures { IfOk result (λ still. Lists is_first (modseq_item modseq) out.old.items out.new.items still) }
+    ensures { IfOk result
+        (λ still. Lists is_first (modseq_item modseq) out.old.items out.new.items still) }
 {
     match modseq {
         None => Ok(is_first),
@@ -184,7 +197,8 @@ fn push_modseq_item(
 
 /// Appends sections with their octets.
 fn push_bodies(is_first: bool, parts: &[SectionData], out: &mut Vec<u8>) -> Result<bool, AllocError>
-    ensures { IfOk result (λ still. Lists is_first (map body_text parts.now) out.old.items out.new.items still) }
+    ensures { IfOk result
+        (λ still. Lists is_first (map body_text parts.now) out.old.items out.new.items still) }
 {
     let mut still = is_first;
     for part in parts {

@@ -4,7 +4,9 @@
 ghost use Rattle.std.specs.Prelude.{◌≡◌, ◌++◌, codes, decimal, map, OnOk};
 ghost use Rattle.imap_types.specs.Flags.{flag_texts};
 ghost use Rattle.imap_print.specs.Appending.{Appends};
-ghost use Rattle.imap_answers.specs.Printed.{all_text, appended_text, body_text, code_before, code_text, copied_text, notice_text, origin_text, permanent_text, results_text, section_text, sets_text};
+ghost use Rattle.imap_answers.specs.Printed.{all_text, appended_text, body_text, code_before};
+ghost use Rattle.imap_answers.specs.Printed.{code_text, copied_text, notice_text, origin_text};
+ghost use Rattle.imap_answers.specs.Printed.{permanent_text, results_text, section_text, sets_text};
 ghost use Rattle.imap_answers.specs.Strings.{field_text, separated_by, set_text};
 
 use crate::list_printers::{push_flag_texts, push_flags_and_any, wide};
@@ -24,7 +26,8 @@ pub fn push_flags(
     end: &[u8],
     out: &mut Vec<u8>,
 ) -> Result<(), AllocError>
-    ensures { OnOk result (Appends out.old.items out.new.items (front.now ++ separated_by 32 (flag_texts flags.now) ++ end.now)) }
+    ensures { OnOk result (Appends out.old.items out.new.items
+        (front.now ++ separated_by 32 (flag_texts flags.now) ++ end.now)) }
 {
     push_text(front, out)?;
     let _ = push_flag_texts(flags, out)?;
@@ -33,7 +36,8 @@ pub fn push_flags(
 
 /// Appends the code PERMANENTFLAGS.
 fn push_permanent(flags: &Option<Flags>, out: &mut Vec<u8>) -> Result<(), AllocError>
-    ensures { OnOk result (Appends out.old.items out.new.items (codes "[PERMANENTFLAGS " ++ permanent_text flags.now ++ codes "]")) }
+    ensures { OnOk result (Appends out.old.items out.new.items
+        (codes "[PERMANENTFLAGS " ++ permanent_text flags.now ++ codes "]")) }
 {
     push_text(b"[PERMANENTFLAGS ", out)?;
     push_permanent_flags(flags, out)?;
@@ -75,7 +79,8 @@ pub fn push_notice(notice: &Notice, out: &mut Vec<u8>) -> Result<(), AllocError>
 
 /// Appends a code that is a label and a number.
 fn push_code(label: &[u8], number: u64, out: &mut Vec<u8>) -> Result<(), AllocError>
-    ensures { OnOk result (Appends out.old.items out.new.items (label.now ++ decimal number ++ codes "]")) }
+    ensures { OnOk result
+        (Appends out.old.items out.new.items (label.now ++ decimal number ++ codes "]")) }
 {
     push_label(label, number, out)?;
     push_text(b"]", out)
@@ -88,7 +93,8 @@ fn push_copyuid(
     copies: &NumberSet,
     out: &mut Vec<u8>,
 ) -> Result<(), AllocError>
-    ensures { OnOk result (Appends out.old.items out.new.items (copied_text uidvalidity source.now copies.now)) }
+    ensures { OnOk result
+        (Appends out.old.items out.new.items (copied_text uidvalidity source.now copies.now)) }
 {
     push_label(b"[COPYUID ", u64::from(uidvalidity), out)?;
     push_text(b" ", out)?;
@@ -139,7 +145,8 @@ fn push_tagged_code(code: &Code, out: &mut Vec<u8>) -> Result<(), AllocError>
 
 /// Appends the code MODIFIED.
 fn push_modified(refused: &NumberSet, out: &mut Vec<u8>) -> Result<(), AllocError>
-    ensures { OnOk result (Appends out.old.items out.new.items (codes "[MODIFIED " ++ set_text refused.now ++ codes "]")) }
+    ensures { OnOk result (Appends out.old.items out.new.items
+        (codes "[MODIFIED " ++ set_text refused.now ++ codes "]")) }
 {
     push_text(b"[MODIFIED ", out)?;
     push_set(refused, out)?;
@@ -182,7 +189,8 @@ fn push_all(hits: &NumberSet, out: &mut Vec<u8>) -> Result<(), AllocError>
 
 /// Appends a mod-sequence of FETCH (RFC 7162, section 3.1.4.1).
 pub fn push_modseq(modseq: u64, out: &mut Vec<u8>) -> Result<(), AllocError>
-    ensures { OnOk result (Appends out.old.items out.new.items (codes "MODSEQ (" ++ decimal modseq ++ codes ")")) }
+    ensures { OnOk result
+        (Appends out.old.items out.new.items (codes "MODSEQ (" ++ decimal modseq ++ codes ")")) }
 {
     push_label(b"MODSEQ (", modseq, out)?;
     push_text(b")", out)
@@ -190,7 +198,8 @@ pub fn push_modseq(modseq: u64, out: &mut Vec<u8>) -> Result<(), AllocError>
 
 /// Appends an internal date of FETCH (RFC 9051, section 7.5.2).
 pub fn push_date(date: &DateTime, out: &mut Vec<u8>) -> Result<(), AllocError>
-    ensures { OnOk result (Appends out.old.items out.new.items (codes "INTERNALDATE " ++ date.now)) }
+    ensures { OnOk result
+        (Appends out.old.items out.new.items (codes "INTERNALDATE " ++ date.now)) }
 {
     push_text(b"INTERNALDATE ", out)?;
     push_text(date.as_bytes(), out)?;
@@ -240,7 +249,8 @@ impl TextWriter for Fields {
 
 /// Appends a label, names of header fields and a closing parenthesis.
 fn push_named(label: &[u8], names: &FieldNames, out: &mut Vec<u8>) -> Result<(), AllocError>
-    ensures { OnOk result (Appends out.old.items out.new.items (label.now ++ separated_by 32 (map field_text names.now) ++ codes ")")) }
+    ensures { OnOk result (Appends out.old.items out.new.items
+        (label.now ++ separated_by 32 (map field_text names.now) ++ codes ")")) }
 {
     push_text(label, out)?;
     push_separated::<Fields>(b' ', names.names(), out)?;

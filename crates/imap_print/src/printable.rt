@@ -2,11 +2,16 @@
 //! conditions; tested are tags, keywords, names, numbers from 1 on, and what must not be empty. The
 //! functions without a result (`.._fits`) state what every value of a type satisfies.
 
-ghost use Rattle.std.specs.Prelude.{◌≡◌, ◌↔◌, ◌+◌, ◌-◌, ◌^◌, min, not, ◌&&◌, ◌==◌, length, map, suc, sum, IsTrue};
+ghost use Rattle.std.specs.Prelude.{◌≡◌, ◌↔◌, ◌+◌, ◌-◌, ◌^◌, min, not, ◌&&◌, ◌==◌, length, map};
+ghost use Rattle.std.specs.Prelude.{suc, sum, IsTrue};
 ghost use Rattle.std.specs.List.{list_all};
 ghost use Rattle.imap_types.specs.DateTimes.{IsDateTime};
 ghost use Rattle.imap_types.specs.Numbers.{AreRisingFrom, greatest, numbers_in};
-ghost use Rattle.imap_answers.specs.Printable.{AreFetchItems, AreFieldNames, AreFlags, AreResults, AreStatusItems, Each, IsAtom, IsCode, IsCopied, IsFolded, IsModSeq, IsNonzero, IsNotice, IsPart, IsPrintable, IsSection, IsSet, IsSmall, IsTag, IsWide, Where, tells_of_mailbox, tells_of_message};
+ghost use Rattle.imap_answers.specs.Printable.{AreFetchItems, AreFieldNames, AreFlags, AreResults};
+ghost use Rattle.imap_answers.specs.Printable.{AreStatusItems, Each, IsAtom, IsCode, IsCopied};
+ghost use Rattle.imap_answers.specs.Printable.{IsFolded, IsModSeq, IsNonzero, IsNotice, IsPart};
+ghost use Rattle.imap_answers.specs.Printable.{IsPrintable, IsSection, IsSet, IsSmall, IsTag};
+ghost use Rattle.imap_answers.specs.Printable.{IsWide, Where, tells_of_mailbox, tells_of_message};
 ghost use Rattle.imap_print.specs.Reading.{is_in};
 
 use crate::scanner::ScanClass;

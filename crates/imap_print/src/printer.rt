@@ -2,9 +2,12 @@
 
 ghost use Rattle.std.specs.Prelude.{◌≡◌, ◌++◌, codes, decimal, IfSome, OnErr, OnOk};
 ghost use Rattle.imap_print.specs.Appending.{Appends, StartsWith};
-ghost use Rattle.imap_print.specs.Lines.{EndsFlags, done_line, flags_end, numbered_line, only_flags};
+ghost use Rattle.imap_print.specs.Lines.{EndsFlags, done_line, flags_end, numbered_line};
+ghost use Rattle.imap_print.specs.Lines.{only_flags};
 ghost use Rattle.imap_answers.specs.Words.{refusal_text};
-ghost use Rattle.imap_answers.specs.Printed.{line_of_answer, completed_text, fetch_text, list_text, notice_text, text_of_answer, search_text, status_text, uid_mark};
+ghost use Rattle.imap_answers.specs.Printed.{line_of_answer, completed_text, fetch_text, list_text};
+ghost use Rattle.imap_answers.specs.Printed.{notice_text, text_of_answer, search_text, status_text};
+ghost use Rattle.imap_answers.specs.Printed.{uid_mark};
 
 use crate::list_printers::{push_fetch_items, push_status_items};
 use crate::part_printers::{push_code_before, push_flags, push_notice, push_results};
@@ -205,7 +208,8 @@ fn push_answer(answer: &Answer, out: &mut Vec<u8>) -> Result<(), AllocError>
 
 /// Appends an untagged OK.
 fn push_notice_line(notice: &Notice, out: &mut Vec<u8>) -> Result<(), AllocError>
-    ensures { OnOk result (Appends out.old.items out.new.items (codes "* OK " ++ notice_text notice.now ++ codes " ok")) }
+    ensures { OnOk result (Appends out.old.items out.new.items
+        (codes "* OK " ++ notice_text notice.now ++ codes " ok")) }
 {
     push_text(b"* OK ", out)?;
     push_notice(notice, out)?;
@@ -214,7 +218,8 @@ fn push_notice_line(notice: &Notice, out: &mut Vec<u8>) -> Result<(), AllocError
 
 /// Appends the tagged line of a refused command.
 fn push_refused(tag: &Octets, reason: Refusal, out: &mut Vec<u8>) -> Result<(), AllocError>
-    ensures { OnOk result (Appends out.old.items out.new.items (tag.now ++ codes " " ++ refusal_text reason)) }
+    ensures { OnOk result
+        (Appends out.old.items out.new.items (tag.now ++ codes " " ++ refusal_text reason)) }
 {
     push_text(tag.as_bytes(), out)?;
     push_text(b" ", out)?;
@@ -223,7 +228,8 @@ fn push_refused(tag: &Octets, reason: Refusal, out: &mut Vec<u8>) -> Result<(), 
 
 /// Appends `* `, a number and a word.
 fn push_numbered(number: u32, word: &[u8], out: &mut Vec<u8>) -> Result<(), AllocError>
-    ensures { OnOk result (Appends out.old.items out.new.items (codes "* " ++ decimal number ++ word.now)) }
+    ensures { OnOk result
+        (Appends out.old.items out.new.items (codes "* " ++ decimal number ++ word.now)) }
 {
     push_label(b"* ", u64::from(number), out)?;
     push_text(word, out)
@@ -236,7 +242,8 @@ fn push_list(
     subscribed: bool,
     out: &mut Vec<u8>,
 ) -> Result<(), AllocError>
-    ensures { OnOk result (Appends out.old.items out.new.items (list_text name.now state subscribed)) }
+    ensures { OnOk result
+        (Appends out.old.items out.new.items (list_text name.now state subscribed)) }
 {
     push_text(b"* LIST ", out)?;
     push_text(state.attributes(subscribed), out)?;
@@ -264,7 +271,8 @@ fn push_search(
     results: &SearchResults,
     out: &mut Vec<u8>,
 ) -> Result<(), AllocError>
-    ensures { OnOk result (Appends out.old.items out.new.items (search_text tag.now by_uid results.now)) }
+    ensures { OnOk result
+        (Appends out.old.items out.new.items (search_text tag.now by_uid results.now)) }
 {
     push_text(b"* ESEARCH (TAG \"", out)?;
     push_text(tag.as_bytes(), out)?;
@@ -297,7 +305,8 @@ fn push_completed(
     command: CompletedWord,
     out: &mut Vec<u8>,
 ) -> Result<(), AllocError>
-    ensures { OnOk result (Appends out.old.items out.new.items (completed_text tag.now code.now command)) }
+    ensures { OnOk result
+        (Appends out.old.items out.new.items (completed_text tag.now code.now command)) }
 {
     push_text(tag.as_bytes(), out)?;
     push_text(b" OK ", out)?;

@@ -2,7 +2,9 @@
 
 ghost use Rattle.std.specs.Prelude.{◌≡◌, false, [], option_map};
 ghost use Rattle.imap_types.specs.DateTimes.{is_digit};
-ghost use Rattle.imap_print.specs.Reading.{Gives, after, counted, field_at, followed, is_in, lead, literal_at, number_from, quoted_from, run_at, runs_at, set_at, small, span, string_at, words_at};
+ghost use Rattle.imap_print.specs.Reading.{Gives, after, counted, field_at, followed, is_in, lead};
+ghost use Rattle.imap_print.specs.Reading.{literal_at, number_from, quoted_from, run_at, runs_at};
+ghost use Rattle.imap_print.specs.Reading.{set_at, small, span, string_at, words_at};
 
 use crate::fault::ReadFault;
 use imap_types::{NumberSet, Octets, Run, is_astring_octet, is_atom_octet};

@@ -5,7 +5,9 @@ ghost use Rattle.std.specs.Prelude.{◌≡◌, ◌++◌, [], ◌∷◌, codes, d
 ghost use Rattle.std.specs.List.{list_all, list_any};
 ghost use Rattle.imap_types.specs.Keywords.{is_astring_octet};
 ghost use Rattle.imap_print.specs.Appending.{Appends};
-ghost use Rattle.imap_answers.specs.Strings.{escaped_octet, field_text, has_line_octet, is_plain, labelled_number, literal_text, name_text, quoted_string, run_text, separated_by, set_text};
+ghost use Rattle.imap_answers.specs.Strings.{escaped_octet, field_text, has_line_octet, is_plain};
+ghost use Rattle.imap_answers.specs.Strings.{labelled_number, literal_text, name_text};
+ghost use Rattle.imap_answers.specs.Strings.{quoted_string, run_text, separated_by, set_text};
 
 use imap_types::{Name, NumberSet, Run, is_astring_octet};
 use itoa::Buffer;
@@ -91,7 +93,8 @@ fn push_quoted(string: &[u8], out: &mut Vec<u8>) -> Result<(), AllocError>
 
 /// Appends a string with its escapes.
 fn push_escaped(string: &[u8], out: &mut Vec<u8>) -> Result<(), AllocError>
-    ensures { OnOk result (Appends out.old.items out.new.items (flat_map escaped_octet string.now)) }
+    ensures { OnOk result
+        (Appends out.old.items out.new.items (flat_map escaped_octet string.now)) }
 {
     for octet in string {
         push_escaped_octet(*octet, out)?;
@@ -131,7 +134,8 @@ pub fn push_separated<W: TextWriter>(
     values: &[W::Value],
     out: &mut Vec<u8>,
 ) -> Result<(), AllocError>
-    ensures { OnOk result (Appends out.old.items out.new.items (separated_by between (map W.text_of values.now))) }
+    ensures { OnOk result
+        (Appends out.old.items out.new.items (separated_by between (map W.text_of values.now))) }
 {
     if let [first, rest @ ..] = values {
         W::push(first, out)?;
@@ -146,7 +150,8 @@ fn push_behind<W: TextWriter>(
     values: &[W::Value],
     out: &mut Vec<u8>,
 ) -> Result<(), AllocError>
-    ensures { OnOk result (Appends out.old.items out.new.items (flat_map (λ next. between ∷ next) (map W.text_of values.now))) }
+    ensures { OnOk result (Appends out.old.items out.new.items
+        (flat_map (λ next. between ∷ next) (map W.text_of values.now))) }
 {
     for value in values {
         push_text(&[between], out)?;

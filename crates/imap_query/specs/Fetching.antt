@@ -1,6 +1,7 @@
 -- The answers to FETCH (RFC 9051, section 6.4.5; RFC 7162, section 3.1.4).
 
-use Rattle.std.specs.Prelude.{ℕ, Bool, true, false, not, ◌&&◌, ◌||◌, ◌==◌, nat_lt, is_some, List, [], ◌∷◌, length, flat_map, Option, Some, None, if◌then◌else◌}
+use Rattle.std.specs.Prelude.{ℕ, Bool, true, false, not, ◌&&◌, ◌||◌, ◌==◌, nat_lt, is_some, List}
+use Rattle.std.specs.Prelude.{[], ◌∷◌, length, flat_map, Option, Some, None, if◌then◌else◌}
 use Rattle.std.specs.List.{list_any}
 use Rattle.imap_answers.specs.declared.answer.Answer.{Answer}
 use Rattle.imap_answers.specs.declared.answer.Answer.TheVariants.{Fetch}
@@ -77,7 +78,8 @@ tells_flags items mode old = asks_part part.Flags items || is_seen_set items mod
 -- Whether the mod-sequence is reported: if it is asked for, also by CHANGEDSINCE, or with flags if
 -- CONDSTORE is on (RFC 7162, section 3.1).
 abbrev pub tells_modseq : List FetchItem → FetchMode → Bool → Bool
-tells_modseq items mode with_flags = asks_part part.ModSeq items || (is_some mode.changed_since || (mode.condstore && with_flags))
+tells_modseq items mode with_flags =
+    asks_part part.ModSeq items || (is_some mode.changed_since || (mode.condstore && with_flags))
 
 -- A value, if it is reported.
 abbrev pub if_told : {A : Type 0} → Bool → A → Option A
@@ -108,7 +110,12 @@ section_part text item.Flags = []
 section_part text item.InternalDate = []
 section_part text item.Size = []
 section_part text item.ModSeq = []
-section_part text (item.Body peek section partial) = record { section = section; origin = origin_of partial; octets = partial_octets partial (section_of section text) } ∷ []
+section_part text (item.Body peek section partial) =
+    record {
+      section = section;
+      origin = origin_of partial;
+      octets = partial_octets partial (section_of section text);
+    } ∷ []
 
 -- The sections that are asked for, in order.
 abbrev pub are_sections : List ℕ → List FetchItem → List SectionData
@@ -132,12 +139,19 @@ is_above_changed_since None old = true
 is_above_changed_since (Some modseq) old = nat_lt modseq old.modseq
 
 -- The answer of FETCH for one message that a view shows: none if either listing lacks it.
-abbrev pub answer_of : List FetchItem → FetchMode → ViewedMessage → Option ListedMessage → Option ListedMessage → List Answer
+abbrev pub answer_of : List FetchItem → FetchMode → ViewedMessage → Option ListedMessage
+    → Option ListedMessage → List Answer
 answer_of items mode shown None row = []
 answer_of items mode shown (Some old) None = []
-answer_of items mode shown (Some old) (Some row) = if is_above_changed_since mode.changed_since old then Fetch shown.number (items_of items mode old row) ∷ [] else []
+answer_of items mode shown (Some old) (Some row) =
+    if is_above_changed_since mode.changed_since old
+    then Fetch shown.number (items_of items mode old row) ∷ []
+    else []
 
 -- The answers of FETCH for the named messages, from the listings before and after the command
 -- (RFC 9051, section 6.4.5).
-abbrev pub fetch_answers : List FetchItem → FetchMode → List ListedMessage → List ListedMessage → List ViewedMessage → List Answer
-fetch_answers items mode before after named = flat_map (λ shown. answer_of items mode shown (row_of shown.uid before) (row_of shown.uid after)) named
+abbrev pub fetch_answers : List FetchItem → FetchMode → List ListedMessage → List ListedMessage
+    → List ViewedMessage → List Answer
+fetch_answers items mode before after named =
+    flat_map
+    (λ shown. answer_of items mode shown (row_of shown.uid before) (row_of shown.uid after)) named

@@ -1,7 +1,8 @@
 -- FETCH and SEARCH as the code computes them by heads of rows; proofs/HeadLemmas ties them to
 -- Fetching and Search.
 
-use Rattle.std.specs.Prelude.{ℕ, Bool, true, not, ◌&&◌, ◌||◌, nat_lt, List, [], ◌∷◌, Option, Some, None, if◌then◌else◌}
+use Rattle.std.specs.Prelude.{ℕ, Bool, true, not, ◌&&◌, ◌||◌, nat_lt, List, [], ◌∷◌, Option, Some}
+use Rattle.std.specs.Prelude.{None, if◌then◌else◌}
 use Rattle.imap_answers.specs.declared.answer.Answer.{Answer}
 use Rattle.imap_answers.specs.declared.answer.Answer.TheVariants.{Fetch}
 use Rattle.imap_answers.specs.declared.fetch_items.FetchItems.{FetchItems}
@@ -40,9 +41,13 @@ head_items items mode head = record {
 }
 
 -- The answer of FETCH for a message that a view shows, by its head.
-abbrev pub head_answer : List FetchItem → FetchMode → ViewedMessage → Option ListedHead → List Answer
+abbrev pub head_answer : List FetchItem → FetchMode → ViewedMessage → Option ListedHead
+    → List Answer
 head_answer items mode shown None = []
-head_answer items mode shown (Some head) = if is_kept_head mode.changed_since head then Fetch shown.number (head_items items mode head) ∷ [] else []
+head_answer items mode shown (Some head) =
+    if is_kept_head mode.changed_since head
+    then Fetch shown.number (head_items items mode head) ∷ []
+    else []
 
 -- The key that is only a test of a flag.
 abbrev pub flag_key : FlagTest → Key
@@ -51,4 +56,7 @@ flag_key test = Asks (System test.flag test.is_set)
 -- The hit of a message that a view shows, by its head.
 abbrev pub head_hit : Bool → FlagTest → ViewedMessage → Option ListedHead → List Hit
 head_hit by_uid test shown None = []
-head_hit by_uid test shown (Some head) = if is_as test.is_set (has_flag test.flag head.flags) then record { number = number_or_uid by_uid shown; modseq = head.modseq } ∷ [] else []
+head_hit by_uid test shown (Some head) =
+    if is_as test.is_set (has_flag test.flag head.flags)
+    then record { number = number_or_uid by_uid shown; modseq = head.modseq } ∷ []
+    else []

@@ -14,7 +14,11 @@ IsSuperior upper name = (rest : List ℕ) × (name ≡ upper ++ 47 ∷ rest)
 -- A name is a superior level of one of the folders; a level that spells INBOX in any case is INBOX.
 abbrev pub IsSuperiorLevel : List (List ℕ) → List ℕ → Type 0
 IsSuperiorLevel folders name =
-    (upper : List ℕ) × (folder : List ℕ) × IsIn folder folders × IsSuperior upper folder × (name ≡ fold_inbox upper)
+    (upper : List ℕ)
+    × (folder : List ℕ)
+    × IsIn folder folders
+    × IsSuperior upper folder
+    × (name ≡ fold_inbox upper)
 
 -- A pattern ends in `%` (37).
 abbrev pub EndsInPercent : List ℕ → Type 0
@@ -26,14 +30,16 @@ abbrev pub IsListEntry : List (List ℕ) → List ℕ → ListEntry → Type 0
 IsListEntry folders pattern entry =
     IsMatched pattern entry.name
     × (((entry.is_mailbox ≡ true) × IsIn entry.name folders)
-    ⊎ ((entry.is_mailbox ≡ false) × EndsInPercent pattern × IsSuperiorLevel folders entry.name × (¬ IsIn entry.name folders)))
+    ⊎ ((entry.is_mailbox ≡ false) × EndsInPercent pattern × IsSuperiorLevel folders entry.name
+    × (¬ IsIn entry.name folders)))
 
 -- The names of entries.
 abbrev pub names_of : List ListEntry → List (List ℕ)
 names_of entries = map (λ (entry : ListEntry). entry.name) entries
 
 -- The entries that a pattern lists, distinct and in ascending order of their names.
-pub record AreListEntries (folders : List (List ℕ)) (pattern : List ℕ) (entries : List ListEntry) : Type 0 where
+pub record AreListEntries (folders : List (List ℕ)) (pattern : List ℕ) (entries : List ListEntry) :
+    Type 0 where
   pub ascending : AreAscending (names_of entries)
   pub exactly : (entry : ListEntry) → IsIn entry entries ↔ IsListEntry folders pattern entry
 
@@ -41,4 +47,5 @@ pub record AreListEntries (folders : List (List ℕ)) (pattern : List ℕ) (entr
 -- otherwise those that reference and pattern, joined, list (RFC 9051, section 6.3.9).
 abbrev pub Lists : List ℕ → List ℕ → List (List ℕ) → List ListEntry → Type 0
 Lists reference [] folders entries = entries ≡ (record { name = []; is_mailbox = false }) ∷ []
-Lists reference (octet ∷ pattern) folders entries = AreListEntries folders (reference ++ octet ∷ pattern) entries
+Lists reference (octet ∷ pattern) folders entries =
+    AreListEntries folders (reference ++ octet ∷ pattern) entries

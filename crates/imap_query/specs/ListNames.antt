@@ -1,10 +1,12 @@
 -- The answers to LIST, with subscriptions (RFC 9051, sections 6.3.9 and 7.3.1).
 
-use Rattle.std.specs.Prelude.{◌≡◌, ◌↔◌, ℕ, Bool, true, false, ◌&&◌, List, [], ◌∷◌, ◌++◌, map, if◌then◌else◌}
+use Rattle.std.specs.Prelude.{◌≡◌, ◌↔◌, ℕ, Bool, true, false, ◌&&◌, List, [], ◌∷◌, ◌++◌, map}
+use Rattle.std.specs.Prelude.{if◌then◌else◌}
 use Rattle.imap_answers.specs.declared.answer.Answer.{Answer}
 use Rattle.imap_answers.specs.declared.answer.Answer.TheVariants.{List as ListAnswer}
 use Rattle.imap_answers.specs.declared.mailbox.MailboxState.{MailboxState}
-use Rattle.imap_answers.specs.declared.mailbox.MailboxState.TheVariants.{There, NoSelect, NonExistent}
+use Rattle.imap_answers.specs.declared.mailbox.MailboxState.TheVariants.{There, NoSelect}
+use Rattle.imap_answers.specs.declared.mailbox.MailboxState.TheVariants.{NonExistent}
 use Rattle.imap_types.specs.Ascending.{AreAscending}
 use Rattle.imap_query.specs.ListEntries.{AreListEntries}
 use Rattle.imap_query.specs.Patterns.{IsIn, IsMatched, is_among}
@@ -18,7 +20,9 @@ name_state is_mailbox = if is_mailbox then There else NoSelect
 
 -- The answer for an entry, which reports its subscription if that is asked for.
 abbrev pub name_answer : Bool → List (List ℕ) → ListEntry → Answer
-name_answer returned subscriptions entry = ListAnswer entry.name (name_state entry.is_mailbox) (returned && is_among subscriptions entry.name)
+name_answer returned subscriptions entry =
+    ListAnswer entry.name (name_state entry.is_mailbox)
+    (returned && is_among subscriptions entry.name)
 
 -- The state of a subscribed name: whether a mailbox of this name exists (RFC 9051,
 -- section 6.3.9.1).
@@ -30,20 +34,30 @@ abbrev pub subscribed_answer : List (List ℕ) → List ℕ → Answer
 subscribed_answer folders name = ListAnswer name (subscribed_state (is_among folders name)) true
 
 -- The subscribed names that a pattern matches, distinct and in ascending order.
-pub record AreSubscribedNames (subscriptions : List (List ℕ)) (pattern : List ℕ) (names : List (List ℕ)) : Type 0 where
+pub record AreSubscribedNames (subscriptions : List (List ℕ)) (pattern : List ℕ)
+    (names : List (List ℕ)) : Type 0 where
   pub ascending : AreAscending names
-  pub exactly : (name : List ℕ) → IsIn name names ↔ (IsMatched pattern name × IsIn name subscriptions)
+  pub exactly : (name : List ℕ)
+      → IsIn name names ↔ (IsMatched pattern name × IsIn name subscriptions)
 
 -- The answers to LIST with a pattern: only subscribed names, or mailboxes and superior levels.
-abbrev pub ListsMatching : Bool → Bool → List ℕ → List (List ℕ) → List (List ℕ) → List Answer → Type 0
+abbrev pub ListsMatching : Bool → Bool → List ℕ → List (List ℕ) → List (List ℕ) → List Answer
+    → Type 0
 ListsMatching true returned pattern folders subscriptions answers =
-    (names : List (List ℕ)) × AreSubscribedNames subscriptions pattern names × (answers ≡ map (subscribed_answer folders) names)
+    (names : List (List ℕ))
+    × AreSubscribedNames subscriptions pattern names
+    × (answers ≡ map (subscribed_answer folders) names)
 ListsMatching false returned pattern folders subscriptions answers =
-    (entries : List ListEntry) × AreListEntries folders pattern entries × (answers ≡ map (name_answer returned subscriptions) entries)
+    (entries : List ListEntry)
+    × AreListEntries folders pattern entries
+    × (answers ≡ map (name_answer returned subscriptions) entries)
 
 -- The answers to LIST: for an empty pattern the root line, otherwise those for reference and
 -- pattern joined (RFC 9051, section 6.3.9).
-abbrev pub ListsNames : ListMode → List ℕ → List ℕ → List (List ℕ) → List (List ℕ) → List Answer → Type 0
-ListsNames mode reference [] folders subscriptions answers = answers ≡ ListAnswer [] NoSelect false ∷ []
+abbrev pub ListsNames : ListMode → List ℕ → List ℕ → List (List ℕ) → List (List ℕ) → List Answer
+    → Type 0
+ListsNames mode reference [] folders subscriptions answers =
+    answers ≡ ListAnswer [] NoSelect false ∷ []
 ListsNames mode reference (octet ∷ pattern) folders subscriptions answers =
-    ListsMatching mode.subscribed_only mode.return_subscribed (reference ++ octet ∷ pattern) folders subscriptions answers
+    ListsMatching mode.subscribed_only mode.return_subscribed (reference ++ octet ∷ pattern) folders
+    subscriptions answers

@@ -3,7 +3,8 @@
 use Rattle.std.specs.Prelude.{Bool, not, if◌then◌else◌}
 use Rattle.imap_types.specs.declared.flags.Flags.{Flags}
 use Rattle.imap_syntax.specs.declared.flags.SystemFlag.{SystemFlag}
-use Rattle.imap_syntax.specs.declared.flags.SystemFlag.TheVariants.{Answered, Flagged, Deleted, Seen, Draft}
+use Rattle.imap_syntax.specs.declared.flags.SystemFlag.TheVariants.{Answered, Flagged, Deleted}
+use Rattle.imap_syntax.specs.declared.flags.SystemFlag.TheVariants.{Seen, Draft}
 use Rattle.mailbox_rows.specs.ListedMessage.{ListedMessage}
 
 -- Whether a system flag is set (RFC 9051, section 2.3.2).

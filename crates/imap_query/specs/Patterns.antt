@@ -28,7 +28,11 @@ StandsFor octet text =
 abbrev pub Matches : List ℕ → List ℕ → Type 0
 Matches [] name = name ≡ []
 Matches (octet ∷ pattern) name =
-    (front : List ℕ) × (rest : List ℕ) × (name ≡ front ++ rest) × StandsFor octet front × Matches pattern rest
+    (front : List ℕ)
+    × (rest : List ℕ)
+    × (name ≡ front ++ rest)
+    × StandsFor octet front
+    × Matches pattern rest
 
 -- The pattern that is compared with a name: in capitals if the name is INBOX, whose case doesn't
 -- count (RFC 9051, sections 5.1 and 6.3.9).

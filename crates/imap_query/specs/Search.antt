@@ -1,6 +1,7 @@
 -- The results of SEARCH (RFC 9051, section 6.4.4; RFC 7162, section 3.1.5).
 
-use Rattle.std.specs.Prelude.{ℕ, Bool, true, false, not, ◌&&◌, ◌||◌, ◌==◌, List, [], ◌∷◌, length, map, flat_map, Option, Some, None, if◌then◌else◌}
+use Rattle.std.specs.Prelude.{ℕ, Bool, true, false, not, ◌&&◌, ◌||◌, ◌==◌, List, [], ◌∷◌, length}
+use Rattle.std.specs.Prelude.{map, flat_map, Option, Some, None, if◌then◌else◌}
 use Rattle.std.specs.List.{list_any}
 use Rattle.imap_types.specs.Numbers.{greatest}
 use Rattle.imap_answers.specs.declared.mailbox.SearchResults.{SearchResults}
@@ -28,7 +29,9 @@ number_or_uid by_uid shown = if by_uid then shown.uid else shown.number
 -- The hit of a message, if it matches the key.
 abbrev pub hit_by : Bool → Key → ViewedMessage → ViewedMessage → ListedMessage → List Hit
 hit_by by_uid key last shown row =
-    if hits (test_holds last shown row) key then record { number = number_or_uid by_uid shown; modseq = row.modseq } ∷ [] else []
+    if hits (test_holds last shown row) key
+    then record { number = number_or_uid by_uid shown; modseq = row.modseq } ∷ []
+    else []
 
 -- The hit of a message, if the listing has it and it matches the key.
 abbrev pub hit_of : Bool → Key → ViewedMessage → ViewedMessage → Option ListedMessage → List Hit
@@ -37,8 +40,10 @@ hit_of by_uid key last shown (Some row) = hit_by by_uid key last shown row
 
 -- The messages that a view shows, that the listing has and that match the key, in the view's order;
 -- `*` is the message `last`.
-abbrev pub hits_of_rows : Bool → Key → ViewedMessage → List ListedMessage → List ViewedMessage → List Hit
-hits_of_rows by_uid key last rows view = flat_map (λ shown. hit_of by_uid key last shown (row_of shown.uid rows)) view
+abbrev pub hits_of_rows : Bool → Key → ViewedMessage → List ListedMessage → List ViewedMessage
+    → List Hit
+hits_of_rows by_uid key last rows view =
+    flat_map (λ shown. hit_of by_uid key last shown (row_of shown.uid rows)) view
 
 -- The messages that match the key, in the view's order.
 abbrev pub hits_in : Bool → Key → List ListedMessage → List ViewedMessage → List Hit
@@ -114,7 +119,8 @@ number_where_asked wanted found = if wanted then found else None
 abbrev pub modseq_of_result : List SearchOption → List Hit → ℕ
 modseq_of_result options hits =
     if asks_min_or_max_alone options
-    then greatest (modseq_in (number_where_asked (asks_option Min options) (first_hit hits)) ∷ modseq_in (number_where_asked (asks_option Max options) (last_hit hits)) ∷ [])
+    then greatest (modseq_in (number_where_asked (asks_option Min options) (first_hit hits))
+    ∷ modseq_in (number_where_asked (asks_option Max options) (last_hit hits)) ∷ [])
     else greatest (map (λ hit. hit.modseq) hits)
 
 -- The results of SEARCH for its hits, which ascend; without hits at most their number (RFC 9051,
@@ -125,5 +131,7 @@ results_of options with_modseq hits = record {
   max = number_where_asked (asks_option Max options) (number_in (last_hit hits));
   all = if asks_all options then map (λ hit. hit.number) hits else [];
   count = number_where_asked (asks_option Count options) (Some (length hits));
-  modseq = number_where_asked (with_modseq && not (length hits == 0)) (Some (modseq_of_result options hits));
+  modseq =
+      number_where_asked (with_modseq && not (length hits == 0))
+      (Some (modseq_of_result options hits));
 }

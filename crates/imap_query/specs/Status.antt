@@ -1,11 +1,14 @@
 -- The items that STATUS reports (RFC 9051, section 6.3.11; RFC 7162, section 3.1.7).
 
-use Rattle.std.specs.Prelude.{ℕ, Bool, true, false, ◌==◌, List, length, min, Option, Some, None, if◌then◌else◌}
+use Rattle.std.specs.Prelude.{ℕ, Bool, true, false, ◌==◌, List, length, min, Option, Some, None}
+use Rattle.std.specs.Prelude.{if◌then◌else◌}
 use Rattle.std.specs.List.{filter, list_any, sum_by}
 use Rattle.imap_answers.specs.declared.mailbox.StatusItems.{StatusItems}
 use Rattle.imap_syntax.specs.declared.flags.SystemFlag.TheVariants.{Deleted, Seen}
 use Rattle.imap_syntax.specs.declared.status.StatusItem.{StatusItem}
-use Rattle.imap_syntax.specs.declared.status.StatusItem.TheVariants.{Messages, UidNext, UidValidity, Unseen, Deleted as DeletedItem, Size, HighestModSeq}
+use Rattle.imap_syntax.specs.declared.status.StatusItem.TheVariants.{Messages, UidNext, UidValidity}
+use Rattle.imap_syntax.specs.declared.status.StatusItem.TheVariants.{Unseen, Deleted as DeletedItem}
+use Rattle.imap_syntax.specs.declared.status.StatusItem.TheVariants.{Size, HighestModSeq}
 use Rattle.mailbox_rows.specs.ListedMessage.{ListedMessage}
 use Rattle.imap_query.specs.Messages.{is_flagged}
 use Rattle.imap_query.specs.declared.mailbox_status.MailboxCounters.{MailboxCounters}

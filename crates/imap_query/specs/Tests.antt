@@ -43,7 +43,8 @@ is_date_related Since day date = nat_le (rank day) (rank (written_day date))
 abbrev pub test_holds : ViewedMessage → ViewedMessage → ListedMessage → SearchTest → Bool
 test_holds last shown row tests.All = true
 test_holds last shown row (tests.System flag is_set) = is_as is_set (has_flag flag row.flags)
-test_holds last shown row (tests.Keyword keyword is_set) = is_as is_set (has_keyword keyword row.flags.keywords)
+test_holds last shown row (tests.Keyword keyword is_set) =
+    is_as is_set (has_keyword keyword row.flags.keywords)
 test_holds last shown row (tests.Holds place word) = holds_in place word row.text
 test_holds last shown row (tests.Header name word) = any_field_holds name word row.text
 test_holds last shown row (tests.Dated order day) = is_date_related order day row.date

@@ -3,7 +3,11 @@
 ghost use Rattle.std.specs.Prelude.{◌≡◌, ◌||◌, ◌++◌, ◌∷◌, [], true, false, IfOk, OnOk};
 ghost use Rattle.imap_answers.specs.declared.answer.Answer.TheVariants.{Fetch};
 ghost use Rattle.std.specs.List.{list_any};
-ghost use Rattle.imap_query.specs.Fetching.{answer_of, are_sections, asks_part, partial_octets, fetch_answers, is_above_changed_since, is_seen_set, items_of, origin_of, part_of, parts_of, section_of, section_part, sets_seen, tells_flags, tells_modseq, if_told};
+ghost use Rattle.imap_query.specs.Fetching.{answer_of, are_sections, asks_part, partial_octets};
+ghost use Rattle.imap_query.specs.Fetching.{fetch_answers, is_above_changed_since, is_seen_set};
+ghost use Rattle.imap_query.specs.Fetching.{items_of, origin_of, part_of, parts_of, section_of};
+ghost use Rattle.imap_query.specs.Fetching.{section_part, sets_seen, tells_flags, tells_modseq};
+ghost use Rattle.imap_query.specs.Fetching.{if_told};
 ghost use Rattle.imap_query.specs.declared.fetching.Part.TheVariants as part;
 ghost use Rattle.mailbox_rows.specs.RowViews.{listed_message, row_of};
 ghost use Rattle.mail_text.specs.HeaderFields.{fields_of};
@@ -76,7 +80,8 @@ pub fn fetch(
     items: &[FetchItem],
     mode: FetchMode,
 ) -> Result<Vec<Answer>, AllocError>
-    ensures { IfOk result (λ answers. answers.items ≡ fetch_answers items.now mode before.now after.now named.now) }
+    ensures { IfOk result
+        (λ answers. answers.items ≡ fetch_answers items.now mode before.now after.now named.now) }
 {
     let asked = asked_of(items, mode);
     let mut answers = Vec::new(alloc);
@@ -96,7 +101,8 @@ pub fn fetch_unchanged(
     items: &[FetchItem],
     mode: FetchMode,
 ) -> Result<Vec<Answer>, AllocError>
-    ensures { IfOk result (λ answers. answers.items ≡ fetch_answers items.now mode rows.now rows.now named.now) }
+    ensures { IfOk result
+        (λ answers. answers.items ≡ fetch_answers items.now mode rows.now rows.now named.now) }
 {
     match mode.changed_since {
         None => fetch_in(alloc, named, rows, items, mode),
@@ -125,7 +131,8 @@ fn fetch_in(
     items: &[FetchItem],
     mode: FetchMode,
 ) -> Result<Vec<Answer>, AllocError>
-    ensures { IfOk result (λ answers. answers.items ≡ fetch_answers items.now mode rows.now rows.now named.now) }
+    ensures { IfOk result
+        (λ answers. answers.items ≡ fetch_answers items.now mode rows.now rows.now named.now) }
 {
     let asked = asked_of(items, mode);
     if are_answerable_by_heads(asked.parts) {
@@ -171,7 +178,10 @@ fn push_unchanged(
     answers: &mut Vec<Answer>,
 ) -> Result<(), AllocError>
     requires { asked.parts ≡ parts_of asked.items.now }
-    ensures { OnOk result (answers.new.items ≡ answers.old.items ++ answer_of asked.entry.items.now asked.entry.mode shown (row_of shown.uid rows.now) (row_of shown.uid rows.now)) }
+    ensures { OnOk result (answers.new.items
+        ≡ answers.old.items
+        ++ answer_of asked.entry.items.now asked.entry.mode shown (row_of shown.uid rows.now)
+        (row_of shown.uid rows.now)) }
 {
     match rows.row_near(shown.place(), shown.uid) {
         None => Ok(()),
@@ -195,7 +205,10 @@ fn push_answer(
     answers: &mut Vec<Answer>,
 ) -> Result<(), AllocError>
     requires { asked.parts ≡ parts_of asked.items.now }
-    ensures { OnOk result (answers.new.items ≡ answers.old.items ++ answer_of asked.entry.items.now asked.entry.mode shown (row_of shown.uid before.now) (row_of shown.uid after.now)) }
+    ensures { OnOk result (answers.new.items
+        ≡ answers.old.items
+        ++ answer_of asked.entry.items.now asked.entry.mode shown (row_of shown.uid before.now)
+        (row_of shown.uid after.now)) }
 {
     match before.row_near(shown.place(), shown.uid) {
         None => Ok(()),
@@ -245,7 +258,9 @@ fn items_of(
     row: &Row<'_>,
 ) -> Result<FetchItems, AllocError>
     requires { asked.parts ≡ parts_of asked.items.now }
-    ensures { IfOk result (λ told. told ≡ items_of asked.entry.items.now asked.entry.mode (listed_message old.now) (listed_message row.now)) }
+    ensures { IfOk result (λ told. told
+        ≡ items_of asked.entry.items.now asked.entry.mode (listed_message old.now)
+        (listed_message row.now)) }
 {
     let sections = sections_where(alloc, asked, row)?;
     let tells_flags = tells_flags(asked, old);
@@ -369,7 +384,8 @@ fn sections_where(
     row: &Row<'_>,
 ) -> Result<Sections, AllocError>
     requires { asked.parts ≡ parts_of asked.items.now }
-    ensures { IfOk result (λ sections. sections ≡ are_sections (listed_message row.now).text asked.entry.items.now) }
+    ensures { IfOk result
+        (λ sections. sections ≡ are_sections (listed_message row.now).text asked.entry.items.now) }
 {
     if !asked.parts.sections {
         return Ok(Sections::new(Vec::new(alloc)));
@@ -380,7 +396,8 @@ fn sections_where(
 /// The sections that are asked for, in order, in no more memory than they need: a journal stores
 /// them for good.
 fn sections(alloc: Global, row: &Row<'_>, items: &[FetchItem]) -> Result<Sections, AllocError>
-    ensures { IfOk result (λ sections. sections ≡ are_sections (listed_message row.now).text items.now) }
+    ensures { IfOk result
+        (λ sections. sections ≡ are_sections (listed_message row.now).text items.now) }
 {
     let mut found = Vec::new(alloc);
     for item in items {
@@ -396,7 +413,8 @@ fn push_section(
     item: &FetchItem,
     found: &mut Vec<SectionData>,
 ) -> Result<(), AllocError>
-    ensures { OnOk result (found.new.items ≡ found.old.items ++ section_part (listed_message row.now).text item.now) }
+    ensures { OnOk result
+        (found.new.items ≡ found.old.items ++ section_part (listed_message row.now).text item.now) }
 {
     match item {
         FetchItem::Body {
@@ -425,7 +443,8 @@ fn section_of(
     partial: Option<Partial>,
     row: &Row<'_>,
 ) -> Result<Text, AllocError>
-    ensures { IfOk result (λ octets. octets ≡ partial_octets partial (section_of section.now (listed_message row.now).text)) }
+    ensures { IfOk result (λ octets. octets
+        ≡ partial_octets partial (section_of section.now (listed_message row.now).text)) }
 {
     match section {
         Section::Whole => whole(alloc, row, partial),
@@ -441,7 +460,8 @@ fn section_of(
 
 /// The octets of the whole text that a FETCH returns, shared with the message if all are asked for.
 fn whole(alloc: Global, row: &Row<'_>, partial: Option<Partial>) -> Result<Text, AllocError>
-    ensures { IfOk result (λ octets. octets ≡ partial_octets partial (listed_message row.now).text) }
+    ensures { IfOk result
+        (λ octets. octets ≡ partial_octets partial (listed_message row.now).text) }
 {
     match partial {
         None => row.copied_text(alloc),
@@ -455,7 +475,8 @@ fn named_fields(
     partial: Option<Partial>,
     row: &Row<'_>,
 ) -> Result<Text, AllocError>
-    ensures { IfOk result (λ octets. octets ≡ partial_octets partial (fields_of true names.now (listed_message row.now).text)) }
+    ensures { IfOk result (λ octets. octets
+        ≡ partial_octets partial (fields_of true names.now (listed_message row.now).text)) }
 {
     let chosen = fields(alloc, row.shown_text(), names)?;
     Text::from_slice(alloc, partial_octets(&chosen, partial))
@@ -467,7 +488,8 @@ fn unnamed_fields(
     partial: Option<Partial>,
     row: &Row<'_>,
 ) -> Result<Text, AllocError>
-    ensures { IfOk result (λ octets. octets ≡ partial_octets partial (fields_of false names.now (listed_message row.now).text)) }
+    ensures { IfOk result (λ octets. octets
+        ≡ partial_octets partial (fields_of false names.now (listed_message row.now).text)) }
 {
     let chosen = other_fields(alloc, row.shown_text(), names)?;
     Text::from_slice(alloc, partial_octets(&chosen, partial))

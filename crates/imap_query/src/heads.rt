@@ -4,7 +4,8 @@ ghost use Rattle.std.specs.Prelude.{◌≡◌, ◌++◌, ◌∷◌, [], map, tru
 ghost use Rattle.imap_types.specs.Numbers.{AreRisingFrom};
 ghost use Rattle.imap_types.specs.Unions.{united_flags};
 ghost use Rattle.imap_query.specs.Fetching.{fetch_answers, parts_of, if_told};
-ghost use Rattle.imap_query.specs.Heads.{are_of_heads, flag_key, head_answer, head_hit, head_items, is_kept_head};
+ghost use Rattle.imap_query.specs.Heads.{are_of_heads, flag_key, head_answer, head_hit, head_items};
+ghost use Rattle.imap_query.specs.Heads.{is_kept_head};
 ghost use Rattle.imap_query.specs.Hits.{MayAdd};
 ghost use Rattle.imap_query.specs.Search.{hits_in, number_or_uid};
 ghost use Rattle.mailbox_rows.specs.RowViews.{head_of, listed_head, row_of};
@@ -39,7 +40,8 @@ pub(crate) fn fetch_heads(
 ) -> Result<Vec<Answer>, AllocError>
     requires parts { asked.parts ≡ parts_of asked.items.now }
     requires heads { are_of_heads asked.parts ≡ true }
-    ensures { IfOk result (λ answers. answers.items ≡ fetch_answers asked.entry.items.now asked.entry.mode rows.now rows.now named.now) }
+    ensures { IfOk result (λ answers. answers.items
+        ≡ fetch_answers asked.entry.items.now asked.entry.mode rows.now rows.now named.now) }
 {
     let mut answers = Vec::with_capacity(alloc, answers_at_once(named, asked.mode))?;
     for shown in named {
@@ -58,7 +60,10 @@ fn push_answer(
     answers: &mut Vec<Answer>,
 ) -> Result<(), AllocError>
     requires { asked.parts ≡ parts_of asked.items.now }
-    ensures { OnOk result (answers.new.items ≡ answers.old.items ++ head_answer asked.entry.items.now asked.entry.mode shown (option_map head_of (row_of shown.uid rows.now))) }
+    ensures { OnOk result (answers.new.items
+        ≡ answers.old.items
+        ++ head_answer asked.entry.items.now asked.entry.mode shown
+        (option_map head_of (row_of shown.uid rows.now))) }
 {
     match rows.head_near(shown.place(), shown.uid) {
         None => Ok(()),
@@ -92,7 +97,8 @@ fn items_of(
     head: &RowHead<'_>,
 ) -> Result<FetchItems, AllocError>
     requires { asked.parts ≡ parts_of asked.items.now }
-    ensures { IfOk result (λ told. told ≡ head_items asked.entry.items.now asked.entry.mode (listed_head head.now)) }
+    ensures { IfOk result
+        (λ told. told ≡ head_items asked.entry.items.now asked.entry.mode (listed_head head.now)) }
 {
     let flags = flags_where(alloc, asked.parts.flags, head.versions)?;
     Ok(FetchItems {
@@ -156,7 +162,8 @@ pub(crate) fn flagged_hits(
     test: FlagTest,
 ) -> Result<Vec<Hit>, AllocError>
     requires { AreRisingFrom 1 (map (number_or_uid by_uid) view.now) }
-    ensures hits { IfOk result (λ hits. hits.items ≡ hits_in by_uid (flag_key test) rows.now view.now) }
+    ensures hits { IfOk result
+        (λ hits. hits.items ≡ hits_in by_uid (flag_key test) rows.now view.now) }
     ensures rising { IfOk result (λ hits. AreRisingFrom 1 (map (λ hit. hit.number) hits.items)) }
 {
     let mut hits = Vec::new(alloc);
@@ -175,8 +182,11 @@ fn push_flagged(
     shown: ViewedMessage,
     found: &mut Vec<Hit>,
 ) -> Result<(), AllocError>
-    ensures hits { OnOk result (found.new.items ≡ found.old.items ++ head_hit by_uid test shown (option_map head_of (row_of shown.uid rows.now))) }
-    ensures numbers { OnOk result (MayAdd (number_or_uid by_uid shown) (map (λ hit. hit.number) found.old.items) (map (λ hit. hit.number) found.new.items)) }
+    ensures hits { OnOk result (found.new.items
+        ≡ found.old.items
+        ++ head_hit by_uid test shown (option_map head_of (row_of shown.uid rows.now))) }
+    ensures numbers { OnOk result (MayAdd (number_or_uid by_uid shown)
+        (map (λ hit. hit.number) found.old.items) (map (λ hit. hit.number) found.new.items)) }
 {
     match rows.head_near(shown.place(), shown.uid) {
         None => Ok(()),

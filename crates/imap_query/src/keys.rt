@@ -5,7 +5,8 @@ ghost use Rattle.imap_syntax.specs.declared.search.SearchStep.TheVariants.{Test}
 ghost use Rattle.imap_syntax.specs.declared.search.SearchTest.TheVariants.{System};
 ghost use Rattle.imap_query.specs.KeyHits.{Key, hits, steps_of};
 ghost use Rattle.imap_query.specs.Runs.{after_step};
-ghost use Rattle.imap_query.specs.Tests.{bound_of, holds_in, is_date_related, test_holds, range_names, rank, set_names};
+ghost use Rattle.imap_query.specs.Tests.{bound_of, holds_in, is_date_related, test_holds};
+ghost use Rattle.imap_query.specs.Tests.{range_names, rank, set_names};
 ghost use Rattle.mailbox_rows.specs.RowViews.{listed_message};
 
 use crate::messages::{is_as, is_flagged};
@@ -46,7 +47,8 @@ pub(crate) fn hits(
     row: &Row<'_>,
     steps: &[SearchStep],
 ) -> Result<bool, AllocError>
-    ensures { IfOk result (λ is. (key : Key) → steps.now ≡ steps_of key → is ≡ hits (test_holds last shown (listed_message row.now)) key) }
+    ensures { IfOk result (λ is. (key : Key) → steps.now ≡ steps_of key
+        → is ≡ hits (test_holds last shown (listed_message row.now)) key) }
 {
     // Most keys are one test, which needs no list of results.
     if let Some(test) = one_test(steps) {
@@ -84,7 +86,9 @@ fn take_step(
     step: &SearchStep,
     results: &mut Vec<bool>,
 ) -> Result<(), AllocError>
-    ensures { OnOk result (reverse results.new.items ≡ after_step (test_holds last shown (listed_message row.now)) step.now (reverse results.old.items)) }
+    ensures { OnOk result (reverse results.new.items
+        ≡ after_step (test_holds last shown (listed_message row.now)) step.now
+        (reverse results.old.items)) }
 {
     match step {
         SearchStep::Test(test) => {

@@ -1,10 +1,12 @@
 //! The answers to LIST, with subscriptions.
 
-ghost use Rattle.std.specs.Prelude.{◌≡◌, ◌&&◌, ◌++◌, ◌∷◌, [], false, map, IfOk, OnOk, if◌then◌else◌};
+ghost use Rattle.std.specs.Prelude.{◌≡◌, ◌&&◌, ◌++◌, ◌∷◌, [], false, map, IfOk, OnOk};
+ghost use Rattle.std.specs.Prelude.{if◌then◌else◌};
 ghost use Rattle.imap_answers.specs.declared.answer.Answer.TheVariants.{List as ListAnswer};
 ghost use Rattle.imap_answers.specs.declared.mailbox.MailboxState.TheVariants.{NoSelect};
 ghost use Rattle.imap_query.specs.ListEntries.{names_of};
-ghost use Rattle.imap_query.specs.ListNames.{ListsNames, name_answer, name_state, subscribed_answer, subscribed_state};
+ghost use Rattle.imap_query.specs.ListNames.{ListsNames, name_answer, name_state};
+ghost use Rattle.imap_query.specs.ListNames.{subscribed_answer, subscribed_state};
 ghost use Rattle.imap_query.specs.Patterns.{is_among};
 ghost use Rattle.imap_query.specs.Placing.{placed_all, shown_mailboxes};
 
@@ -34,7 +36,8 @@ pub fn list_names(
     folders: &[Name],
     subscriptions: &[Name],
 ) -> Result<Vec<Answer>, AllocError>
-    ensures { IfOk result (λ answers. ListsNames mode reference.now pattern.now folders.now subscriptions.now answers.items) }
+    ensures { IfOk result (λ answers. ListsNames mode reference.now pattern.now folders.now
+        subscriptions.now answers.items) }
 {
     if pattern.is_empty() {
         return root(alloc);
@@ -66,7 +69,8 @@ fn push_list(
     state: MailboxState,
     subscribed: bool,
 ) -> Result<(), AllocError>
-    ensures { OnOk result (answers.new.items ≡ answers.old.items ++ ListAnswer name state subscribed ∷ []) }
+    ensures { OnOk result
+        (answers.new.items ≡ answers.old.items ++ ListAnswer name state subscribed ∷ []) }
 {
     answers.push(Answer::List {
         name,
@@ -83,7 +87,8 @@ fn name_answers(
     returned: bool,
     subscriptions: &[Name],
 ) -> Result<Vec<Answer>, AllocError>
-    ensures { IfOk result (λ answers. answers.items ≡ map (name_answer returned subscriptions.now) entries.now) }
+    ensures { IfOk result
+        (λ answers. answers.items ≡ map (name_answer returned subscriptions.now) entries.now) }
 {
     let mut answers = Vec::new(alloc);
     for entry in entries {
@@ -112,7 +117,9 @@ fn subscribed_names(
     folders: &[Name],
     subscriptions: &[Name],
 ) -> Result<Vec<Answer>, AllocError>
-    ensures { IfOk result (λ answers. answers.items ≡ map (subscribed_answer folders.now) (names_of (placed_all (shown_mailboxes (reference.now ++ pattern.now) subscriptions.now) []))) }
+    ensures { IfOk result (λ answers. answers.items
+        ≡ map (subscribed_answer folders.now) (names_of
+        (placed_all (shown_mailboxes (reference.now ++ pattern.now) subscriptions.now) []))) }
 {
     let joined = append_name(alloc, reference, pattern)?;
     let entries = matching_names(alloc, &joined, subscriptions)?;
@@ -133,7 +140,8 @@ fn matching_names(
     pattern: &[u8],
     names: &[Name],
 ) -> Result<Vec<ListEntry>, AllocError>
-    ensures { IfOk result (λ entries. entries.items ≡ placed_all (shown_mailboxes pattern.now names.now) []) }
+    ensures { IfOk result
+        (λ entries. entries.items ≡ placed_all (shown_mailboxes pattern.now names.now) []) }
 {
     let pattern = &Pattern::new(alloc, pattern)?;
     let mut entries = Vec::new(alloc);
@@ -146,7 +154,8 @@ fn subscribed_answers(
     entries: &[ListEntry],
     folders: &[Name],
 ) -> Result<Vec<Answer>, AllocError>
-    ensures { IfOk result (λ answers. answers.items ≡ map (subscribed_answer folders.now) (names_of entries.now)) }
+    ensures { IfOk result
+        (λ answers. answers.items ≡ map (subscribed_answer folders.now) (names_of entries.now)) }
 {
     let mut answers = Vec::new(alloc);
     for entry in entries {

@@ -1,10 +1,13 @@
 //! The names that LIST shows, in order: mailboxes, and superior levels that aren't mailboxes.
 
-ghost use Rattle.std.specs.Prelude.{◌≡◌, ℕ, ◌≤◌, false, List, [], ◌∷◌, ◌++◌, IfOk, OnOk, MatchOption, length};
+ghost use Rattle.std.specs.Prelude.{◌≡◌, ℕ, ◌≤◌, false, List, [], ◌∷◌, ◌++◌, IfOk, OnOk};
+ghost use Rattle.std.specs.Prelude.{MatchOption, length};
 ghost use Rattle.std.specs.List.{insert};
 ghost use Rattle.imap_query.specs.ListEntries.{Lists};
 ghost use Rattle.imap_query.specs.Patterns.{is_among};
-ghost use Rattle.imap_query.specs.Placing.{ends_in_percent, entries_found, found_levels, levels_from, insert_entry, placed_all, shown_among, shown_level, shown_mailboxes};
+ghost use Rattle.imap_query.specs.Placing.{ends_in_percent, entries_found, found_levels};
+ghost use Rattle.imap_query.specs.Placing.{levels_from, insert_entry, placed_all, shown_among};
+ghost use Rattle.imap_query.specs.Placing.{shown_level, shown_mailboxes};
 ghost use Rattle.imap_query.specs.declared.list_entries.ListEntry.{ListEntry};
 
 use crate::pattern::{Pattern, is_shown};
@@ -47,12 +50,17 @@ pub fn list(
 
 /// LIST determines its entries: two lists that both meet its definition are equal.
 pub fn one_list()
-    ensures { (reference pattern : List ℕ) (folders : List (List ℕ)) (entries others : List ListEntry) → Lists reference pattern folders entries → Lists reference pattern folders others → entries ≡ others }
+    ensures { (reference pattern : List ℕ) (folders : List (List ℕ))
+        (entries others : List ListEntry)
+        → Lists reference pattern folders entries
+        → Lists reference pattern folders others
+        → entries ≡ others }
 {}
 
 /// The entry for an empty pattern.
 fn root(alloc: Global) -> Result<Vec<ListEntry>, AllocError>
-    ensures { IfOk result (λ entries. entries.items ≡ (record { name = []; is_mailbox = false }) ∷ []) }
+    ensures { IfOk result
+        (λ entries. entries.items ≡ (record { name = []; is_mailbox = false }) ∷ []) }
 {
     let mut entries = Vec::new(alloc);
     entries.push(ListEntry {
@@ -68,7 +76,8 @@ fn listed_entries(
     pattern: &[u8],
     folders: &[Name],
 ) -> Result<Vec<ListEntry>, AllocError>
-    ensures { IfOk result (λ entries. entries.items ≡ placed_all (entries_found pattern.now folders.now) []) }
+    ensures { IfOk result
+        (λ entries. entries.items ≡ placed_all (entries_found pattern.now folders.now) []) }
 {
     let pattern = &Pattern::new(alloc, pattern)?;
     let mut entries = Vec::new(alloc);
@@ -93,7 +102,8 @@ pub(crate) fn place_mailboxes(
     folders: &[Name],
     entries: &mut Vec<ListEntry>,
 ) -> Result<(), AllocError>
-    ensures { OnOk result (entries.new.items ≡ placed_all (shown_mailboxes pattern.now folders.now) entries.old.items) }
+    ensures { OnOk result (entries.new.items
+        ≡ placed_all (shown_mailboxes pattern.now folders.now) entries.old.items) }
 {
     for folder in folders {
         if is_shown(alloc, pattern, folder)? {
@@ -117,7 +127,8 @@ fn place_levels(
     folders: &[Name],
     entries: &mut Vec<ListEntry>,
 ) -> Result<(), AllocError>
-    ensures { OnOk result (entries.new.items ≡ placed_all (found_levels pattern.now folders.now) entries.old.items) }
+    ensures { OnOk result
+        (entries.new.items ≡ placed_all (found_levels pattern.now folders.now) entries.old.items) }
 {
     if !ends_in_percent(pattern.written()) {
         return Ok(());
@@ -136,7 +147,9 @@ fn place_levels_of(
     folder: &[u8],
     entries: &mut Vec<ListEntry>,
 ) -> Result<(), AllocError>
-    ensures { OnOk result (entries.new.items ≡ placed_all (shown_among pattern.now folders.now (levels_from [] folder.now)) entries.old.items) }
+    ensures { OnOk result (entries.new.items
+        ≡ placed_all (shown_among pattern.now folders.now (levels_from [] folder.now))
+        entries.old.items) }
 {
     for at in 0..folder.len() {
         if folder[at] == b'/' {
@@ -154,7 +167,8 @@ fn place_level(
     upper: &[u8],
     entries: &mut Vec<ListEntry>,
 ) -> Result<(), AllocError>
-    ensures { OnOk result (entries.new.items ≡ placed_all (shown_level pattern.now folders.now upper.now) entries.old.items) }
+    ensures { OnOk result (entries.new.items
+        ≡ placed_all (shown_level pattern.now folders.now upper.now) entries.old.items) }
 {
     let name = Name::from_slice(alloc, upper)?.fold_inbox();
     if is_among(folders, name.as_bytes()) {
@@ -198,7 +212,9 @@ fn place(entries: &mut Vec<ListEntry>, entry: ListEntry) -> Result<(), AllocErro
 
 /// The place at which an entry belongs; `None` if one with its name exists.
 fn place_of(entries: &[ListEntry], entry: &ListEntry) -> Option<usize>
-    ensures { MatchOption result (insert_entry entry.now entries.now ≡ entries.now) (λ at. (at ≤ length entries.now) × (insert_entry entry.now entries.now ≡ insert entries.now at entry.now)) }
+    ensures { MatchOption result (insert_entry entry.now entries.now ≡ entries.now)
+        (λ at. (at ≤ length entries.now)
+        × (insert_entry entry.now entries.now ≡ insert entries.now at entry.now)) }
 {
     for at in 0..entries.len() {
         match entry.name.compare(&entries[at].name) {

@@ -68,7 +68,8 @@ fn count(rows: &Rows<'_>, flag: SystemFlag, is_set: bool) -> u32
 
 /// 1 if the message at this place has the flag, or lacks it, as `is_set` asks; 0 otherwise.
 fn count_at(rows: &Rows<'_>, place: u32, flag: SystemFlag, is_set: bool) -> u32
-    ensures counted { result ≡ length (filter (is_flagged flag is_set) (option_to_list (slice_get rows.now place))) }
+    ensures counted { result
+        ≡ length (filter (is_flagged flag is_set) (option_to_list (slice_get rows.now place))) }
     ensures bound { result ≤ 1 }
 {
     match rows.row_at(place as usize) {

@@ -4,7 +4,8 @@ ghost use Rattle.std.specs.Prelude.{◌≡◌, ◌&&◌, ◌↔◌, IfOk, IsTrue
 ghost use Rattle.std.specs.List.{list_all};
 ghost use Rattle.std.specs.Char.{to_ascii_uppercase};
 ghost use Rattle.imap_query.specs.Patterns.{Matches};
-ghost use Rattle.imap_query.specs.PatternRows.{answer_after, cell, cells, is_match, is_shown, is_unset, is_wildcard, last_of, may_hold};
+ghost use Rattle.imap_query.specs.PatternRows.{answer_after, cell, cells, is_match, is_shown};
+ghost use Rattle.imap_query.specs.PatternRows.{is_unset, is_wildcard, last_of, may_hold};
 ghost use Rattle.imap_query.specs.Simpler.{Adds, AreAlike, IsAlike, ends_wild};
 
 use imap_types::Name;

@@ -1,11 +1,15 @@
 //! The results of SEARCH (RFC 9051, section 6.4.4; RFC 7162, section 3.1.5).
 
-ghost use Rattle.std.specs.Prelude.{◌≡◌, ◌==◌, ◌&&◌, ◌++◌, [], length, map, not, Some, IfOk, OnOk, if◌then◌else◌};
+ghost use Rattle.std.specs.Prelude.{◌≡◌, ◌==◌, ◌&&◌, ◌++◌, [], length, map, not, Some, IfOk, OnOk};
+ghost use Rattle.std.specs.Prelude.{if◌then◌else◌};
 ghost use Rattle.std.specs.List.{list_any};
 ghost use Rattle.imap_types.specs.Numbers.{AreRisingFrom, greatest};
 ghost use Rattle.imap_query.specs.Hits.{MayAdd, last_number, step_names_modseq};
 ghost use Rattle.imap_query.specs.KeyHits.{Key, steps_of};
-ghost use Rattle.imap_query.specs.Search.{asks_modseq, first_hit, hit_of, hits_in, last_hit, last_shown, modseq_in, number_or_uid, number_in, results_of, modseq_of_result, asks_option, asks_all, asks_min_or_max_alone, number_where_asked};
+ghost use Rattle.imap_query.specs.Search.{asks_modseq, first_hit, hit_of, hits_in, last_hit};
+ghost use Rattle.imap_query.specs.Search.{last_shown, modseq_in, number_or_uid, number_in};
+ghost use Rattle.imap_query.specs.Search.{results_of, modseq_of_result, asks_option, asks_all};
+ghost use Rattle.imap_query.specs.Search.{asks_min_or_max_alone, number_where_asked};
 ghost use Rattle.mailbox_rows.specs.RowViews.{row_of};
 
 use crate::heads::{flagged_hits, push_hit as push_one};
@@ -50,7 +54,9 @@ pub fn search(
     options: &[SearchOption],
 ) -> Result<SearchResults, AllocError>
     requires { AreRisingFrom 1 (map (number_or_uid by_uid) view.now) }
-    ensures { IfOk result (λ results. (key : Key) → steps.now ≡ steps_of key → results ≡ results_of options.now (asks_modseq key) (hits_in by_uid key rows.now view.now)) }
+    ensures { IfOk result (λ results. (key : Key) → steps.now ≡ steps_of key
+        → results
+        ≡ results_of options.now (asks_modseq key) (hits_in by_uid key rows.now view.now)) }
 {
     let hits = hits_in(alloc, view, rows, by_uid, steps)?;
     results(alloc, &hits, options, asks_modseq(steps))
@@ -65,7 +71,8 @@ fn hits_in(
     steps: &[SearchStep],
 ) -> Result<Vec<Hit>, AllocError>
     requires { AreRisingFrom 1 (map (number_or_uid by_uid) view.now) }
-    ensures hits { IfOk result (λ hits. (key : Key) → steps.now ≡ steps_of key → hits.items ≡ hits_in by_uid key rows.now view.now) }
+    ensures hits { IfOk result (λ hits. (key : Key) → steps.now ≡ steps_of key
+        → hits.items ≡ hits_in by_uid key rows.now view.now) }
     ensures rising { IfOk result (λ hits. AreRisingFrom 1 (map (λ hit. hit.number) hits.items)) }
 {
     if let Some(test) = flag_test(steps) {
@@ -102,8 +109,12 @@ fn push_hit(
     shown: ViewedMessage,
     found: &mut Vec<Hit>,
 ) -> Result<(), AllocError>
-    ensures hits { OnOk result ((key : Key) → sought.entry.steps.now ≡ steps_of key → found.new.items ≡ found.old.items ++ hit_of sought.entry.by_uid key sought.entry.last shown (row_of shown.uid rows.now)) }
-    ensures numbers { OnOk result (MayAdd (number_or_uid sought.entry.by_uid shown) (map (λ hit. hit.number) found.old.items) (map (λ hit. hit.number) found.new.items)) }
+    ensures hits { OnOk result ((key : Key) → sought.entry.steps.now ≡ steps_of key
+        → found.new.items
+        ≡ found.old.items
+        ++ hit_of sought.entry.by_uid key sought.entry.last shown (row_of shown.uid rows.now)) }
+    ensures numbers { OnOk result (MayAdd (number_or_uid sought.entry.by_uid shown)
+        (map (λ hit. hit.number) found.old.items) (map (λ hit. hit.number) found.new.items)) }
 {
     match rows.row_near(shown.place(), shown.uid) {
         None => Ok(()),
@@ -174,7 +185,8 @@ fn results(
 /// The numbers of all hits, if they are asked for.
 fn all_numbers(alloc: Global, hits: &[Hit], is_asked: bool) -> Result<NumberSet, AllocError>
     requires { AreRisingFrom 1 (map (λ hit. hit.number) hits.now) }
-    ensures { IfOk result (λ numbers. numbers ≡ (if is_asked then map (λ hit. hit.number) hits.now else [])) }
+    ensures { IfOk result
+        (λ numbers. numbers ≡ (if is_asked then map (λ hit. hit.number) hits.now else [])) }
 {
     if !is_asked {
         return Ok(NumberSet::new(alloc));

@@ -112,13 +112,17 @@ arguments (commands.Subscribe name) = sp ⌢ mailbox name
 arguments (commands.Unsubscribe name) = sp ⌢ mailbox name
 -- RFC 9051, section 6.3.9
 arguments (commands.ListNames asked) =
-    sp ⌢ selection asked.subscribed_only ⌢ astring asked.reference ⌢ sp ⌢ pattern asked.pattern ⌢ returns asked.return_subscribed
+    sp ⌢ selection asked.subscribed_only ⌢ astring asked.reference ⌢ sp ⌢ pattern asked.pattern ⌢
+    returns asked.return_subscribed
 -- RFC 9051, section 6.3.10
 arguments commands.Namespace = nothing
 -- RFC 9051, section 6.3.11
-arguments (commands.Status name items) = sp ⌢ mailbox name ⌢ sp ⌢ in_parens (listed sp status_item items)
+arguments (commands.Status name items) =
+    sp ⌢ mailbox name ⌢ sp ⌢ in_parens (listed sp status_item items)
 -- RFC 9051, section 6.3.12
-arguments (commands.Append asked) = sp ⌢ mailbox asked.name ⌢ append_flags asked.flags ⌢ optional date_time asked.date ⌢ sp ⌢ literal asked.text
+arguments (commands.Append asked) =
+    sp ⌢ mailbox asked.name ⌢ append_flags asked.flags ⌢ optional date_time asked.date ⌢ sp ⌢
+    literal asked.text
 -- RFC 2177, section 3
 arguments commands.Idle = nothing
 -- RFC 9051, section 6.4.1
@@ -130,19 +134,24 @@ arguments commands.Expunge = nothing
 -- RFC 9051, section 6.4.9
 arguments (commands.UidExpunge uids) = own_word true words.Expunge ⌢ sp ⌢ sequence_set uids
 -- RFC 9051, section 6.4.4; RFC 7162, section 3.1.5
-arguments (commands.Search asked) = own_word asked.by_uid words.Search ⌢ sp ⌢ return_options asked.options ⌢ charset ⌢ search_keys asked.steps
+arguments (commands.Search asked) =
+    own_word asked.by_uid words.Search ⌢ sp ⌢ return_options asked.options ⌢ charset ⌢ search_keys
+    asked.steps
 -- RFC 9051, section 6.4.5; RFC 7162, section 3.1.4.1
 arguments (commands.Fetch asked) =
     own_word asked.by_uid words.Fetch ⌢ sp ⌢ sequence_set asked.messages ⌢ sp ⌢ fetched asked.items
     ⌢ optional (modifier (codes "CHANGEDSINCE")) asked.changed_since
 -- RFC 9051, section 6.4.6; RFC 7162, section 3.1.3
 arguments (commands.Store asked) =
-    own_word asked.by_uid words.Store ⌢ sp ⌢ sequence_set asked.messages ⌢ optional (modifier (codes "UNCHANGEDSINCE")) asked.unchanged_since
+    own_word asked.by_uid words.Store ⌢ sp ⌢ sequence_set asked.messages ⌢ optional
+    (modifier (codes "UNCHANGEDSINCE")) asked.unchanged_since
     ⌢ sp ⌢ word (store_word asked.action) ⌢ sp ⌢ stored asked.flags
 -- RFC 9051, section 6.4.7
-arguments (commands.Copy asked) = own_word asked.by_uid words.Copy ⌢ sp ⌢ sequence_set asked.messages ⌢ sp ⌢ mailbox asked.name
+arguments (commands.Copy asked) =
+    own_word asked.by_uid words.Copy ⌢ sp ⌢ sequence_set asked.messages ⌢ sp ⌢ mailbox asked.name
 -- RFC 9051, section 6.4.8
-arguments (commands.Move asked) = own_word asked.by_uid words.Move ⌢ sp ⌢ sequence_set asked.messages ⌢ sp ⌢ mailbox asked.name
+arguments (commands.Move asked) =
+    own_word asked.by_uid words.Move ⌢ sp ⌢ sequence_set asked.messages ⌢ sp ⌢ mailbox asked.name
 
 -- A command without its tag: its word in any case, and its arguments.
 abbrev pub command : Command → List ℕ → Type 0

@@ -12,11 +12,13 @@ use Rattle.imap_syntax.specs.Strings.{number_to}
 -- zero (RFC 9051, section 9, date-time).
 abbrev pub date_time : List ℕ → List ℕ → Type 0
 date_time value text =
-    IsDateTime value × ((text ≡ value) ⊎ ((rest : List ℕ) × (value ≡ 34 ∷ 48 ∷ rest) × (text ≡ 34 ∷ 32 ∷ rest)))
+    IsDateTime value
+    × ((text ≡ value) ⊎ ((rest : List ℕ) × (value ≡ 34 ∷ 48 ∷ rest) × (text ≡ 34 ∷ 32 ∷ rest)))
 
 -- A number up to `limit`, in `least` to `most` digits.
 abbrev pub digits_to : ℕ → ℕ → ℕ → ℕ → List ℕ → Type 0
-digits_to least most limit value text = number_to limit value text × (least ≤ length text) × (length text ≤ most)
+digits_to least most limit value text =
+    number_to limit value text × (least ≤ length text) × (length text ≤ most)
 
 -- The day of a month, in one or two digits (RFC 9051, section 9, date-day).
 abbrev pub day_of_month : ℕ → List ℕ → Type 0
@@ -41,7 +43,8 @@ quote = exactly (codes "\"")
 -- A day that exists, as `d-Mon-yyyy` (RFC 9051, section 9, date-text).
 abbrev pub date_text : Day → List ℕ → Type 0
 date_text this text =
-    (day_of_month this.day ⌢ hyphen ⌢ month_name this.month ⌢ hyphen ⌢ year_number this.year) text × IsDate (pos this.year) (pos this.month) (pos this.day)
+    (day_of_month this.day ⌢ hyphen ⌢ month_name this.month ⌢ hyphen ⌢ year_number this.year) text
+    × IsDate (pos this.year) (pos this.month) (pos this.day)
 
 -- A day that exists, with or without quotes (RFC 9051, section 9, date).
 abbrev pub date : Day → List ℕ → Type 0

@@ -28,4 +28,6 @@ begins_in class (octet ∷ octets) = is_in class octet
 abbrev pub NamesCommand : List ℕ → Type 0
 NamesCommand frame =
     (tag letters rest : List ℕ) × (named : CommandWord) × IsTagged frame tag (letters ++ rest)
-    × IsTrue (list_all (is_in Atom) letters) × (begins_in Atom rest ≡ false) × word (command_word named) letters
+    × IsTrue (list_all (is_in Atom) letters)
+    × (begins_in Atom rest ≡ false)
+    × word (command_word named) letters

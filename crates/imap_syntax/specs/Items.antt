@@ -1,8 +1,10 @@
 -- Items of FETCH, and the sections that they name (RFC 9051, section 9, fetch and section).
 
-use Rattle.std.specs.Prelude.{◌≡◌, ◌⊎◌, ℕ, Bool, true, false, List, [], ◌∷◌, codes, Option, Some, None}
+use Rattle.std.specs.Prelude.{◌≡◌, ◌⊎◌, ℕ, Bool, true, false, List, [], ◌∷◌, codes, Option, Some}
+use Rattle.std.specs.Prelude.{None}
 use Rattle.imap_types.specs.declared.section.Section.{Section}
-use Rattle.imap_types.specs.declared.section.Section.TheVariants.{Whole, Header, Text, Fields, FieldsNot}
+use Rattle.imap_types.specs.declared.section.Section.TheVariants.{Whole, Header, Text, Fields}
+use Rattle.imap_types.specs.declared.section.Section.TheVariants.{FieldsNot}
 use Rattle.imap_syntax.specs.Languages.{◌⌢◌, exactly, nothing, sp, word, in_parens, listed}
 use Rattle.imap_syntax.specs.Strings.{astring, number_to, nz}
 use Rattle.imap_syntax.specs.Words.{fetch_word, section_word}
@@ -28,7 +30,9 @@ section (FieldsNot names) = word (section_word sections.FieldsNot) ⌢ field_nam
 -- `<start.count>` or nothing (RFC 9051, section 9, partial).
 abbrev pub partial : Option Partial → List ℕ → Type 0
 partial None = nothing
-partial (Some this) = exactly (codes "<") ⌢ number_to 4294967295 this.start ⌢ exactly (codes ".") ⌢ nz this.count ⌢ exactly (codes ">")
+partial (Some this) =
+    exactly (codes "<") ⌢ number_to 4294967295 this.start ⌢ exactly (codes ".") ⌢ nz this.count ⌢
+    exactly (codes ">")
 
 -- The word of an item for a section; BODY.PEEK if it peeks (RFC 9051, section 9, fetch-att).
 abbrev pub body_word : Bool → FetchWord
@@ -50,7 +54,8 @@ item_behind items.InternalDate = nothing
 item_behind items.Size = nothing
 item_behind items.Uid = nothing
 item_behind items.ModSeq = nothing
-item_behind (items.Body peek this_section this_partial) = (exactly (codes "[") ⌢ section this_section ⌢ exactly (codes "]")) ⌢ partial this_partial
+item_behind (items.Body peek this_section this_partial) =
+    (exactly (codes "[") ⌢ section this_section ⌢ exactly (codes "]")) ⌢ partial this_partial
 
 -- An item of FETCH (RFC 9051, section 9, fetch-att).
 abbrev pub fetch_item : FetchItem → List ℕ → Type 0

@@ -3,7 +3,8 @@
 use Rattle.std.specs.Prelude.{◌≡◌, ◌⊎◌, ℕ, zero, suc, List, [], ◌∷◌, ◌++◌, codes}
 use Rattle.imap_syntax.specs.Dates.{date}
 use Rattle.imap_syntax.specs.KeyWords.{key_word, option_word}
-use Rattle.imap_syntax.specs.Languages.{◌⌢◌, nothing, never, sp, word, in_parens, listed, maybe_listed}
+use Rattle.imap_syntax.specs.Languages.{◌⌢◌, nothing, never, sp, word, in_parens, listed}
+use Rattle.imap_syntax.specs.Languages.{maybe_listed}
 use Rattle.imap_syntax.specs.Sets.{sequence_set}
 use Rattle.imap_syntax.specs.Strings.{run, astring, number_to}
 use Rattle.imap_syntax.specs.declared.octet_class.OctetClass.TheVariants.{Atom}
@@ -46,9 +47,13 @@ all_of (key ∷ keys) = and_all key keys
 abbrev pub key_over : (List SearchStep → List ℕ → Type 0) → List SearchStep → List ℕ → Type 0
 key_over inner steps text =
     ((this : SearchTest) × test this text × (Test this ∷ [] ≡ steps))
-    ⊎ (((operand : List SearchStep) × (word (key_word key.Not) ⌢ sp ⌢ inner operand) text × (operand ++ Not ∷ [] ≡ steps))
-    ⊎ (((this that : List SearchStep) × (word (key_word key.Or) ⌢ sp ⌢ inner this ⌢ sp ⌢ inner that) text × (this ++ that ++ Or ∷ [] ≡ steps))
-    ⊎ ((keys : List (List SearchStep)) × in_parens (listed sp inner keys) text × (all_of keys ≡ steps))))
+    ⊎ (((operand : List SearchStep) × (word (key_word key.Not) ⌢ sp ⌢ inner operand) text
+    × (operand ++ Not ∷ [] ≡ steps))
+    ⊎ (((this that : List SearchStep)
+    × (word (key_word key.Or) ⌢ sp ⌢ inner this ⌢ sp ⌢ inner that) text
+    × (this ++ that ++ Or ∷ [] ≡ steps))
+    ⊎ ((keys : List (List SearchStep)) × in_parens (listed sp inner keys) text
+    × (all_of keys ≡ steps))))
 
 -- A key with at most this many levels of NOT, OR and parentheses.
 unfoldable pub key_within : ℕ → List SearchStep → List ℕ → Type 0
@@ -57,7 +62,8 @@ key_within (suc levels) = key_over (key_within levels)
 
 -- One or more keys, each with at most 64 levels.
 abbrev pub search_keys : List SearchStep → List ℕ → Type 0
-search_keys steps text = (keys : List (List SearchStep)) × listed sp (key_within 64) keys text × (all_of keys ≡ steps)
+search_keys steps text =
+    (keys : List (List SearchStep)) × listed sp (key_within 64) keys text × (all_of keys ≡ steps)
 
 -- RETURN with its options and a space; without options, nothing (RFC 9051, section 9,
 -- search-return-opts).
@@ -73,4 +79,5 @@ return_options these text =
 abbrev pub charset : List ℕ → Type 0
 charset text =
     nothing text
-    ⊎ ((name : List ℕ) × (word (codes "CHARSET") ⌢ sp ⌢ astring name ⌢ sp) text × (word (codes "UTF-8") name ⊎ word (codes "US-ASCII") name))
+    ⊎ ((name : List ℕ) × (word (codes "CHARSET") ⌢ sp ⌢ astring name ⌢ sp) text
+    × (word (codes "UTF-8") name ⊎ word (codes "US-ASCII") name))

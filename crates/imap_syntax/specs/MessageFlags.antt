@@ -7,14 +7,16 @@ use Rattle.std.specs.Option.{unwrap_or}
 use Rattle.std.specs.Str.{bytes_eq}
 use Rattle.imap_types.specs.Keywords.{AreKeywords, to_lower_case}
 use Rattle.imap_types.specs.declared.flags.Flags.{Flags}
-use Rattle.imap_syntax.specs.Languages.{◌⌢◌, exactly, sp, word, in_parens, listed, maybe_listed, optional}
+use Rattle.imap_syntax.specs.Languages.{◌⌢◌, exactly, sp, word, in_parens, listed, maybe_listed}
+use Rattle.imap_syntax.specs.Languages.{optional}
 use Rattle.imap_syntax.specs.Strings.{run}
 use Rattle.imap_syntax.specs.Words.{system_word}
 use Rattle.imap_syntax.specs.declared.octet_class.OctetClass.TheVariants.{Atom}
 use Rattle.imap_syntax.specs.declared.flags.Flag.{Flag}
 use Rattle.imap_syntax.specs.declared.flags.Flag.TheVariants.{System, Keyword}
 use Rattle.imap_syntax.specs.declared.flags.SystemFlag.{SystemFlag}
-use Rattle.imap_syntax.specs.declared.flags.SystemFlag.TheVariants.{Answered, Flagged, Deleted, Seen, Draft}
+use Rattle.imap_syntax.specs.declared.flags.SystemFlag.TheVariants.{Answered, Flagged, Deleted}
+use Rattle.imap_syntax.specs.declared.flags.SystemFlag.TheVariants.{Seen, Draft}
 
 -- A flag: `\` and the word of a system flag, or a keyword (RFC 9051, section 9, flag).
 abbrev pub flag : Flag → List ℕ → Type 0
@@ -44,7 +46,8 @@ pub record AreWritten (written : List Flag) (flags : Flags) : Type 0 where
   pub seen : flags.seen ≡ list_any (is_system Seen) written
   pub draft : flags.draft ≡ list_any (is_system Draft) written
   pub set : AreKeywords flags.keywords
-  pub keywords : (word : List ℕ) → list_any (bytes_eq word) flags.keywords ≡ list_any (is_keyword word) written
+  pub keywords : (word : List ℕ)
+      → list_any (bytes_eq word) flags.keywords ≡ list_any (is_keyword word) written
 
 -- Any number of flags between parentheses (RFC 9051, section 9, flag-list).
 abbrev pub flag_group : List Flag → List ℕ → Type 0
@@ -61,4 +64,7 @@ stored flags text = (written : List Flag) × stored_texts written text × AreWri
 -- The flags of APPEND: a group after a space, or nothing if there are no flags (RFC 9051, section
 -- 9, append).
 abbrev pub append_flags : Flags → List ℕ → Type 0
-append_flags flags text = (given : Option (List Flag)) × optional flag_group given text × AreWritten (unwrap_or given []) flags
+append_flags flags text =
+    (given : Option (List Flag))
+    × optional flag_group given text
+    × AreWritten (unwrap_or given []) flags

@@ -1,13 +1,15 @@
 -- Strings, mailbox names and numbers in commands (RFC 9051, section 9).
 
-use Rattle.std.specs.Prelude.{codes, ◌≤◌, false, ◌≡◌, ◌≢◌, ◌⊎◌, ℕ, ◌+◌, ◌-◌, ◌*◌, Bool, not, ◌&&◌, ◌||◌, ◌==◌, List, [], ◌∷◌, ◌++◌, length, IsTrue, if◌then◌else◌}
+use Rattle.std.specs.Prelude.{codes, ◌≤◌, false, ◌≡◌, ◌≢◌, ◌⊎◌, ℕ, ◌+◌, ◌-◌, ◌*◌, Bool, not, ◌&&◌}
+use Rattle.std.specs.Prelude.{◌||◌, ◌==◌, List, [], ◌∷◌, ◌++◌, length, IsTrue, if◌then◌else◌}
 use Rattle.std.specs.List.{list_all}
 use Rattle.imap_types.specs.DateTimes.{is_digit}
 use Rattle.imap_types.specs.Keywords.{is_astring_octet, is_atom_octet, is_tag_octet}
 use Rattle.imap_types.specs.Names.{fold_inbox}
 use Rattle.imap_syntax.specs.Languages.{◌⌢◌, exactly, nothing}
 use Rattle.imap_syntax.specs.declared.octet_class.OctetClass.{OctetClass}
-use Rattle.imap_syntax.specs.declared.octet_class.OctetClass.TheVariants.{Tag, Atom, Astring, Pattern, Digit, Item}
+use Rattle.imap_syntax.specs.declared.octet_class.OctetClass.TheVariants.{Tag, Atom, Astring}
+use Rattle.imap_syntax.specs.declared.octet_class.OctetClass.TheVariants.{Pattern, Digit, Item}
 
 -- Whether an octet is one of a pattern without quotes: an astring octet, `%` or `*` (RFC 9051,
 -- section 9, list-char).
@@ -31,7 +33,9 @@ run class value text = (value ≢ []) × IsTrue (list_all (is_in class) value) �
 -- QUOTED-CHAR).
 abbrev pub quoted_escape : List ℕ → List ℕ
 quoted_escape [] = []
-quoted_escape (octet ∷ octets) = if (octet == 34) || (octet == 92) then 92 ∷ octet ∷ quoted_escape octets else octet ∷ quoted_escape octets
+quoted_escape (octet ∷ octets) =
+    if (octet == 34) || (octet == 92) then 92 ∷ octet ∷ quoted_escape octets
+    else octet ∷ quoted_escape octets
 
 -- Whether an octet is allowed between quotes: all but NUL, CR and LF.
 abbrev pub is_quotable : ℕ → Bool
@@ -39,7 +43,8 @@ is_quotable octet = not ((octet == 0) || (octet == 13) || (octet == 10))
 
 -- A quoted string (RFC 9051, section 9, quoted).
 abbrev pub quoted : List ℕ → List ℕ → Type 0
-quoted value text = IsTrue (list_all is_quotable value) × (text ≡ codes "\"" ++ (quoted_escape value ++ codes "\""))
+quoted value text =
+    IsTrue (list_all is_quotable value) × (text ≡ codes "\"" ++ (quoted_escape value ++ codes "\""))
 
 -- The number that decimal digits write after those of `so_far`.
 abbrev pub number_of : ℕ → List ℕ → ℕ
@@ -56,7 +61,9 @@ optional_plus text = exactly (codes "+") text ⊎ nothing text
 
 -- A literal: `{n}` or `{n+}`, CRLF and n octets (RFC 9051, section 9, literal).
 abbrev pub literal : List ℕ → List ℕ → Type 0
-literal value = exactly (codes "{") ⌢ number (length value) ⌢ optional_plus ⌢ exactly (codes "}\r\n") ⌢ exactly value
+literal value =
+    exactly (codes "{") ⌢ number (length value) ⌢ optional_plus ⌢ exactly (codes "}\r\n") ⌢ exactly
+    value
 
 -- Octets of a class for themselves, or a string in either form.
 abbrev pub text_of : OctetClass → List ℕ → List ℕ → Type 0

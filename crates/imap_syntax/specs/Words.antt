@@ -2,7 +2,14 @@
 
 use Rattle.std.specs.Prelude.{ℕ, List, [], ◌∷◌, codes, Bool, true, false}
 use Rattle.imap_syntax.specs.declared.word.CommandWord.{CommandWord}
-use Rattle.imap_syntax.specs.declared.word.CommandWord.TheVariants.{Capability, Noop, Logout, Login, Enable, Select, Examine, Create, Delete, Subscribe, Unsubscribe, ListNames, Namespace, Status, Append, Idle, Close, Unselect, Expunge, Search, Fetch, Store, Copy, Move, Uid, Rename, StartTls, Authenticate}
+use Rattle.imap_syntax.specs.declared.word.CommandWord.TheVariants.{Capability, Noop, Logout, Login}
+use Rattle.imap_syntax.specs.declared.word.CommandWord.TheVariants.{Enable, Select, Examine, Create}
+use Rattle.imap_syntax.specs.declared.word.CommandWord.TheVariants.{Delete, Subscribe, Unsubscribe}
+use Rattle.imap_syntax.specs.declared.word.CommandWord.TheVariants.{ListNames, Namespace, Status}
+use Rattle.imap_syntax.specs.declared.word.CommandWord.TheVariants.{Append, Idle, Close, Unselect}
+use Rattle.imap_syntax.specs.declared.word.CommandWord.TheVariants.{Expunge, Search, Fetch, Store}
+use Rattle.imap_syntax.specs.declared.word.CommandWord.TheVariants.{Copy, Move, Uid, Rename}
+use Rattle.imap_syntax.specs.declared.word.CommandWord.TheVariants.{StartTls, Authenticate}
 use Rattle.imap_syntax.specs.declared.fetch.FetchWord.{FetchWord}
 use Rattle.imap_syntax.specs.declared.fetch.FetchWord.TheVariants as fetch
 use Rattle.imap_syntax.specs.declared.fetch.SectionWord.{SectionWord}
@@ -49,8 +56,10 @@ command_word Authenticate = codes "AUTHENTICATE"
 -- All words of commands.
 abbrev pub command_words : List CommandWord
 command_words =
-    Capability ∷ Noop ∷ Logout ∷ Login ∷ Enable ∷ Select ∷ Examine ∷ Create ∷ Delete ∷ Subscribe ∷ Unsubscribe ∷ ListNames
-    ∷ Namespace ∷ Status ∷ Append ∷ Idle ∷ Close ∷ Unselect ∷ Expunge ∷ Search ∷ Fetch ∷ Store ∷ Copy ∷ Move ∷ Uid ∷ Rename
+    Capability ∷ Noop ∷ Logout ∷ Login ∷ Enable ∷ Select ∷ Examine ∷ Create ∷ Delete ∷ Subscribe
+    ∷ Unsubscribe ∷ ListNames
+    ∷ Namespace ∷ Status ∷ Append ∷ Idle ∷ Close ∷ Unselect ∷ Expunge ∷ Search ∷ Fetch ∷ Store
+    ∷ Copy ∷ Move ∷ Uid ∷ Rename
     ∷ StartTls ∷ Authenticate ∷ []
 
 -- The commands with a form that takes UIDs (RFC 9051, section 6.4.9).
@@ -71,7 +80,8 @@ status_word status.HighestModSeq = codes "HIGHESTMODSEQ"
 -- All items of STATUS.
 abbrev pub status_items : List StatusItem
 status_items =
-    status.Messages ∷ status.UidNext ∷ status.UidValidity ∷ status.Unseen ∷ status.Deleted ∷ status.Size ∷ status.HighestModSeq ∷ []
+    status.Messages ∷ status.UidNext ∷ status.UidValidity ∷ status.Unseen ∷ status.Deleted
+    ∷ status.Size ∷ status.HighestModSeq ∷ []
 
 -- The flags that a client may set, without their `\` (RFC 9051, section 9, flag).
 abbrev pub system_word : SystemFlag → List ℕ
@@ -100,7 +110,8 @@ abbrev pub store_actions : List StoreAction
 store_actions =
     record { mode = store.Replace; silent = false } ∷ record { mode = store.Replace; silent = true }
     ∷ record { mode = store.Add; silent = false } ∷ record { mode = store.Add; silent = true }
-    ∷ record { mode = store.Remove; silent = false } ∷ record { mode = store.Remove; silent = true } ∷ []
+    ∷ record { mode = store.Remove; silent = false } ∷ record { mode = store.Remove; silent = true }
+    ∷ []
 
 -- The words of FETCH items (RFC 9051, section 9, fetch-att; RFC 7162, section 7, for MODSEQ).
 abbrev pub fetch_word : FetchWord → List ℕ
@@ -113,7 +124,9 @@ fetch_word fetch.Body = codes "BODY"
 fetch_word fetch.BodyPeek = codes "BODY.PEEK"
 
 abbrev pub fetch_words : List FetchWord
-fetch_words = fetch.Flags ∷ fetch.InternalDate ∷ fetch.Size ∷ fetch.Uid ∷ fetch.ModSeq ∷ fetch.Body ∷ fetch.BodyPeek ∷ []
+fetch_words =
+    fetch.Flags ∷ fetch.InternalDate ∷ fetch.Size ∷ fetch.Uid ∷ fetch.ModSeq ∷ fetch.Body
+    ∷ fetch.BodyPeek ∷ []
 
 -- The words of sections (RFC 9051, section 9, section-msgtext).
 abbrev pub section_word : SectionWord → List ℕ

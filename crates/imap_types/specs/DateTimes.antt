@@ -1,7 +1,9 @@
 -- Date-times and the names of months, as RFC 9051 spells them (section 9, date-time and
 -- date-month).
 
-use Rattle.std.specs.Prelude.{◌≡◌, ℕ, ◌+◌, ◌-◌, ◌*◌, ◌<◌, ◌≤◌, Bool, true, not, ◌&&◌, ◌||◌, ◌==◌, nat_lt, List, length, take, drop, map, codes, IsTrue, if◌then◌else◌, pos, slice_index}
+use Rattle.std.specs.Prelude.{◌≡◌, ℕ, ◌+◌, ◌-◌, ◌*◌, ◌<◌, ◌≤◌, Bool, true, not, ◌&&◌, ◌||◌, ◌==◌}
+use Rattle.std.specs.Prelude.{nat_lt, List, length, take, drop, map, codes, IsTrue, if◌then◌else◌}
+use Rattle.std.specs.Prelude.{pos, slice_index}
 use Rattle.std.specs.Char.{to_ascii_lowercase}
 use Rattle.std.specs.Str.{bytes_eq}
 use Rattle.jiff.specs.Words.{IsDate}
@@ -19,13 +21,15 @@ date_time_picture = codes "\"99-mmm-9999 99:99:99 +9999\""
 abbrev pub fits_mark : ℕ → ℕ → Bool
 fits_mark mark octet =
     if mark == 57 then is_digit octet
-    else (if mark == 109 then true else (if mark == 43 then (octet == 43) || (octet == 45) else octet == mark))
+    else (if mark == 109 then true
+    else (if mark == 43 then (octet == 43) || (octet == 45) else octet == mark))
 
 -- A text has the form of a picture, octet by octet.
 abbrev pub HasPicture : List ℕ → List ℕ → Type 0
 HasPicture picture text =
     (length text ≡ length picture)
-    × ((k : ℕ) → k < length picture → IsTrue (fits_mark (slice_index picture k) (slice_index text k)))
+    × ((k : ℕ) → k < length picture
+    → IsTrue (fits_mark (slice_index picture k) (slice_index text k)))
 
 -- The number that the two digits at a place and after it write.
 abbrev pub two_digits : List ℕ → ℕ → ℕ
@@ -33,7 +37,8 @@ two_digits text place = (slice_index text place - 48) * 10 + (slice_index text (
 
 -- Whether the letters are the name, in any case.
 abbrev pub are_letters_of : List ℕ → List ℕ → Bool
-are_letters_of name letters = bytes_eq (map to_ascii_lowercase letters) (map to_ascii_lowercase name)
+are_letters_of name letters =
+    bytes_eq (map to_ascii_lowercase letters) (map to_ascii_lowercase name)
 
 -- The number of the month that three letters name in any case; 0 if they name none (RFC 9051,
 -- section 9, date-month).

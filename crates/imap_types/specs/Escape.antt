@@ -1,6 +1,8 @@
 -- The escape in which lines of text spell octets, and how it is read.
 
-use Rattle.std.specs.Prelude.{◌≡◌, ℕ, ◌+◌, ◌-◌, ◌*◌, ◌/◌, ◌%◌, ◌<◌, Bool, not, ◌&&◌, ◌||◌, ◌==◌, nat_lt, List, [], ◌∷◌, ◌++◌, Option, Some, None, Result, Ok, Err, if◌then◌else◌}
+use Rattle.std.specs.Prelude.{◌≡◌, ℕ, ◌+◌, ◌-◌, ◌*◌, ◌/◌, ◌%◌, ◌<◌, Bool, not, ◌&&◌, ◌||◌, ◌==◌}
+use Rattle.std.specs.Prelude.{nat_lt, List, [], ◌∷◌, ◌++◌, Option, Some, None, Result, Ok, Err}
+use Rattle.std.specs.Prelude.{if◌then◌else◌}
 use Rattle.std.specs.List.{flat_map}
 use Rattle.imap_types.specs.declared.escape.Escape.{Escape}
 use Rattle.imap_types.specs.declared.escape.Escape.TheVariants.{Field, Text}
@@ -18,7 +20,9 @@ hex_digit n = if nat_lt n 10 then 48 + n else 55 + n
 
 -- An octet in the escape: itself, or `~` and two hexadecimal digits.
 abbrev pub escape_octet : Escape → ℕ → List ℕ
-escape_octet escape octet = if is_plain escape octet then octet ∷ [] else 126 ∷ hex_digit (octet / 16) ∷ hex_digit (octet % 16) ∷ []
+escape_octet escape octet =
+    if is_plain escape octet then octet ∷ []
+    else 126 ∷ hex_digit (octet / 16) ∷ hex_digit (octet % 16) ∷ []
 
 -- Octets in the escape, one after another.
 abbrev pub escape_text : Escape → List ℕ → List ℕ
@@ -31,7 +35,8 @@ AreOctets (octet ∷ octets) = (octet < 256) × AreOctets octets
 
 -- Whether an octet is an upper-case hexadecimal digit.
 abbrev pub is_hex : ℕ → Bool
-is_hex octet = (not (nat_lt octet 48) && nat_lt octet 58) || (not (nat_lt octet 65) && nat_lt octet 71)
+is_hex octet =
+    (not (nat_lt octet 48) && nat_lt octet 58) || (not (nat_lt octet 65) && nat_lt octet 71)
 
 -- The number that an upper-case hexadecimal digit writes.
 abbrev pub hex_value : ℕ → ℕ
@@ -43,7 +48,8 @@ hex_octet high low = hex_value high * 16 + hex_value low
 
 -- Whether these three octets are the escape's spelling of one that doesn't stand for itself.
 abbrev pub is_escape : Escape → ℕ → ℕ → ℕ → Bool
-is_escape escape mark high low = (mark == 126) && (is_hex high && (is_hex low && not (is_plain escape (hex_octet high low))))
+is_escape escape mark high low =
+    (mark == 126) && (is_hex high && (is_hex low && not (is_plain escape (hex_octet high low))))
 
 -- `front` before the octets that were read, if any.
 abbrev pub with_octet_in_front : List ℕ → Option (List ℕ) → Option (List ℕ)
@@ -54,10 +60,13 @@ with_octet_in_front front (Some octets) = Some (front ++ octets)
 abbrev pub unescape : Escape → List ℕ → Option (List ℕ)
 unescape escape [] = Some []
 unescape escape (a ∷ []) = if is_plain escape a then Some (a ∷ []) else None
-unescape escape (a ∷ b ∷ []) = if is_plain escape a then with_octet_in_front (a ∷ []) (unescape escape (b ∷ [])) else None
+unescape escape (a ∷ b ∷ []) =
+    if is_plain escape a then with_octet_in_front (a ∷ []) (unescape escape (b ∷ [])) else None
 unescape escape (a ∷ b ∷ c ∷ rest) =
     if is_plain escape a then with_octet_in_front (a ∷ []) (unescape escape (b ∷ c ∷ rest))
-    else (if is_escape escape a b c then with_octet_in_front (hex_octet b c ∷ []) (unescape escape rest) else None)
+    else (if is_escape escape a b c
+    then with_octet_in_front (hex_octet b c ∷ []) (unescape escape rest)
+    else None)
 
 -- A fault other than that of memory means that nothing can be read.
 abbrev pub FailsToRead : {Y : Type 0} → EscapeFault → Option Y → Type 0

@@ -1,6 +1,7 @@
 -- The flags of a message in printing order, and those that it may have (RFC 9051, section 2.3.2).
 
-use Rattle.std.specs.Prelude.{ℕ, ◌≤◌, Bool, List, [], ◌∷◌, ◌++◌, length, codes, IsTrue, if◌then◌else◌}
+use Rattle.std.specs.Prelude.{ℕ, ◌≤◌, Bool, List, [], ◌∷◌, ◌++◌, length, codes, IsTrue}
+use Rattle.std.specs.Prelude.{if◌then◌else◌}
 use Rattle.std.specs.List.{list_all}
 use Rattle.imap_types.specs.declared.flags.Flags.{Flags}
 use Rattle.imap_types.specs.Keywords.{is_lawful_keyword}
@@ -23,4 +24,5 @@ flag_texts flags =
 -- Flags that a message may have: at most 32 keywords, each of 1 to 64 atom octets (these bounds are
 -- the project's own).
 abbrev pub IsLawfulFlags : Flags → Type 0
-IsLawfulFlags flags = (length flags.keywords ≤ 32) × IsTrue (list_all is_lawful_keyword flags.keywords)
+IsLawfulFlags flags =
+    (length flags.keywords ≤ 32) × IsTrue (list_all is_lawful_keyword flags.keywords)

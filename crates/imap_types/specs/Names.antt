@@ -1,6 +1,7 @@
 -- Mailbox names: INBOX, and the names that a mailbox may have (RFC 9051, section 5.1).
 
-use Rattle.std.specs.Prelude.{◌≡◌, ℕ, ◌<◌, ◌≤◌, Bool, not, ◌&&◌, ◌==◌, nat_lt, List, length, map, codes, IsTrue, if◌then◌else◌}
+use Rattle.std.specs.Prelude.{◌≡◌, ℕ, ◌<◌, ◌≤◌, Bool, not, ◌&&◌, ◌==◌, nat_lt, List, length, map}
+use Rattle.std.specs.Prelude.{codes, IsTrue, if◌then◌else◌}
 use Rattle.std.specs.List.{list_all, slice_split}
 use Rattle.std.specs.Char.{to_ascii_lowercase}
 use Rattle.std.specs.Str.{IsUtf8, bytes_eq}
@@ -20,7 +21,8 @@ fold_inbox name = if is_inbox name then inbox else name
 -- An octet that a name may have: no control, and no wildcard `%` (37) or `*` (42) (RFC 9051,
 -- section 5.1).
 abbrev pub is_name_octet : ℕ → Bool
-is_name_octet octet = not (nat_lt octet 32) && not (octet == 127) && not (octet == 37) && not (octet == 42)
+is_name_octet octet =
+    not (nat_lt octet 32) && not (octet == 127) && not (octet == 37) && not (octet == 42)
 
 -- The levels of a name, which separators `/` (47) divide (RFC 9051, section 5.1.1).
 abbrev pub levels_of : List ℕ → List (List ℕ)

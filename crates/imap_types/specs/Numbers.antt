@@ -1,6 +1,7 @@
 -- Sets of numbers as runs: the fewest ranges that name them (RFC 9051, section 9, sequence-set).
 
-use Rattle.std.specs.Prelude.{ℕ, suc, ◌+◌, ◌-◌, Bool, true, ◌&&◌, ◌==◌, ◌≤◌, nat_le, List, [], ◌∷◌, max, if◌then◌else◌, flat_map}
+use Rattle.std.specs.Prelude.{ℕ, suc, ◌+◌, ◌-◌, Bool, true, ◌&&◌, ◌==◌, ◌≤◌, nat_le, List, [], ◌∷◌}
+use Rattle.std.specs.Prelude.{max, if◌then◌else◌, flat_map}
 use Rattle.std.specs.List.{range_with_len}
 use Rattle.imap_types.specs.declared.number_set.Run.{Run}
 
@@ -26,7 +27,9 @@ numbers_in runs = flat_map numbers_of runs
 -- above.
 abbrev pub with_number : ℕ → List Run → List Run
 with_number n [] = record { first = n; last = n } ∷ []
-with_number n (run ∷ runs) = if n + 1 == run.first then record { first = n; last = run.last } ∷ runs else record { first = n; last = n } ∷ run ∷ runs
+with_number n (run ∷ runs) =
+    if n + 1 == run.first then record { first = n; last = run.last } ∷ runs
+    else record { first = n; last = n } ∷ run ∷ runs
 
 -- Rising numbers as the fewest runs (RFC 9051, section 9, sequence-set).
 abbrev pub runs_of : List ℕ → List Run
@@ -36,9 +39,11 @@ runs_of (n ∷ ns) = with_number n (runs_of ns)
 -- Runs from `low`, each with a gap before the next.
 abbrev pub AreRunsFrom : ℕ → List Run → Type 0
 AreRunsFrom low [] = Unit {0}
-AreRunsFrom low (run ∷ runs) = (low ≤ run.first) × (run.first ≤ run.last) × AreRunsFrom (run.last + 2) runs
+AreRunsFrom low (run ∷ runs) =
+    (low ≤ run.first) × (run.first ≤ run.last) × AreRunsFrom (run.last + 2) runs
 
 -- Whether runs are such.
 abbrev pub are_runs_from : ℕ → List Run → Bool
 are_runs_from low [] = true
-are_runs_from low (run ∷ runs) = nat_le low run.first && nat_le run.first run.last && are_runs_from (run.last + 2) runs
+are_runs_from low (run ∷ runs) =
+    nat_le low run.first && nat_le run.first run.last && are_runs_from (run.last + 2) runs

@@ -1,7 +1,8 @@
 -- The parts of readers of texts: a reading function gives what a text begins with and the rest, or
 -- nothing if the text can't be read.
 
-use Rattle.std.specs.Prelude.{◌≡◌, ℕ, ◌==◌, List, [], ◌∷◌, ◌++◌, Option, Some, None, Result, Ok, Err, if◌then◌else◌}
+use Rattle.std.specs.Prelude.{◌≡◌, ℕ, ◌==◌, List, [], ◌∷◌, ◌++◌, Option, Some, None, Result, Ok}
+use Rattle.std.specs.Prelude.{Err, if◌then◌else◌}
 
 infixl 10 ◌>>=◌
 -- What the next reader gives of the value that was read and of what follows it, if both can be
@@ -12,7 +13,8 @@ None >>= f = None
 
 -- The code's result is what the reading function gives; `Fails` says what a fault means for the
 -- reading function.
-abbrev pub GivesBy : {X Y F : Type 0} → (F → Option Y → Type 0) → (X → Y) → Result X F → Option Y → Type 0
+abbrev pub GivesBy : {X Y F : Type 0} → (F → Option Y → Type 0) → (X → Y) → Result X F → Option Y
+    → Type 0
 GivesBy Fails view (Ok x) read = read ≡ Some (view x)
 GivesBy Fails view (Err fault) read = Fails fault read
 

@@ -1,8 +1,11 @@
 //! Date-times of messages, as they are written (RFC 9051, section 9, date-time).
 
-ghost use Rattle.std.specs.Prelude.{◌≡◌, ◌↔◌, ◌+◌, ◌<◌, ◌≤◌, length, IfSome, IsSome, IsTrue, pos, codes, slice_index};
+ghost use Rattle.std.specs.Prelude.{◌≡◌, ◌↔◌, ◌+◌, ◌<◌, ◌≤◌, length, IfSome, IsSome, IsTrue, pos};
+ghost use Rattle.std.specs.Prelude.{codes, slice_index};
 ghost use Rattle.jiff.specs.Words.{IsDate};
-ghost use Rattle.imap_types.specs.DateTimes.{HasPicture, HasTime, IsDateTime, date_time_picture, day_at, is_digit, fits_mark, month_at, month_of, two_digits, year_at};
+ghost use Rattle.imap_types.specs.DateTimes.{HasPicture, HasTime, IsDateTime, date_time_picture};
+ghost use Rattle.imap_types.specs.DateTimes.{day_at, is_digit, fits_mark, month_at, month_of};
+ghost use Rattle.imap_types.specs.DateTimes.{two_digits, year_at};
 
 use jiff::civil::Date;
 use std::marker::Model;
@@ -125,7 +128,8 @@ fn is_digit(octet: u8) -> bool
 
 fn has_date(octets: &[u8]) -> bool
     requires { HasPicture date_time_picture octets.now }
-    ensures { IsTrue result ↔ IsDate (pos (year_at octets.now)) (pos (month_at octets.now)) (pos (day_at octets.now)) }
+    ensures { IsTrue result
+        ↔ IsDate (pos (year_at octets.now)) (pos (month_at octets.now)) (pos (day_at octets.now)) }
 {
     let year = two_digits(octets, 8) as i16 * 100 + two_digits(octets, 10) as i16;
     let month = month_of(&octets[4..7]);

@@ -23,7 +23,8 @@ impl Day {
     /// `None` if the letters name no month or the calendar has no such day.
     pub fn from_month_name(year: u16, month: &[u8], day: u8) -> Option<Day>
         ensures exact { IsSome result ↔ IsDate (pos year) (pos (month_of month.now)) (pos day) }
-        ensures value { IfSome result (λ made. made ≡ record { year = year; month = month_of month.now; day = day }) }
+        ensures value { IfSome result
+            (λ made. made ≡ record { year = year; month = month_of month.now; day = day }) }
     {
         if year > 9999 {
             return None;

@@ -1,7 +1,10 @@
 //! The escape by which lines of text carry any octets.
 
-ghost use Rattle.std.specs.Prelude.{◌≡◌, ◌++◌, ℕ, true, List, [], ◌∷◌, Option, Some, None, IfOk, OnErr, OnOk, ◌<◌, length};
-ghost use Rattle.imap_types.specs.Escape.{AreOctets, GivesRead, escape_text, escape_octet, hex_digit, hex_octet, is_escape, is_hex, is_plain, unescape, with_octet_in_front, hex_value};
+ghost use Rattle.std.specs.Prelude.{◌≡◌, ◌++◌, ℕ, true, List, [], ◌∷◌, Option, Some, None, IfOk};
+ghost use Rattle.std.specs.Prelude.{OnErr, OnOk, ◌<◌, length};
+ghost use Rattle.imap_types.specs.Escape.{AreOctets, GivesRead, escape_text, escape_octet};
+ghost use Rattle.imap_types.specs.Escape.{hex_digit, hex_octet, is_escape, is_hex, is_plain};
+ghost use Rattle.imap_types.specs.Escape.{unescape, with_octet_in_front, hex_value};
 
 use crate::Octets;
 use std::alloc::{AllocError, AllocFailed, Global};
@@ -107,8 +110,11 @@ fn hex_digit(number: u8) -> u8
 /// spelling of no octets, and `NoMemory` if memory runs out.
 pub fn read_escaped(alloc: Global, escape: Escape, text: &[u8]) -> Result<Octets, EscapeFault>
     ensures value { GivesRead (λ octets. octets) result (unescape escape text.now) }
-    ensures found { IfOk result (λ octets. AreOctets octets × (text.now ≡ escape_text escape octets)) }
-    ensures only { (octets : List ℕ) → AreOctets octets → text.now ≡ escape_text escape octets → GivesRead (λ o. o) result (Some octets) }
+    ensures found { IfOk result
+        (λ octets. AreOctets octets × (text.now ≡ escape_text escape octets)) }
+    ensures only { (octets : List ℕ) → AreOctets octets
+        → text.now ≡ escape_text escape octets
+        → GivesRead (λ o. o) result (Some octets) }
 {
     unescape(alloc, escape, text)
 }
@@ -128,7 +134,9 @@ fn unescape(alloc: Global, escape: Escape, text: &[u8]) -> Result<Octets, Escape
 
 /// The first octet that the text stands for, and what follows its spelling.
 fn first_octet(escape: Escape, first: u8, tail: &[u8]) -> Result<(u8, &[u8]), EscapeFault>
-    ensures found { IfOk result (λ read. (unescape escape (first ∷ tail.now) ≡ with_octet_in_front (read.0 ∷ []) (unescape escape read.1.now)) × (length read.1.now < length (first ∷ tail.now))) }
+    ensures found { IfOk result (λ read. (unescape escape (first ∷ tail.now)
+        ≡ with_octet_in_front (read.0 ∷ []) (unescape escape read.1.now))
+        × (length read.1.now < length (first ∷ tail.now))) }
     ensures none { OnErr result (unescape escape (first ∷ tail.now) ≡ None) }
 {
     if is_plain(escape, first) {

@@ -43,7 +43,8 @@ pub fn any_is_draft(versions: &[Version]) -> bool
 
 /// Whether any version has this keyword, compared without case.
 pub fn any_has_keyword(versions: &[Version], word: &[u8]) -> bool
-    ensures { result ≡ list_any (λ version. has_keyword word.now version.flags.keywords) versions.now }
+    ensures { result
+        ≡ list_any (λ version. has_keyword word.now version.flags.keywords) versions.now }
 {
     versions
         .iter()

@@ -1,8 +1,11 @@
 //! Sets of keywords, and the octets of which they are made.
 
-ghost use Rattle.std.specs.Prelude.{◌≡◌, ◌↔◌, ◌≤◌, ◌==◌, [], length, if◌then◌else◌, IfErr, IfOk, IsTrue, OnErr, OnOk};
+ghost use Rattle.std.specs.Prelude.{◌≡◌, ◌↔◌, ◌≤◌, ◌==◌, [], length, if◌then◌else◌, IfErr, IfOk};
+ghost use Rattle.std.specs.Prelude.{IsTrue, OnErr, OnOk};
 ghost use Rattle.std.specs.List.{insert, list_all};
-ghost use Rattle.imap_types.specs.Keywords.{are_ascending, are_keywords, has_keyword, is_astring_octet, is_atom_octet, is_lawful_keyword, is_lower_case, to_lower_case, with_word};
+ghost use Rattle.imap_types.specs.Keywords.{are_ascending, are_keywords, has_keyword};
+ghost use Rattle.imap_types.specs.Keywords.{is_astring_octet, is_atom_octet, is_lawful_keyword};
+ghost use Rattle.imap_types.specs.Keywords.{is_lower_case, to_lower_case, with_word};
 
 use crate::Octets;
 use smallvec::SmallVec;
@@ -136,7 +139,8 @@ fn to_lower_case(alloc: Global, text: &[u8]) -> Result<Octets, AllocError>
 /// inserted.
 fn place_of(texts: &[Octets], text: &[u8]) -> Result<usize, usize>
     ensures there { IfOk result (λ place. with_word text.now texts.now ≡ texts.now) }
-    ensures absent { IfErr result (λ place. (place ≤ length texts.now) × (with_word text.now texts.now ≡ insert texts.now place text.now)) }
+    ensures absent { IfErr result (λ place. (place ≤ length texts.now)
+        × (with_word text.now texts.now ≡ insert texts.now place text.now)) }
 {
     for (place, other) in texts.iter().enumerate() {
         match text.cmp(other.as_bytes()) {

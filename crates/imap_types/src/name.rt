@@ -3,7 +3,8 @@
 ghost use Rattle.imap_types.specs.Ascending.{octet_order};
 ghost use Rattle.std.specs.Prelude.{◌≡◌, ◌↔◌, IfOk, IsTrue, map};
 ghost use Rattle.std.specs.Char.{to_ascii_uppercase};
-ghost use Rattle.imap_types.specs.Names.{IsLawfulName, fold_inbox, has_octets, inbox, is_inbox, is_name_octet, levels_of};
+ghost use Rattle.imap_types.specs.Names.{IsLawfulName, fold_inbox, has_octets, inbox, is_inbox};
+ghost use Rattle.imap_types.specs.Names.{is_name_octet, levels_of};
 ghost use Rattle.std.specs.List.{list_all};
 ghost use Rattle.std.specs.Str.{IsUtf8};
 

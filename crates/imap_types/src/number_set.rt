@@ -1,7 +1,9 @@
 //! Sets of message numbers or UIDs, as runs.
 
-ghost use Rattle.std.specs.Prelude.{◌≡◌, ◌<◌, ◌≤◌, ◌-◌, ◌++◌, [], ◌∷◌, length, slice_set, IfNone, IfSome, OnErr, OnOk};
-ghost use Rattle.imap_types.specs.Numbers.{AreRunsFrom, are_runs_from, greatest, numbers_in, numbers_of};
+ghost use Rattle.std.specs.Prelude.{◌≡◌, ◌<◌, ◌≤◌, ◌-◌, ◌++◌, [], ◌∷◌, length, slice_set, IfNone};
+ghost use Rattle.std.specs.Prelude.{IfSome, OnErr, OnOk};
+ghost use Rattle.imap_types.specs.Numbers.{AreRunsFrom, are_runs_from, greatest, numbers_in};
+ghost use Rattle.imap_types.specs.Numbers.{numbers_of};
 
 use std::alloc::{AllocError, Global};
 use std::marker::Model;
@@ -39,8 +41,10 @@ impl Model for NumberSet {
 }
 
 impl NumberSet {
-    ghost use Rattle.std.specs.Prelude.{◌≡◌, ◌↔◌, ◌<◌, ◌≤◌, ◌++◌, [], ◌∷◌, if◌then◌else◌, IfOk, OnErr, OnOk, IsTrue};
-    ghost use Rattle.imap_types.specs.Numbers.{AreRisingFrom, are_runs_from, greatest, numbers_in, numbers_of, runs_of};
+    ghost use Rattle.std.specs.Prelude.{◌≡◌, ◌↔◌, ◌<◌, ◌≤◌, ◌++◌, [], ◌∷◌, if◌then◌else◌, IfOk};
+    ghost use Rattle.std.specs.Prelude.{OnErr, OnOk, IsTrue};
+    ghost use Rattle.imap_types.specs.Numbers.{AreRisingFrom, are_runs_from, greatest, numbers_in};
+    ghost use Rattle.imap_types.specs.Numbers.{numbers_of, runs_of};
 
     /// The empty set.
     pub fn new(alloc: Global) -> NumberSet
@@ -54,7 +58,8 @@ impl NumberSet {
     /// The set of the numbers of these runs, in the vector's memory; `None` if the runs don't
     /// ascend from 1 with a gap between each two.
     pub fn from_runs(runs: Vec<Run>) -> Option<NumberSet>
-        ensures { result ≡ (if are_runs_from 1 runs.items then Some (numbers_in runs.items) else None) }
+        ensures { result
+            ≡ (if are_runs_from 1 runs.items then Some (numbers_in runs.items) else None) }
     {
         if are_runs(&runs) {
             Some(NumberSet { runs })
@@ -134,7 +139,8 @@ fn add_run(runs: &mut Vec<Run>, run: Run) -> Result<(), AllocError>
     requires runs { AreRunsFrom 1 runs.old.items }
     requires order { run.first ≤ run.last }
     requires above { greatest (numbers_in runs.old.items) < run.first }
-    ensures ok { OnOk result (numbers_in runs.new.items ≡ numbers_in runs.old.items ++ numbers_of run) }
+    ensures ok { OnOk result
+        (numbers_in runs.new.items ≡ numbers_in runs.old.items ++ numbers_of run) }
     ensures runs { AreRunsFrom 1 runs.new.items }
     ensures err { OnErr result (runs.new.items ≡ runs.old.items) }
 {
@@ -154,7 +160,10 @@ fn joined_run(runs: &[Run], next: Run) -> Option<Run>
     requires order { next.first ≤ next.last }
     requires above { greatest (numbers_in runs.now) < next.first }
     ensures none { IfNone result (AreRunsFrom 1 (runs.now ++ next ∷ [])) }
-    ensures some { IfSome result (λ joined. (0 < length runs.now) × AreRunsFrom 1 (slice_set runs.now (length runs.now - 1) joined) × (numbers_in (slice_set runs.now (length runs.now - 1) joined) ≡ numbers_in runs.now ++ numbers_of next)) }
+    ensures some { IfSome result (λ joined. (0 < length runs.now)
+        × AreRunsFrom 1 (slice_set runs.now (length runs.now - 1) joined)
+        × (numbers_in (slice_set runs.now (length runs.now - 1) joined)
+        ≡ numbers_in runs.now ++ numbers_of next)) }
 {
     let last = runs.last()?;
     if last.last != next.first - 1 {

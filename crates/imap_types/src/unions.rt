@@ -43,7 +43,9 @@ pub fn add_version_keywords(
     union: &mut Keywords,
     versions: &[Version],
 ) -> Result<(), AllocError>
-    ensures { OnOk result (union.new ≡ fold (λ done word. with_word word done) union.old (flat_map (λ version. version.flags.keywords) versions.now)) }
+    ensures { OnOk result (union.new
+        ≡ fold (λ done word. with_word word done) union.old
+        (flat_map (λ version. version.flags.keywords) versions.now)) }
 {
     for version in versions {
         add_keywords(alloc, union, &version.flags.keywords)?;
@@ -61,14 +63,17 @@ pub fn is_keyword_union(versions: &[Version], keywords: &Keywords) -> bool
 
 /// Whether each keyword of each version is one of these words.
 fn all_are_within(versions: &[Version], words: &[Octets]) -> bool
-    ensures { result ≡ list_all (λ version. are_within version.flags.keywords words.now) versions.now }
+    ensures { result
+        ≡ list_all (λ version. are_within version.flags.keywords words.now) versions.now }
 {
     versions.iter().all(|version| are_within(version.flags.keywords.as_slice(), words))
 }
 
 /// Whether each word is a keyword of some version.
 fn each_is_in_a_version(versions: &[Version], words: &[Octets]) -> bool
-    ensures { result ≡ list_all (λ word. list_any (λ version. holds version.flags.keywords word) versions.now) words.now }
+    ensures { result
+        ≡ list_all (λ word. list_any (λ version. holds version.flags.keywords word) versions.now)
+        words.now }
 {
     words.iter().all(|word| is_in_a_version(versions, word))
 }

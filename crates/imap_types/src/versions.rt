@@ -106,7 +106,9 @@ impl<'a> Versions<'a> {
     /// Adds all keywords of the versions to `keywords`. `Err` if memory runs out; some may have
     /// been added then.
     pub fn add_keywords_to(&self, alloc: Global, keywords: &mut Keywords) -> Result<(), AllocError>
-        ensures { OnOk result (keywords.new ≡ fold (λ done word. with_word word done) keywords.old (united_flags self.now.list.now).keywords) }
+        ensures { OnOk result (keywords.new
+            ≡ fold (λ done word. with_word word done) keywords.old
+            (united_flags self.now.list.now).keywords) }
     {
         let _words = keywords.as_slice();
         add_version_keywords(alloc, keywords, self.list)

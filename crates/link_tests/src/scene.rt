@@ -121,7 +121,9 @@ fn played<L: Ledger + Send + Sync, M: Ledger + Send + Sync, R: Threads + Wait + 
     lines: &Lines,
 ) -> Result<String, AllocError>
     requires one { (blank.name ≡ L.name) × (blank.parts ≡ L.parts) × (L.parts ≡ 4294967295) }
-    requires two { (far_blank.name ≡ M.name) × (far_blank.parts ≡ M.parts) × (M.parts ≡ 4294967295) }
+    requires two { (far_blank.name ≡ M.name)
+        × (far_blank.parts ≡ M.parts)
+        × (M.parts ≡ 4294967295) }
 {
     let (shared, pass) = Shared::<L>::new(blank, books.0);
     let (far_shared, far_pass) = Shared::<M>::new(far_blank, books.1);

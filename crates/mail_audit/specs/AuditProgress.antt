@@ -4,7 +4,8 @@ use Rattle.std.specs.Prelude.{◌≡◌, ℕ, ◌+◌, ◌≤◌, List, ◌∷�
 use Rattle.std.specs.List.{flat_map}
 use Rattle.crdt_ops.specs.Form.{IsReplica}
 use Rattle.mail_script.specs.Lines.{lines_of}
-use Rattle.mail_audit.specs.Audits.{Audits, Each, IsNoEnd, IsRightPart, Part, part_text, said_in, text_of}
+use Rattle.mail_audit.specs.Audits.{Audits, Each, IsNoEnd, IsRightPart, Part, part_text, said_in}
+use Rattle.mail_audit.specs.Audits.{text_of}
 use Rattle.mail_audit.specs.DumpLines.{PhaseStands}
 use Rattle.mail_audit.specs.Dumps.{dump_line}
 use Rattle.mail_audit.specs.HeardSessions.{TakesAllSaid, nothing_known}
@@ -15,10 +16,12 @@ use Rattle.mail_audit.specs.Sessions.{Session}
 use Rattle.mail_audit.specs.declared.verdict.AuditEnd.{AuditEnd}
 
 -- The lines are the text of these parts, and this is what they say of the sessions.
-pub record AreHeard (lines : List (List ℕ)) (parts : List Part) (sessions : List Session) : Type 0 where
+pub record AreHeard (lines : List (List ℕ)) (parts : List Part) (sessions : List Session) :
+    Type 0 where
   pub whole : text_of lines ≡ flat_map part_text parts
   pub right : Each IsRightPart parts
-  pub heard : (session : List ℕ) → TakesAllSaid nothing_known (said_in session parts) (hearing_of session sessions)
+  pub heard : (session : List ℕ)
+      → TakesAllSaid nothing_known (said_in session parts) (hearing_of session sessions)
 
 -- After lines that make whole parts, a dump has begun and not ended.
 pub record IsOpen (lines : List (List ℕ)) (sessions : List Session) (dump : OpenDump) : Type 0 where
@@ -50,7 +53,8 @@ EndsWithin front text end = (more : List ℕ) → Audits (front ++ lines_of (tex
 
 -- After the first lines, the lines that a text completes were taken, and this rest of the text is
 -- left.
-pub record Advances (front : List (List ℕ)) (old : Audit) (text : List ℕ) (new : Audit) (left : List ℕ) : Type 0 where
+pub record Advances (front : List (List ℕ)) (old : Audit) (text : List ℕ) (new : Audit)
+    (left : List ℕ) : Type 0 where
   pub done : List (List ℕ)
   pub lines : (more : List ℕ) → lines_of (text ++ more) ≡ done ++ lines_of (left ++ more)
   pub stands : HasTaken (front ++ done) new

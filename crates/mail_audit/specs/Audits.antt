@@ -1,7 +1,8 @@
 -- The meaning of an audit's verdicts: what a `yes`, a `no` and an unreadable line say of the lines
 -- of the input.
 
-use Rattle.std.specs.Prelude.{◌≡◌, ◌⊎◌, ℕ, ◌+◌, ◌<◌, ◌≤◌, List, [], ◌∷◌, ◌++◌, length, codes, IsTrue, if◌then◌else◌}
+use Rattle.std.specs.Prelude.{◌≡◌, ◌⊎◌, ℕ, ◌+◌, ◌<◌, ◌≤◌, List, [], ◌∷◌, ◌++◌, length, codes}
+use Rattle.std.specs.Prelude.{IsTrue, if◌then◌else◌}
 use Rattle.std.specs.List.{flat_map}
 use Rattle.std.specs.Str.{bytes_eq}
 use Rattle.std.specs.Fmt.{decimal}
@@ -16,7 +17,8 @@ use Rattle.mail_audit.specs.Dumps.{IsRightDump, dump_line}
 use Rattle.mail_audit.specs.Results.{IsResult}
 use Rattle.mail_audit.specs.Transcripts.{IsExplainedTranscript, Said}
 use Rattle.mail_audit.specs.declared.verdict.AuditEnd.{AuditEnd}
-use Rattle.mail_audit.specs.declared.verdict.AuditEnd.TheVariants.{Yes, No, Unreadable, ReadFailed, WriteFailed, NoMemory}
+use Rattle.mail_audit.specs.declared.verdict.AuditEnd.TheVariants.{Yes, No, Unreadable, ReadFailed}
+use Rattle.mail_audit.specs.declared.verdict.AuditEnd.TheVariants.{WriteFailed, NoMemory}
 
 -- A line with its end, LF (10).
 abbrev pub ended_line : List ℕ → List ℕ
@@ -39,7 +41,13 @@ spoken_line session speaker text = session ++ (mark_of speaker ++ escape_text Te
 
 -- A line of a transcript.
 abbrev pub IsSpokenLine : List ℕ → Type 0
-IsSpokenLine line = (session : List ℕ) × (speaker : Speaker) × (text : List ℕ) × IsTrue (is_session_name session) × AreOctets text × (line ≡ spoken_line session speaker text)
+IsSpokenLine line =
+    (session : List ℕ)
+    × (speaker : Speaker)
+    × (text : List ℕ)
+    × IsTrue (is_session_name session)
+    × AreOctets text
+    × (line ≡ spoken_line session speaker text)
 
 -- The first line of a dump.
 abbrev pub IsDumpBegin : List ℕ → Type 0
@@ -64,7 +72,9 @@ said_by speaker text = record { speaker = speaker; octets = text ++ 13 ∷ 10 �
 -- What was sent in a session, in order.
 abbrev pub said_in : List ℕ → List Part → List Said
 said_in session [] = []
-said_in session (Spoken other speaker text ∷ parts) = if bytes_eq session other then said_by speaker text ∷ said_in session parts else said_in session parts
+said_in session (Spoken other speaker text ∷ parts) =
+    if bytes_eq session other then said_by speaker text ∷ said_in session parts
+    else said_in session parts
 said_in session (Result line ∷ parts) = said_in session parts
 said_in session (Dumped text ∷ parts) = said_in session parts
 
@@ -93,7 +103,8 @@ pub record IsUnexplained (lines : List (List ℕ)) (number : ℕ) : Type 0 where
   pub right : AreRight front parts
   pub named : IsTrue (is_session_name session)
   pub octets : AreOctets text
-  pub unexplained : ¬ IsExplainedTranscript (said_in session (parts ++ Spoken session speaker text ∷ []))
+  pub unexplained : ¬ IsExplainedTranscript
+      (said_in session (parts ++ Spoken session speaker text ∷ []))
 
 -- The line doesn't end a dump.
 abbrev pub IsNoEnd : List ℕ → Type 0

@@ -1,7 +1,8 @@
 -- How the audit reads a dump, line by line. The meaning of a right dump is defined by
 -- `IsRightDump`.
 
-use Rattle.std.specs.Prelude.{◌≡◌, ◌⊎◌, ℕ, ◌+◌, ◌<◌, ◌≤◌, true, false, List, [], ◌∷◌, ◌++◌, length, drop, codes}
+use Rattle.std.specs.Prelude.{◌≡◌, ◌⊎◌, ℕ, ◌+◌, ◌<◌, ◌≤◌, true, false, List, [], ◌∷◌, ◌++◌, length}
+use Rattle.std.specs.Prelude.{drop, codes}
 use Rattle.std.specs.List.{flat_map}
 use Rattle.std.specs.declared.cmp.Ordering.TheVariants.{Less}
 use Rattle.tags_clocks.specs.declared.id.OpId.{OpId}
@@ -20,7 +21,8 @@ use Rattle.mail_audit.specs.declared.open_dump.Comparison.{Comparison}
 use Rattle.mail_audit.specs.declared.open_dump.DumpPhase.{DumpPhase}
 use Rattle.mail_audit.specs.declared.open_dump.DumpPhase.TheVariants.{Ops, State}
 use Rattle.mail_audit.specs.declared.open_dump.DumpStep.{DumpStep}
-use Rattle.mail_audit.specs.declared.open_dump.DumpStep.TheVariants.{GoesOn, Ends, Wrong, Unreadable}
+use Rattle.mail_audit.specs.declared.open_dump.DumpStep.TheVariants.{GoesOn, Ends, Wrong}
+use Rattle.mail_audit.specs.declared.open_dump.DumpStep.TheVariants.{Unreadable}
 use Rattle.mail_audit.specs.declared.line_forms.DumpLine.{DumpLine}
 use Rattle.mail_audit.specs.declared.line_forms.DumpLine.TheVariants as line
 use Rattle.mail_audit.specs.declared.op_lines.OpLines.{OpLines}
@@ -40,7 +42,8 @@ IsDumpLine text line.Unreadable = (op : Op) → ¬ IsOp text op
 -- bad.
 abbrev pub IsLonger : OpLines → Op → OpLines → Type 0
 IsLonger old op new =
-    ((old.is_bad ≡ false) × (new.is_bad ≡ false) × (new.ops.items ≡ old.ops.items ++ op ∷ []) × (AreOrdered old.ops.items → AreOrdered new.ops.items))
+    ((old.is_bad ≡ false) × (new.is_bad ≡ false) × (new.ops.items ≡ old.ops.items ++ op ∷ [])
+    × (AreOrdered old.ops.items → AreOrdered new.ops.items))
     ⊎ ((new.is_bad ≡ true) × (new.ops.items ≡ old.ops.items))
 
 -- The id is above that of the last operation.
@@ -56,7 +59,10 @@ HoldsOnly ops seen = (o : Op) → IsReceived seen o → IsIn o ops
 -- What must follow op lines: the lines of what the set of them defines, if their causes are among
 -- them.
 abbrev pub IsExpected : List Op → Expected → Type 0
-IsExpected ops (Lines lines) = HasCauses ops × AreSound IsSound ops × (lines.items ≡ state_text ops ++ (codes "end" ++ 10 ∷ []))
+IsExpected ops (Lines lines) =
+    HasCauses ops
+    × AreSound IsSound ops
+    × (lines.items ≡ state_text ops ++ (codes "end" ++ 10 ∷ []))
 IsExpected ops (Stuck place) = place < length ops
 
 -- What must follow these applied operations.
@@ -71,7 +77,8 @@ abbrev pub OpsStand : List (List ℕ) → OpLines → Type 0
 OpsStand inside lines =
     (length lines.ops.items ≤ length inside)
     × (lines.is_bad ≡ true → length lines.ops.items < length inside)
-    × (lines.is_bad ≡ false → (text_of inside ≡ flat_map op_line lines.ops.items) × AreSound IsInForm lines.ops.items)
+    × (lines.is_bad ≡ false
+    → (text_of inside ≡ flat_map op_line lines.ops.items) × AreSound IsInForm lines.ops.items)
     × AreOrdered lines.ops.items
 
 abbrev pub PhaseStands : List (List ℕ) → DumpPhase → Type 0
@@ -82,22 +89,26 @@ PhaseStands inside (State comparison) =
 
 -- What must follow the op lines that have come, or the place where they are wrong.
 abbrev pub IsClosed : List (List ℕ) → Expected → Type 0
-IsClosed inside (Lines lines) = (ops : List Op) × AreDumped ops × (text_of inside ++ lines.items ≡ inside_text ops)
+IsClosed inside (Lines lines) =
+    (ops : List Op) × AreDumped ops × (text_of inside ++ lines.items ≡ inside_text ops)
 IsClosed inside (Stuck place) = place ≤ length inside
 
 -- The effect of a line that can't be read after op lines.
 abbrev pub IsEarly : ℕ → OpLines → DumpStep → Type 0
 IsEarly first lines GoesOn = ⊥
 IsEarly first lines Ends = ⊥
-IsEarly first lines (Wrong number) = (first < number) × (number ≤ first + 1 + length lines.ops.items)
+IsEarly first lines (Wrong number) =
+    (first < number) × (number ≤ first + 1 + length lines.ops.items)
 IsEarly first lines Unreadable = Unit {0}
 
 -- The effect of a line of a dump whose first line has this number and is followed by the lines
 -- `inside`.
 abbrev pub IsStep : ℕ → List (List ℕ) → List ℕ → DumpPhase → DumpStep → Type 0
 IsStep first inside line phase GoesOn = PhaseStands (inside ++ line ∷ []) phase × IsNoEnd line
-IsStep first inside line phase Ends = (ops : List Op) × AreDumped ops × (text_of (inside ++ line ∷ []) ≡ inside_text ops)
-IsStep first inside line phase (Wrong number) = (first < number) × (number ≤ first + 1 + length inside)
+IsStep first inside line phase Ends =
+    (ops : List Op) × AreDumped ops × (text_of (inside ++ line ∷ []) ≡ inside_text ops)
+IsStep first inside line phase (Wrong number) =
+    (first < number) × (number ≤ first + 1 + length inside)
 IsStep first inside line phase Unreadable = Unit {0}
 
 -- The next line was taken.

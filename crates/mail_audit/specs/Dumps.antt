@@ -19,7 +19,8 @@ dump_line replica = codes "dump " ++ decimal replica
 
 -- The list has an operation for each cause of its operations.
 abbrev pub HasCauses : List Op → Type 0
-HasCauses ops = (op : Op) → IsIn op ops → (cause : OpId) → IsCause op.clock cause → HasId id_of ops cause
+HasCauses ops =
+    (op : Op) → IsIn op ops → (cause : OpId) → IsCause op.clock cause → HasId id_of ops cause
 
 -- Operations whose ids ascend strictly.
 abbrev pub AreOrdered : List Op → Type 0
@@ -43,4 +44,9 @@ dump_text replica ops = dump_line replica ++ 10 ∷ inside_text ops
 
 -- A text is a right dump.
 abbrev pub IsRightDump : List ℕ → Type 0
-IsRightDump text = (replica : ℕ) × (ops : List Op) × IsReplica replica × AreDumped ops × (text ≡ dump_text replica ops)
+IsRightDump text =
+    (replica : ℕ)
+    × (ops : List Op)
+    × IsReplica replica
+    × AreDumped ops
+    × (text ≡ dump_text replica ops)

@@ -13,7 +13,12 @@ use Rattle.mail_audit.specs.Results.{IsResult}
 
 -- A name followed by ids.
 abbrev pub AreTagFields : List ℕ → Type 0
-AreTagFields fields = (name : List ℕ) × (ids : List OpId) × AreOctets name × AreIds ids × (fields ≡ name_text name ++ 32 ∷ ids_text ids)
+AreTagFields fields =
+    (name : List ℕ)
+    × (ids : List OpId)
+    × AreOctets name
+    × AreIds ids
+    × (fields ≡ name_text name ++ 32 ∷ ids_text ids)
 
 -- The text of a list of ids.
 abbrev pub AreIdsText : List ℕ → Type 0
@@ -31,7 +36,9 @@ abbrev pub AreMessageFields : List ℕ → Type 0
 AreMessageFields fields =
     (origin : OpId) × (versions : List OpId) × (flags : Flags) × (date : List ℕ) × (text : List ℕ)
     × IsId origin × AreIds versions × HasWords flags × IsDateTime date × AreOctets text
-    × (fields ≡ id_text origin ++ 32 ∷ (ids_text versions ++ 32 ∷ (flags_text flags ++ 32 ∷ (date ++ 32 ∷ text_field text))))
+    × (fields
+    ≡ id_text origin ++ 32
+    ∷ (ids_text versions ++ 32 ∷ (flags_text flags ++ 32 ∷ (date ++ 32 ∷ text_field text))))
 
 -- A line in the form of a folder's, a message's or a subscription's line.
 abbrev pub IsStateLine : List ℕ → Type 0

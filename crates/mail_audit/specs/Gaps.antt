@@ -1,6 +1,7 @@
 -- How the auditor sees that UIDs are left, from the known neighbours only.
 
-use Rattle.std.specs.Prelude.{◌≡◌, ℕ, zero, suc, true, false, ltb, ◌+◌, ◌-◌, ◌<◌, ◌≤◌, List, [], ◌∷◌, drop}
+use Rattle.std.specs.Prelude.{◌≡◌, ℕ, zero, suc, true, false, ltb, ◌+◌, ◌-◌, ◌<◌, ◌≤◌, List, []}
+use Rattle.std.specs.Prelude.{◌∷◌, drop}
 use Rattle.std.specs.List.Sorted.{IsPartitionPoint}
 use Rattle.mail_audit.specs.declared.slots.KnownUid.{KnownUid}
 
@@ -23,11 +24,14 @@ FitsBefore told (next ∷ rest) came = told.uid + (next.place - (told.place + 1)
 
 -- UIDs are left on either side of one that follows the first `at` known ones.
 abbrev pub FitsAt : ℕ → ℕ → ℕ → List KnownUid → KnownUid → ℕ → Type 0
-FitsAt low from at tolds told came = FitsAfter low from at tolds told × FitsBefore told (drop at tolds) came
+FitsAt low from at tolds told came =
+    FitsAfter low from at tolds told × FitsBefore told (drop at tolds) came
 
 -- Exactly `at` known ones have lower places.
 abbrev pub SplitsAt : ℕ → List KnownUid → ℕ → Type 0
-SplitsAt place tolds at = IsPartitionPoint (λ (t : KnownUid). ltb t.place place ≡ true) (λ t. ltb t.place place ≡ false) tolds at
+SplitsAt place tolds at =
+    IsPartitionPoint (λ (t : KnownUid). ltb t.place place ≡ true) (λ t. ltb t.place place ≡ false)
+    tolds at
 
 -- No UID of this place is known, and `at` known ones have lower places.
 abbrev pub IsUidUnknown : ℕ → ℕ → List KnownUid → Type 0

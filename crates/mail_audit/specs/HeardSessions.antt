@@ -19,11 +19,17 @@ nothing_known = record { running = []; known = no_slots }
 -- What was sent can follow what is known, and leads to this knowledge.
 abbrev pub TakesSaid : SessionKnowledge → Said → SessionKnowledge → Type 0
 TakesSaid old said new =
-    (event : SlotEvent) × IsHeard old.running said.speaker said.octets new.running event × EventFits old.known event × (new.known ≡ after_event old.known event)
+    (event : SlotEvent)
+    × IsHeard old.running said.speaker said.octets new.running event
+    × EventFits old.known event
+    × (new.known ≡ after_event old.known event)
 
 -- What was sent can't follow what is known.
 abbrev pub RejectsSaid : SessionKnowledge → Said → Type 0
-RejectsSaid old said = (after : List RunningCommand) (event : SlotEvent) → IsHeard old.running said.speaker said.octets after event → EventFits old.known event → ⊥
+RejectsSaid old said =
+    (after : List RunningCommand) (event : SlotEvent)
+    → IsHeard old.running said.speaker said.octets after event → EventFits old.known event
+    → ⊥
 
 -- Whether what was sent can follow what is known; if so, this is known afterwards.
 abbrev pub DecidesSaid : SessionKnowledge → Said → Bool → SessionKnowledge → Type 0
@@ -33,4 +39,5 @@ DecidesSaid old said false new = RejectsSaid old said
 -- All that was sent can follow, one after another.
 abbrev pub TakesAllSaid : SessionKnowledge → List Said → SessionKnowledge → Type 0
 TakesAllSaid old [] new = new ≡ old
-TakesAllSaid old (said ∷ more) new = (mid : SessionKnowledge) × TakesSaid old said mid × TakesAllSaid mid more new
+TakesAllSaid old (said ∷ more) new =
+    (mid : SessionKnowledge) × TakesSaid old said mid × TakesAllSaid mid more new

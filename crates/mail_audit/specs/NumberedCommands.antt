@@ -11,13 +11,18 @@ use Rattle.mail_audit.specs.declared.in_progress.RunningCommand.{RunningCommand}
 -- The numbers of the commands with this tag.
 abbrev pub numbers_of : List ℕ → List (ℕ × RunningCommand) → List ℕ
 numbers_of tag [] = []
-numbers_of tag (command ∷ commands) = if bytes_eq tag command.1.tag then command.0 ∷ numbers_of tag commands else numbers_of tag commands
+numbers_of tag (command ∷ commands) =
+    if bytes_eq tag command.1.tag then command.0 ∷ numbers_of tag commands
+    else numbers_of tag commands
 
 -- The numbers ascend from `low`, and all are below `high`.
 abbrev pub AreRising : ℕ → ℕ → List (ℕ × RunningCommand) → Type 0
 AreRising low high [] = low ≤ high
-AreRising low high (command ∷ commands) = (low ≤ command.0) × AreRising (1 + command.0) high commands
+AreRising low high (command ∷ commands) =
+    (low ≤ command.0) × AreRising (1 + command.0) high commands
 
 -- The numbers stored for this tag.
 abbrev pub kept_for : List ℕ → List (Vec ℕ × VecDeque ℕ Global) → List ℕ
-kept_for tag kept = option_map_or (λ (numbers : VecDeque ℕ Global). numbers.items) (lookup (λ (key : Vec ℕ). bytes_eq tag key.items) kept) []
+kept_for tag kept =
+    option_map_or (λ (numbers : VecDeque ℕ Global). numbers.items)
+    (lookup (λ (key : Vec ℕ). bytes_eq tag key.items) kept) []

@@ -3,22 +3,39 @@
 
 use Rattle.std.specs.Prelude.{ℕ, true, false, List, Option, Some, None, codes, if◌then◌else◌}
 use Rattle.std.specs.Str.{bytes_eq}
-use Rattle.mail_script.specs.declared.outcome_line.BrokenRule.TheVariants.{OwnEntry, UncoveredId, UnlawfulName, UnlawfulFlags, InboxDeleted, OldIdCount}
+use Rattle.mail_script.specs.declared.outcome_line.BrokenRule.TheVariants.{OwnEntry, UncoveredId}
+use Rattle.mail_script.specs.declared.outcome_line.BrokenRule.TheVariants.{UnlawfulName}
+use Rattle.mail_script.specs.declared.outcome_line.BrokenRule.TheVariants.{UnlawfulFlags}
+use Rattle.mail_script.specs.declared.outcome_line.BrokenRule.TheVariants.{InboxDeleted, OldIdCount}
 use Rattle.mail_script.specs.declared.outcome_line.DeliveryResult.{DeliveryResult}
-use Rattle.mail_script.specs.declared.outcome_line.DeliveryResult.TheVariants.{Applied, Held, Repeat, Conflict, HeldFull, Exhausted, NoMemory}
+use Rattle.mail_script.specs.declared.outcome_line.DeliveryResult.TheVariants.{Applied, Held}
+use Rattle.mail_script.specs.declared.outcome_line.DeliveryResult.TheVariants.{Repeat, Conflict}
+use Rattle.mail_script.specs.declared.outcome_line.DeliveryResult.TheVariants.{HeldFull, Exhausted}
+use Rattle.mail_script.specs.declared.outcome_line.DeliveryResult.TheVariants.{NoMemory}
 use Rattle.mail_script.specs.declared.outcome_line.JoinResult.{JoinResult}
-use Rattle.mail_script.specs.declared.outcome_line.JoinResult.TheVariants.{Done as DoneJoining, Own, Exhausted as ExhaustedByJoin, NoMemory as NoMemoryToJoin}
+use Rattle.mail_script.specs.declared.outcome_line.JoinResult.TheVariants.{Done as DoneJoining, Own}
+use Rattle.mail_script.specs.declared.outcome_line.JoinResult.TheVariants.{Exhausted as ExhaustedByJoin}
+use Rattle.mail_script.specs.declared.outcome_line.JoinResult.TheVariants.{NoMemory as NoMemoryToJoin}
 use Rattle.mail_script.specs.declared.outcome_line.OutcomeLine.{OutcomeLine}
-use Rattle.mail_script.specs.declared.outcome_line.OutcomeLine.TheVariants.{Delivered, Forged, Unsound, Drained, Settled, Agreed, Joined}
+use Rattle.mail_script.specs.declared.outcome_line.OutcomeLine.TheVariants.{Delivered, Forged}
+use Rattle.mail_script.specs.declared.outcome_line.OutcomeLine.TheVariants.{Unsound, Drained}
+use Rattle.mail_script.specs.declared.outcome_line.OutcomeLine.TheVariants.{Settled, Agreed, Joined}
 use Rattle.mail_script.specs.declared.outcome_line.SettleResult.{SettleResult}
-use Rattle.mail_script.specs.declared.outcome_line.SettleResult.TheVariants.{Done, Conflict as ConflictOfTwo, Exhausted as ExhaustedInIt, NoMemory as NoMemoryToSettle}
+use Rattle.mail_script.specs.declared.outcome_line.SettleResult.TheVariants.{Done}
+use Rattle.mail_script.specs.declared.outcome_line.SettleResult.TheVariants.{Conflict as ConflictOfTwo}
+use Rattle.mail_script.specs.declared.outcome_line.SettleResult.TheVariants.{Exhausted as ExhaustedInIt}
+use Rattle.mail_script.specs.declared.outcome_line.SettleResult.TheVariants.{NoMemory as NoMemoryToSettle}
 use Rattle.text_fields.specs.FieldReading.{◌>>=◌, cut_at, id_at, number_at, replica_at}
 use Rattle.mail_audit.specs.declared.results.AppliedCount.{AppliedCount}
 
 -- A count, and whether a word follows it.
 unfoldable pub counted_by : Option (List ℕ × List ℕ) → List ℕ → Option AppliedCount
-counted_by None text = number_at 18446744073709551615 text >>= (λ count. Some (record { count = count; stalled = false }))
-counted_by (Some parts) text = number_at 18446744073709551615 parts.0 >>= (λ count. Some (record { count = count; stalled = true }))
+counted_by None text =
+    number_at 18446744073709551615 text
+    >>= (λ count. Some (record { count = count; stalled = false }))
+counted_by (Some parts) text =
+    number_at 18446744073709551615 parts.0
+    >>= (λ count. Some (record { count = count; stalled = true }))
 
 -- A count with or without ` stalled`.
 unfoldable pub counted_at : List ℕ → Option AppliedCount

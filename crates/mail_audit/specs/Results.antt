@@ -8,7 +8,11 @@ use Rattle.mail_script.specs.declared.outcome_line.DeliveryResult.TheVariants.{A
 use Rattle.mail_script.specs.declared.outcome_line.JoinResult.{JoinResult}
 use Rattle.mail_script.specs.declared.outcome_line.JoinResult.TheVariants.{Own}
 use Rattle.mail_script.specs.declared.outcome_line.OutcomeLine.{OutcomeLine}
-use Rattle.mail_script.specs.declared.outcome_line.OutcomeLine.TheVariants.{Delivered, Forged, Unsound, Drained, Settled, Agreed, Joined, BadScript, CannotRead, NoMemory}
+use Rattle.mail_script.specs.declared.outcome_line.OutcomeLine.TheVariants.{Delivered, Forged}
+use Rattle.mail_script.specs.declared.outcome_line.OutcomeLine.TheVariants.{Unsound, Drained}
+use Rattle.mail_script.specs.declared.outcome_line.OutcomeLine.TheVariants.{Settled, Agreed, Joined}
+use Rattle.mail_script.specs.declared.outcome_line.OutcomeLine.TheVariants.{BadScript, CannotRead}
+use Rattle.mail_script.specs.declared.outcome_line.OutcomeLine.TheVariants.{NoMemory}
 use Rattle.mail_script.specs.declared.outcome_line.SettleResult.{SettleResult}
 use Rattle.mail_script.specs.declared.outcome_line.SettleResult.TheVariants.{Conflict as ConflictOfTwo}
 

@@ -18,9 +18,11 @@ sessions_of (kept ∷ rest) = record { name = kept.0.items; transcript = kept.1 
 -- What is known of the session with this name.
 abbrev pub hearing_of : List ℕ → List Session → SessionKnowledge
 hearing_of name [] = nothing_known
-hearing_of name (session ∷ sessions) = if bytes_eq name session.name then session.transcript else hearing_of name sessions
+hearing_of name (session ∷ sessions) =
+    if bytes_eq name session.name then session.transcript else hearing_of name sessions
 
 -- The place of the first session with this name, or the number of sessions.
 abbrev pub place_or_end : List ℕ → List Session → ℕ
 place_or_end name [] = 0
-place_or_end name (session ∷ sessions) = if bytes_eq name session.name then 0 else 1 + place_or_end name sessions
+place_or_end name (session ∷ sessions) =
+    if bytes_eq name session.name then 0 else 1 + place_or_end name sessions

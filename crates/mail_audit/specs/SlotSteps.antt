@@ -1,8 +1,10 @@
 -- The auditor's knowledge of a session's messages, and how each event changes it.
 
-use Rattle.std.specs.Prelude.{ℕ, ◌-◌, ◌≤◌, List, [], ◌∷◌, ◌++◌, Option, Some, None, length, get_or, set, replicate}
+use Rattle.std.specs.Prelude.{ℕ, ◌-◌, ◌≤◌, List, [], ◌∷◌, ◌++◌, Option, Some, None, length, get_or}
+use Rattle.std.specs.Prelude.{set, replicate}
 use Rattle.mail_audit.specs.declared.event.SlotEvent.{SlotEvent}
-use Rattle.mail_audit.specs.declared.event.SlotEvent.TheVariants.{Selects, Exists, Expunge, Names, Tells, Passes}
+use Rattle.mail_audit.specs.declared.event.SlotEvent.TheVariants.{Selects, Exists, Expunge, Names}
+use Rattle.mail_audit.specs.declared.event.SlotEvent.TheVariants.{Tells, Passes}
 use Rattle.mail_audit.specs.Explained.{IsNumberOf, without}
 use Rattle.mail_audit.specs.Passing.{HasRoomAbove, MayBeUid, numbers_upward}
 
@@ -13,7 +15,11 @@ pub record SlotKnowledge : Type 0 where
 
 -- Further messages came, as many as the number says.
 abbrev pub with_more : SlotKnowledge → ℕ → SlotKnowledge
-with_more known m = record { there = known.there ++ numbers_upward (length known.slots) m; slots = known.slots ++ replicate m None }
+with_more known m =
+    record {
+      there = known.there ++ numbers_upward (length known.slots) m;
+      slots = known.slots ++ replicate m None;
+    }
 
 -- The place of a message number.
 abbrev pub place_at : SlotKnowledge → ℕ → ℕ
@@ -34,10 +40,14 @@ after_event known Passes = known
 -- The event fits what is known.
 abbrev pub EventFits : SlotKnowledge → SlotEvent → Type 0
 EventFits known Selects = Unit {0}
-EventFits known (Exists n) = (length known.there ≤ n) × HasRoomAbove 0 (with_more known (n - length known.there)).slots
+EventFits known (Exists n) =
+    (length known.there ≤ n) × HasRoomAbove 0 (with_more known (n - length known.there)).slots
 EventFits known (Expunge k) = IsNumberOf k known.there
 EventFits known (Names k) = IsNumberOf k known.there
-EventFits known (Tells k uid) = IsNumberOf k known.there × MayBeUid (get_or known.slots (place_at known k) None) uid × HasRoomAbove 0 (with_uid_told known k uid).slots
+EventFits known (Tells k uid) =
+    IsNumberOf k known.there
+    × MayBeUid (get_or known.slots (place_at known k) None) uid
+    × HasRoomAbove 0 (with_uid_told known k uid).slots
 EventFits known Passes = Unit {0}
 
 -- What is known after events.

@@ -1,7 +1,8 @@
 -- Explained transcripts of sessions: which commands a frame begins, which answers may be sent while
 -- commands are in progress, and the events of both (RFC 9051, section 7.5.1; RFC 2177).
 
-use Rattle.std.specs.Prelude.{◌≡◌, ◌⊎◌, ℕ, Bool, true, false, List, [], ◌∷◌, ◌++◌, Option, Some, None, IsTrue, IsFalse, if◌then◌else◌}
+use Rattle.std.specs.Prelude.{◌≡◌, ◌⊎◌, ℕ, Bool, true, false, List, [], ◌∷◌, ◌++◌, Option, Some}
+use Rattle.std.specs.Prelude.{None, IsTrue, IsFalse, if◌then◌else◌}
 use Rattle.std.specs.List.{list_any}
 use Rattle.std.specs.Str.{bytes_eq}
 use Rattle.imap_syntax.specs.Commands.{IsSpelled}
@@ -15,7 +16,8 @@ use Rattle.imap_answers.specs.Printed.{text_of_answer}
 use Rattle.mail_script.specs.declared.transcript.Speaker.{Speaker}
 use Rattle.mail_script.specs.declared.transcript.Speaker.TheVariants.{Client, Server}
 use Rattle.mail_audit.specs.declared.event.SlotEvent.{SlotEvent}
-use Rattle.mail_audit.specs.declared.event.SlotEvent.TheVariants.{Selects, Exists, Expunge, Names, Tells, Passes}
+use Rattle.mail_audit.specs.declared.event.SlotEvent.TheVariants.{Selects, Exists, Expunge, Names}
+use Rattle.mail_audit.specs.declared.event.SlotEvent.TheVariants.{Tells, Passes}
 use Rattle.mail_audit.specs.declared.in_progress.RunningCommand.{RunningCommand}
 use Rattle.mail_audit.specs.Explained.{IsExplained}
 
@@ -32,7 +34,12 @@ idles command.Idle = true
 idles _ = false
 
 abbrev pub running_by : Tagged → RunningCommand
-running_by tagged = record { tag = tagged.tag; may_expunge = may_expunge tagged.command; idles = idles tagged.command }
+running_by tagged =
+    record {
+      tag = tagged.tag;
+      may_expunge = may_expunge tagged.command;
+      idles = idles tagged.command;
+    }
 
 -- The event of a command's beginning: SELECT and EXAMINE forget all messages, even if they are
 -- refused later.
@@ -43,18 +50,21 @@ event_by _ = Passes
 
 -- A frame begins a command: it spells one, and the session doesn't idle.
 abbrev pub Begins : List RunningCommand → List ℕ → Tagged → Type 0
-Begins running frame tagged = IsFalse (list_any (λ (r : RunningCommand). r.idles) running) × IsSpelled tagged frame
+Begins running frame tagged =
+    IsFalse (list_any (λ (r : RunningCommand). r.idles) running) × IsSpelled tagged frame
 
 -- The effect of a client's frame on the commands in progress, and its event.
 abbrev pub IsAsked : List RunningCommand → List ℕ → List RunningCommand → SlotEvent → Type 0
 IsAsked running frame after event =
-    ((tagged : Tagged) × Begins running frame tagged × (after ≡ running ++ running_by tagged ∷ []) × (event ≡ event_by tagged.command))
+    ((tagged : Tagged) × Begins running frame tagged × (after ≡ running ++ running_by tagged ∷ [])
+    × (event ≡ event_by tagged.command))
     ⊎ (((tagged : Tagged) → ¬ Begins running frame tagged) × (after ≡ running) × (event ≡ Passes))
 
 -- The commands without the first with this tag.
 abbrev pub without_ended : List ℕ → List RunningCommand → List RunningCommand
 without_ended tag [] = []
-without_ended tag (r ∷ running) = if bytes_eq tag r.tag then running else r ∷ without_ended tag running
+without_ended tag (r ∷ running) =
+    if bytes_eq tag r.tag then running else r ∷ without_ended tag running
 
 -- The commands in progress after an answer: a tagged one ends its command.
 abbrev pub running_after : List RunningCommand → Answer → List RunningCommand
@@ -75,7 +85,8 @@ event_of _ = Passes
 
 -- The answer may be sent while these commands are in progress.
 abbrev pub MayStand : List RunningCommand → Answer → Type 0
-MayStand running (answer.Expunge number) = IsTrue (list_any (λ (r : RunningCommand). r.may_expunge) running)
+MayStand running (answer.Expunge number) =
+    IsTrue (list_any (λ (r : RunningCommand). r.may_expunge) running)
 MayStand running _ = Unit {0}
 
 -- The octets are one printed answer, which may be sent here; its effect on the commands in
@@ -90,7 +101,8 @@ pub record Said : Type 0 where
   pub speaker : Speaker
   pub octets : List ℕ
 
-abbrev pub IsHeard : List RunningCommand → Speaker → List ℕ → List RunningCommand → SlotEvent → Type 0
+abbrev pub IsHeard : List RunningCommand → Speaker → List ℕ → List RunningCommand → SlotEvent
+    → Type 0
 IsHeard running Client frame after event = IsAsked running frame after event
 IsHeard running Server octets after event = IsAnswered running octets after event
 
@@ -106,4 +118,5 @@ AreEvents running (said ∷ more) events =
 
 -- A session's transcript is explained.
 abbrev pub IsExplainedTranscript : List Said → Type 0
-IsExplainedTranscript said = (events : List SlotEvent) × AreEvents [] said events × IsExplained events
+IsExplainedTranscript said =
+    (events : List SlotEvent) × AreEvents [] said events × IsExplained events

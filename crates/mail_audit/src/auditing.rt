@@ -1,6 +1,7 @@
 //! The audit of a reader's octets, whose verdict goes to a writer.
 
-ghost use Rattle.std.specs.Prelude.{◌≡◌, ◌≢◌, ◌++◌, ◌+◌, ◌^◌, ◌<◌, ℕ, List, [], ◌∷◌, None, Some, IfErr, IfOk, MatchOption, OnOk, length};
+ghost use Rattle.std.specs.Prelude.{◌≡◌, ◌≢◌, ◌++◌, ◌+◌, ◌^◌, ◌<◌, ℕ, List, [], ◌∷◌, None, Some};
+ghost use Rattle.std.specs.Prelude.{IfErr, IfOk, MatchOption, OnOk, length};
 ghost use Rattle.std.specs.Fmt.{decimal};
 ghost use Rattle.std.specs.Io.KnownBytes.{Appends, Keeps};
 ghost use Rattle.mail_script.specs.Lines.{lines_of};
@@ -29,8 +30,11 @@ pub const PIECE_OCTETS: usize = 65_536;
 /// `ReadFailed` says that the reader failed, or that 16,777,216 reads didn't reach the end of the
 /// input; `WriteFailed` that the writer failed; `NoMemory` that memory ran out.
 pub fn audit<R: Read, W: Write>(alloc: Global, reader: &mut R, writer: &mut W) -> AuditEnd
-    ensures audits { (input : List ℕ) → R.remaining reader.old ≡ Some input → Audits (lines_of input) result }
-    ensures told { result ≢ NotWritten → Appends (W.contents writer.old) (W.contents writer.new) (end_text result) }
+    ensures audits { (input : List ℕ)
+        → R.remaining reader.old ≡ Some input
+        → Audits (lines_of input) result }
+    ensures told { result ≢ NotWritten
+        → Appends (W.contents writer.old) (W.contents writer.new) (end_text result) }
 {
     let end = match room_for(alloc, PIECE_OCTETS) {
         Ok(mut piece) => judge(alloc, reader, &mut piece),
@@ -53,7 +57,9 @@ struct Progress {
 /// Reads an input in pieces, into the given buffer, and audits its lines.
 fn judge<R: Read>(alloc: Global, reader: &mut R, piece: &mut [u8]) -> AuditEnd
     requires { length piece.old ≡ PIECE_OCTETS }
-    ensures { (input : List ℕ) → R.remaining reader.old ≡ Some input → Audits (lines_of input) result }
+    ensures { (input : List ℕ)
+        → R.remaining reader.old ≡ Some input
+        → Audits (lines_of input) result }
 {
     let mut progress = Progress {
         audit: Audit::new(alloc),
@@ -86,9 +92,15 @@ fn room_for(alloc: Global, octets: usize) -> Result<Vec<u8>, AllocError>
 
 /// Takes the lines that a piece completes; `Some` if the audit ends at one of them.
 fn take_piece(alloc: Global, progress: &mut Progress, piece: &[u8]) -> Option<AuditEnd>
-    requires room { progress.old.audit.taken + length progress.old.lines + length piece.now < 2 ^ 64 }
+    requires room { progress.old.audit.taken + length progress.old.lines + length piece.now
+        < 2 ^ 64 }
     requires stands { (front : List (List ℕ)) × HasTaken front progress.old.audit }
-    ensures { (front : List (List ℕ)) → HasTaken front progress.old.audit → MatchOption result (Advances front progress.old.audit (progress.old.lines ++ piece.now) progress.new.audit progress.new.lines × (cut_at 10 progress.new.lines ≡ None)) (EndsWithin front (progress.old.lines ++ piece.now)) }
+    ensures { (front : List (List ℕ))
+        → HasTaken front progress.old.audit
+        → MatchOption result
+        (Advances front progress.old.audit (progress.old.lines ++ piece.now) progress.new.audit
+        progress.new.lines × (cut_at 10 progress.new.lines ≡ None))
+        (EndsWithin front (progress.old.lines ++ piece.now)) }
 {
     let Ok(()) = progress.lines.push(piece) else {
         return Some(AuditEnd::NoMemory);
@@ -110,7 +122,8 @@ fn take_piece(alloc: Global, progress: &mut Progress, piece: &[u8]) -> Option<Au
 fn take_line(alloc: Global, audit: &mut Audit, line: &[u8]) -> Option<AuditEnd>
     requires room { audit.old.taken + 1 < 2 ^ 64 }
     requires stands { (lines : List (List ℕ)) × HasTaken lines audit.old }
-    ensures { (lines : List (List ℕ)) → HasTaken lines audit.old → MatchOption result (HasTaken (lines ++ line.now ∷ []) audit.new) (EndsAt lines line.now) }
+    ensures { (lines : List (List ℕ)) → HasTaken lines audit.old
+        → MatchOption result (HasTaken (lines ++ line.now ∷ []) audit.new) (EndsAt lines line.now) }
 {
     match audit.take(alloc, line) {
         Ok(end) => end,
@@ -123,7 +136,9 @@ fn take_last(alloc: Global, progress: Progress) -> AuditEnd
     requires room { progress.audit.taken + 1 < 2 ^ 64 }
     requires rest { cut_at 10 progress.lines ≡ None }
     requires stands { (front : List (List ℕ)) × HasTaken front progress.audit }
-    ensures { (front : List (List ℕ)) → HasTaken front progress.audit → Audits (front ++ lines_of progress.lines) result }
+    ensures { (front : List (List ℕ))
+        → HasTaken front progress.audit
+        → Audits (front ++ lines_of progress.lines) result }
 {
     let Progress { mut audit, lines } = progress;
     let line = lines.into_rest();
@@ -149,7 +164,8 @@ fn end_of(alloc: Global, audit: Audit) -> AuditEnd
 
 /// Writes a verdict.
 fn tell<W: Write>(end: AuditEnd, writer: &mut W) -> Result<(), AuditEnd>
-    ensures ok { OnOk result (Appends (W.contents writer.old) (W.contents writer.new) (end_text end)) }
+    ensures ok { OnOk result
+        (Appends (W.contents writer.old) (W.contents writer.new) (end_text end)) }
     ensures err { IfErr result (λ why. why ≡ NotWritten) }
 {
     match end {
@@ -165,7 +181,8 @@ fn tell<W: Write>(end: AuditEnd, writer: &mut W) -> Result<(), AuditEnd>
 
 /// Writes a word, the number of a line, and LF.
 fn write_numbered<W: Write>(word: &[u8], line: u64, writer: &mut W) -> Result<(), AuditEnd>
-    ensures ok { OnOk result (Appends (W.contents writer.old) (W.contents writer.new) (word.now ++ (decimal line ++ 10 ∷ []))) }
+    ensures ok { OnOk result (Appends (W.contents writer.old) (W.contents writer.new)
+        (word.now ++ (decimal line ++ 10 ∷ []))) }
     ensures err { IfErr result (λ why. why ≡ NotWritten) }
 {
     write(word, writer)?;

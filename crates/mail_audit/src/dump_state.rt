@@ -9,7 +9,8 @@ ghost use Rattle.folder_state.specs.Contents.{IsMadeBy};
 ghost use Rattle.folder_state.specs.Tables.{contents_of};
 ghost use Rattle.subs_state.specs.Subscriptions.{IsMadeBy as AreMadeBy};
 ghost use Rattle.subs_state.specs.Table.{subscriptions_of};
-ghost use Rattle.crdt_ops.specs.DumpLines.{folder_line, folder_lines, state_text, subscription_line};
+ghost use Rattle.crdt_ops.specs.DumpLines.{folder_line, folder_lines, state_text};
+ghost use Rattle.crdt_ops.specs.DumpLines.{subscription_line};
 
 use crdt_ops::{push_messages, push_name_line};
 use folder_state::Folders;
@@ -20,7 +21,10 @@ use subs_state::Subs;
 /// The lines of the folders, messages and subscriptions, and the line that ends the dump; `Err` if
 /// memory runs out.
 pub fn state_lines(alloc: Global, folders: &Folders, subs: &Subs) -> Result<Vec<u8>, AllocError>
-    ensures { (ops : List Op) → IsMadeBy (contents_of folders.now) ops → AreMadeBy (subscriptions_of subs.now) ops → IfOk result (λ text. text.items ≡ state_text ops ++ (codes "end" ++ 10 ∷ [])) }
+    ensures { (ops : List Op)
+        → IsMadeBy (contents_of folders.now) ops
+        → AreMadeBy (subscriptions_of subs.now) ops
+        → IfOk result (λ text. text.items ≡ state_text ops ++ (codes "end" ++ 10 ∷ [])) }
 {
     let mut text = Vec::new(alloc);
     push_folders(alloc, folders, &mut text)?;
@@ -31,7 +35,10 @@ pub fn state_lines(alloc: Global, folders: &Folders, subs: &Subs) -> Result<Vec<
 
 /// Appends each folder's line, followed by the lines of its messages.
 fn push_folders(alloc: Global, folders: &Folders, text: &mut Vec<u8>) -> Result<(), AllocError>
-    ensures { (ops : List Op) → IsMadeBy (contents_of folders.now) ops → OnOk result (text.new.items ≡ text.old.items ++ flat_map (folder_lines ops) (folders_of ops)) }
+    ensures { (ops : List Op)
+        → IsMadeBy (contents_of folders.now) ops
+        → OnOk result
+        (text.new.items ≡ text.old.items ++ flat_map (folder_lines ops) (folders_of ops)) }
 {
     let names = folders.names(alloc)?;
     for name in names.iter() {
@@ -46,7 +53,9 @@ fn push_folder(
     name: &Name,
     text: &mut Vec<u8>,
 ) -> Result<(), AllocError>
-    ensures { (ops : List Op) → IsMadeBy (contents_of folders.now) ops → OnOk result (text.new.items ≡ text.old.items ++ folder_lines ops name.now) }
+    ensures { (ops : List Op)
+        → IsMadeBy (contents_of folders.now) ops
+        → OnOk result (text.new.items ≡ text.old.items ++ folder_lines ops name.now) }
 {
     push_folder_line(alloc, folders, name, text)?;
     let messages = folders.messages(alloc, name)?;
@@ -59,7 +68,9 @@ fn push_folder_line(
     name: &Name,
     text: &mut Vec<u8>,
 ) -> Result<(), AllocError>
-    ensures { (ops : List Op) → IsMadeBy (contents_of folders.now) ops → OnOk result (text.new.items ≡ text.old.items ++ folder_line ops name.now) }
+    ensures { (ops : List Op)
+        → IsMadeBy (contents_of folders.now) ops
+        → OnOk result (text.new.items ≡ text.old.items ++ folder_line ops name.now) }
 {
     let tags = folders.tags(alloc, name)?;
     push_name_line(alloc, b"folder ", name, &tags, text)
@@ -67,7 +78,10 @@ fn push_folder_line(
 
 /// Appends the lines of the names that are subscribed to.
 fn push_subscriptions(alloc: Global, subs: &Subs, text: &mut Vec<u8>) -> Result<(), AllocError>
-    ensures { (ops : List Op) → AreMadeBy (subscriptions_of subs.now) ops → OnOk result (text.new.items ≡ text.old.items ++ flat_map (subscription_line ops) (subscribed_names_of ops)) }
+    ensures { (ops : List Op)
+        → AreMadeBy (subscriptions_of subs.now) ops
+        → OnOk result (text.new.items
+        ≡ text.old.items ++ flat_map (subscription_line ops) (subscribed_names_of ops)) }
 {
     let names = subs.names(alloc)?;
     for name in names.iter() {
@@ -82,7 +96,9 @@ fn push_subscription(
     name: &Name,
     text: &mut Vec<u8>,
 ) -> Result<(), AllocError>
-    ensures { (ops : List Op) → AreMadeBy (subscriptions_of subs.now) ops → OnOk result (text.new.items ≡ text.old.items ++ subscription_line ops name.now) }
+    ensures { (ops : List Op)
+        → AreMadeBy (subscriptions_of subs.now) ops
+        → OnOk result (text.new.items ≡ text.old.items ++ subscription_line ops name.now) }
 {
     let tags = subs.tags(alloc, name)?;
     push_name_line(alloc, b"subscribed ", name, &tags, text)

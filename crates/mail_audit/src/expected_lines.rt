@@ -118,7 +118,8 @@ fn apply(
 
 /// The place of the first operation that the clock doesn't count, if any.
 fn first_unapplied(ops: &[SoundOp], clock: &Clock) -> Option<usize>
-    ensures { MatchOption result ((o : Op) → IsIn o ops.now → IsCause clock.now o.id) (λ place. place < length ops.now) }
+    ensures { MatchOption result ((o : Op) → IsIn o ops.now → IsCause clock.now o.id)
+        (λ place. place < length ops.now) }
 {
     for (place, op) in ops.iter().enumerate() {
         if !clock.covers(op.id()) {

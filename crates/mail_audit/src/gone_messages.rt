@@ -11,7 +11,8 @@ pub fn gone_before(gone: &TreeList<u32>, skipped: u32) -> usize
     requires { (came : ℕ) × AreGone 0 gone.now came }
     ensures within { result ≤ length gone.now }
     ensures front { (i : ℕ) → i < result → get_or gone.now i 0 ≤ skipped + i }
-    ensures behind { (i : ℕ) → result ≤ i → i < length gone.now → skipped + i < get_or gone.now i 0 }
+    ensures behind { (i : ℕ) → result ≤ i → i < length gone.now
+        → skipped + i < get_or gone.now i 0 }
 {
     gone.partition_point(|before, place| is_in_front(*place, skipped, before))
 }

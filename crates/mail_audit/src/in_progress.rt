@@ -1,6 +1,7 @@
 //! The commands of a session that are in progress.
 
-ghost use Rattle.std.specs.Prelude.{◌≡◌, ◌+◌, ◌<◌, ◌^◌, false, ℕ, List, [], ◌∷◌, ◌++◌, OnErr, OnOk, IfNone, if◌then◌else◌};
+ghost use Rattle.std.specs.Prelude.{◌≡◌, ◌+◌, ◌<◌, ◌^◌, false, ℕ, List, [], ◌∷◌, ◌++◌, OnErr, OnOk};
+ghost use Rattle.std.specs.Prelude.{IfNone, if◌then◌else◌};
 ghost use Rattle.std.specs.List.{list_any};
 ghost use Rattle.std.specs.Option.{option_to_list};
 ghost use Rattle.std.specs.Str.{bytes_eq};
@@ -49,7 +50,11 @@ impl Model for InProgress {
 
     ghost view = { λ p. values_of p.commands.entries };
 
-    ghost invariant = { λ p. (p.expunging ≡ how_many (λ c. c.may_expunge) (values_of p.commands.entries)) × (p.idling ≡ how_many (λ c. c.idles) (values_of p.commands.entries)) × AreRising 0 p.next p.commands.entries × ((tag : List ℕ) → numbers_of tag p.commands.entries ≡ kept_for tag p.numbers.entries) };
+    ghost invariant = { λ p. (p.expunging
+        ≡ how_many (λ c. c.may_expunge) (values_of p.commands.entries))
+        × (p.idling ≡ how_many (λ c. c.idles) (values_of p.commands.entries))
+        × AreRising 0 p.next p.commands.entries
+        × ((tag : List ℕ) → numbers_of tag p.commands.entries ≡ kept_for tag p.numbers.entries) };
 }
 
 impl InProgress {
@@ -126,8 +131,12 @@ fn add(
     tag: Vec<u8>,
     number: u64,
 ) -> Result<(), AllocError>
-    ensures ok { OnOk result ((other : List ℕ) → kept_for other numbers.new.entries ≡ kept_for other numbers.old.entries ++ (if bytes_eq other tag.items then number ∷ [] else [])) }
-    ensures err { OnErr result ((other : List ℕ) → kept_for other numbers.new.entries ≡ kept_for other numbers.old.entries) }
+    ensures ok { OnOk result ((other : List ℕ)
+        → kept_for other numbers.new.entries
+        ≡ kept_for other numbers.old.entries
+        ++ (if bytes_eq other tag.items then number ∷ [] else [])) }
+    ensures err { OnErr result ((other : List ℕ)
+        → kept_for other numbers.new.entries ≡ kept_for other numbers.old.entries) }
 {
     if let Some(kept) = numbers.get_mut(&tag) {
         kept.push_back(number)?;
@@ -141,9 +150,12 @@ fn add(
 
 /// Takes the first number out of a tag's list; `None` if it has none.
 fn take_first(numbers: &mut IndexMap<Vec<u8>, VecDeque<u64>>, tag: &[u8]) -> Option<u64>
-    ensures taken { kept_for tag.now numbers.old.entries ≡ option_to_list result ++ kept_for tag.now numbers.new.entries }
+    ensures taken { kept_for tag.now numbers.old.entries
+        ≡ option_to_list result ++ kept_for tag.now numbers.new.entries }
     ensures none { IfNone result (kept_for tag.now numbers.old.entries ≡ []) }
-    ensures others { (other : List ℕ) → bytes_eq other tag.now ≡ false → kept_for other numbers.new.entries ≡ kept_for other numbers.old.entries }
+    ensures others { (other : List ℕ)
+        → bytes_eq other tag.now ≡ false
+        → kept_for other numbers.new.entries ≡ kept_for other numbers.old.entries }
 {
     let kept = numbers.get_mut(tag)?;
     let number = kept.pop_front()?;

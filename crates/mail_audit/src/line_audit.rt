@@ -1,6 +1,7 @@
 //! The audit of an input, line by line.
 
-ghost use Rattle.std.specs.Prelude.{◌≡◌, ◌+◌, ◌<◌, ◌^◌, ℕ, List, [], ◌∷◌, ◌++◌, IfOk, IsTrue, MatchOption, None, length};
+ghost use Rattle.std.specs.Prelude.{◌≡◌, ◌+◌, ◌<◌, ◌^◌, ℕ, List, [], ◌∷◌, ◌++◌, IfOk, IsTrue};
+ghost use Rattle.std.specs.Prelude.{MatchOption, None, length};
 ghost use Rattle.imap_types.specs.Escape.{AreOctets};
 ghost use Rattle.mail_script.specs.Fields.{is_session_name};
 ghost use Rattle.mail_audit.specs.Audits.{Audits, IsSpokenLine, Part, spoken_line};
@@ -41,7 +42,9 @@ impl Audit {
     pub fn take(&mut self, alloc: Global, line: &[u8]) -> Result<Option<AuditEnd>, AllocError>
         requires room { self.old.taken + 1 < 2 ^ 64 }
         requires stands { (lines : List (List ℕ)) × HasTaken lines self.old }
-        ensures { (lines : List (List ℕ)) → HasTaken lines self.old → IfOk result (λ end. MatchOption end (HasTaken (lines ++ line.now ∷ []) self.new) (EndsAt lines line.now)) }
+        ensures { (lines : List (List ℕ)) → HasTaken lines self.old
+            → IfOk result (λ end. MatchOption end (HasTaken (lines ++ line.now ∷ []) self.new)
+            (EndsAt lines line.now)) }
     {
         self.taken += 1;
         match self.dump.take() {
@@ -60,8 +63,14 @@ impl Audit {
         dump: OpenDump,
         line: &[u8],
     ) -> Result<Option<AuditEnd>, AllocError>
-        requires { (lines : List (List ℕ)) × IsOpen lines self.old.sessions dump × (self.old.taken ≡ length lines + 1) }
-        ensures { (lines : List (List ℕ)) → IsOpen lines self.old.sessions dump → self.old.taken ≡ length lines + 1 → self.old.dump ≡ None → IfOk result (λ end. MatchOption end (HasTaken (lines ++ line.now ∷ []) self.new) (EndsAt lines line.now)) }
+        requires { (lines : List (List ℕ))
+            × IsOpen lines self.old.sessions dump
+            × (self.old.taken ≡ length lines + 1) }
+        ensures { (lines : List (List ℕ))
+            → IsOpen lines self.old.sessions dump
+            → self.old.taken ≡ length lines + 1 → self.old.dump ≡ None
+            → IfOk result (λ end. MatchOption end (HasTaken (lines ++ line.now ∷ []) self.new)
+            (EndsAt lines line.now)) }
     {
         let mut dump = dump;
         let step = dump.take(alloc, line, self.taken)?;
@@ -78,8 +87,14 @@ impl Audit {
 
     /// Takes a line of a transcript.
     fn hear(&mut self, alloc: Global, spoken: SpokenLine) -> Result<Option<AuditEnd>, AllocError>
-        ensures { (lines : List (List ℕ)) (parts : List Part) → AreHeard lines parts self.old.sessions → self.old.taken ≡ length lines + 1 → self.old.dump ≡ None → IsTrue (is_session_name spoken.session) → AreOctets spoken.text
-            → IfOk result (λ end. MatchOption end (HasTaken (lines ++ spoken_line spoken.session spoken.speaker spoken.text ∷ []) self.new) (EndsAt lines (spoken_line spoken.session spoken.speaker spoken.text))) }
+        ensures { (lines : List (List ℕ)) (parts : List Part)
+            → AreHeard lines parts self.old.sessions
+            → self.old.taken ≡ length lines + 1 → self.old.dump ≡ None
+            → IsTrue (is_session_name spoken.session)
+            → AreOctets spoken.text
+            → IfOk result (λ end. MatchOption end
+            (HasTaken (lines ++ spoken_line spoken.session spoken.speaker spoken.text ∷ [])
+            self.new) (EndsAt lines (spoken_line spoken.session spoken.speaker spoken.text))) }
     {
         let SpokenLine {
             session,
@@ -98,7 +113,12 @@ impl Audit {
 
     /// Takes a line that belongs to no transcript and to no dump that began before it.
     fn pass(&mut self, alloc: Global, line: &[u8]) -> Result<Option<AuditEnd>, AllocError>
-        ensures { (lines : List (List ℕ)) (parts : List Part) → AreHeard lines parts self.old.sessions → self.old.taken ≡ length lines + 1 → self.old.dump ≡ None → (IsSpokenLine line.now → ⊥) → IfOk result (λ end. MatchOption end (HasTaken (lines ++ line.now ∷ []) self.new) (EndsAt lines line.now)) }
+        ensures { (lines : List (List ℕ)) (parts : List Part)
+            → AreHeard lines parts self.old.sessions
+            → self.old.taken ≡ length lines + 1 → self.old.dump ≡ None
+            → (IsSpokenLine line.now → ⊥)
+            → IfOk result (λ end. MatchOption end (HasTaken (lines ++ line.now ∷ []) self.new)
+            (EndsAt lines line.now)) }
     {
         if let Some(replica) = replica_of_dump(line) {
             self.dump = Some(OpenDump::new(alloc, self.taken, replica));

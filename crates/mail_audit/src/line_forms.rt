@@ -5,7 +5,8 @@ ghost use Rattle.std.specs.List.{list_all};
 ghost use Rattle.crdt_ops.specs.Form.{IsSpelled};
 ghost use Rattle.crdt_ops.specs.declared.op.Op.{Op};
 ghost use Rattle.mail_audit.specs.DumpLines.{IsDumpLine};
-ghost use Rattle.mail_audit.specs.Forms.{AreIdsText, AreLetterFields, AreMessageFields, AreTagFields, IsOtherLine, IsSpokenLine, IsStateLine};
+ghost use Rattle.mail_audit.specs.Forms.{AreIdsText, AreLetterFields, AreMessageFields};
+ghost use Rattle.mail_audit.specs.Forms.{AreTagFields, IsOtherLine, IsSpokenLine, IsStateLine};
 
 use crate::lines::{read_spoken, replica_of_dump};
 use crate::results::is_result;
@@ -42,7 +43,8 @@ pub fn dump_line(alloc: Global, line: &[u8]) -> Result<DumpLine, AllocError>
 
 /// The operation that a text spells, if any; `Err` if memory runs out.
 fn operation(alloc: Global, text: &[u8]) -> Result<Option<Op>, AllocError>
-    ensures { IfOk result (λ read. MatchOption read ((op : Op) → IsSpelled op text.now → ⊥) (λ op. IsSpelled op text.now)) }
+    ensures { IfOk result (λ read. MatchOption read ((op : Op) → IsSpelled op text.now → ⊥)
+        (λ op. IsSpelled op text.now)) }
 {
     match read_op(alloc, text) {
         Ok(op) => Ok(Some(op)),
@@ -150,7 +152,8 @@ fn are_letter_fields(alloc: Global, id: &[u8], rest: &[u8]) -> Result<bool, Allo
 
 /// Whether two texts, one after the other, spell an operation.
 fn is_spelled(alloc: Global, front: &[u8], fields: &[u8]) -> Result<bool, AllocError>
-    ensures { IfOk result (λ spelled. IsTrue spelled → (op : Op) × IsSpelled op (front.now ++ fields.now)) }
+    ensures { IfOk result
+        (λ spelled. IsTrue spelled → (op : Op) × IsSpelled op (front.now ++ fields.now)) }
 {
     let mut text = front.to_vec(alloc)?;
     text.extend_from_slice(fields)?;

@@ -26,7 +26,9 @@ pub struct SpokenLine {
 
 /// Reads a line of a transcript; `None` if it is none, and `Err` if memory runs out.
 pub fn read_spoken(alloc: Global, line: &[u8]) -> Result<Option<SpokenLine>, AllocError>
-    ensures { IfOk result (λ found. MatchOption found (IsSpokenLine line.now → ⊥) (λ spoken. IsTrue (is_session_name spoken.session) × AreOctets spoken.text × (line.now ≡ spoken_line spoken.session spoken.speaker spoken.text))) }
+    ensures { IfOk result (λ found. MatchOption found (IsSpokenLine line.now → ⊥)
+        (λ spoken. IsTrue (is_session_name spoken.session) × AreOctets spoken.text
+        × (line.now ≡ spoken_line spoken.session spoken.speaker spoken.text))) }
 {
     let Some((name, said)) = split(b' ', line) else {
         return Ok(None);
@@ -49,7 +51,9 @@ pub fn read_spoken(alloc: Global, line: &[u8]) -> Result<Option<SpokenLine>, All
 
 /// The speaker, and the text after the speaker's mark.
 fn speech(said: &[u8]) -> Option<(Speaker, &[u8])>
-    ensures { MatchOption result ((speaker : Speaker) (text : List ℕ) → 32 ∷ said.now ≡ mark_of speaker ++ text → ⊥) (λ speech. 32 ∷ said.now ≡ mark_of speech.0 ++ speech.1.now) }
+    ensures { MatchOption result
+        ((speaker : Speaker) (text : List ℕ) → 32 ∷ said.now ≡ mark_of speaker ++ text → ⊥)
+        (λ speech. 32 ∷ said.now ≡ mark_of speech.0 ++ speech.1.now) }
 {
     match said.strip_prefix(b"C: ".as_slice()) {
         Some(frame) => Some((Speaker::Client, frame)),
@@ -63,7 +67,9 @@ fn speech(said: &[u8]) -> Option<(Speaker, &[u8])>
 /// Undoes the escape that keeps spaces; `None` if the text isn't so escaped, and `Err` if memory
 /// runs out.
 fn unescape_or_none(alloc: Global, text: &[u8]) -> Result<Option<Octets>, AllocError>
-    ensures { IfOk result (λ found. MatchOption found ((octets : List ℕ) → AreOctets octets → text.now ≡ escape_text Kept octets → ⊥) (λ octets. AreOctets octets × (text.now ≡ escape_text Kept octets))) }
+    ensures { IfOk result (λ found. MatchOption found
+        ((octets : List ℕ) → AreOctets octets → text.now ≡ escape_text Kept octets → ⊥)
+        (λ octets. AreOctets octets × (text.now ≡ escape_text Kept octets))) }
 {
     match read_escaped(alloc, Escape::Text, text) {
         Ok(octets) => Ok(Some(octets)),
@@ -74,7 +80,8 @@ fn unescape_or_none(alloc: Global, text: &[u8]) -> Result<Option<Octets>, AllocE
 
 /// The replica whose dump begins at this line, if any.
 pub fn replica_of_dump(line: &[u8]) -> Option<ReplicaId>
-    ensures { MatchOption result (IsDumpBegin line.now → ⊥) (λ replica. IsReplica replica × (line.now ≡ dump_line replica)) }
+    ensures { MatchOption result (IsDumpBegin line.now → ⊥)
+        (λ replica. IsReplica replica × (line.now ≡ dump_line replica)) }
 {
     match line.strip_prefix(b"dump ".as_slice()) {
         Some(number) => text_fields::replica(number),

@@ -1,6 +1,7 @@
 //! The op lines of a dump.
 
-ghost use Rattle.std.specs.Prelude.{◌≡◌, ◌↔◌, ◌≤◌, ◌<◌, [], true, false, IfOk, IfSome, IsSome, IsTrue, OnOk, length};
+ghost use Rattle.std.specs.Prelude.{◌≡◌, ◌↔◌, ◌≤◌, ◌<◌, [], true, false, IfOk, IfSome, IsSome};
+ghost use Rattle.std.specs.Prelude.{IsTrue, OnOk, length};
 ghost use Rattle.std.specs.declared.cmp.Ordering.TheVariants.{Less};
 ghost use Rattle.crdt_ops.specs.SortedSets.{id_order};
 ghost use Rattle.mail_audit.specs.DumpLines.{IsLonger, StandsBehind};
@@ -52,7 +53,8 @@ impl OpLines {
 
     /// Takes the id of a bad line or of a later one; `Err` if memory runs out.
     fn push_bad(&mut self, id: &OpId) -> Result<(), AllocError>
-        ensures { OnOk result ((self.new.is_bad ≡ true) × (self.new.ops.items ≡ self.old.ops.items)) }
+        ensures { OnOk result
+            ((self.new.is_bad ≡ true) × (self.new.ops.items ≡ self.old.ops.items)) }
     {
         self.is_bad = true;
         self.others.push(*id)?;
@@ -63,9 +65,11 @@ impl OpLines {
     /// that no op line has. If op lines may still come, a cause whose id is above that of the last
     /// line may come with them, and isn't missed. `Err` if memory runs out.
     pub fn first_wrong(&self, alloc: Global, may_come: bool) -> Result<Option<usize>, AllocError>
-        ensures within { IfOk result (λ found. IfSome found (λ place. place ≤ length self.now.ops.items)) }
+        ensures within { IfOk result
+            (λ found. IfSome found (λ place. place ≤ length self.now.ops.items)) }
         ensures bad { IfOk result (λ found. self.now.is_bad ≡ true → IsSome found) }
-        ensures at_end { IfOk result (λ found. self.now.is_bad ≡ false → IfSome found (λ place. place < length self.now.ops.items)) }
+        ensures at_end { IfOk result (λ found. self.now.is_bad ≡ false
+            → IfSome found (λ place. place < length self.now.ops.items)) }
     {
         let there = self.clock(alloc)?;
         let last = if may_come { self.last_id() } else { None };

@@ -1,8 +1,10 @@
 //! A dump that is read line by line.
 
-ghost use Rattle.std.specs.Prelude.{◌≡◌, ◌+◌, ◌≤◌, ◌<◌, ◌^◌, ℕ, List, [], ◌∷◌, ◌++◌, IfOk, IsTrue, drop, length};
+ghost use Rattle.std.specs.Prelude.{◌≡◌, ◌+◌, ◌≤◌, ◌<◌, ◌^◌, ℕ, List, [], ◌∷◌, ◌++◌, IfOk, IsTrue};
+ghost use Rattle.std.specs.Prelude.{drop, length};
 ghost use Rattle.mail_audit.specs.Audits.{Audits};
-ghost use Rattle.mail_audit.specs.DumpLines.{IsClosed, IsCompared, IsEarly, IsStep, IsStepBehind, OpsStand, PhaseStands};
+ghost use Rattle.mail_audit.specs.DumpLines.{IsClosed, IsCompared, IsEarly, IsStep, IsStepBehind};
+ghost use Rattle.mail_audit.specs.DumpLines.{OpsStand, PhaseStands};
 ghost use Rattle.mail_audit.specs.Dumps.{AreOrdered};
 ghost use Rattle.mail_audit.specs.AuditProgress.{IsOpen};
 ghost use Rattle.mail_audit.specs.Sessions.{Session};
@@ -59,7 +61,9 @@ pub enum DumpStep {
 impl OpenDump {
     /// A dump that begins at the line of this number.
     pub fn new(alloc: Global, first: u64, replica: ReplicaId) -> OpenDump
-        ensures { (result.first ≡ first) × (result.replica ≡ replica) × PhaseStands [] result.phase }
+        ensures { (result.first ≡ first)
+            × (result.replica ≡ replica)
+            × PhaseStands [] result.phase }
     {
         OpenDump {
             first,
@@ -70,9 +74,14 @@ impl OpenDump {
 
     /// Takes the next line, which has this number; `Err` if memory runs out.
     pub fn take(&mut self, alloc: Global, line: &[u8], number: u64) -> Result<DumpStep, AllocError>
-        requires { (inside : List (List ℕ)) × PhaseStands inside self.old.phase × (number ≡ self.old.first + 1 + length inside) }
+        requires { (inside : List (List ℕ))
+            × PhaseStands inside self.old.phase
+            × (number ≡ self.old.first + 1 + length inside) }
         ensures place { (self.new.first ≡ self.old.first) × (self.new.replica ≡ self.old.replica) }
-        ensures step { (inside : List (List ℕ)) → PhaseStands inside self.old.phase → number ≡ self.old.first + 1 + length inside → IfOk result (IsStep self.old.first inside line.now self.new.phase) }
+        ensures step { (inside : List (List ℕ))
+            → PhaseStands inside self.old.phase
+            → number ≡ self.old.first + 1 + length inside
+            → IfOk result (IsStep self.old.first inside line.now self.new.phase) }
     {
         match &mut self.phase {
             DumpPhase::State(comparison) => comparison.take(alloc, line, number),
@@ -98,8 +107,13 @@ impl OpenDump {
     /// The verdict if the input ends here, within the dump, at the line of this number; `Err` if
     /// memory runs out.
     pub fn end(self, alloc: Global, last: u64) -> Result<AuditEnd, AllocError>
-        requires { (lines : List (List ℕ)) × (sessions : List Session) × IsOpen lines sessions self × (last ≡ length lines) }
-        ensures { (lines : List (List ℕ)) (sessions : List Session) → IsOpen lines sessions self → last ≡ length lines → IfOk result (Audits lines) }
+        requires { (lines : List (List ℕ))
+            × (sessions : List Session)
+            × IsOpen lines sessions self
+            × (last ≡ length lines) }
+        ensures { (lines : List (List ℕ)) (sessions : List Session)
+            → IsOpen lines sessions self → last ≡ length lines
+            → IfOk result (Audits lines) }
     {
         match &self.phase {
             DumpPhase::State(_) => Ok(AuditEnd::Unreadable(last)),
@@ -154,7 +168,8 @@ impl Comparison {
     /// Whether this is the next expected line.
     fn has_next(&self, line: &[u8]) -> bool
         requires { self.now.came ≤ length self.now.lines.items }
-        ensures { IsTrue result → (rest : List ℕ) × (drop self.now.came self.now.lines.items ≡ line.now ++ 10 ∷ rest) }
+        ensures { IsTrue result
+            → (rest : List ℕ) × (drop self.now.came self.now.lines.items ≡ line.now ++ 10 ∷ rest) }
     {
         match split(b'\n', &self.lines[self.came..]) {
             Some((next, _)) => next == line,

@@ -6,8 +6,14 @@ ghost use Rattle.mail_script.specs.Fields.{IsId, IsReplica};
 ghost use Rattle.mail_script.specs.Outcomes.{outcome_text};
 ghost use Rattle.mail_script.specs.declared.outcome_line.OutcomeLine.TheVariants.{Unsound};
 ghost use Rattle.text_fields.specs.FieldReading.{id_at, replica_at};
-ghost use Rattle.mail_audit.specs.ResultReading.{agreed_at, applied_at, conflict_at, counted_at, delivered_at, drained_at, fields_at, forged_at, join_result_at, joined_at, joined_plainly_at, outcome_at, plain_at, replicas_at, result_at, settle_result_at, settled_at, settled_plainly_at, unsound_at, valued_at};
-ghost use Rattle.mail_audit.specs.Results.{IsCount, IsDeliveryResult, IsJoinResult, IsPassedOver, IsResult, IsSettleResult};
+ghost use Rattle.mail_audit.specs.ResultReading.{agreed_at, applied_at, conflict_at, counted_at};
+ghost use Rattle.mail_audit.specs.ResultReading.{delivered_at, drained_at, fields_at, forged_at};
+ghost use Rattle.mail_audit.specs.ResultReading.{join_result_at, joined_at, joined_plainly_at};
+ghost use Rattle.mail_audit.specs.ResultReading.{outcome_at, plain_at, replicas_at, result_at};
+ghost use Rattle.mail_audit.specs.ResultReading.{settle_result_at, settled_at, settled_plainly_at};
+ghost use Rattle.mail_audit.specs.ResultReading.{unsound_at, valued_at};
+ghost use Rattle.mail_audit.specs.Results.{IsCount, IsDeliveryResult, IsJoinResult, IsPassedOver};
+ghost use Rattle.mail_audit.specs.Results.{IsResult, IsSettleResult};
 
 use mail_script::{
     BrokenRule, DeliveryResult, JoinResult, OutcomeLine, SettleResult, write_outcome,

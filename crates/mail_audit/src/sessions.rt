@@ -45,8 +45,11 @@ impl AuditSessions {
         speaker: Speaker,
         octets: &[u8],
     ) -> Result<bool, AllocError>
-        ensures said { IfOk result (λ heard. DecidesSaid (hearing_of session self.old) (record { speaker = speaker; octets = octets.now }) heard (hearing_of session self.new)) }
-        ensures others { IfOk result (λ heard. (other : List ℕ) → bytes_eq other session ≡ false → hearing_of other self.new ≡ hearing_of other self.old) }
+        ensures said { IfOk result (λ heard. DecidesSaid (hearing_of session self.old)
+            (record { speaker = speaker; octets = octets.now }) heard
+            (hearing_of session self.new)) }
+        ensures others { IfOk result (λ heard. (other : List ℕ) → bytes_eq other session ≡ false
+            → hearing_of other self.new ≡ hearing_of other self.old) }
     {
         let place = self.place_of(alloc, session)?;
         match self.heard.get_index_mut(place) {
@@ -59,7 +62,8 @@ impl AuditSessions {
     fn place_of(&mut self, alloc: Global, session: SessionName) -> Result<usize, AllocError>
         ensures there { IfOk result (λ place. place < length self.new) }
         ensures first { IfOk result (λ place. place ≡ place_or_end session self.new) }
-        ensures same { IfOk result (λ place. (other : List ℕ) → hearing_of other self.new ≡ hearing_of other self.old) }
+        ensures same { IfOk result
+            (λ place. (other : List ℕ) → hearing_of other self.new ≡ hearing_of other self.old) }
     {
         if let Some(place) = self.heard.get_index_of(session.as_bytes()) {
             return Ok(place);

@@ -1,11 +1,14 @@
 //! What is known of a session's messages.
 
-ghost use Rattle.std.specs.Prelude.{◌≡◌, ◌↔◌, ◌<◌, ◌≤◌, IfOk, IsTrue, MatchOption, None as Unknown, Some as Found, get_or, length, set};
+ghost use Rattle.std.specs.Prelude.{◌≡◌, ◌↔◌, ◌<◌, ◌≤◌, IfOk, IsTrue, MatchOption, None as Unknown};
+ghost use Rattle.std.specs.Prelude.{Some as Found, get_or, length, set};
 ghost use Rattle.mail_audit.specs.Explained.{IsNumberOf};
 ghost use Rattle.mail_audit.specs.Gaps.{IsUidKnown, IsUidUnknown, SplitsAt};
 ghost use Rattle.mail_audit.specs.Passing.{HasRoomAbove, MayBeUid};
 ghost use Rattle.mail_audit.specs.SlotSteps.{EventFits, after_event, no_slots, place_at, with_more};
-ghost use Rattle.mail_audit.specs.declared.event.SlotEvent.TheVariants.{Exists as CountTold, Expunge as GoneTold, Tells as UidTold};
+ghost use Rattle.mail_audit.specs.declared.event.SlotEvent.TheVariants.{Exists as CountTold};
+ghost use Rattle.mail_audit.specs.declared.event.SlotEvent.TheVariants.{Expunge as GoneTold};
+ghost use Rattle.mail_audit.specs.declared.event.SlotEvent.TheVariants.{Tells as UidTold};
 
 use crate::event::SlotEvent;
 use crate::gaps::{fits_between, has_room, known_before};
@@ -38,7 +41,10 @@ impl Model for Slots {
 
     ghost Value = { SlotKnowledge };
 
-    ghost view = { λ s. record { there = places_from 0 s.gone s.came; slots = slots_from 0 s.tolds s.came } };
+    ghost view = { λ s. record {
+      there = places_from 0 s.gone s.came;
+      slots = slots_from 0 s.tolds s.came;
+    } };
 
     ghost invariant = { λ s. AreKnownUids s.gone s.tolds s.came };
 }
@@ -121,7 +127,8 @@ impl Slots {
     /// changes. `Err` if memory runs out.
     fn take_out(&mut self, alloc: Global, number: u32) -> Result<bool, AllocError>
         ensures fits { IfOk result (λ noted. IsTrue noted ↔ EventFits self.old (GoneTold number)) }
-        ensures next { IfOk result (λ noted. IsTrue noted → self.new ≡ after_event self.old (GoneTold number)) }
+        ensures next { IfOk result
+            (λ noted. IsTrue noted → self.new ≡ after_event self.old (GoneTold number)) }
     {
         if !self.has(number) {
             return Ok(false);
@@ -144,8 +151,10 @@ impl Slots {
     /// Records the UID of the message with this number, if there is one and it may have this UID;
     /// otherwise nothing changes. `Err` if memory runs out.
     fn tell(&mut self, alloc: Global, number: u32, uid: u32) -> Result<bool, AllocError>
-        ensures fits { IfOk result (λ noted. IsTrue noted ↔ EventFits self.old (UidTold number uid)) }
-        ensures next { IfOk result (λ noted. IsTrue noted → self.new ≡ after_event self.old (UidTold number uid)) }
+        ensures fits { IfOk result
+            (λ noted. IsTrue noted ↔ EventFits self.old (UidTold number uid)) }
+        ensures next { IfOk result
+            (λ noted. IsTrue noted → self.new ≡ after_event self.old (UidTold number uid)) }
     {
         if !self.has(number) {
             return Ok(false);
@@ -158,8 +167,11 @@ impl Slots {
     /// `Err` if memory runs out.
     fn tell_at(&mut self, alloc: Global, place: u32, uid: u32) -> Result<bool, AllocError>
         requires { place < length self.old.slots }
-        ensures fits { IfOk result (λ noted. IsTrue noted ↔ (MayBeUid (get_or self.old.slots place Unknown) uid × HasRoomAbove 0 (set self.old.slots place (Found uid)))) }
-        ensures next { IfOk result (λ noted. IsTrue noted → self.new ≡ record self.old { slots = set self.old.slots place (Found uid) }) }
+        ensures fits { IfOk result (λ noted. IsTrue noted
+            ↔ (MayBeUid (get_or self.old.slots place Unknown) uid
+            × HasRoomAbove 0 (set self.old.slots place (Found uid)))) }
+        ensures next { IfOk result (λ noted. IsTrue noted
+            → self.new ≡ record self.old { slots = set self.old.slots place (Found uid) }) }
     {
         let at = known_before(&self.tolds, place);
         if let Some(known) = uid_at(&self.tolds, at, place) {
@@ -178,7 +190,8 @@ impl Slots {
 fn uid_at(tolds: &TreeList<KnownUid>, at: usize, place: u32) -> Option<u32>
     requires within { at ≤ length tolds.now }
     requires parts { SplitsAt place tolds.now at }
-    ensures { MatchOption result (IsUidUnknown at place tolds.now) (λ uid. IsUidKnown at place uid tolds.now) }
+    ensures { MatchOption result (IsUidUnknown at place tolds.now)
+        (λ uid. IsUidKnown at place uid tolds.now) }
 {
     match tolds.get(at) {
         None => None,

@@ -1,14 +1,17 @@
 //! One session's transcript.
 
-ghost use Rattle.std.specs.Prelude.{◌≡◌, ◌≢◌, ◌↔◌, ℕ, List, [], ◌∷◌, ◌++◌, IfOk, IfSome, IsTrue, OnOk, Some};
+ghost use Rattle.std.specs.Prelude.{◌≡◌, ◌≢◌, ◌↔◌, ℕ, List, [], ◌∷◌, ◌++◌, IfOk, IfSome, IsTrue};
+ghost use Rattle.std.specs.Prelude.{OnOk, Some};
 ghost use Rattle.imap_answers.specs.Printable.{IsPrintable};
 ghost use Rattle.imap_answers.specs.Printed.{text_of_answer};
 ghost use Rattle.imap_answers.specs.declared.answer.Answer.{Answer};
 ghost use Rattle.imap_grammar.specs.declared.fault.ParseFault.TheVariants.{NoMemory as NoMemoryToParse};
 ghost use Rattle.mail_audit.specs.HeardSessions.{TakesSaid, DecidesSaid, nothing_known};
 ghost use Rattle.mail_audit.specs.SlotSteps.{EventFits, after_event};
-ghost use Rattle.mail_audit.specs.Transcripts.{MayStand, event_by, event_of, idles, may_expunge, running_after, running_by};
-ghost use Rattle.mail_script.specs.declared.transcript.Speaker.TheVariants.{Client as Asking, Server as Answering};
+ghost use Rattle.mail_audit.specs.Transcripts.{MayStand, event_by, event_of, idles, may_expunge};
+ghost use Rattle.mail_audit.specs.Transcripts.{running_after, running_by};
+ghost use Rattle.mail_script.specs.declared.transcript.Speaker.TheVariants.{Client as Asking};
+ghost use Rattle.mail_script.specs.declared.transcript.Speaker.TheVariants.{Server as Answering};
 
 use crate::event::SlotEvent;
 use crate::in_progress::{InProgress, RunningCommand};
@@ -54,7 +57,8 @@ impl Transcript {
         speaker: Speaker,
         octets: &[u8],
     ) -> Result<bool, AllocError>
-        ensures { IfOk result (λ heard. DecidesSaid self.old (record { speaker = speaker; octets = octets.now }) heard self.new) }
+        ensures { IfOk result (λ heard. DecidesSaid self.old
+            (record { speaker = speaker; octets = octets.now }) heard self.new) }
     {
         match speaker {
             Speaker::Client => {
@@ -67,7 +71,8 @@ impl Transcript {
 
     /// Takes a client's frame.
     fn ask(&mut self, alloc: Global, frame: &[u8]) -> Result<(), AllocError>
-        ensures { OnOk result (TakesSaid self.old (record { speaker = Asking; octets = frame.now }) self.new) }
+        ensures { OnOk result
+            (TakesSaid self.old (record { speaker = Asking; octets = frame.now }) self.new) }
     {
         if self.running.idles() {
             return Ok(());
@@ -80,7 +85,9 @@ impl Transcript {
 
     /// Records that a command begins.
     fn begin(&mut self, alloc: Global, tagged: Tagged) -> Result<(), AllocError>
-        ensures { OnOk result ((self.new.running ≡ self.old.running ++ running_by tagged ∷ []) × (self.new.known ≡ after_event self.old.known (event_by tagged.command)) × EventFits self.old.known (event_by tagged.command)) }
+        ensures { OnOk result ((self.new.running ≡ self.old.running ++ running_by tagged ∷ [])
+            × (self.new.known ≡ after_event self.old.known (event_by tagged.command))
+            × EventFits self.old.known (event_by tagged.command)) }
     {
         let Tagged { tag, command } = tagged;
         let may_expunge = may_expunge(&command);
@@ -98,7 +105,8 @@ impl Transcript {
 
     /// Takes the octets that a server sent.
     fn answer(&mut self, alloc: Global, octets: &[u8]) -> Result<bool, AllocError>
-        ensures { IfOk result (λ heard. DecidesSaid self.old (record { speaker = Answering; octets = octets.now }) heard self.new) }
+        ensures { IfOk result (λ heard. DecidesSaid self.old
+            (record { speaker = Answering; octets = octets.now }) heard self.new) }
     {
         match whole_answer(alloc, octets)? {
             None => Ok(false),
@@ -112,8 +120,12 @@ impl Transcript {
 
     /// Takes an answer.
     fn take(&mut self, alloc: Global, answer: &Answer) -> Result<bool, AllocError>
-        ensures fits { IfOk result (λ taken. IsTrue taken ↔ (MayStand self.old.running answer.now × EventFits self.old.known (event_of answer.now))) }
-        ensures taken { IfOk result (λ taken. IsTrue taken → (self.new.running ≡ running_after self.old.running answer.now) × (self.new.known ≡ after_event self.old.known (event_of answer.now))) }
+        ensures fits { IfOk result (λ taken. IsTrue taken
+            ↔ (MayStand self.old.running answer.now
+            × EventFits self.old.known (event_of answer.now))) }
+        ensures taken { IfOk result (λ taken. IsTrue taken
+            → (self.new.running ≡ running_after self.old.running answer.now)
+            × (self.new.known ≡ after_event self.old.known (event_of answer.now))) }
     {
         if !may_stand(&self.running, answer) {
             return Ok(false);
@@ -150,8 +162,10 @@ fn pass_over(fault: ParseFault) -> Result<(), AllocError>
 
 /// The answer whose text these octets are, if any; `Err` if memory runs out.
 fn whole_answer(alloc: Global, octets: &[u8]) -> Result<Option<Answer>, AllocError>
-    ensures found { IfOk result (λ found. IfSome found (λ answer. IsPrintable answer × (octets.now ≡ text_of_answer answer))) }
-    ensures only { IfOk result (λ found. (answer : Answer) → IsPrintable answer → octets.now ≡ text_of_answer answer → found ≡ Some answer) }
+    ensures found { IfOk result (λ found. IfSome found
+        (λ answer. IsPrintable answer × (octets.now ≡ text_of_answer answer))) }
+    ensures only { IfOk result (λ found. (answer : Answer) → IsPrintable answer
+        → octets.now ≡ text_of_answer answer → found ≡ Some answer) }
 {
     match read(alloc, octets)? {
         None => Ok(None),

@@ -1,22 +1,28 @@
 -- The meaning of an answer's line (RFC 9051, section 7).
 
-use Rattle.std.specs.Prelude.{ℕ, ◌+◌, ◌-◌, ◌*◌, ◌==◌, ◌&&◌, not, nat_lt, length, take, drop, List, [], ◌∷◌, Option, Some, None, is_some, codes, if◌then◌else◌}
+use Rattle.std.specs.Prelude.{ℕ, ◌+◌, ◌-◌, ◌*◌, ◌==◌, ◌&&◌, not, nat_lt, length, take, drop, List}
+use Rattle.std.specs.Prelude.{[], ◌∷◌, Option, Some, None, is_some, codes, if◌then◌else◌}
 use Rattle.std.specs.Char.{is_ascii_digit}
 use Rattle.std.specs.Fmt.{decimal}
 use Rattle.std.specs.List.{list_all}
 use Rattle.std.specs.Str.{bytes_eq}
 use Rattle.text_fields.specs.FieldReading.{◌>>=◌}
 use Rattle.mail_bench.specs.declared.answers.Answer.{Answer}
-use Rattle.mail_bench.specs.declared.answers.Answer.TheVariants.{Bye, Continue, Ended, Exists, Other, Unreadable}
+use Rattle.mail_bench.specs.declared.answers.Answer.TheVariants.{Bye, Continue, Ended, Exists}
+use Rattle.mail_bench.specs.declared.answers.Answer.TheVariants.{Other, Unreadable}
 use Rattle.mail_bench.specs.declared.answers.Status.{Status}
 use Rattle.mail_bench.specs.declared.answers.Status.TheVariants.{Bad, Done, No}
 
 -- The part of a text after a beginning, and the part before an end, if the text has them.
 abbrev pub behind : List ℕ → List ℕ → Option (List ℕ)
-behind front text = if bytes_eq (take (length front) text) front then Some (drop (length front) text) else None
+behind front text =
+    if bytes_eq (take (length front) text) front then Some (drop (length front) text) else None
 
 abbrev pub front_of : List ℕ → List ℕ → Option (List ℕ)
-front_of end text = if bytes_eq (drop (length text - length end) text) end then Some (take (length text - length end) text) else None
+front_of end text =
+    if bytes_eq (drop (length text - length end) text) end
+    then Some (take (length text - length end) text)
+    else None
 
 -- How a command ended (RFC 9051, section 7.1).
 abbrev pub status_of : List ℕ → Option Status
@@ -41,7 +47,10 @@ number_from number (digit ∷ digits) = number_from (number * 10 + (digit - 48))
 
 -- The number of at most 32 bits that digits spell.
 abbrev pub number_of : List ℕ → Option ℕ
-number_of digits = if (not (length digits == 0) && list_all is_ascii_digit digits) && nat_lt (number_from 0 digits) 4294967296 then Some (number_from 0 digits) else None
+number_of digits =
+    if (not (length digits == 0) && list_all is_ascii_digit digits)
+    && nat_lt (number_from 0 digits) 4294967296 then Some (number_from 0 digits)
+    else None
 
 -- The number of messages in the mailbox, if the line reports it (RFC 9051, section 7.4.1).
 abbrev pub exists_in : List ℕ → Option ℕ

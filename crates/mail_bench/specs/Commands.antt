@@ -5,7 +5,8 @@ use Rattle.std.specs.Fmt.{decimal}
 use Rattle.mail_bench.specs.declared.commands.Ask.{Ask}
 use Rattle.mail_bench.specs.declared.commands.Ask.TheVariants as asks
 use Rattle.mail_bench.specs.declared.commands.Command.{Command}
-use Rattle.mail_bench.specs.declared.commands.Command.TheVariants.{Append, Login, Mailbox, Message, Plain}
+use Rattle.mail_bench.specs.declared.commands.Command.TheVariants.{Append, Login, Mailbox, Message}
+use Rattle.mail_bench.specs.declared.commands.Command.TheVariants.{Plain}
 use Rattle.mail_bench.specs.declared.commands.MailboxAsk.{MailboxAsk}
 use Rattle.mail_bench.specs.declared.commands.MailboxAsk.TheVariants as mailboxes
 use Rattle.mail_bench.specs.declared.commands.MessageAsk.{MessageAsk}

@@ -25,13 +25,17 @@ counted_word name most = record (named_word name) { parser = Some (Unsigned 1 mo
 -- The words that name the server and the workload.
 abbrev pub with_server : App → App
 with_server app =
-    with_rule (with_rule (with_rule (with_rule (with_rule app (required_word (codes "address"))) (required_word (codes "user"))) (required_word (codes "pass")))
+    with_rule (with_rule (with_rule
+    (with_rule (with_rule app (required_word (codes "address"))) (required_word (codes "user")))
+    (required_word (codes "pass")))
     (required_word (codes "workload"))) (named_word (codes "second"))
 
 -- The words that say how much is done, and where.
 abbrev pub with_amounts : App → App
 with_amounts app =
-    with_rule (with_rule (with_rule (with_rule app (counted_word (codes "messages") 1000000)) (counted_word (codes "connections") 1000)) (counted_word (codes "seconds") 3600))
+    with_rule (with_rule
+    (with_rule (with_rule app (counted_word (codes "messages") 1000000))
+    (counted_word (codes "connections") 1000)) (counted_word (codes "seconds") 3600))
     (named_word (codes "mailbox"))
 
 -- All words.
@@ -46,13 +50,15 @@ text_in rows word usual = unwrap_or (first_of word rows) usual
 
 -- A number from 1, which is the default if the word is missing.
 abbrev pub IsAmount : List Row → List ℕ → ℕ → ℕ → ℕ → Type 0
-IsAmount rows word usual most number = (0 < number) × (number ≤ most) × (one_of word rows ≡ None → number ≡ usual)
+IsAmount rows word usual most number =
+    (0 < number) × (number ≤ most) × (one_of word rows ≡ None → number ≡ usual)
 
 -- The server, the user, the mailbox and the workload are those of the matches; so are the numbers,
 -- from 1 to their bounds, and the defaults if a word is missing.
 pub record Asks (rows : List Row) (settings : Settings) : Type 0 where
   pub address : settings.address.now ≡ text_in rows (codes "address") (codes "")
-  pub second : option_map (λ (s : Bor (List ℕ)). s.now) settings.second ≡ first_of (codes "second") rows
+  pub second : option_map (λ (s : Bor (List ℕ)). s.now) settings.second
+      ≡ first_of (codes "second") rows
   pub user : settings.user.now ≡ text_in rows (codes "user") (codes "")
   pub pass : settings.pass.now ≡ text_in rows (codes "pass") (codes "")
   pub mailbox : settings.mailbox.now ≡ text_in rows (codes "mailbox") (codes "bench")

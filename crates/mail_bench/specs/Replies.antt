@@ -1,14 +1,16 @@
 -- How a server's octets make up answers: lines with literals in them (RFC 9051, sections 2.2.2 and
 -- 4.3).
 
-use Rattle.std.specs.Prelude.{◌≡◌, ◌≤◌, ◌<◌, ℕ, ◌+◌, ◌-◌, ◌*◌, ◌==◌, Bool, true, false, not, nat_lt, min, length, List, [], ◌∷◌, ◌++◌, Option, Some, None, if◌then◌else◌}
+use Rattle.std.specs.Prelude.{◌≡◌, ◌≤◌, ◌<◌, ℕ, ◌+◌, ◌-◌, ◌*◌, ◌==◌, Bool, true, false, not, nat_lt}
+use Rattle.std.specs.Prelude.{min, length, List, [], ◌∷◌, ◌++◌, Option, Some, None, if◌then◌else◌}
 use Rattle.std.specs.Char.{is_ascii_digit}
 use Rattle.std.specs.Fmt.{decimal}
 use Rattle.std.specs.List.{list_all}
 use Rattle.mail_bench.specs.declared.replies.ReplyFault.{ReplyFault}
 use Rattle.mail_bench.specs.declared.replies.ReplyFault.TheVariants.{LongLine, LongLiteral}
 use Rattle.mail_bench.specs.declared.replies.ReplyStage.{ReplyStage}
-use Rattle.mail_bench.specs.declared.replies.ReplyStage.TheVariants.{Announced, Closed, Count, Ended, Line, Literal, Open}
+use Rattle.mail_bench.specs.declared.replies.ReplyStage.TheVariants.{Announced, Closed, Count}
+use Rattle.mail_bench.specs.declared.replies.ReplyStage.TheVariants.{Ended, Line, Literal, Open}
 
 -- The numbers of octets in the longest line and in the longest literal that are read.
 abbrev pub longest_line : ℕ
@@ -35,7 +37,9 @@ at_literal octets = if octets == 0 then Line else Literal octets
 abbrev pub next : ReplyStage → ℕ → ReplyStage
 next Line octet = in_line octet
 next Open octet = if is_ascii_digit octet then Count (count_more 0 octet) else in_line octet
-next (Count octets) octet = if is_ascii_digit octet then Count (count_more octets octet) else if octet == 125 then Closed octets else in_line octet
+next (Count octets) octet =
+    if is_ascii_digit octet then Count (count_more octets octet)
+    else if octet == 125 then Closed octets else in_line octet
 next (Closed octets) octet = if octet == 13 then Announced octets else in_line octet
 next (Announced octets) octet = if octet == 10 then at_literal octets else in_line octet
 next (Literal left) octet = at_literal (left - 1)
@@ -58,7 +62,9 @@ is_ended stage = false
 -- The result of reading octets: the stage, the line, and the octets after the answer's end.
 abbrev pub heard : ReplyStage → List ℕ → List ℕ → ReplyStage × List ℕ × List ℕ
 heard stage line [] = (stage, line, [])
-heard stage line (octet ∷ octets) = if is_ended stage then (stage, line, octet ∷ octets) else heard (next stage octet) (kept stage line octet) octets
+heard stage line (octet ∷ octets) =
+    if is_ended stage then (stage, line, octet ∷ octets)
+    else heard (next stage octet) (kept stage line octet) octets
 
 -- Why an answer can't be read further at this stage, with a line of this length.
 abbrev pub refusal_at : ReplyStage → Option ReplyFault
@@ -77,5 +83,8 @@ announced literal = 123 ∷ (decimal (length literal) ++ 125 ∷ 13 ∷ 10 ∷ [
 -- text without LF, and the announcement, the line continues with the octets after the literal.
 abbrev pub LiteralsArePassed : Type 0
 LiteralsArePassed =
-    (before text literal rest : List ℕ) → 0 < length literal → length literal ≤ longest_literal → list_all (λ octet. not (octet == 10)) text ≡ true
-    → heard Line before (text ++ (announced literal ++ (literal ++ rest))) ≡ heard Line ((before ++ text) ++ announced literal) rest
+    (before text literal rest : List ℕ) → 0 < length literal
+    → length literal ≤ longest_literal
+    → list_all (λ octet. not (octet == 10)) text ≡ true
+    → heard Line before (text ++ (announced literal ++ (literal ++ rest)))
+    ≡ heard Line ((before ++ text) ++ announced literal) rest

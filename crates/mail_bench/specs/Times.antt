@@ -1,6 +1,7 @@
 -- Ranks of times, and the rate of commands.
 
-use Rattle.std.specs.Prelude.{ℕ, ◌+◌, ◌-◌, ◌*◌, ◌/◌, ◌==◌, if◌then◌else◌, min, List, [], ◌∷◌, Option, Some, None, length, slice_index}
+use Rattle.std.specs.Prelude.{ℕ, ◌+◌, ◌-◌, ◌*◌, ◌/◌, ◌==◌, if◌then◌else◌, min, List, [], ◌∷◌}
+use Rattle.std.specs.Prelude.{Option, Some, None, length, slice_index}
 use Rattle.mail_bench.specs.declared.times.Summary.{Summary}
 
 -- The nearest rank of a percentage: the least whole number that isn't below percent * count / 100.
@@ -29,4 +30,5 @@ summary_of (time ∷ times) = Some (summary (time ∷ times))
 -- Commands per second, from a number of commands and of microseconds; 0 if no microsecond passed. A
 -- product of more than 64 bits is capped at the greatest number of 64 bits.
 abbrev pub rate : ℕ → ℕ → ℕ
-rate commands micros = if micros == 0 then 0 else min (commands * 1000000) 18446744073709551615 / micros
+rate commands micros =
+    if micros == 0 then 0 else min (commands * 1000000) 18446744073709551615 / micros

@@ -4,7 +4,8 @@ ghost use Rattle.std.specs.Prelude.{codes, ◌≡◌, ◌+◌, ◌-◌, ◌*◌,
 ghost use Rattle.std.specs.Char.{is_ascii_digit};
 ghost use Rattle.std.specs.List.{list_all};
 ghost use Rattle.std.specs.Option.{option_map};
-ghost use Rattle.mail_bench.specs.Answers.{answer_of, behind, exists_in, front_of, number_from, number_of, plain_answer, status_in, status_of};
+ghost use Rattle.mail_bench.specs.Answers.{answer_of, behind, exists_in, front_of, number_from};
+ghost use Rattle.mail_bench.specs.Answers.{number_of, plain_answer, status_in, status_of};
 
 use itoa::Buffer;
 

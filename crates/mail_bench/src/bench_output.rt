@@ -17,8 +17,10 @@ pub fn settings_or_status<'a, R: Print + Eprint + AllocGlobal>(
     rt: &R,
     words: &'a [String],
 ) -> Result<Settings<'a>, u8>
-    ensures asked { IfOk result (λ settings. Asks (matches_of bench_words (map ⟦<String as AsStr>⟧.text words.entry.now)) settings) }
-    ensures plain { IfOk result (λ settings. IsPlainText settings.user.now × IsPlainText settings.pass.now × IsPlainText settings.mailbox.now) }
+    ensures asked { IfOk result (λ settings. Asks
+        (matches_of bench_words (map ⟦<String as AsStr>⟧.text words.entry.now)) settings) }
+    ensures plain { IfOk result (λ settings. IsPlainText settings.user.now
+        × IsPlainText settings.pass.now × IsPlainText settings.mailbox.now) }
 {
     match read_settings(rt.alloc(), words) {
         Ok(settings) => Ok(settings),

@@ -2,7 +2,10 @@
 
 ghost use Rattle.std.specs.Prelude.{◌≡◌, ◌++◌, IfOk, OnOk, vec_len};
 ghost use Rattle.std.specs.List.{flat_map};
-ghost use Rattle.mail_bench.specs.Commands.{announced_text, append_text, asked_text, command_text, counted_text, escaped, line_text, login_text, mailbox_verb_text, named_text, plain_text, quoted, tag_text, verb_text};
+ghost use Rattle.mail_bench.specs.Commands.{announced_text, append_text, asked_text, command_text};
+ghost use Rattle.mail_bench.specs.Commands.{counted_text, escaped, line_text, login_text};
+ghost use Rattle.mail_bench.specs.Commands.{mailbox_verb_text, named_text, plain_text, quoted};
+ghost use Rattle.mail_bench.specs.Commands.{tag_text, verb_text};
 
 use std::alloc::{AllocError, Global};
 use text_fields::push_number;

@@ -1,8 +1,10 @@
 //! Answers, put together from a server's octets. An answer is a line with literals in it (RFC 9051,
 //! sections 2.2.2 and 4.3); the octets of literals aren't stored.
 
-ghost use Rattle.std.specs.Prelude.{◌≡◌, ◌⊎◌, ◌≤◌, ◌<◌, ◌+◌, ◌++◌, [], IfErr, IfOk, None, OnOk, Some, drop, false, length, true};
-ghost use Rattle.mail_bench.specs.Replies.{at_literal, count_more, heard, in_line, is_ended, is_kept, kept, longest_line, next, refusal, refusal_at};
+ghost use Rattle.std.specs.Prelude.{◌≡◌, ◌⊎◌, ◌≤◌, ◌<◌, ◌+◌, ◌++◌, [], IfErr, IfOk, None, OnOk};
+ghost use Rattle.std.specs.Prelude.{Some, drop, false, length, true};
+ghost use Rattle.mail_bench.specs.Replies.{at_literal, count_more, heard, in_line, is_ended};
+ghost use Rattle.mail_bench.specs.Replies.{is_kept, kept, longest_line, next, refusal, refusal_at};
 ghost use Rattle.mail_bench.specs.declared.replies.ReplyFault.TheVariants as faults;
 ghost use Rattle.mail_bench.specs.declared.replies.ReplyStage.TheVariants.{Line, Literal};
 
@@ -100,8 +102,10 @@ impl Reading {
     #[tactic(auto, using(crate::proofs::ReplyLemmas::heard_ended, crate::proofs::ReplyLemmas::heard_whole))]
     pub fn read(&mut self, octets: &[u8]) -> Result<usize, ReplyFault>
         ensures within { IfOk result (λ count. count ≤ length octets.now) }
-        ensures heard { IfOk result (λ count. heard self.old.stage self.old.line.items octets.now ≡ (self.new.stage, self.new.line.items, drop count octets.now)) }
-        ensures ended { IfOk result (λ count. count < length octets.now → is_ended self.new.stage ≡ true) }
+        ensures heard { IfOk result (λ count. heard self.old.stage self.old.line.items octets.now
+            ≡ (self.new.stage, self.new.line.items, drop count octets.now)) }
+        ensures ended { IfOk result
+            (λ count. count < length octets.now → is_ended self.new.stage ≡ true) }
     {
         let mut at = 0;
         while at < octets.len() {
@@ -121,7 +125,8 @@ impl Reading {
         requires goes_on { is_ended self.old.stage ≡ false }
         ensures some { IfOk result (λ count. 0 < count) }
         ensures within { IfOk result (λ count. count ≤ length octets.now) }
-        ensures heard { IfOk result (λ count. heard self.old.stage self.old.line.items octets.now ≡ heard self.new.stage self.new.line.items (drop count octets.now)) }
+        ensures heard { IfOk result (λ count. heard self.old.stage self.old.line.items octets.now
+            ≡ heard self.new.stage self.new.line.items (drop count octets.now)) }
     {
         match self.stage {
             ReplyStage::Line => self.read_text(octets),
@@ -137,7 +142,8 @@ impl Reading {
         requires text { self.old.stage ≡ Line }
         ensures some { IfOk result (λ count. 0 < count) }
         ensures within { IfOk result (λ count. count ≤ length octets.now) }
-        ensures heard { IfOk result (λ count. heard Line self.old.line.items octets.now ≡ heard self.new.stage self.new.line.items (drop count octets.now)) }
+        ensures heard { IfOk result (λ count. heard Line self.old.line.items octets.now
+            ≡ heard self.new.stage self.new.line.items (drop count octets.now)) }
     {
         match memchr2(b'{', b'\n', octets) {
             Some(at) => {
@@ -157,7 +163,9 @@ impl Reading {
         ensures stage { OnOk result (self.new.stage ≡ behind) }
         ensures line { OnOk result (self.new.line.items ≡ self.old.line.items ++ text.now) }
         ensures fine { OnOk result (length self.new.line.items ≤ longest_line) }
-        ensures refused { IfErr result (λ fault. (fault ≡ faults.NoMemory) ⊎ ((fault ≡ faults.LongLine) × (longest_line < length self.old.line.items + length text.now))) }
+        ensures refused { IfErr result (λ fault. (fault ≡ faults.NoMemory)
+            ⊎ ((fault ≡ faults.LongLine)
+            × (longest_line < length self.old.line.items + length text.now))) }
     {
         if self.line.len().saturating_add(text.len()) > MAX_LINE {
             return Err(ReplyFault::LongLine);
@@ -176,7 +184,8 @@ impl Reading {
         requires literal { self.old.stage ≡ Literal left }
         ensures some { 0 < result }
         ensures within { result ≤ length octets.now }
-        ensures heard { heard (Literal left) self.old.line.items octets.now ≡ heard self.new.stage self.new.line.items (drop result octets.now) }
+        ensures heard { heard (Literal left) self.old.line.items octets.now
+            ≡ heard self.new.stage self.new.line.items (drop result octets.now) }
     {
         let count = (octets.len() as u64).min(left.max(1));
         self.stage = at_literal(left.saturating_sub(count));
@@ -190,7 +199,8 @@ impl Reading {
         requires goes_on { is_ended self.old.stage ≡ false }
         ensures some { IfOk result (λ count. 0 < count) }
         ensures within { IfOk result (λ count. count ≤ length octets.now) }
-        ensures heard { IfOk result (λ count. heard self.old.stage self.old.line.items octets.now ≡ heard self.new.stage self.new.line.items (drop count octets.now)) }
+        ensures heard { IfOk result (λ count. heard self.old.stage self.old.line.items octets.now
+            ≡ heard self.new.stage self.new.line.items (drop count octets.now)) }
     {
         self.take(octets[0])?;
         Ok(1)
@@ -200,9 +210,13 @@ impl Reading {
     /// answer is too long with it.
     fn take(&mut self, octet: u8) -> Result<(), ReplyFault>
         ensures stage { OnOk result (self.new.stage ≡ next self.old.stage octet) }
-        ensures line { OnOk result (self.new.line.items ≡ kept self.old.stage self.old.line.items octet) }
-        ensures fine { OnOk result (refusal (next self.old.stage octet) (length (kept self.old.stage self.old.line.items octet)) ≡ None) }
-        ensures refused { IfErr result (λ fault. (fault ≡ faults.NoMemory) ⊎ (refusal (next self.old.stage octet) (length (kept self.old.stage self.old.line.items octet)) ≡ Some fault)) }
+        ensures line { OnOk result
+            (self.new.line.items ≡ kept self.old.stage self.old.line.items octet) }
+        ensures fine { OnOk result (refusal (next self.old.stage octet)
+            (length (kept self.old.stage self.old.line.items octet)) ≡ None) }
+        ensures refused { IfErr result (λ fault. (fault ≡ faults.NoMemory)
+            ⊎ (refusal (next self.old.stage octet)
+            (length (kept self.old.stage self.old.line.items octet)) ≡ Some fault)) }
     {
         if is_kept(self.stage) && self.line.push(octet).is_err() {
             return Err(ReplyFault::NoMemory);

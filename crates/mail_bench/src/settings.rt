@@ -4,7 +4,9 @@ ghost use Rattle.std.specs.Prelude.{◌≡◌, ◌≤◌, ◌<◌, IfNone, IfOk,
 ghost use Rattle.std.specs.Option.{option_map};
 ghost use Rattle.clap.specs.Words.{first_of, found_of, matches_of, rows_of};
 ghost use Rattle.clap_laws.specs.Words.{Add, IsWord};
-ghost use Rattle.mail_bench.specs.Options.{Asks, IsAmount, IsPlainText, bench_words, counted_word, named_word, required_word, text_in, with_amounts, with_server};
+ghost use Rattle.mail_bench.specs.Options.{Asks, IsAmount, IsPlainText, bench_words, counted_word};
+ghost use Rattle.mail_bench.specs.Options.{named_word, required_word, text_in, with_amounts};
+ghost use Rattle.mail_bench.specs.Options.{with_server};
 
 use crate::workload::Workload;
 use clap::builder::ValueParser;
@@ -70,8 +72,10 @@ pub fn read_settings<'a>(
     alloc: Global,
     words: &'a [String],
 ) -> Result<Settings<'a>, SettingsFault<'a>>
-    ensures asked { IfOk result (λ settings. Asks (matches_of bench_words (map ⟦<String as AsStr>⟧.text words.entry.now)) settings) }
-    ensures plain { IfOk result (λ settings. IsPlainText settings.user.now × IsPlainText settings.pass.now × IsPlainText settings.mailbox.now) }
+    ensures asked { IfOk result (λ settings. Asks
+        (matches_of bench_words (map ⟦<String as AsStr>⟧.text words.entry.now)) settings) }
+    ensures plain { IfOk result (λ settings. IsPlainText settings.user.now
+        × IsPlainText settings.pass.now × IsPlainText settings.mailbox.now) }
 {
     match find_words(alloc, words) {
         Ok(matches) => match plain_settings_in(&matches) {
@@ -85,7 +89,8 @@ pub fn read_settings<'a>(
 /// The settings that the matches hold, if their texts are plain.
 fn plain_settings_in<'a>(matches: &ArgMatches<'a>) -> Result<Settings<'a>, UsageFault<'a>>
     ensures asked { IfOk result (λ settings. Asks (rows_of (found_of matches.now)) settings) }
-    ensures plain { IfOk result (λ settings. IsPlainText settings.user.now × IsPlainText settings.pass.now × IsPlainText settings.mailbox.now) }
+    ensures plain { IfOk result (λ settings. IsPlainText settings.user.now
+        × IsPlainText settings.pass.now × IsPlainText settings.mailbox.now) }
 {
     let settings = settings_in(matches)?;
     match bad_text(settings.user, settings.pass, settings.mailbox) {
@@ -96,7 +101,8 @@ fn plain_settings_in<'a>(matches: &ArgMatches<'a>) -> Result<Settings<'a>, Usage
 
 /// The first word whose text isn't plain, if any.
 fn bad_text(user: &str, pass: &str, mailbox: &str) -> Option<&'static str>
-    ensures { IfNone result (IsPlainText user.now × IsPlainText pass.now × IsPlainText mailbox.now) }
+    ensures { IfNone result
+        (IsPlainText user.now × IsPlainText pass.now × IsPlainText mailbox.now) }
 {
     if !is_plain(user) {
         return Some("user");
@@ -170,7 +176,8 @@ fn amount_in(matches: &ArgMatches<'_>, word: &str, usual: u32, most: u32) -> u32
 
 /// The matches of a command line with the words that the program knows.
 fn find_words<'a>(alloc: Global, words: &'a [String]) -> Result<ArgMatches<'a>, Error>
-    ensures { IfOk result (λ matches. rows_of (found_of matches) ≡ matches_of bench_words (map ⟦<String as AsStr>⟧.text words.entry.now)) }
+    ensures { IfOk result (λ matches. rows_of (found_of matches)
+        ≡ matches_of bench_words (map ⟦<String as AsStr>⟧.text words.entry.now)) }
 {
     let known = known_words(alloc)?;
     let command = Command::new(alloc, "mail_bench").about(ABOUT).args(known)?;

@@ -1,6 +1,7 @@
 -- Deliveries of operations to the replicas of a script, and the lines that report their results.
 
-use Rattle.std.specs.Prelude.{◌≡◌, ◌⊎◌, ◌↔◌, ℕ, Bool, IsTrue, List, Some, Result, Ok, Err, slice_get, slice_set}
+use Rattle.std.specs.Prelude.{◌≡◌, ◌⊎◌, ◌↔◌, ℕ, Bool, IsTrue, List, Some, Result, Ok, Err}
+use Rattle.std.specs.Prelude.{slice_get, slice_set}
 use Rattle.causal_inbox.specs.declared.delivery.Arrival.{Arrival}
 use Rattle.causal_inbox.specs.declared.delivery.Arrival.TheVariants as arrivals
 use Rattle.causal_inbox.specs.declared.delivery.DeliverFault.{DeliverFault}
@@ -10,7 +11,9 @@ use Rattle.crdt_ops.specs.Form.{IsSpelled}
 use Rattle.crdt_ops.specs.Sound.{IsFirstFault, IsSound}
 use Rattle.crdt_ops.specs.declared.op.Op.{Op}
 use Rattle.crdt_ops.specs.declared.sound_op.Unsound.{Unsound as Fault}
-use Rattle.crdt_ops.specs.declared.sound_op.Unsound.TheVariants.{OwnClockEntry, UncoveredId, UnlawfulName, UnlawfulFlags, DeleteOfInbox, Count}
+use Rattle.crdt_ops.specs.declared.sound_op.Unsound.TheVariants.{OwnClockEntry, UncoveredId}
+use Rattle.crdt_ops.specs.declared.sound_op.Unsound.TheVariants.{UnlawfulName, UnlawfulFlags}
+use Rattle.crdt_ops.specs.declared.sound_op.Unsound.TheVariants.{DeleteOfInbox, Count}
 use Rattle.imap_node.specs.Deliveries.{Delivers, Drains, HoldsRipe, IsRefusedAt}
 use Rattle.imap_node.specs.Nodes.{NodeWithRoom, NodeState}
 use Rattle.mail_script.specs.Outcomes.{outcome_line}
@@ -19,7 +22,8 @@ use Rattle.mail_script.specs.declared.outcome_line.BrokenRule.TheVariants as rul
 use Rattle.mail_script.specs.declared.outcome_line.DeliveryResult.{DeliveryResult}
 use Rattle.mail_script.specs.declared.outcome_line.DeliveryResult.TheVariants as results
 use Rattle.mail_script.specs.declared.outcome_line.OutcomeLine.{OutcomeLine}
-use Rattle.mail_script.specs.declared.outcome_line.OutcomeLine.TheVariants.{Delivered, Drained, Forged, Unsound}
+use Rattle.mail_script.specs.declared.outcome_line.OutcomeLine.TheVariants.{Delivered, Drained}
+use Rattle.mail_script.specs.declared.outcome_line.OutcomeLine.TheVariants.{Forged, Unsound}
 use Rattle.mail_replay.specs.ScriptState.{ScriptContents, replica_place}
 use Rattle.mail_replay.specs.declared.deliveries.Source.{Source}
 use Rattle.mail_replay.specs.declared.deliveries.Source.TheVariants as sources
@@ -58,26 +62,40 @@ broken_rule_of Count = rules.OldIdCount
 
 -- A node's answer to an operation that is delivered to it, and its state after that.
 abbrev pub Answers : NodeState → Op → Result Answer DeliverFault → NodeState → Type 0
-Answers old op (Ok answer) new = Delivers old op answer.arrival new × (IsTrue answer.stalled ↔ HoldsRipe new)
+Answers old op (Ok answer) new =
+    Delivers old op answer.arrival new × (IsTrue answer.stalled ↔ HoldsRipe new)
 Answers old op (Err why) new = IsRefusedAt old op why × (new ≡ old)
 
 -- The replica with this name is declared, and has this place.
 abbrev pub StandsAt : ScriptContents → ℕ → ℕ → ScriptReplica → Type 0
-StandsAt scene name at replica = (replica_place scene.replicas name ≡ Some at) × (slice_get scene.replicas at ≡ Some replica)
+StandsAt scene name at replica =
+    (replica_place scene.replicas name ≡ Some at) × (slice_get scene.replicas at ≡ Some replica)
 
 -- The script's state with this node in place of a replica's.
 abbrev pub with_node : ScriptContents → ℕ → ScriptReplica → NodeWithRoom → ScriptContents
-with_node scene at replica node = record scene { replicas = slice_set scene.replicas at (record replica { node = node }) }
+with_node scene at replica node =
+    record scene { replicas = slice_set scene.replicas at (record replica { node = node }) }
 
 -- An operation is delivered to a replica, with this result.
 abbrev pub DeliversOp : ScriptContents → ℕ → Op → DeliveryResult → ScriptContents → Type 0
 DeliversOp old name op told new =
-    (at : ℕ) × (replica : ScriptReplica) × (node : NodeWithRoom) × (answer : Result Answer DeliverFault)
-    × StandsAt old name at replica × Answers replica.node.state op answer node.state × (told ≡ delivery_result_of answer) × (new ≡ with_node old at replica node)
+    (at : ℕ)
+    × (replica : ScriptReplica)
+    × (node : NodeWithRoom)
+    × (answer : Result Answer DeliverFault)
+    × StandsAt old name at replica
+    × Answers replica.node.state op answer node.state
+    × (told ≡ delivery_result_of answer)
+    × (new ≡ with_node old at replica node)
 
 -- The replica that an id names issued this operation with it.
 abbrev pub Issued : ScriptContents → OpId → Op → Type 0
-Issued scene id op = (at : ℕ) × (source : ScriptReplica) × StandsAt scene id.replica at source × IsIn op source.issued × (op.id ≡ id)
+Issued scene id op =
+    (at : ℕ)
+    × (source : ScriptReplica)
+    × StandsAt scene id.replica at source
+    × IsIn op source.issued
+    × (op.id ≡ id)
 
 -- The line that reports the result of a delivery.
 abbrev pub outcome_line_of : Source → OpId → ℕ → DeliveryResult → OutcomeLine
@@ -86,18 +104,23 @@ outcome_line_of sources.Forged id name told = Forged id name told
 
 -- An operation is delivered to a replica, and the result is printed.
 abbrev pub DeliversAndPrints : ScriptContents → Source → ℕ → Op → List ℕ → ScriptContents → Type 0
-DeliversAndPrints old source name op more new = (told : DeliveryResult) × DeliversOp old name op told new × (more ≡ outcome_line (outcome_line_of source op.id name told))
+DeliversAndPrints old source name op more new =
+    (told : DeliveryResult)
+    × DeliversOp old name op told new
+    × (more ≡ outcome_line (outcome_line_of source op.id name told))
 
 -- The operation that its replica issued with this id is delivered.
 abbrev pub DeliversTo : ScriptContents → OpId → ℕ → List ℕ → ScriptContents → Type 0
-DeliversTo old id name more new = (op : Op) × Issued old id op × DeliversAndPrints old sources.Issued name op more new
+DeliversTo old id name more new =
+    (op : Op) × Issued old id op × DeliversAndPrints old sources.Issued name op more new
 
 -- A forged operation is delivered to a replica if it is sound; otherwise the rule that it breaks is
 -- reported.
 abbrev pub Forges : ScriptContents → ℕ → Op → List ℕ → ScriptContents → Type 0
 Forges old name op more new =
     (IsSound op × DeliversAndPrints old sources.Forged name op more new)
-    ⊎ ((why : Fault) × IsFirstFault op why × (more ≡ outcome_line (Unsound (broken_rule_of why))) × (new ≡ old))
+    ⊎ ((why : Fault) × IsFirstFault op why × (more ≡ outcome_line (Unsound (broken_rule_of why)))
+    × (new ≡ old))
 
 -- An operation that a line spells, and that no replica need have issued, is delivered.
 abbrev pub ForgesAt : ScriptContents → ℕ → List ℕ → List ℕ → ScriptContents → Type 0
@@ -107,5 +130,7 @@ ForgesAt old name text more new = (op : Op) × IsSpelled op text × Forges old n
 abbrev pub DrainsAt : ScriptContents → ℕ → List ℕ → ScriptContents → Type 0
 DrainsAt old name more new =
     (at : ℕ) × (replica : ScriptReplica) × (node : NodeWithRoom) × (count : ℕ) × (stalled : Bool)
-    × StandsAt old name at replica × Drains replica.node.state count node.state × (IsTrue stalled ↔ HoldsRipe node.state)
+    × StandsAt old name at replica
+    × Drains replica.node.state count node.state
+    × (IsTrue stalled ↔ HoldsRipe node.state)
     × (more ≡ outcome_line (Drained name count stalled)) × (new ≡ with_node old at replica node)

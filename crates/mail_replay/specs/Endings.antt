@@ -6,7 +6,8 @@ use Rattle.mail_script.specs.declared.outcome_line.OutcomeLine.TheVariants as li
 use Rattle.mail_audit.specs.declared.verdict.AuditEnd.{AuditEnd}
 use Rattle.mail_audit.specs.declared.verdict.AuditEnd.TheVariants as audits
 use Rattle.mail_replay.specs.declared.replay_end.ReplayEnd.{ReplayEnd}
-use Rattle.mail_replay.specs.declared.replay_end.ReplayEnd.TheVariants.{Done, BadScript, ReadFailed, WriteFailed, NoMemory}
+use Rattle.mail_replay.specs.declared.replay_end.ReplayEnd.TheVariants.{Done, BadScript, ReadFailed}
+use Rattle.mail_replay.specs.declared.replay_end.ReplayEnd.TheVariants.{WriteFailed, NoMemory}
 
 -- The program's status after a replay: 0 if every line was served, otherwise 3.
 abbrev pub status_of : ReplayEnd → ℕ

@@ -1,6 +1,7 @@
 -- Comparisons of replicas, and exchanges of operations between all of them.
 
-use Rattle.std.specs.Prelude.{◌≡◌, ◌↔◌, ℕ, Bool, IsTrue, List, [], ◌∷◌, map, MatchResult, Result, Ok, Err}
+use Rattle.std.specs.Prelude.{◌≡◌, ◌↔◌, ℕ, Bool, IsTrue, List, [], ◌∷◌, map, MatchResult, Result}
+use Rattle.std.specs.Prelude.{Ok, Err}
 use Rattle.imap_node.specs.Nodes.{NodeWithRoom}
 use Rattle.mail_script.specs.Outcomes.{outcome_line}
 use Rattle.mail_script.specs.declared.outcome_line.OutcomeLine.TheVariants.{Agreed, Settled}
@@ -11,7 +12,8 @@ use Rattle.mail_replay.specs.ScriptState.{ScriptContents}
 use Rattle.mail_replay.specs.declared.script_state.ScriptReplica.{ScriptReplica}
 use Rattle.merge_laws.specs.Orders.{HaveSameElements}
 use Rattle.world_core.specs.Replicas.{all_without_room}
-use Rattle.world_core.specs.Settling.{AllTakeSomeOf, AreAgreed, AreSettled, AreUnsettled, IsReceivedBy}
+use Rattle.world_core.specs.Settling.{AllTakeSomeOf, AreAgreed, AreSettled, AreUnsettled}
+use Rattle.world_core.specs.Settling.{IsReceivedBy}
 use Rattle.world_core.specs.declared.settling.SettleFault.{SettleFault}
 use Rattle.world_core.specs.declared.settling.SettleFault.TheVariants as faults
 
@@ -31,7 +33,8 @@ nodes_in replicas = map (λ (replica : ScriptReplica). replica.node) replicas
 abbrev pub with_nodes : List ScriptReplica → List NodeWithRoom → List ScriptReplica
 with_nodes [] nodes = []
 with_nodes (replica ∷ replicas) [] = replica ∷ replicas
-with_nodes (replica ∷ replicas) (node ∷ nodes) = record replica { node = node } ∷ with_nodes replicas nodes
+with_nodes (replica ∷ replicas) (node ∷ nodes) =
+    record replica { node = node } ∷ with_nodes replicas nodes
 
 -- The result that is reported for an exchange between all replicas.
 abbrev pub settle_line : Result (Unit {0}) SettleFault → SettleResult
@@ -47,13 +50,17 @@ abbrev pub Exchanges : List ScriptReplica → SettleResult → List ScriptReplic
 Exchanges old told new =
     (nodes : List NodeWithRoom) × (answer : Result (Unit {0}) SettleFault)
     × MatchResult answer
-    (λ done. AreAgreed (all_without_room (nodes_in old)) × AreSettled (all_without_room (nodes_in old)) (all_without_room nodes))
+    (λ done. AreAgreed (all_without_room (nodes_in old))
+    × AreSettled (all_without_room (nodes_in old)) (all_without_room nodes))
     (λ why. AreUnsettled (all_without_room (nodes_in old)) why (all_without_room nodes))
-    × AllTakeSomeOf (IsReceivedBy (all_without_room (nodes_in old))) (all_without_room (nodes_in old)) (all_without_room nodes)
+    × AllTakeSomeOf (IsReceivedBy (all_without_room (nodes_in old)))
+    (all_without_room (nodes_in old)) (all_without_room nodes)
     × (told ≡ settle_line answer) × (new ≡ with_nodes old nodes)
 
 -- All replicas exchange what they received, and the result is printed.
 abbrev pub Settles : ScriptContents → List ℕ → ScriptContents → Type 0
 Settles old more new =
     (told : SettleResult) × (replicas : List ScriptReplica)
-    × Exchanges old.replicas told replicas × (more ≡ outcome_line (Settled told)) × (new ≡ record old { replicas = replicas })
+    × Exchanges old.replicas told replicas
+    × (more ≡ outcome_line (Settled told))
+    × (new ≡ record old { replicas = replicas })

@@ -17,7 +17,8 @@ use Rattle.world_core.specs.Joins.{LacksNumbers}
 -- A replica of this name that applied these operations, as if each had been delivered to it in
 -- turn, and that has issued none.
 abbrev pub IsJoined : ℕ → List Op → ScriptReplica → Type 0
-IsJoined name ops replica = (replica.name ≡ name) × (replica.node.state ≡ joined_node name ops) × (replica.issued ≡ [])
+IsJoined name ops replica =
+    (replica.name ≡ name) × (replica.node.state ≡ joined_node name ops) × (replica.issued ≡ [])
 
 -- The result that is reported for a replica's join with these operations, and the replicas after
 -- it: the new one is added at the end. No replica is added if one of the operations is the new
@@ -25,9 +26,12 @@ IsJoined name ops replica = (replica.name ≡ name) × (replica.node.state ≡ j
 -- one of them; and memory may run out.
 abbrev pub JoinsBehind : List ScriptReplica → ℕ → List Op → JoinResult → List ScriptReplica → Type 0
 JoinsBehind old name ops results.Done new =
-    IsLeastOwn id_of name ops None × (¬ LacksNumbers name ops) × ((replica : ScriptReplica) × IsJoined name ops replica × (new ≡ old ++ replica ∷ []))
+    IsLeastOwn id_of name ops None
+    × (¬ LacksNumbers name ops)
+    × ((replica : ScriptReplica) × IsJoined name ops replica × (new ≡ old ++ replica ∷ []))
 JoinsBehind old name ops (results.Own id) new = IsLeastOwn id_of name ops (Some id) × (new ≡ old)
-JoinsBehind old name ops results.Exhausted new = IsLeastOwn id_of name ops None × LacksNumbers name ops × (new ≡ old)
+JoinsBehind old name ops results.Exhausted new =
+    IsLeastOwn id_of name ops None × LacksNumbers name ops × (new ≡ old)
 JoinsBehind old name ops results.NoMemory new = IsLeastOwn id_of name ops None × (new ≡ old)
 
 -- A replica that isn't declared begins with the operations that a declared one applied, and the

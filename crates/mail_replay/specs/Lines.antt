@@ -1,6 +1,7 @@
 -- What each line of a script does to the script's state, and what it prints.
 
-use Rattle.std.specs.Prelude.{◌≡◌, ◌≢◌, ◌⊎◌, ℕ, ◌<◌, ◌≤◌, ◌++◌, List, [], ◌∷◌, Option, Some, None, IsSome, IsNone, Ok, drop, length, slice_get, slice_set, take}
+use Rattle.std.specs.Prelude.{◌≡◌, ◌≢◌, ◌⊎◌, ℕ, ◌<◌, ◌≤◌, ◌++◌, List, [], ◌∷◌, Option, Some, None}
+use Rattle.std.specs.Prelude.{IsSome, IsNone, Ok, drop, length, slice_get, slice_set, take}
 use Rattle.crdt_ops.specs.Form.{IsSpelled}
 use Rattle.crdt_ops.specs.declared.op.Op.{Op}
 use Rattle.imap_lex.specs.Framing.{cut_onward, start}
@@ -13,7 +14,10 @@ use Rattle.imap_answers.specs.declared.fixed_words.Login.TheVariants.{Given}
 use Rattle.mail_script.specs.Script.{Says}
 use Rattle.mail_script.specs.Transcript.{transcript_line}
 use Rattle.mail_script.specs.declared.script.ScriptLine.{ScriptLine}
-use Rattle.mail_script.specs.declared.script.ScriptLine.TheVariants.{Blank, Node, Now, Open, Line, Send, Poll, Close, Show, Deliver, Forge, Drain, Settle, Agree, Join}
+use Rattle.mail_script.specs.declared.script.ScriptLine.TheVariants.{Blank, Node, Now, Open, Line}
+use Rattle.mail_script.specs.declared.script.ScriptLine.TheVariants.{Send, Poll, Close, Show}
+use Rattle.mail_script.specs.declared.script.ScriptLine.TheVariants.{Deliver, Forge, Drain, Settle}
+use Rattle.mail_script.specs.declared.script.ScriptLine.TheVariants.{Agree, Join}
 use Rattle.mail_script.specs.declared.transcript.Speaker.TheVariants.{Server}
 use Rattle.imap_node.specs.Nodes.{IsGoing, NodeWithRoom, NodeState, with_session_closed}
 use Rattle.imap_node.specs.Sessions.{IsOpen, Opens}
@@ -47,15 +51,22 @@ start_at name uid k = record { replica = name; uid = uid; k = k }
 abbrev pub Declares : ScriptContents → Counters → ScriptContents → Type 0
 Declares old first new =
     (replica_place old.replicas first.replica ≡ None)
-    × ((replica : ScriptReplica) × IsNew first replica × (new ≡ record old { replicas = old.replicas ++ replica ∷ [] }))
+    × ((replica : ScriptReplica) × IsNew first replica
+    × (new ≡ record old { replicas = old.replicas ++ replica ∷ [] }))
 
 -- A replica opens a session and greets; or, if 1,024 are open, it says that there are too many
 -- sessions, and the session has ended.
 abbrev pub Begins : NodeState → Answer → NodeState → Option Connection → Type 0
 Begins old answer new (Some connection) =
-    Opens old.sessions Preauth connection.number new.sessions × (new ≡ record old { sessions = new.sessions })
-    × (connection.framer ≡ record { limits = record { line = 8192; literals = 1048576 }; state = Ok start }) × (answer ≡ Greeting Given)
-Begins old answer new None = ((n : ℕ) → 0 < n → n ≤ 1024 → IsOpen old.sessions n) × (new ≡ old) × (answer ≡ Bye TooManySessions)
+    Opens old.sessions Preauth connection.number new.sessions
+    × (new ≡ record old { sessions = new.sessions })
+    × (connection.framer
+    ≡ record { limits = record { line = 8192; literals = 1048576 }; state = Ok start })
+    × (answer ≡ Greeting Given)
+Begins old answer new None =
+    ((n : ℕ) → 0 < n → n ≤ 1024 → IsOpen old.sessions n)
+    × (new ≡ old)
+    × (answer ≡ Bye TooManySessions)
 
 -- A conversation ends for a fault of framing, or at a refused line of IDLE, and not because memory
 -- ran out partway.
@@ -64,18 +75,27 @@ IsToldEnd why = (why ≢ Framing faults.NoMemory) × (why ≢ NoMemory)
 
 -- The commands that octets complete which arrive at a connection at a moment.
 abbrev pub cut_at_connection : Connection → ℕ → List ℕ → TimedCut
-cut_at_connection connection moment octets = cut_at moment (cut_onward connection.framer.limits connection.framer.state octets)
+cut_at_connection connection moment octets =
+    cut_at moment (cut_onward connection.framer.limits connection.framer.state octets)
 
 -- The effect of octets that arrive at a connection at a moment: the turns of the conversation, and
 -- the connection afterwards, whose framer has the same limits; no connection if a LOGOUT was
 -- answered OK, the octets can't be framed, or a line of IDLE was refused.
-abbrev pub TalksOn : NodeState → Connection → ℕ → List ℕ → List Turn → NodeState → Option Connection → Type 0
+abbrev pub TalksOn : NodeState → Connection → ℕ → List ℕ → List Turn → NodeState → Option Connection
+    → Type 0
 TalksOn old connection moment octets turns new (Some left) =
-    (left.number ≡ connection.number) × (left.framer.limits ≡ connection.framer.limits) × IsGoing new left.number
-    × Talks old connection.number (cut_at_connection connection moment octets) turns new left.framer.state
+    (left.number ≡ connection.number)
+    × (left.framer.limits ≡ connection.framer.limits)
+    × IsGoing new left.number
+    × Talks old connection.number (cut_at_connection connection moment octets) turns new
+    left.framer.state
 TalksOn old connection moment octets turns new None =
-    ((IsGoing new connection.number → ⊥) × ((state : _) × Talks old connection.number (cut_at_connection connection moment octets) turns new state))
-    ⊎ ((why : TalkFaultKind) × IsToldEnd why × EndsTalk why old connection.number connection.framer.state (cut_at_connection connection moment octets) turns new)
+    ((IsGoing new connection.number → ⊥)
+    × ((state : _)
+    × Talks old connection.number (cut_at_connection connection moment octets) turns new state))
+    ⊎ ((why : TalkFaultKind) × IsToldEnd why
+    × EndsTalk why old connection.number connection.framer.state
+    (cut_at_connection connection moment octets) turns new)
 
 -- A session that can be fed: it was opened, and has a connection with a declared replica.
 pub record Feedable (scene : ScriptContents) (name : List ℕ) : Type 0 where
@@ -96,12 +116,18 @@ ops_applied_since old new = drop (length old.applied) new.applied
 
 -- The replica after a conversation: it issued what its node applied meanwhile.
 abbrev pub replica_after_talk : ScriptReplica → NodeWithRoom → ScriptReplica
-replica_after_talk old node = record old { node = node; issued = old.issued ++ ops_applied_since old.node.state node.state }
+replica_after_talk old node =
+    record old { node = node; issued = old.issued ++ ops_applied_since old.node.state node.state }
 
 -- The script's state with this node and this connection in place of a session's.
-abbrev pub with_talk : (scene : ScriptContents) (name : List ℕ) → Feedable scene name → NodeWithRoom → Option Connection → ScriptContents
+abbrev pub with_talk : (scene : ScriptContents) (name : List ℕ) → Feedable scene name → NodeWithRoom
+    → Option Connection
+    → ScriptContents
 with_talk scene name t node left =
-    record scene { replicas = slice_set scene.replicas t.at (replica_after_talk t.replica node); sessions = slice_set scene.sessions t.place (record t.session { connection = left }) }
+    record scene {
+      replicas = slice_set scene.replicas t.at (replica_after_talk t.replica node);
+      sessions = slice_set scene.sessions t.place (record t.session { connection = left });
+    }
 
 -- The session can be fed, and hasn't logged out.
 abbrev pub IsTalking : ScriptContents → List ℕ → Type 0
@@ -109,25 +135,39 @@ IsTalking scene name = (t : Feedable scene name) × IsGoing t.replica.node.state
 
 -- The session idles: a line of IDLE is awaited (RFC 2177, section 3).
 abbrev pub IsIdling : ScriptContents → List ℕ → Type 0
-IsIdling scene name = (t : Feedable scene name) × IsSome (idling_at t.replica.node.state t.connection.number)
+IsIdling scene name =
+    (t : Feedable scene name) × IsSome (idling_at t.replica.node.state t.connection.number)
 
 -- A session is fed these octets, at the time on the clock: the turns of its conversation are
 -- printed.
 abbrev pub Feeds : ScriptContents → List ℕ → List ℕ → List ℕ → ScriptContents → Type 0
 Feeds old name octets more new =
-    (t : Feedable old name) × (turns : List Turn) × (node : NodeWithRoom) × (left : Option Connection)
-    × TalksOn t.replica.node.state t.connection old.moment octets turns node.state left × (more ≡ transcript name turns) × (new ≡ with_talk old name t node left)
+    (t : Feedable old name)
+    × (turns : List Turn)
+    × (node : NodeWithRoom)
+    × (left : Option Connection)
+    × TalksOn t.replica.node.state t.connection old.moment octets turns node.state left
+    × (more ≡ transcript name turns)
+    × (new ≡ with_talk old name t node left)
 
 -- An idling session is polled: the answers that report changes are printed.
 abbrev pub PollsAt : ScriptContents → List ℕ → List ℕ → ScriptContents → Type 0
 PollsAt old name more new =
-    (t : Feedable old name) × (turns : List Turn) × (node : NodeWithRoom) × IsSome (idling_at t.replica.node.state t.connection.number)
-    × Polls t.replica.node.state t.connection.number turns node.state × (more ≡ transcript name turns) × (new ≡ with_node old t.at t.replica node)
+    (t : Feedable old name)
+    × (turns : List Turn)
+    × (node : NodeWithRoom)
+    × IsSome (idling_at t.replica.node.state t.connection.number)
+    × Polls t.replica.node.state t.connection.number turns node.state
+    × (more ≡ transcript name turns)
+    × (new ≡ with_node old t.at t.replica node)
 
 -- A session is closed.
 abbrev pub Closes : ScriptContents → List ℕ → ScriptContents → Type 0
 Closes old name new =
-    (t : Feedable old name) × (node : NodeWithRoom) × (node.state ≡ with_session_closed t.replica.node.state t.connection.number) × (new ≡ record old {
+    (t : Feedable old name)
+    × (node : NodeWithRoom)
+    × (node.state ≡ with_session_closed t.replica.node.state t.connection.number)
+    × (new ≡ record old {
       replicas = slice_set old.replicas t.at (record t.replica { node = node });
       sessions = slice_set old.sessions t.place (record t.session { connection = None });
     })
@@ -136,18 +176,26 @@ Closes old name new =
 abbrev pub OpensAt : ScriptContents → ℕ → List ℕ → List ℕ → ScriptContents → Type 0
 OpensAt old replica name more new =
     (session_place old.sessions name ≡ None)
-    × ((at : ℕ) × (host : ScriptReplica) × (node : NodeWithRoom) × (answer : Answer) × (connection : Option Connection)
-    × (replica_place old.replicas replica ≡ Some at) × (slice_get old.replicas at ≡ Some host) × Begins host.node.state answer node.state connection
+    × ((at : ℕ) × (host : ScriptReplica) × (node : NodeWithRoom) × (answer : Answer)
+    × (connection : Option Connection)
+    × (replica_place old.replicas replica ≡ Some at)
+    × (slice_get old.replicas at ≡ Some host)
+    × Begins host.node.state answer node.state connection
     × (more ≡ transcript_line name Server (text_of_answer answer))
     × (new ≡ record old {
       replicas = slice_set old.replicas at (record host { node = node });
-      sessions = old.sessions ++ record { name = name; replica = replica; connection = connection } ∷ [];
+      sessions =
+          old.sessions ++ record { name = name; replica = replica; connection = connection } ∷ [];
     }))
 
 -- The dump of a replica is printed.
 abbrev pub Shows : ScriptContents → ℕ → List ℕ → Type 0
 Shows scene name more =
-    (at : ℕ) × (replica : ScriptReplica) × (replica_place scene.replicas name ≡ Some at) × (slice_get scene.replicas at ≡ Some replica) × IsDump replica.node.state.start.replica replica.node.state.applied more
+    (at : ℕ)
+    × (replica : ScriptReplica)
+    × (replica_place scene.replicas name ≡ Some at)
+    × (slice_get scene.replicas at ≡ Some replica)
+    × IsDump replica.node.state.start.replica replica.node.state.applied more
 
 -- The effect of a line on the script's state, and what it prints.
 abbrev pub Serves : ScriptContents → ScriptLine → List ℕ → ScriptContents → Type 0
@@ -174,18 +222,23 @@ abbrev pub IsMisplaced : ScriptContents → ScriptLine → Type 0
 IsMisplaced scene Blank = ⊥
 IsMisplaced scene (Node replica uid k) = IsSome (replica_place scene.replicas replica)
 IsMisplaced scene (Now moment) = ⊥
-IsMisplaced scene (Open replica name) = IsNone (replica_place scene.replicas replica) ⊎ IsSome (session_place scene.sessions name)
+IsMisplaced scene (Open replica name) =
+    IsNone (replica_place scene.replicas replica) ⊎ IsSome (session_place scene.sessions name)
 IsMisplaced scene (Line name text) = IsTalking scene name → ⊥
 IsMisplaced scene (Send name text) = IsTalking scene name → ⊥
 IsMisplaced scene (Poll name) = IsIdling scene name → ⊥
 IsMisplaced scene (Close name) = IsTalking scene name → ⊥
 IsMisplaced scene (Show replica) = IsNone (replica_place scene.replicas replica)
-IsMisplaced scene (Deliver id replica) = IsNone (replica_place scene.replicas replica) ⊎ ((op : Op) → Issued scene id op → ⊥)
-IsMisplaced scene (Forge replica operation) = IsNone (replica_place scene.replicas replica) ⊎ ((op : Op) → IsSpelled op operation → ⊥)
+IsMisplaced scene (Deliver id replica) =
+    IsNone (replica_place scene.replicas replica) ⊎ ((op : Op) → Issued scene id op → ⊥)
+IsMisplaced scene (Forge replica operation) =
+    IsNone (replica_place scene.replicas replica) ⊎ ((op : Op) → IsSpelled op operation → ⊥)
 IsMisplaced scene (Drain replica) = IsNone (replica_place scene.replicas replica)
 IsMisplaced scene Settle = ⊥
-IsMisplaced scene (Agree first second) = IsNone (replica_place scene.replicas first) ⊎ IsNone (replica_place scene.replicas second)
-IsMisplaced scene (Join replica peer) = IsSome (replica_place scene.replicas replica) ⊎ IsNone (replica_place scene.replicas peer)
+IsMisplaced scene (Agree first second) =
+    IsNone (replica_place scene.replicas first) ⊎ IsNone (replica_place scene.replicas second)
+IsMisplaced scene (Join replica peer) =
+    IsSome (replica_place scene.replicas replica) ⊎ IsNone (replica_place scene.replicas peer)
 
 -- A line that can't be served: whatever it says can't be served in this state.
 abbrev pub IsBad : ScriptContents → List ℕ → Type 0
@@ -197,29 +250,37 @@ IsBad scene line = (said : ScriptLine) → Says line said → IsMisplaced scene 
 -- conversation.
 abbrev pub HasTurns : NodeState → Connection → ℕ → List ℕ → List Turn → Type 0
 HasTurns old connection moment octets turns =
-    ((new : NodeState) × (state : _) × Talks old connection.number (cut_at_connection connection moment octets) turns new state)
-    ⊎ ((why : TalkFaultKind) × (new : NodeState) × EndsTalk why old connection.number connection.framer.state (cut_at_connection connection moment octets) turns new)
+    ((new : NodeState) × (state : _)
+    × Talks old connection.number (cut_at_connection connection moment octets) turns new state)
+    ⊎ ((why : TalkFaultKind) × (new : NodeState)
+    × EndsTalk why old connection.number connection.framer.state
+    (cut_at_connection connection moment octets) turns new)
 
 -- A session is fed these octets, and some of the first turns of its conversation are printed.
 abbrev pub FeedsInPart : ScriptContents → List ℕ → List ℕ → List ℕ → Type 0
 FeedsInPart scene name octets more =
     (t : Feedable scene name) × (turns : List Turn) × (count : ℕ)
-    × HasTurns t.replica.node.state t.connection scene.moment octets turns × (more ≡ transcript name (take count turns))
+    × HasTurns t.replica.node.state t.connection scene.moment octets turns
+    × (more ≡ transcript name (take count turns))
 
 -- The turns of a poll: all of them, or those before the one for which memory runs out.
 abbrev pub HasPolledTurns : NodeState → ℕ → List Turn → Type 0
-HasPolledTurns old session turns = ((new : NodeState) × Polls old session turns new) ⊎ ((new : NodeState) × BreaksPoll old session turns new)
+HasPolledTurns old session turns =
+    ((new : NodeState) × Polls old session turns new)
+    ⊎ ((new : NodeState) × BreaksPoll old session turns new)
 
 -- A session is polled, and some of the first answers are printed.
 abbrev pub PollsInPart : ScriptContents → List ℕ → List ℕ → Type 0
 PollsInPart scene name more =
     (t : Feedable scene name) × (turns : List Turn) × (count : ℕ)
-    × HasPolledTurns t.replica.node.state t.connection.number turns × (more ≡ transcript name (take count turns))
+    × HasPolledTurns t.replica.node.state t.connection.number turns
+    × (more ≡ transcript name (take count turns))
 
 -- What a line prints if memory runs out partway: a session is opened and forgotten, or some of its
 -- first turns are printed.
 abbrev pub PrintsInPart : ScriptContents → ScriptLine → List ℕ → Type 0
-PrintsInPart scene (Open replica name) more = (new : ScriptContents) × OpensAt scene replica name more new
+PrintsInPart scene (Open replica name) more =
+    (new : ScriptContents) × OpensAt scene replica name more new
 PrintsInPart scene (Line name text) more = FeedsInPart scene name (text ++ crlf) more
 PrintsInPart scene (Send name text) more = FeedsInPart scene name text more
 PrintsInPart scene (Poll name) more = PollsInPart scene name more
@@ -227,7 +288,8 @@ PrintsInPart scene said more = ⊥
 
 -- What is printed of a line for which memory runs out: nothing, or a part.
 abbrev pub ServesInPart : ScriptContents → List ℕ → List ℕ → Type 0
-ServesInPart scene line more = (more ≡ []) ⊎ ((said : ScriptLine) × Says line said × PrintsInPart scene said more)
+ServesInPart scene line more =
+    (more ≡ []) ⊎ ((said : ScriptLine) × Says line said × PrintsInPart scene said more)
 
 -- ---- a bound on what lines say
 

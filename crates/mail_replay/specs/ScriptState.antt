@@ -16,18 +16,25 @@ pub record ScriptContents : Type 0 where
 
 -- The contents of a script's state.
 abbrev pub script_contents_of : ScriptState → ScriptContents
-script_contents_of stage = record { moment = stage.moment; replicas = stage.replicas.items; sessions = stage.sessions.items }
+script_contents_of stage =
+    record {
+      moment = stage.moment;
+      replicas = stage.replicas.items;
+      sessions = stage.sessions.items;
+    }
 
 -- A replica that has received nothing and has these first counters.
 abbrev pub IsNew : Counters → ScriptReplica → Type 0
 IsNew first replica =
     (replica.name ≡ first.replica)
-    × (replica.node.state ≡ record { start = first; applied = []; held = []; sessions = [] }) × (replica.issued ≡ [])
+    × (replica.node.state ≡ record { start = first; applied = []; held = []; sessions = [] })
+    × (replica.issued ≡ [])
 
 -- The place of the first replica with this name, if the first of the list has the given place.
 abbrev pub replica_from : ℕ → List ScriptReplica → ℕ → Option ℕ
 replica_from place [] name = None
-replica_from place (replica ∷ replicas) name = if replica.name == name then Some place else replica_from (place + 1) replicas name
+replica_from place (replica ∷ replicas) name =
+    if replica.name == name then Some place else replica_from (place + 1) replicas name
 
 -- The place of the replica with this name.
 abbrev pub replica_place : List ScriptReplica → ℕ → Option ℕ
@@ -36,7 +43,8 @@ replica_place replicas name = replica_from 0 replicas name
 -- The place of the first session with this name, if the first of the list has the given place.
 abbrev pub session_from : ℕ → List ScriptSession → List ℕ → Option ℕ
 session_from place [] name = None
-session_from place (session ∷ sessions) name = if bytes_eq session.name name then Some place else session_from (place + 1) sessions name
+session_from place (session ∷ sessions) name =
+    if bytes_eq session.name name then Some place else session_from (place + 1) sessions name
 
 -- The place of the session with this name.
 abbrev pub session_place : List ScriptSession → List ℕ → Option ℕ

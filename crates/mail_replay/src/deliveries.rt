@@ -4,7 +4,9 @@
 ghost use Rattle.std.specs.Prelude.{◌≡◌, ◌⊎◌, ◌++◌, ℕ, List, Err, IfOk, IsNone, OnErr, OnOk};
 ghost use Rattle.crdt_ops.specs.Form.{IsSpelled};
 ghost use Rattle.crdt_ops.specs.declared.op.Op.{Op};
-ghost use Rattle.mail_replay.specs.Deliveries.{DeliversTo, DrainsAt, Forges, ForgesAt, DeliversOp, DeliversAndPrints, Issued, delivery_result_of, arrival_result_of, broken_rule_of, outcome_line_of};
+ghost use Rattle.mail_replay.specs.Deliveries.{DeliversTo, DrainsAt, Forges, ForgesAt, DeliversOp};
+ghost use Rattle.mail_replay.specs.Deliveries.{DeliversAndPrints, Issued, delivery_result_of};
+ghost use Rattle.mail_replay.specs.Deliveries.{arrival_result_of, broken_rule_of, outcome_line_of};
 ghost use Rattle.mail_replay.specs.ScriptState.{replica_place, script_contents_of};
 ghost use Rattle.mail_replay.specs.declared.script_service.ServeFault.TheVariants.{BadScript};
 
@@ -35,8 +37,12 @@ pub fn deliver(
     replica: ReplicaId,
     printed: &mut Vec<u8>,
 ) -> Result<(), ServeFault>
-    ensures ok { OnOk result ((more : List ℕ) × DeliversTo (script_contents_of stage.old) id replica more (script_contents_of stage.new) × (printed.new.items ≡ printed.old.items ++ more)) }
-    ensures bad { result ≡ Err BadScript → IsNone (replica_place stage.old.replicas.items replica) ⊎ ((op : Op) → Issued (script_contents_of stage.old) id op → ⊥) }
+    ensures ok { OnOk result ((more : List ℕ)
+        × DeliversTo (script_contents_of stage.old) id replica more (script_contents_of stage.new)
+        × (printed.new.items ≡ printed.old.items ++ more)) }
+    ensures bad { result ≡ Err BadScript
+        → IsNone (replica_place stage.old.replicas.items replica)
+        ⊎ ((op : Op) → Issued (script_contents_of stage.old) id op → ⊥) }
     ensures err { OnErr result (printed.new.items ≡ printed.old.items) }
 {
     match issued_op(alloc, stage, id) {
@@ -54,8 +60,12 @@ pub fn forge(
     text: &[u8],
     printed: &mut Vec<u8>,
 ) -> Result<(), ServeFault>
-    ensures ok { OnOk result ((more : List ℕ) × ForgesAt (script_contents_of stage.old) replica text.now more (script_contents_of stage.new) × (printed.new.items ≡ printed.old.items ++ more)) }
-    ensures bad { result ≡ Err BadScript → IsNone (replica_place stage.old.replicas.items replica) ⊎ ((op : Op) → IsSpelled op text.now → ⊥) }
+    ensures ok { OnOk result ((more : List ℕ)
+        × ForgesAt (script_contents_of stage.old) replica text.now more
+        (script_contents_of stage.new) × (printed.new.items ≡ printed.old.items ++ more)) }
+    ensures bad { result ≡ Err BadScript
+        → IsNone (replica_place stage.old.replicas.items replica)
+        ⊎ ((op : Op) → IsSpelled op text.now → ⊥) }
     ensures err { OnErr result (printed.new.items ≡ printed.old.items) }
 {
     if replica_place(&stage.replicas, replica).is_none() {
@@ -72,7 +82,9 @@ pub fn drain(
     replica: ReplicaId,
     printed: &mut Vec<u8>,
 ) -> Result<(), ServeFault>
-    ensures ok { OnOk result ((more : List ℕ) × DrainsAt (script_contents_of stage.old) replica more (script_contents_of stage.new) × (printed.new.items ≡ printed.old.items ++ more)) }
+    ensures ok { OnOk result ((more : List ℕ)
+        × DrainsAt (script_contents_of stage.old) replica more (script_contents_of stage.new)
+        × (printed.new.items ≡ printed.old.items ++ more)) }
     ensures bad { result ≡ Err BadScript → IsNone (replica_place stage.old.replicas.items replica) }
     ensures err { OnErr result (printed.new.items ≡ printed.old.items) }
 {
@@ -92,7 +104,9 @@ pub fn drain(
 /// A copy of the operation with this id, if its replica issued one.
 fn issued_op(alloc: Global, stage: &ScriptState, id: OpId) -> Result<SoundOp, ServeFault>
     ensures ok { IfOk result (λ op. Issued (script_contents_of stage.now) id op) }
-    ensures bad { result ≡ Err BadScript → (op : Op) → Issued (script_contents_of stage.now) id op → ⊥ }
+    ensures bad { result ≡ Err BadScript → (op : Op)
+        → Issued (script_contents_of stage.now) id op
+        → ⊥ }
 {
     let Some(place) = replica_place(&stage.replicas, id.replica) else {
         return Err(ServeFault::BadScript);
@@ -125,7 +139,9 @@ fn forge_if_sound(
     op: Op,
     printed: &mut Vec<u8>,
 ) -> Result<(), ServeFault>
-    ensures ok { OnOk result ((more : List ℕ) × Forges (script_contents_of stage.old) replica op more (script_contents_of stage.new) × (printed.new.items ≡ printed.old.items ++ more)) }
+    ensures ok { OnOk result ((more : List ℕ)
+        × Forges (script_contents_of stage.old) replica op more (script_contents_of stage.new)
+        × (printed.new.items ≡ printed.old.items ++ more)) }
     ensures bad { result ≡ Err BadScript → IsNone (replica_place stage.old.replicas.items replica) }
     ensures err { OnErr result (printed.new.items ≡ printed.old.items) }
 {
@@ -149,7 +165,9 @@ fn deliver_and_print(
     op: SoundOp,
     printed: &mut Vec<u8>,
 ) -> Result<(), ServeFault>
-    ensures ok { OnOk result ((more : List ℕ) × DeliversAndPrints (script_contents_of stage.old) source replica op more (script_contents_of stage.new) × (printed.new.items ≡ printed.old.items ++ more)) }
+    ensures ok { OnOk result ((more : List ℕ)
+        × DeliversAndPrints (script_contents_of stage.old) source replica op more
+        (script_contents_of stage.new) × (printed.new.items ≡ printed.old.items ++ more)) }
     ensures bad { result ≡ Err BadScript → IsNone (replica_place stage.old.replicas.items replica) }
     ensures err { OnErr result (printed.new.items ≡ printed.old.items) }
 {
@@ -190,7 +208,8 @@ fn deliver_to(
     replica: ReplicaId,
     op: SoundOp,
 ) -> Result<DeliveryResult, ServeFault>
-    ensures ok { IfOk result (λ told. DeliversOp (script_contents_of stage.old) replica op told (script_contents_of stage.new)) }
+    ensures ok { IfOk result (λ told. DeliversOp (script_contents_of stage.old) replica op told
+        (script_contents_of stage.new)) }
     ensures bad { result ≡ Err BadScript → IsNone (replica_place stage.old.replicas.items replica) }
 {
     let Some(place) = replica_place(&stage.replicas, replica) else {

@@ -12,8 +12,13 @@ use imap_connection::Node;
 /// The text that `write_dump` writes of a node is a right dump. If the audit's `Yes` is true of an
 /// input, it is also true of the input followed by that dump.
 pub fn dumps_are_right(node: &Node)
-    ensures dumps { (text : List ℕ) → IsDump node.now.state.start.replica node.now.state.applied text → IsRightDump text }
-    ensures lines { (text : List ℕ) → IsDump node.now.state.start.replica node.now.state.applied text → (front : List (List ℕ)) → IsRight front → IsRight (front ++ lines_of text) }
+    ensures dumps { (text : List ℕ)
+        → IsDump node.now.state.start.replica node.now.state.applied text
+        → IsRightDump text }
+    ensures lines { (text : List ℕ)
+        → IsDump node.now.state.start.replica node.now.state.applied text → (front : List (List ℕ))
+        → IsRight front
+        → IsRight (front ++ lines_of text) }
 {
     all_in_form(node.op_list());
     replica_fits(node.replica().id());

@@ -1,10 +1,13 @@
 //! The service of the lines `agree` and `settle`, which compare replicas and have them exchange
 //! operations.
 
-ghost use Rattle.std.specs.Prelude.{◌≡◌, ◌⊎◌, ◌++◌, ◌↔◌, ℕ, List, Err, IfErr, IfOk, IsNone, IsTrue, OnErr, OnOk, length};
-ghost use Rattle.mail_replay.specs.Exchanges.{Compares, Exchanges, Settles, nodes_in, settle_line, with_nodes};
+ghost use Rattle.std.specs.Prelude.{◌≡◌, ◌⊎◌, ◌++◌, ◌↔◌, ℕ, List, Err, IfErr, IfOk, IsNone, IsTrue};
+ghost use Rattle.std.specs.Prelude.{OnErr, OnOk, length};
+ghost use Rattle.mail_replay.specs.Exchanges.{Compares, Exchanges, Settles, nodes_in, settle_line};
+ghost use Rattle.mail_replay.specs.Exchanges.{with_nodes};
 ghost use Rattle.mail_replay.specs.ScriptState.{replica_place, script_contents_of};
-ghost use Rattle.mail_replay.specs.declared.script_service.ServeFault.TheVariants.{BadScript, NoMemory};
+ghost use Rattle.mail_replay.specs.declared.script_service.ServeFault.TheVariants.{BadScript};
+ghost use Rattle.mail_replay.specs.declared.script_service.ServeFault.TheVariants.{NoMemory};
 ghost use Rattle.merge_laws.specs.Orders.{HaveSameElements};
 
 use crate::script_service::ServeFault;
@@ -25,8 +28,12 @@ pub fn compare(
     second: ReplicaId,
     printed: &mut Vec<u8>,
 ) -> Result<(), ServeFault>
-    ensures ok { OnOk result ((more : List ℕ) × Compares (script_contents_of stage.now) first second more × (printed.new.items ≡ printed.old.items ++ more)) }
-    ensures bad { result ≡ Err BadScript → IsNone (replica_place stage.now.replicas.items first) ⊎ IsNone (replica_place stage.now.replicas.items second) }
+    ensures ok { OnOk result ((more : List ℕ)
+        × Compares (script_contents_of stage.now) first second more
+        × (printed.new.items ≡ printed.old.items ++ more)) }
+    ensures bad { result ≡ Err BadScript
+        → IsNone (replica_place stage.now.replicas.items first)
+        ⊎ IsNone (replica_place stage.now.replicas.items second) }
     ensures err { OnErr result (printed.new.items ≡ printed.old.items) }
 {
     let Some(one) = replica_place(&stage.replicas, first) else {
@@ -61,7 +68,9 @@ pub fn exchange(
     stage: &mut ScriptState,
     printed: &mut Vec<u8>,
 ) -> Result<(), ServeFault>
-    ensures ok { OnOk result ((more : List ℕ) × Settles (script_contents_of stage.old) more (script_contents_of stage.new) × (printed.new.items ≡ printed.old.items ++ more)) }
+    ensures ok { OnOk result ((more : List ℕ)
+        × Settles (script_contents_of stage.old) more (script_contents_of stage.new)
+        × (printed.new.items ≡ printed.old.items ++ more)) }
     ensures err { IfErr result (λ fault. fault ≡ NoMemory) }
     ensures kept { OnErr result (printed.new.items ≡ printed.old.items) }
 {

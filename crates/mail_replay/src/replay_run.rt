@@ -1,13 +1,15 @@
 //! The replay of a script, from its reader's octets to the writer's.
 
-ghost use Rattle.std.specs.Prelude.{◌≡◌, ◌++◌, ◌+◌, ◌^◌, ◌<◌, ◌≤◌, ℕ, List, [], ◌∷◌, None, Some, IfErr, IfOk, IfSome, OnOk, OnErr, length};
+ghost use Rattle.std.specs.Prelude.{◌≡◌, ◌++◌, ◌+◌, ◌^◌, ◌<◌, ◌≤◌, ℕ, List, [], ◌∷◌, None, Some};
+ghost use Rattle.std.specs.Prelude.{IfErr, IfOk, IfSome, OnOk, OnErr, length};
 ghost use Rattle.std.specs.Io.KnownBytes.{Appends, Keeps};
 ghost use Rattle.mail_script.specs.Lines.{lines_of};
 ghost use Rattle.mail_script.specs.Reading.{cut_at};
 ghost use Rattle.mail_script.specs.Script.{Says};
 ghost use Rattle.mail_script.specs.declared.script.ScriptLine.{ScriptLine};
 ghost use Rattle.mail_replay.specs.Lines.{IsBad, Serves, ServesInPart};
-ghost use Rattle.mail_replay.specs.Replays.{Advances, Breaks, EndsEarly, FirstInPart, Replays, ServesAll, Stops};
+ghost use Rattle.mail_replay.specs.Replays.{Advances, Breaks, EndsEarly, FirstInPart, Replays};
+ghost use Rattle.mail_replay.specs.Replays.{ServesAll, Stops};
 ghost use Rattle.mail_replay.specs.ScriptState.{ScriptContents, script_contents_of};
 ghost use Rattle.mail_replay.specs.declared.replay_end.ReplayEnd.TheVariants.{Done, WriteFailed};
 
@@ -33,7 +35,10 @@ pub const PIECE_OCTETS: usize = 65_536;
 /// script; `WriteFailed` that the writer failed; `NoMemory` that memory ran out for a line or its
 /// output. The output of the lines before stays written.
 pub fn replay<R: Read, W: Write>(alloc: Global, reader: &mut R, writer: &mut W) -> ReplayEnd
-    ensures { (script : List ℕ) → R.remaining reader.old ≡ Some script → Replays script result (R.remaining reader.new) (W.contents writer.old) (W.contents writer.new) }
+    ensures { (script : List ℕ)
+        → R.remaining reader.old ≡ Some script
+        → Replays script result (R.remaining reader.new) (W.contents writer.old)
+        (W.contents writer.new) }
 {
     match play(alloc, reader, writer) {
         Ok(()) => ReplayEnd::Done,
@@ -52,8 +57,12 @@ struct Progress {
 }
 
 fn play<R: Read, W: Write>(alloc: Global, reader: &mut R, writer: &mut W) -> Result<(), ReplayEnd>
-    ensures ok { OnOk result ((script : List ℕ) → R.remaining reader.old ≡ Some script → Replays script Done (R.remaining reader.new) (W.contents writer.old) (W.contents writer.new)) }
-    ensures err { IfErr result (λ end. (script : List ℕ) → R.remaining reader.old ≡ Some script → Replays script end (R.remaining reader.new) (W.contents writer.old) (W.contents writer.new)) }
+    ensures ok { OnOk result ((script : List ℕ) → R.remaining reader.old ≡ Some script
+        → Replays script Done (R.remaining reader.new) (W.contents writer.old)
+        (W.contents writer.new)) }
+    ensures err { IfErr result (λ end. (script : List ℕ) → R.remaining reader.old ≡ Some script
+        → Replays script end (R.remaining reader.new) (W.contents writer.old)
+        (W.contents writer.new)) }
 {
     let Ok(mut piece) = room_for(alloc, PIECE_OCTETS) else {
         return Err(ReplayEnd::NoMemory);
@@ -69,8 +78,12 @@ fn serve_pieces<R: Read, W: Write>(
     writer: &mut W,
 ) -> Result<(), ReplayEnd>
     requires { length piece.old ≡ PIECE_OCTETS }
-    ensures ok { OnOk result ((script : List ℕ) → R.remaining reader.old ≡ Some script → Replays script Done (R.remaining reader.new) (W.contents writer.old) (W.contents writer.new)) }
-    ensures err { IfErr result (λ end. (script : List ℕ) → R.remaining reader.old ≡ Some script → Replays script end (R.remaining reader.new) (W.contents writer.old) (W.contents writer.new)) }
+    ensures ok { OnOk result ((script : List ℕ) → R.remaining reader.old ≡ Some script
+        → Replays script Done (R.remaining reader.new) (W.contents writer.old)
+        (W.contents writer.new)) }
+    ensures err { IfErr result (λ end. (script : List ℕ) → R.remaining reader.old ≡ Some script
+        → Replays script end (R.remaining reader.new) (W.contents writer.old)
+        (W.contents writer.new)) }
 {
     let mut progress = Progress {
         stage: ScriptState::new(alloc),
@@ -106,9 +119,16 @@ fn serve_piece<W: Write>(
     writer: &mut W,
 ) -> Result<(), ReplayEnd>
     requires { progress.old.served + length progress.old.lines + length piece.now < 2 ^ 64 }
-    ensures ok { OnOk result (Advances (W.contents writer.old) (script_contents_of progress.old.stage) progress.old.served (progress.old.lines ++ piece.now) (W.contents writer.new) (script_contents_of progress.new.stage) progress.new.served progress.new.lines) }
+    ensures ok { OnOk result (Advances (W.contents writer.old)
+        (script_contents_of progress.old.stage) progress.old.served
+        (progress.old.lines ++ piece.now) (W.contents writer.new)
+        (script_contents_of progress.new.stage) progress.new.served progress.new.lines) }
     ensures rest { OnOk result (cut_at 10 progress.new.lines ≡ None) }
-    ensures err { IfErr result (EndsEarly (Breaks (W.contents writer.old) (script_contents_of progress.old.stage) progress.old.served (progress.old.lines ++ piece.now) (W.contents writer.new)) (Stops (W.contents writer.old) (script_contents_of progress.old.stage) (progress.old.lines ++ piece.now) (W.contents writer.new))) }
+    ensures err { IfErr result (EndsEarly
+        (Breaks (W.contents writer.old) (script_contents_of progress.old.stage) progress.old.served
+        (progress.old.lines ++ piece.now) (W.contents writer.new)) (Stops (W.contents writer.old)
+        (script_contents_of progress.old.stage) (progress.old.lines ++ piece.now)
+        (W.contents writer.new))) }
 {
     let Ok(()) = progress.lines.push(piece) else {
         return Err(ReplayEnd::NoMemory);
@@ -131,8 +151,17 @@ fn serve_next<W: Write>(
 ) -> Result<(), ReplayEnd>
     requires { progress.old.served + 1 < 2 ^ 64 }
     ensures lines { progress.new.lines ≡ progress.old.lines }
-    ensures ok { OnOk result ((said : ScriptLine) × (more : List ℕ) × Says line.now said × Serves (script_contents_of progress.old.stage) said more (script_contents_of progress.new.stage) × Appends (W.contents writer.old) (W.contents writer.new) more × (progress.new.served ≡ progress.old.served + 1)) }
-    ensures err { IfErr result (EndsEarly (λ number. (number ≡ progress.old.served + 1) × IsBad (script_contents_of progress.old.stage) line.now × Appends (W.contents writer.old) (W.contents writer.new) []) ((more : List ℕ) × ServesInPart (script_contents_of progress.old.stage) line.now more × Appends (W.contents writer.old) (W.contents writer.new) more)) }
+    ensures ok { OnOk result ((said : ScriptLine) × (more : List ℕ) × Says line.now said
+        × Serves (script_contents_of progress.old.stage) said more
+        (script_contents_of progress.new.stage)
+        × Appends (W.contents writer.old) (W.contents writer.new) more
+        × (progress.new.served ≡ progress.old.served + 1)) }
+    ensures err { IfErr result (EndsEarly
+        (λ number. (number ≡ progress.old.served + 1)
+        × IsBad (script_contents_of progress.old.stage) line.now
+        × Appends (W.contents writer.old) (W.contents writer.new) []) ((more : List ℕ)
+        × ServesInPart (script_contents_of progress.old.stage) line.now more
+        × Appends (W.contents writer.old) (W.contents writer.new) more)) }
 {
     progress.served += 1;
     let mut printed = Vec::new(alloc);
@@ -157,8 +186,16 @@ fn serve_last<W: Write>(
 ) -> Result<(), ReplayEnd>
     requires room { progress.old.served + 1 < 2 ^ 64 }
     requires rest { cut_at 10 progress.old.lines ≡ None }
-    ensures ok { OnOk result ((told : List ℕ) × (scene : ScriptContents) × ServesAll (script_contents_of progress.old.stage) (lines_of progress.old.lines) told scene × Appends (W.contents writer.old) (W.contents writer.new) told) }
-    ensures err { IfErr result (EndsEarly (λ number. (number ≡ progress.old.served + 1) × (lines_of progress.old.lines ≡ progress.old.lines ∷ []) × IsBad (script_contents_of progress.old.stage) progress.old.lines × Appends (W.contents writer.old) (W.contents writer.new) []) ((more : List ℕ) × FirstInPart (script_contents_of progress.old.stage) (lines_of progress.old.lines) more × Appends (W.contents writer.old) (W.contents writer.new) more)) }
+    ensures ok { OnOk result ((told : List ℕ) × (scene : ScriptContents)
+        × ServesAll (script_contents_of progress.old.stage) (lines_of progress.old.lines) told scene
+        × Appends (W.contents writer.old) (W.contents writer.new) told) }
+    ensures err { IfErr result (EndsEarly
+        (λ number. (number ≡ progress.old.served + 1)
+        × (lines_of progress.old.lines ≡ progress.old.lines ∷ [])
+        × IsBad (script_contents_of progress.old.stage) progress.old.lines
+        × Appends (W.contents writer.old) (W.contents writer.new) []) ((more : List ℕ)
+        × FirstInPart (script_contents_of progress.old.stage) (lines_of progress.old.lines) more
+        × Appends (W.contents writer.old) (W.contents writer.new) more)) }
 {
     let line = mem::replace(&mut progress.lines, ScriptLines::new(alloc)).into_rest();
     serve_rest(alloc, progress, line.as_bytes(), writer)?;
@@ -174,8 +211,15 @@ fn serve_rest<W: Write>(
 ) -> Result<(), ReplayEnd>
     requires room { progress.old.served + 1 < 2 ^ 64 }
     requires rest { cut_at 10 line.now ≡ None }
-    ensures ok { OnOk result ((told : List ℕ) × (scene : ScriptContents) × ServesAll (script_contents_of progress.old.stage) (lines_of line.now) told scene × Appends (W.contents writer.old) (W.contents writer.new) told) }
-    ensures err { IfErr result (EndsEarly (λ number. (number ≡ progress.old.served + 1) × (lines_of line.now ≡ line.now ∷ []) × IsBad (script_contents_of progress.old.stage) line.now × Appends (W.contents writer.old) (W.contents writer.new) []) ((more : List ℕ) × FirstInPart (script_contents_of progress.old.stage) (lines_of line.now) more × Appends (W.contents writer.old) (W.contents writer.new) more)) }
+    ensures ok { OnOk result ((told : List ℕ) × (scene : ScriptContents)
+        × ServesAll (script_contents_of progress.old.stage) (lines_of line.now) told scene
+        × Appends (W.contents writer.old) (W.contents writer.new) told) }
+    ensures err { IfErr result (EndsEarly
+        (λ number. (number ≡ progress.old.served + 1) × (lines_of line.now ≡ line.now ∷ [])
+        × IsBad (script_contents_of progress.old.stage) line.now
+        × Appends (W.contents writer.old) (W.contents writer.new) []) ((more : List ℕ)
+        × FirstInPart (script_contents_of progress.old.stage) (lines_of line.now) more
+        × Appends (W.contents writer.old) (W.contents writer.new) more)) }
 {
     if line.is_empty() {
         return Ok(());

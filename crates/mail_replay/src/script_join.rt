@@ -1,7 +1,8 @@
 //! The service of the line `join`, which declares a replica that begins with the operations of
 //! another one.
 
-ghost use Rattle.std.specs.Prelude.{◌≡◌, ◌<◌, ◌⊎◌, ◌++◌, [], ℕ, List, Err, IsNone, IsSome, OnErr, OnOk, Some, length, slice_get};
+ghost use Rattle.std.specs.Prelude.{◌≡◌, ◌<◌, ◌⊎◌, ◌++◌, [], ℕ, List, Err, IsNone, IsSome, OnErr};
+ghost use Rattle.std.specs.Prelude.{OnOk, Some, length, slice_get};
 ghost use Rattle.mail_replay.specs.Joins.{IsJoined, Joins, JoinsBehind};
 ghost use Rattle.mail_replay.specs.ScriptState.{replica_place, script_contents_of};
 ghost use Rattle.mail_replay.specs.declared.script_service.ServeFault.TheVariants.{BadScript};
@@ -25,8 +26,12 @@ pub fn join(
     peer: ReplicaId,
     printed: &mut Vec<u8>,
 ) -> Result<(), ServeFault>
-    ensures ok { OnOk result ((more : List ℕ) × Joins (script_contents_of stage.old) name peer more (script_contents_of stage.new) × (printed.new.items ≡ printed.old.items ++ more)) }
-    ensures bad { result ≡ Err BadScript → IsSome (replica_place stage.old.replicas.items name) ⊎ IsNone (replica_place stage.old.replicas.items peer) }
+    ensures ok { OnOk result ((more : List ℕ)
+        × Joins (script_contents_of stage.old) name peer more (script_contents_of stage.new)
+        × (printed.new.items ≡ printed.old.items ++ more)) }
+    ensures bad { result ≡ Err BadScript
+        → IsSome (replica_place stage.old.replicas.items name)
+        ⊎ IsNone (replica_place stage.old.replicas.items peer) }
     ensures err { OnErr result (printed.new.items ≡ printed.old.items) }
 {
     if replica_place(&stage.replicas, name).is_some() {
@@ -54,7 +59,9 @@ fn join_after(
     place: usize,
 ) -> JoinResult
     requires { place < length replicas.old.items }
-    ensures { (from : ScriptReplica) × (slice_get replicas.old.items place ≡ Some from) × JoinsBehind replicas.old.items name from.node.state.applied result replicas.new.items }
+    ensures { (from : ScriptReplica)
+        × (slice_get replicas.old.items place ≡ Some from)
+        × JoinsBehind replicas.old.items name from.node.state.applied result replicas.new.items }
 {
     if let Some(id) = least_own(name, replicas[place].node.op_list()) {
         return JoinResult::Own { id };

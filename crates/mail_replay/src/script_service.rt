@@ -1,6 +1,7 @@
 //! The service of each kind of script line.
 
-ghost use Rattle.std.specs.Prelude.{◌≡◌, ◌≤◌, ◌⊎◌, ◌++◌, ◌∷◌, [], ℕ, List, None, Some, Err, IfOk, IfErr, IsTrue, IsSome, IsNone, ◌↔◌, OnOk, OnErr, codes, take};
+ghost use Rattle.std.specs.Prelude.{◌≡◌, ◌≤◌, ◌⊎◌, ◌++◌, ◌∷◌, [], ℕ, List, None, Some, Err, IfOk};
+ghost use Rattle.std.specs.Prelude.{IfErr, IsTrue, IsSome, IsNone, ◌↔◌, OnOk, OnErr, codes, take};
 ghost use Rattle.imap_answers.specs.Printed.{text_of_answer as text_of};
 ghost use Rattle.imap_answers.specs.declared.answer.Answer.{Answer};
 ghost use Rattle.imap_answers.specs.declared.answer.Answer.TheVariants.{Bye, Greeting};
@@ -12,10 +13,15 @@ ghost use Rattle.mail_script.specs.declared.script.ScriptLine.{ScriptLine};
 ghost use Rattle.mail_script.specs.declared.transcript.Speaker.TheVariants.{Server};
 ghost use Rattle.imap_node.specs.Nodes.{IsGoing, with_session_closed};
 ghost use Rattle.imap_node.specs.Sessions.{IsOpen};
-ghost use Rattle.mail_replay.specs.Lines.{Begins, Closes, Declares, Feeds, FeedsInPart, HasFirstUid, HasPolledTurns, HasTurns, IsBad, IsIdling, IsMisplaced, IsTalking, OpensAt, PollsAt, PollsInPart, PrintsInPart, Serves, ServesInPart, Shows, TalksOn, crlf};
-ghost use Rattle.mail_replay.specs.ScriptState.{ScriptContents, replica_place, script_contents_of, session_place};
+ghost use Rattle.mail_replay.specs.Lines.{Begins, Closes, Declares, Feeds, FeedsInPart};
+ghost use Rattle.mail_replay.specs.Lines.{HasFirstUid, HasPolledTurns, HasTurns, IsBad, IsIdling};
+ghost use Rattle.mail_replay.specs.Lines.{IsMisplaced, IsTalking, OpensAt, PollsAt, PollsInPart};
+ghost use Rattle.mail_replay.specs.Lines.{PrintsInPart, Serves, ServesInPart, Shows, TalksOn, crlf};
+ghost use Rattle.mail_replay.specs.ScriptState.{ScriptContents, replica_place, script_contents_of};
+ghost use Rattle.mail_replay.specs.ScriptState.{session_place};
 ghost use Rattle.mail_replay.specs.Transcript.{transcript};
-ghost use Rattle.mail_replay.specs.declared.script_service.ServeFault.TheVariants.{BadScript, NoMemory};
+ghost use Rattle.mail_replay.specs.declared.script_service.ServeFault.TheVariants.{BadScript};
+ghost use Rattle.mail_replay.specs.declared.script_service.ServeFault.TheVariants.{NoMemory};
 ghost use Rattle.imap_connection.specs.Replies.{idling_at};
 ghost use Rattle.imap_connection.specs.Talks.{Polls};
 ghost use Rattle.imap_connection.specs.declared.turn.Turn.{Turn};
@@ -97,9 +103,15 @@ pub fn serve_line(
     line: &[u8],
     printed: &mut Vec<u8>,
 ) -> Result<(), ServeFault>
-    ensures ok { OnOk result ((said : ScriptLine) × (more : List ℕ) × Says line.now said × Serves (script_contents_of stage.old) said more (script_contents_of stage.new) × (printed.new.items ≡ printed.old.items ++ more)) }
-    ensures bad { result ≡ Err BadScript → IsBad (script_contents_of stage.old) line.now × (printed.new.items ≡ printed.old.items) }
-    ensures memory { result ≡ Err NoMemory → (more : List ℕ) × ServesInPart (script_contents_of stage.old) line.now more × (printed.new.items ≡ printed.old.items ++ more) }
+    ensures ok { OnOk result ((said : ScriptLine) × (more : List ℕ) × Says line.now said
+        × Serves (script_contents_of stage.old) said more (script_contents_of stage.new)
+        × (printed.new.items ≡ printed.old.items ++ more)) }
+    ensures bad { result ≡ Err BadScript
+        → IsBad (script_contents_of stage.old) line.now × (printed.new.items ≡ printed.old.items) }
+    ensures memory { result ≡ Err NoMemory
+        → (more : List ℕ)
+        × ServesInPart (script_contents_of stage.old) line.now more
+        × (printed.new.items ≡ printed.old.items ++ more) }
 {
     let said = read_line(alloc, line)?;
     serve(alloc, stage, said, printed)
@@ -112,9 +124,16 @@ fn serve(
     printed: &mut Vec<u8>,
 ) -> Result<(), ServeFault>
     requires { HasFirstUid said }
-    ensures ok { OnOk result ((more : List ℕ) × Serves (script_contents_of stage.old) said more (script_contents_of stage.new) × (printed.new.items ≡ printed.old.items ++ more)) }
-    ensures bad { result ≡ Err BadScript → IsMisplaced (script_contents_of stage.old) said × (printed.new.items ≡ printed.old.items) }
-    ensures memory { result ≡ Err NoMemory → (more : List ℕ) × ((more ≡ []) ⊎ PrintsInPart (script_contents_of stage.old) said more) × (printed.new.items ≡ printed.old.items ++ more) }
+    ensures ok { OnOk result ((more : List ℕ)
+        × Serves (script_contents_of stage.old) said more (script_contents_of stage.new)
+        × (printed.new.items ≡ printed.old.items ++ more)) }
+    ensures bad { result ≡ Err BadScript
+        → IsMisplaced (script_contents_of stage.old) said
+        × (printed.new.items ≡ printed.old.items) }
+    ensures memory { result ≡ Err NoMemory
+        → (more : List ℕ)
+        × ((more ≡ []) ⊎ PrintsInPart (script_contents_of stage.old) said more)
+        × (printed.new.items ≡ printed.old.items ++ more) }
 {
     match said {
         ScriptLine::Blank => Ok(()),
@@ -157,8 +176,10 @@ fn with_line_end(text: Octets) -> Result<Vec<u8>, AllocError>
 /// Declares a replica that has received nothing and has these counters.
 fn declare(alloc: Global, stage: &mut ScriptState, start: Counters) -> Result<(), ServeFault>
     requires { 1 ≤ start.uid }
-    ensures ok { OnOk result (Declares (script_contents_of stage.old) start (script_contents_of stage.new)) }
-    ensures bad { result ≡ Err BadScript ↔ IsSome (replica_place stage.old.replicas.items start.replica) }
+    ensures ok { OnOk result
+        (Declares (script_contents_of stage.old) start (script_contents_of stage.new)) }
+    ensures bad { result ≡ Err BadScript
+        ↔ IsSome (replica_place stage.old.replicas.items start.replica) }
     ensures err { OnErr result (script_contents_of stage.new ≡ script_contents_of stage.old) }
 {
     if replica_place(&stage.replicas, start.replica).is_some() {
@@ -178,9 +199,18 @@ fn open(
     name: SessionName,
     printed: &mut Vec<u8>,
 ) -> Result<(), ServeFault>
-    ensures ok { OnOk result ((more : List ℕ) × OpensAt (script_contents_of stage.old) replica name more (script_contents_of stage.new) × (printed.new.items ≡ printed.old.items ++ more)) }
-    ensures bad { result ≡ Err BadScript → (IsNone (replica_place stage.old.replicas.items replica) ⊎ IsSome (session_place stage.old.sessions.items name)) × (printed.new.items ≡ printed.old.items) }
-    ensures memory { result ≡ Err NoMemory → (more : List ℕ) × ((more ≡ []) ⊎ ((new : ScriptContents) × OpensAt (script_contents_of stage.old) replica name more new)) × (printed.new.items ≡ printed.old.items ++ more) }
+    ensures ok { OnOk result ((more : List ℕ)
+        × OpensAt (script_contents_of stage.old) replica name more (script_contents_of stage.new)
+        × (printed.new.items ≡ printed.old.items ++ more)) }
+    ensures bad { result ≡ Err BadScript
+        → (IsNone (replica_place stage.old.replicas.items replica)
+        ⊎ IsSome (session_place stage.old.sessions.items name))
+        × (printed.new.items ≡ printed.old.items) }
+    ensures memory { result ≡ Err NoMemory
+        → (more : List ℕ)
+        × ((more ≡ [])
+        ⊎ ((new : ScriptContents) × OpensAt (script_contents_of stage.old) replica name more new))
+        × (printed.new.items ≡ printed.old.items ++ more) }
 {
     let Some(place) = replica_place(&stage.replicas, replica) else {
         return Err(ServeFault::BadScript);
@@ -206,7 +236,10 @@ fn begin(
     name: &SessionName,
     printed: &mut Vec<u8>,
 ) -> Result<Option<Connection>, ServeFault>
-    ensures ok { IfOk result (λ connection. (answer : Answer) × Begins node.old.state answer node.new.state connection × (printed.new.items ≡ printed.old.items ++ transcript_line name.now Server (text_of answer))) }
+    ensures ok { IfOk result (λ connection. (answer : Answer)
+        × Begins node.old.state answer node.new.state connection
+        × (printed.new.items
+        ≡ printed.old.items ++ transcript_line name.now Server (text_of answer))) }
     ensures err { IfErr result (λ fault. fault ≡ NoMemory) }
     ensures kept { OnErr result (printed.new.items ≡ printed.old.items) }
 {
@@ -225,7 +258,8 @@ fn begin(
 }
 
 fn greet(alloc: Global, name: &SessionName, printed: &mut Vec<u8>) -> Result<(), AllocError>
-    ensures ok { OnOk result (printed.new.items ≡ printed.old.items ++ transcript_line name.now Server (text_of (Greeting Given))) }
+    ensures ok { OnOk result (printed.new.items
+        ≡ printed.old.items ++ transcript_line name.now Server (text_of (Greeting Given))) }
     ensures err { OnErr result (printed.new.items ≡ printed.old.items) }
 {
     let answer = Answer::Greeting {
@@ -236,7 +270,8 @@ fn greet(alloc: Global, name: &SessionName, printed: &mut Vec<u8>) -> Result<(),
 
 /// Prints the BYE of a replica that has too many open sessions.
 fn turn_away(alloc: Global, name: &SessionName, printed: &mut Vec<u8>) -> Result<(), AllocError>
-    ensures ok { OnOk result (printed.new.items ≡ printed.old.items ++ transcript_line name.now Server (text_of (Bye FullReplica))) }
+    ensures ok { OnOk result (printed.new.items
+        ≡ printed.old.items ++ transcript_line name.now Server (text_of (Bye FullReplica))) }
     ensures err { OnErr result (printed.new.items ≡ printed.old.items) }
 {
     let answer = Answer::Bye {
@@ -253,9 +288,16 @@ fn feed(
     octets: &[u8],
     printed: &mut Vec<u8>,
 ) -> Result<(), ServeFault>
-    ensures ok { OnOk result ((more : List ℕ) × Feeds (script_contents_of stage.old) name.now octets.now more (script_contents_of stage.new) × (printed.new.items ≡ printed.old.items ++ more)) }
-    ensures bad { result ≡ Err BadScript → (IsTalking (script_contents_of stage.old) name.now → ⊥) × (printed.new.items ≡ printed.old.items) }
-    ensures memory { result ≡ Err NoMemory → (more : List ℕ) × FeedsInPart (script_contents_of stage.old) name.now octets.now more × (printed.new.items ≡ printed.old.items ++ more) }
+    ensures ok { OnOk result ((more : List ℕ)
+        × Feeds (script_contents_of stage.old) name.now octets.now more
+        (script_contents_of stage.new) × (printed.new.items ≡ printed.old.items ++ more)) }
+    ensures bad { result ≡ Err BadScript
+        → (IsTalking (script_contents_of stage.old) name.now → ⊥)
+        × (printed.new.items ≡ printed.old.items) }
+    ensures memory { result ≡ Err NoMemory
+        → (more : List ℕ)
+        × FeedsInPart (script_contents_of stage.old) name.now octets.now more
+        × (printed.new.items ≡ printed.old.items ++ more) }
 {
     let Some(place) = session_place(&stage.sessions, name) else {
         return Err(ServeFault::BadScript);
@@ -299,9 +341,17 @@ fn converse(
     name: &SessionName,
     printed: &mut Vec<u8>,
 ) -> Result<Option<Connection>, ServeFault>
-    ensures ok { IfOk result (λ left. (turns : List Turn) × TalksOn node.old.state connection piece.now.moment piece.now.octets.now turns node.new.state left × (printed.new.items ≡ printed.old.items ++ transcript name.now turns)) }
-    ensures bad { result ≡ Err BadScript → (IsGoing node.old.state connection.number → ⊥) × (printed.new.items ≡ printed.old.items) }
-    ensures memory { result ≡ Err NoMemory → (turns : List Turn) × (count : ℕ) × HasTurns node.old.state connection piece.now.moment piece.now.octets.now turns × (printed.new.items ≡ printed.old.items ++ transcript name.now (take count turns)) }
+    ensures ok { IfOk result (λ left. (turns : List Turn)
+        × TalksOn node.old.state connection piece.now.moment piece.now.octets.now turns
+        node.new.state left
+        × (printed.new.items ≡ printed.old.items ++ transcript name.now turns)) }
+    ensures bad { result ≡ Err BadScript
+        → (IsGoing node.old.state connection.number → ⊥) × (printed.new.items ≡ printed.old.items) }
+    ensures memory { result ≡ Err NoMemory
+        → (turns : List Turn)
+        × (count : ℕ)
+        × HasTurns node.old.state connection piece.now.moment piece.now.octets.now turns
+        × (printed.new.items ≡ printed.old.items ++ transcript name.now (take count turns)) }
 {
     let Connection { number, mut framer } = connection;
     if !is_going(node, number) {
@@ -345,9 +395,16 @@ fn poll(
     name: &SessionName,
     printed: &mut Vec<u8>,
 ) -> Result<(), ServeFault>
-    ensures ok { OnOk result ((more : List ℕ) × PollsAt (script_contents_of stage.old) name.now more (script_contents_of stage.new) × (printed.new.items ≡ printed.old.items ++ more)) }
-    ensures bad { result ≡ Err BadScript → (IsIdling (script_contents_of stage.old) name.now → ⊥) × (printed.new.items ≡ printed.old.items) }
-    ensures memory { result ≡ Err NoMemory → (more : List ℕ) × PollsInPart (script_contents_of stage.old) name.now more × (printed.new.items ≡ printed.old.items ++ more) }
+    ensures ok { OnOk result ((more : List ℕ)
+        × PollsAt (script_contents_of stage.old) name.now more (script_contents_of stage.new)
+        × (printed.new.items ≡ printed.old.items ++ more)) }
+    ensures bad { result ≡ Err BadScript
+        → (IsIdling (script_contents_of stage.old) name.now → ⊥)
+        × (printed.new.items ≡ printed.old.items) }
+    ensures memory { result ≡ Err NoMemory
+        → (more : List ℕ)
+        × PollsInPart (script_contents_of stage.old) name.now more
+        × (printed.new.items ≡ printed.old.items ++ more) }
 {
     let Some(place) = session_place(&stage.sessions, name) else {
         return Err(ServeFault::BadScript);
@@ -371,9 +428,16 @@ fn poll_node(
     name: &SessionName,
     printed: &mut Vec<u8>,
 ) -> Result<(), ServeFault>
-    ensures ok { OnOk result ((turns : List Turn) × IsSome (idling_at node.old.state session) × Polls node.old.state session turns node.new.state × (printed.new.items ≡ printed.old.items ++ transcript name.now turns)) }
-    ensures bad { result ≡ Err BadScript → IsNone (idling_at node.old.state session) × (printed.new.items ≡ printed.old.items) }
-    ensures memory { result ≡ Err NoMemory → (turns : List Turn) × (count : ℕ) × HasPolledTurns node.old.state session turns × (printed.new.items ≡ printed.old.items ++ transcript name.now (take count turns)) }
+    ensures ok { OnOk result ((turns : List Turn) × IsSome (idling_at node.old.state session)
+        × Polls node.old.state session turns node.new.state
+        × (printed.new.items ≡ printed.old.items ++ transcript name.now turns)) }
+    ensures bad { result ≡ Err BadScript
+        → IsNone (idling_at node.old.state session) × (printed.new.items ≡ printed.old.items) }
+    ensures memory { result ≡ Err NoMemory
+        → (turns : List Turn)
+        × (count : ℕ)
+        × HasPolledTurns node.old.state session turns
+        × (printed.new.items ≡ printed.old.items ++ transcript name.now (take count turns)) }
 {
     if !is_idling(node, session) {
         return Err(ServeFault::BadScript);
@@ -403,7 +467,8 @@ fn is_idling(node: &Node, session: SessionNo) -> bool
 
 /// Closes a session.
 fn close(stage: &mut ScriptState, name: &SessionName) -> Result<(), ServeFault>
-    ensures ok { OnOk result (Closes (script_contents_of stage.old) name.now (script_contents_of stage.new)) }
+    ensures ok { OnOk result
+        (Closes (script_contents_of stage.old) name.now (script_contents_of stage.new)) }
     ensures bad { OnErr result (IsTalking (script_contents_of stage.old) name.now → ⊥) }
     ensures err { IfErr result (λ fault. fault ≡ BadScript) }
 {
@@ -432,7 +497,8 @@ fn show(
     name: ReplicaId,
     printed: &mut Vec<u8>,
 ) -> Result<(), ServeFault>
-    ensures ok { OnOk result ((more : List ℕ) × Shows (script_contents_of stage.now) name more × (printed.new.items ≡ printed.old.items ++ more)) }
+    ensures ok { OnOk result ((more : List ℕ) × Shows (script_contents_of stage.now) name more
+        × (printed.new.items ≡ printed.old.items ++ more)) }
     ensures bad { result ≡ Err BadScript → IsNone (replica_place stage.now.replicas.items name) }
     ensures err { OnErr result (printed.new.items ≡ printed.old.items) }
 {

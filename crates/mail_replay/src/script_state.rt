@@ -1,10 +1,12 @@
 //! The state that a script has built up: its clock, its replicas and its sessions.
 
-ghost use Rattle.std.specs.Prelude.{◌≡◌, ◌<◌, ◌≤◌, ◌++◌, [], IfOk, IfSome, MatchOption, OnOk, drop, length};
+ghost use Rattle.std.specs.Prelude.{◌≡◌, ◌<◌, ◌≤◌, ◌++◌, [], IfOk, IfSome, MatchOption, OnOk, drop};
+ghost use Rattle.std.specs.Prelude.{length};
 ghost use Rattle.std.specs.Str.{bytes_eq};
 ghost use Rattle.crdt_ops.specs.declared.op.Op.{Op as Operation};
 ghost use Rattle.merge_laws.specs.Orders.{HasId, IsIn};
-ghost use Rattle.mail_replay.specs.ScriptState.{IsNew, replica_place, script_contents_of, session_place};
+ghost use Rattle.mail_replay.specs.ScriptState.{IsNew, replica_place, script_contents_of};
+ghost use Rattle.mail_replay.specs.ScriptState.{session_place};
 ghost use Rattle.crdt_ops.specs.Ops.{id_of};
 
 use causal_inbox::find_in;
@@ -47,7 +49,8 @@ impl IssuedOps {
 
     /// The issued operation with this id, if any.
     pub fn find(&self, id: OpId) -> Option<&SoundOp>
-        ensures { MatchOption result (¬ HasId id_of self.now id) (λ found. IsIn found.now self.now × (found.now.id ≡ id)) }
+        ensures { MatchOption result (¬ HasId id_of self.now id)
+            (λ found. IsIn found.now self.now × (found.now.id ≡ id)) }
     {
         find_in(&self.ops, id)
     }

@@ -19,8 +19,11 @@ pub fn write_turns(
     turns: &[Turn],
     printed: &mut Vec<u8>,
 ) -> Result<(), AllocError>
-    ensures ok { OnOk result (printed.new.items ≡ printed.old.items ++ transcript session.now turns.now) }
-    ensures err { OnErr result ((count : ℕ) × (printed.new.items ≡ printed.old.items ++ transcript session.now (take count turns.now))) }
+    ensures ok { OnOk result
+        (printed.new.items ≡ printed.old.items ++ transcript session.now turns.now) }
+    ensures err { OnErr result ((count : ℕ)
+        × (printed.new.items
+        ≡ printed.old.items ++ transcript session.now (take count turns.now))) }
 {
     for turn in turns {
         write_turn(session, turn, printed)?;
@@ -29,7 +32,8 @@ pub fn write_turns(
 }
 
 fn write_turn(session: &SessionName, turn: &Turn, printed: &mut Vec<u8>) -> Result<(), AllocError>
-    ensures ok { OnOk result (printed.new.items ≡ printed.old.items ++ turn_line session.now turn.now) }
+    ensures ok { OnOk result
+        (printed.new.items ≡ printed.old.items ++ turn_line session.now turn.now) }
     ensures err { OnErr result (printed.new.items ≡ printed.old.items) }
 {
     match turn {
@@ -55,7 +59,8 @@ pub fn write_answer(
     answer: &Answer,
     printed: &mut Vec<u8>,
 ) -> Result<(), AllocError>
-    ensures ok { OnOk result (printed.new.items ≡ printed.old.items ++ transcript_line session.now Server (text_of answer.now)) }
+    ensures ok { OnOk result (printed.new.items
+        ≡ printed.old.items ++ transcript_line session.now Server (text_of answer.now)) }
     ensures err { OnErr result (printed.new.items ≡ printed.old.items) }
 {
     let mut text = Vec::new(alloc);

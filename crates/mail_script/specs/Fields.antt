@@ -20,4 +20,5 @@ IsFirstK k = (0 < k) × (k ≤ 65536)
 
 -- Whether a session may have this name: 1 to 16 ASCII letters or digits.
 abbrev pub is_session_name : List ℕ → Bool
-is_session_name name = (nat_lt 0 (length name) && nat_le (length name) 16) && list_all is_ascii_alphanumeric name
+is_session_name name =
+    (nat_lt 0 (length name) && nat_le (length name) 16) && list_all is_ascii_alphanumeric name

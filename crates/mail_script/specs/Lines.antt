@@ -1,6 +1,7 @@
 -- The lines of a text, and the state of the buffer that cuts a script into lines.
 
-use Rattle.std.specs.Prelude.{◌≡◌, ℕ, ◌-◌, ◌≤◌, ◌==◌, List, [], ◌∷◌, None, length, take, drop, if◌then◌else◌}
+use Rattle.std.specs.Prelude.{◌≡◌, ℕ, ◌-◌, ◌≤◌, ◌==◌, List, [], ◌∷◌, None, length, take, drop}
+use Rattle.std.specs.Prelude.{if◌then◌else◌}
 use Rattle.mail_script.specs.Reading.{cut_at}
 
 -- Adds an octet to the beginning of the first line.
@@ -11,7 +12,8 @@ line_begun octet (line ∷ lines) = (octet ∷ line) ∷ lines
 -- The lines of a text without their ends: each ends with LF (10), which the last may lack.
 abbrev pub lines_of : List ℕ → List (List ℕ)
 lines_of [] = []
-lines_of (octet ∷ octets) = if octet == 10 then [] ∷ lines_of octets else line_begun octet (lines_of octets)
+lines_of (octet ∷ octets) =
+    if octet == 10 then [] ∷ lines_of octets else line_begun octet (lines_of octets)
 
 -- No LF (10) lies between the octets taken and the end of those searched.
 pub record IsSearched (taken searched : ℕ) (octets : List ℕ) : Type 0 where

@@ -6,15 +6,30 @@ use Rattle.std.specs.Fmt.{decimal}
 use Rattle.tags_clocks.specs.declared.id.OpId.{OpId}
 use Rattle.mail_script.specs.Fields.{id_text}
 use Rattle.mail_script.specs.declared.outcome_line.BrokenRule.{BrokenRule}
-use Rattle.mail_script.specs.declared.outcome_line.BrokenRule.TheVariants.{OwnEntry, UncoveredId, UnlawfulName, UnlawfulFlags, InboxDeleted, OldIdCount}
+use Rattle.mail_script.specs.declared.outcome_line.BrokenRule.TheVariants.{OwnEntry, UncoveredId}
+use Rattle.mail_script.specs.declared.outcome_line.BrokenRule.TheVariants.{UnlawfulName}
+use Rattle.mail_script.specs.declared.outcome_line.BrokenRule.TheVariants.{UnlawfulFlags}
+use Rattle.mail_script.specs.declared.outcome_line.BrokenRule.TheVariants.{InboxDeleted, OldIdCount}
 use Rattle.mail_script.specs.declared.outcome_line.DeliveryResult.{DeliveryResult}
-use Rattle.mail_script.specs.declared.outcome_line.DeliveryResult.TheVariants.{Applied, Held, Repeat, Conflict, HeldFull, Exhausted, NoMemory as NoMemoryForIt}
+use Rattle.mail_script.specs.declared.outcome_line.DeliveryResult.TheVariants.{Applied, Held}
+use Rattle.mail_script.specs.declared.outcome_line.DeliveryResult.TheVariants.{Repeat, Conflict}
+use Rattle.mail_script.specs.declared.outcome_line.DeliveryResult.TheVariants.{HeldFull, Exhausted}
+use Rattle.mail_script.specs.declared.outcome_line.DeliveryResult.TheVariants.{NoMemory as NoMemoryForIt}
 use Rattle.mail_script.specs.declared.outcome_line.JoinResult.{JoinResult}
-use Rattle.mail_script.specs.declared.outcome_line.JoinResult.TheVariants.{Done as DoneJoining, Own, Exhausted as ExhaustedByJoin, NoMemory as NoMemoryToJoin}
+use Rattle.mail_script.specs.declared.outcome_line.JoinResult.TheVariants.{Done as DoneJoining, Own}
+use Rattle.mail_script.specs.declared.outcome_line.JoinResult.TheVariants.{Exhausted as ExhaustedByJoin}
+use Rattle.mail_script.specs.declared.outcome_line.JoinResult.TheVariants.{NoMemory as NoMemoryToJoin}
 use Rattle.mail_script.specs.declared.outcome_line.SettleResult.{SettleResult}
-use Rattle.mail_script.specs.declared.outcome_line.SettleResult.TheVariants.{Done, Conflict as ConflictOfTwo, Exhausted as ExhaustedInIt, NoMemory as NoMemoryToSettle}
+use Rattle.mail_script.specs.declared.outcome_line.SettleResult.TheVariants.{Done}
+use Rattle.mail_script.specs.declared.outcome_line.SettleResult.TheVariants.{Conflict as ConflictOfTwo}
+use Rattle.mail_script.specs.declared.outcome_line.SettleResult.TheVariants.{Exhausted as ExhaustedInIt}
+use Rattle.mail_script.specs.declared.outcome_line.SettleResult.TheVariants.{NoMemory as NoMemoryToSettle}
 use Rattle.mail_script.specs.declared.outcome_line.OutcomeLine.{OutcomeLine}
-use Rattle.mail_script.specs.declared.outcome_line.OutcomeLine.TheVariants.{Delivered, Forged, Unsound, Drained, Settled, Agreed, Joined, BadScript, CannotRead, NoMemory}
+use Rattle.mail_script.specs.declared.outcome_line.OutcomeLine.TheVariants.{Delivered, Forged}
+use Rattle.mail_script.specs.declared.outcome_line.OutcomeLine.TheVariants.{Unsound, Drained}
+use Rattle.mail_script.specs.declared.outcome_line.OutcomeLine.TheVariants.{Settled, Agreed, Joined}
+use Rattle.mail_script.specs.declared.outcome_line.OutcomeLine.TheVariants.{BadScript, CannotRead}
+use Rattle.mail_script.specs.declared.outcome_line.OutcomeLine.TheVariants.{NoMemory}
 
 -- The word that reports that a ripe operation is still held.
 abbrev pub stalled_text : Bool → List ℕ
@@ -73,13 +88,18 @@ join_text NoMemoryToJoin = codes "NoMemory"
 
 -- The text of an outcome's line.
 abbrev pub outcome_text : OutcomeLine → List ℕ
-outcome_text (Delivered id replica result) = codes "deliver " ++ (delivery_text id replica ++ result_text result)
-outcome_text (Forged id replica result) = codes "forge " ++ (delivery_text id replica ++ result_text result)
+outcome_text (Delivered id replica result) =
+    codes "deliver " ++ (delivery_text id replica ++ result_text result)
+outcome_text (Forged id replica result) =
+    codes "forge " ++ (delivery_text id replica ++ result_text result)
 outcome_text (Unsound rule) = codes "forge: Unsound " ++ rule_text rule
-outcome_text (Drained replica count stalled) = codes "drain " ++ (decimal replica ++ (codes ": " ++ applied_text count stalled))
+outcome_text (Drained replica count stalled) =
+    codes "drain " ++ (decimal replica ++ (codes ": " ++ applied_text count stalled))
 outcome_text (Settled result) = codes "settle: " ++ settled_text result
-outcome_text (Agreed first second same) = codes "agree " ++ (pair_text first second ++ yes_or_no same)
-outcome_text (Joined replica peer result) = codes "join " ++ (pair_text replica peer ++ join_text result)
+outcome_text (Agreed first second same) =
+    codes "agree " ++ (pair_text first second ++ yes_or_no same)
+outcome_text (Joined replica peer result) =
+    codes "join " ++ (pair_text replica peer ++ join_text result)
 outcome_text (BadScript line) = codes "bad script: line " ++ decimal line
 outcome_text CannotRead = codes "cannot read"
 outcome_text NoMemory = codes "no memory"

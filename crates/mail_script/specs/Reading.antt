@@ -1,19 +1,36 @@
 -- How the code reads a script line, step by step. The meaning of a line is defined by `Says`; the
 -- contract of `read_line` joins the two.
 
-use Rattle.std.specs.Prelude.{◌≡◌, ℕ, ◌==◌, List, [], ◌∷◌, Option, Some, None, Result, Ok, Err, codes, if◌then◌else◌}
+use Rattle.std.specs.Prelude.{◌≡◌, ℕ, ◌==◌, List, [], ◌∷◌, Option, Some, None, Result, Ok, Err}
+use Rattle.std.specs.Prelude.{codes, if◌then◌else◌}
 use Rattle.std.specs.Str.{bytes_eq}
 use Rattle.imap_types.specs.Escape.{unescape}
 use Rattle.imap_types.specs.ReaderSteps.{GivesBy}
 use Rattle.imap_types.specs.declared.escape.Escape.TheVariants.{Text}
 use Rattle.mail_script.specs.Fields.{is_session_name}
-pub use Rattle.text_fields.specs.FieldReading.{◌>>=◌, cut_at, id_at, in_front, number_at, positive, replica_at}
+pub use Rattle.text_fields.specs.FieldReading.{◌>>=◌, cut_at, id_at, in_front, number_at, positive}
+pub use Rattle.text_fields.specs.FieldReading.{replica_at}
 use Rattle.mail_script.specs.declared.script.ScriptWord.{ScriptWord}
-use Rattle.mail_script.specs.declared.script.ScriptWord.TheVariants.{Node as NodeWord, Now as NowWord, Open as OpenWord, Line as LineWord, Send as SendWord, Poll as PollWord, Close as CloseWord, Show as ShowWord, Deliver as DeliverWord, Forge as ForgeWord, Drain as DrainWord, Agree as AgreeWord, Join as JoinWord}
+use Rattle.mail_script.specs.declared.script.ScriptWord.TheVariants.{Node as NodeWord}
+use Rattle.mail_script.specs.declared.script.ScriptWord.TheVariants.{Now as NowWord}
+use Rattle.mail_script.specs.declared.script.ScriptWord.TheVariants.{Open as OpenWord}
+use Rattle.mail_script.specs.declared.script.ScriptWord.TheVariants.{Line as LineWord}
+use Rattle.mail_script.specs.declared.script.ScriptWord.TheVariants.{Send as SendWord}
+use Rattle.mail_script.specs.declared.script.ScriptWord.TheVariants.{Poll as PollWord}
+use Rattle.mail_script.specs.declared.script.ScriptWord.TheVariants.{Close as CloseWord}
+use Rattle.mail_script.specs.declared.script.ScriptWord.TheVariants.{Show as ShowWord}
+use Rattle.mail_script.specs.declared.script.ScriptWord.TheVariants.{Deliver as DeliverWord}
+use Rattle.mail_script.specs.declared.script.ScriptWord.TheVariants.{Forge as ForgeWord}
+use Rattle.mail_script.specs.declared.script.ScriptWord.TheVariants.{Drain as DrainWord}
+use Rattle.mail_script.specs.declared.script.ScriptWord.TheVariants.{Agree as AgreeWord}
+use Rattle.mail_script.specs.declared.script.ScriptWord.TheVariants.{Join as JoinWord}
 use Rattle.mail_script.specs.declared.script.LineFault.{LineFault}
 use Rattle.mail_script.specs.declared.script.LineFault.TheVariants.{NotALine, NoMemory}
 use Rattle.mail_script.specs.declared.script.ScriptLine.{ScriptLine}
-use Rattle.mail_script.specs.declared.script.ScriptLine.TheVariants.{Blank, Node, Now, Open, Line, Send, Poll, Close, Show, Deliver, Forge, Drain, Settle, Agree, Join}
+use Rattle.mail_script.specs.declared.script.ScriptLine.TheVariants.{Blank, Node, Now, Open, Line}
+use Rattle.mail_script.specs.declared.script.ScriptLine.TheVariants.{Send, Poll, Close, Show}
+use Rattle.mail_script.specs.declared.script.ScriptLine.TheVariants.{Deliver, Forge, Drain, Settle}
+use Rattle.mail_script.specs.declared.script.ScriptLine.TheVariants.{Agree, Join}
 
 -- A fault other than lack of memory means that the text can't be read.
 abbrev pub Fails : {Y : Type 0} → LineFault → Option Y → Type 0

@@ -4,9 +4,13 @@ use Rattle.std.specs.Prelude.{◌≡◌, ℕ, ◌⊎◌, ◌++◌, List, [], ◌
 use Rattle.std.specs.Fmt.{decimal}
 use Rattle.imap_types.specs.Escape.{AreOctets, escape_text}
 use Rattle.imap_types.specs.declared.escape.Escape.TheVariants.{Text}
-use Rattle.mail_script.specs.Fields.{IsFirstK, IsFirstUid, IsMoment, IsNumber, IsReplica, id_text, is_session_name}
+use Rattle.mail_script.specs.Fields.{IsFirstK, IsFirstUid, IsMoment, IsNumber, IsReplica, id_text}
+use Rattle.mail_script.specs.Fields.{is_session_name}
 use Rattle.mail_script.specs.declared.script.ScriptLine.{ScriptLine}
-use Rattle.mail_script.specs.declared.script.ScriptLine.TheVariants.{Blank, Node, Now, Open, Line, Send, Poll, Close, Show, Deliver, Forge, Drain, Settle, Agree, Join}
+use Rattle.mail_script.specs.declared.script.ScriptLine.TheVariants.{Blank, Node, Now, Open, Line}
+use Rattle.mail_script.specs.declared.script.ScriptLine.TheVariants.{Send, Poll, Close, Show}
+use Rattle.mail_script.specs.declared.script.ScriptLine.TheVariants.{Deliver, Forge, Drain, Settle}
+use Rattle.mail_script.specs.declared.script.ScriptLine.TheVariants.{Agree, Join}
 
 -- The first numbers of a replica's counters, which follow the replica's own number.
 abbrev pub first_numbers_text : ℕ → ℕ → List ℕ
@@ -17,17 +21,42 @@ first_numbers_text uid k = codes " uid " ++ (decimal uid ++ (codes " k " ++ deci
 -- rest of the line, escaped so that spaces stay as they are.
 abbrev pub Says : List ℕ → ScriptLine → Type 0
 Says line Blank = (line ≡ []) ⊎ ((comment : List ℕ) × (line ≡ 35 ∷ comment))
-Says line (Node replica uid k) = IsReplica replica × IsFirstUid uid × IsFirstK k × ((line ≡ codes "node " ++ (decimal replica ++ first_numbers_text uid k)) ⊎ ((line ≡ codes "node " ++ decimal replica) × (uid ≡ 1) × (k ≡ 1)))
+Says line (Node replica uid k) =
+    IsReplica replica
+    × IsFirstUid uid
+    × IsFirstK k
+    × ((line ≡ codes "node " ++ (decimal replica ++ first_numbers_text uid k))
+    ⊎ ((line ≡ codes "node " ++ decimal replica) × (uid ≡ 1) × (k ≡ 1)))
 Says line (Now moment) = IsMoment moment × (line ≡ codes "now " ++ decimal moment)
-Says line (Open replica session) = IsReplica replica × IsTrue (is_session_name session) × (line ≡ codes "open " ++ (decimal replica ++ 32 ∷ session))
-Says line (Line session text) = IsTrue (is_session_name session) × AreOctets text × (line ≡ codes "line " ++ (session ++ 32 ∷ escape_text Text text))
-Says line (Send session text) = IsTrue (is_session_name session) × AreOctets text × (line ≡ codes "send " ++ (session ++ 32 ∷ escape_text Text text))
+Says line (Open replica session) =
+    IsReplica replica
+    × IsTrue (is_session_name session)
+    × (line ≡ codes "open " ++ (decimal replica ++ 32 ∷ session))
+Says line (Line session text) =
+    IsTrue (is_session_name session)
+    × AreOctets text
+    × (line ≡ codes "line " ++ (session ++ 32 ∷ escape_text Text text))
+Says line (Send session text) =
+    IsTrue (is_session_name session)
+    × AreOctets text
+    × (line ≡ codes "send " ++ (session ++ 32 ∷ escape_text Text text))
 Says line (Poll session) = IsTrue (is_session_name session) × (line ≡ codes "poll " ++ session)
 Says line (Close session) = IsTrue (is_session_name session) × (line ≡ codes "close " ++ session)
 Says line (Show replica) = IsReplica replica × (line ≡ codes "show " ++ decimal replica)
-Says line (Deliver id replica) = IsReplica id.replica × IsNumber id.number × IsReplica replica × (line ≡ codes "deliver " ++ (id_text id ++ 32 ∷ decimal replica))
-Says line (Forge replica operation) = IsReplica replica × (line ≡ codes "forge " ++ (decimal replica ++ 32 ∷ operation))
+Says line (Deliver id replica) =
+    IsReplica id.replica
+    × IsNumber id.number
+    × IsReplica replica
+    × (line ≡ codes "deliver " ++ (id_text id ++ 32 ∷ decimal replica))
+Says line (Forge replica operation) =
+    IsReplica replica × (line ≡ codes "forge " ++ (decimal replica ++ 32 ∷ operation))
 Says line (Drain replica) = IsReplica replica × (line ≡ codes "drain " ++ decimal replica)
 Says line Settle = line ≡ codes "settle"
-Says line (Agree first second) = IsReplica first × IsReplica second × (line ≡ codes "agree " ++ (decimal first ++ 32 ∷ decimal second))
-Says line (Join replica peer) = IsReplica replica × IsReplica peer × (line ≡ codes "join " ++ (decimal replica ++ 32 ∷ decimal peer))
+Says line (Agree first second) =
+    IsReplica first
+    × IsReplica second
+    × (line ≡ codes "agree " ++ (decimal first ++ 32 ∷ decimal second))
+Says line (Join replica peer) =
+    IsReplica replica
+    × IsReplica peer
+    × (line ≡ codes "join " ++ (decimal replica ++ 32 ∷ decimal peer))

@@ -14,9 +14,13 @@ mark_of Server = codes " S: "
 
 -- Octets without the CRLF (13, 10) that closes them.
 abbrev pub without_line_end : List ℕ → List ℕ
-without_line_end octets = if bytes_eq (drop (length octets - 2) octets) (13 ∷ 10 ∷ []) then take (length octets - 2) octets else octets
+without_line_end octets =
+    if bytes_eq (drop (length octets - 2) octets) (13 ∷ 10 ∷ [])
+    then take (length octets - 2) octets
+    else octets
 
 -- A line of a transcript: the session, who sent the frame or answer, and the octets without their
 -- closing CRLF, escaped so that spaces stay as they are, then LF (10).
 abbrev pub transcript_line : List ℕ → Speaker → List ℕ → List ℕ
-transcript_line session speaker octets = session ++ (mark_of speaker ++ (escape_text Text (without_line_end octets) ++ 10 ∷ []))
+transcript_line session speaker octets =
+    session ++ (mark_of speaker ++ (escape_text Text (without_line_end octets) ++ 10 ∷ []))

@@ -1,6 +1,8 @@
 //! Readers of the fields of a script line: numbers, names, ids and texts.
 
-ghost use Rattle.mail_script.specs.Reading.{Gives, behind_at, counted_at, cut_at, first_numbers_at, id_at, moment_at, replica_at, session_at, session_and_text_at};
+ghost use Rattle.mail_script.specs.Reading.{Gives, behind_at, counted_at, cut_at, first_numbers_at};
+ghost use Rattle.mail_script.specs.Reading.{id_at, moment_at, replica_at, session_at};
+ghost use Rattle.mail_script.specs.Reading.{session_and_text_at};
 
 use crate::script::LineFault;
 use crate::session_name::{SessionName, is_session_name};

@@ -3,7 +3,9 @@
 ghost use Rattle.std.specs.Prelude.{◌≡◌, ◌++◌, ℕ, List, [], ◌∷◌, OnErr, OnOk};
 ghost use Rattle.std.specs.Fmt.{decimal};
 ghost use Rattle.mail_script.specs.Fields.{id_text};
-ghost use Rattle.mail_script.specs.Outcomes.{outcome_line, outcome_text, applied_text, delivery_text, join_text, pair_text, result_text, rule_text, settled_text, stalled_text, yes_or_no};
+ghost use Rattle.mail_script.specs.Outcomes.{outcome_line, outcome_text, applied_text};
+ghost use Rattle.mail_script.specs.Outcomes.{delivery_text, join_text, pair_text, result_text};
+ghost use Rattle.mail_script.specs.Outcomes.{rule_text, settled_text, stalled_text, yes_or_no};
 
 use std::alloc::AllocError;
 use tags_clocks::{OpId, ReplicaId};

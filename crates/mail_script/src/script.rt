@@ -3,7 +3,9 @@
 ghost use Rattle.std.specs.Prelude.{◌≡◌, ℕ, List, IfOk, MatchResult};
 ghost use Rattle.mail_script.specs.declared.script.ScriptLine.{ScriptLine};
 ghost use Rattle.mail_script.specs.declared.script.LineFault.TheVariants.{NoMemory};
-ghost use Rattle.mail_script.specs.Reading.{Gives, agree_at, cut_at, deliver_at, fields_at, forge_at, join_at, keyword_at, line_at, node_at, open_at, word_or_words_at, words_at};
+ghost use Rattle.mail_script.specs.Reading.{Gives, agree_at, cut_at, deliver_at, fields_at};
+ghost use Rattle.mail_script.specs.Reading.{forge_at, join_at, keyword_at, line_at, node_at};
+ghost use Rattle.mail_script.specs.Reading.{open_at, word_or_words_at, words_at};
 ghost use Rattle.mail_script.specs.Script.{Says};
 
 use crate::fields::{first_numbers, id, moment, replica, session, session_and_text, split_field};
@@ -146,14 +148,16 @@ pub enum ScriptWord {
 /// exactly if it is no line of a script, and `NoMemory` if memory runs out.
 pub fn read_line(alloc: Global, line: &[u8]) -> Result<ScriptLine, LineFault>
     ensures found { IfOk result (λ said. Says line.now said) }
-    ensures only { (meaning : ScriptLine) → Says line.now meaning → MatchResult result (λ said. said ≡ meaning) (λ fault. fault ≡ NoMemory) }
+    ensures only { (meaning : ScriptLine) → Says line.now meaning
+        → MatchResult result (λ said. said ≡ meaning) (λ fault. fault ≡ NoMemory) }
 {
     read_said(alloc, line)
 }
 
 /// A line says at most one thing.
 pub fn one_meaning()
-    ensures { (line : List ℕ) (meaning other : ScriptLine) → Says line meaning → Says line other → meaning ≡ other }
+    ensures { (line : List ℕ) (meaning other : ScriptLine) → Says line meaning → Says line other
+        → meaning ≡ other }
 {}
 
 fn read_said(alloc: Global, line: &[u8]) -> Result<ScriptLine, LineFault>

@@ -1,6 +1,7 @@
 //! A buffer that cuts a script, which arrives in pieces, into lines.
 
-ghost use Rattle.std.specs.Prelude.{◌≡◌, ◌≢◌, ◌++◌, ℕ, List, [], ◌∷◌, Option, Some, None, IfOk, MatchOption, OnErr, OnOk};
+ghost use Rattle.std.specs.Prelude.{◌≡◌, ◌≢◌, ◌++◌, ℕ, List, [], ◌∷◌, Option, Some, None, IfOk};
+ghost use Rattle.std.specs.Prelude.{MatchOption, OnErr, OnOk};
 ghost use Rattle.mail_script.specs.Lines.{lines_of};
 ghost use Rattle.mail_script.specs.Reading.{cut_at};
 
@@ -56,7 +57,9 @@ impl ScriptLines {
     /// Takes the next line, without its LF; `None` if the rest has no LF, and `Err` if memory runs
     /// out for the line. In both cases nothing changes.
     pub fn next_line(&mut self, alloc: Global) -> Result<Option<Octets>, AllocError>
-        ensures ok { IfOk result (λ next. MatchOption next ((cut_at 10 self.old ≡ None) × (self.new ≡ self.old)) (λ line. cut_at 10 self.old ≡ Some (line, self.new))) }
+        ensures ok { IfOk result (λ next. MatchOption next
+            ((cut_at 10 self.old ≡ None) × (self.new ≡ self.old))
+            (λ line. cut_at 10 self.old ≡ Some (line, self.new))) }
         ensures err { OnErr result (self.new ≡ self.old) }
     {
         match split(b'\n', &self.octets[self.searched..]) {
@@ -106,6 +109,8 @@ impl ScriptLines {
 /// Cutting a text at its first LF, and then the rest in the same way, gives the text's lines,
 /// whatever is added at the end; the octets after the last LF, if any, are the last line.
 pub fn cut_in_turn()
-    ensures next { (text line rest more : List ℕ) → cut_at 10 text ≡ Some (line, rest) → lines_of (text ++ more) ≡ line ∷ lines_of (rest ++ more) }
+    ensures next { (text line rest more : List ℕ)
+        → cut_at 10 text ≡ Some (line, rest)
+        → lines_of (text ++ more) ≡ line ∷ lines_of (rest ++ more) }
     ensures last { (text : List ℕ) → cut_at 10 text ≡ None → text ≢ [] → lines_of text ≡ text ∷ [] }
 {}

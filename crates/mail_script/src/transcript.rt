@@ -35,7 +35,8 @@ pub fn write_transcript_line(
     octets: &[u8],
     out: &mut Vec<u8>,
 ) -> Result<(), AllocError>
-    ensures ok { OnOk result (out.new.items ≡ out.old.items ++ transcript_line session.now speaker octets.now) }
+    ensures ok { OnOk result
+        (out.new.items ≡ out.old.items ++ transcript_line session.now speaker octets.now) }
     ensures err { OnErr result (out.new.items ≡ out.old.items) }
 {
     let start = out.len();
@@ -52,7 +53,8 @@ fn push_line(
     octets: &[u8],
     out: &mut Vec<u8>,
 ) -> Result<(), AllocError>
-    ensures ok { OnOk result (out.new.items ≡ out.old.items ++ transcript_line session.now speaker octets.now) }
+    ensures ok { OnOk result
+        (out.new.items ≡ out.old.items ++ transcript_line session.now speaker octets.now) }
     ensures kept { (more : List ℕ) × (out.new.items ≡ out.old.items ++ more) }
 {
     out.extend_from_slice(session.as_bytes())?;

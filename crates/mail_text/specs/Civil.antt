@@ -1,7 +1,8 @@
 -- The date-time of a moment in UTC, and the day that a date-time has in its own zone (RFC 9051,
 -- section 9, date-time).
 
-use Rattle.std.specs.Prelude.{◌≡◌, ℕ, ◌+◌, ◌/◌, ◌%◌, ◌==◌, List, [], ◌∷◌, ◌++◌, codes, pos, unsigned_abs, if◌then◌else◌}
+use Rattle.std.specs.Prelude.{◌≡◌, ℕ, ◌+◌, ◌/◌, ◌%◌, ◌==◌, List, [], ◌∷◌, ◌++◌, codes, pos}
+use Rattle.std.specs.Prelude.{unsigned_abs, if◌then◌else◌}
 use Rattle.imap_types.specs.DateTimes.{day_at, month_at, year_at}
 use Rattle.imap_types.specs.declared.day.Day.{Day}
 use Rattle.jiff.specs.Words.{epoch_day}
@@ -30,8 +31,14 @@ month_name month =
 -- date-time).
 abbrev pub utc_text : ℕ → ℕ → ℕ → ℕ → List ℕ
 utc_text year month day seconds =
-    codes "\"" ++ (in_two_digits day ++ (codes "-" ++ (month_name month ++ (codes "-" ++ (in_two_digits (year / 100) ++ (in_two_digits (year % 100)
-    ++ (codes " " ++ (in_two_digits (seconds / 3600) ++ (codes ":" ++ (in_two_digits (seconds % 3600 / 60) ++ (codes ":" ++ (in_two_digits (seconds % 60)
+    codes "\""
+    ++ (in_two_digits day
+    ++ (codes "-"
+    ++ (month_name month ++ (codes "-" ++ (in_two_digits (year / 100) ++ (in_two_digits (year % 100)
+    ++ (codes " "
+    ++ (in_two_digits (seconds / 3600)
+    ++ (codes ":"
+    ++ (in_two_digits (seconds % 3600 / 60) ++ (codes ":" ++ (in_two_digits (seconds % 60)
     ++ codes " +0000\""))))))))))))
 
 -- The date-time in UTC that is `moment` seconds after 1 January 1970: days have 86,400 seconds.

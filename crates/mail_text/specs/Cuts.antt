@@ -21,18 +21,22 @@ pub record IsAfterHeader (text rest : List ℕ) : Type 0 where
 -- The first lines, as far as they continue a field; and the lines after these.
 abbrev pub continuation_lines : List (List ℕ) → List (List ℕ)
 continuation_lines [] = []
-continuation_lines (line ∷ lines) = if is_continuation line then line ∷ continuation_lines lines else []
+continuation_lines (line ∷ lines) =
+    if is_continuation line then line ∷ continuation_lines lines else []
 
 abbrev pub after_continuations : List (List ℕ) → List (List ℕ)
 after_continuations [] = []
-after_continuations (line ∷ lines) = if is_continuation line then after_continuations lines else line ∷ lines
+after_continuations (line ∷ lines) =
+    if is_continuation line then after_continuations lines else line ∷ lines
 
 -- The rest of a text begins where lines may still continue the field before it.
 pub record IsInContinuation (text rest : List ℕ) : Type 0 where
   pub front : List ℕ
   pub split : text ≡ front ++ rest
-  pub lines : concat (continuation_lines (field_lines (lines_of text))) ≡ front ++ concat (continuation_lines (field_lines (lines_of rest)))
-  pub others : after_continuations (field_lines (lines_of text)) ≡ after_continuations (field_lines (lines_of rest))
+  pub lines : concat (continuation_lines (field_lines (lines_of text)))
+      ≡ front ++ concat (continuation_lines (field_lines (lines_of rest)))
+  pub others : after_continuations (field_lines (lines_of text))
+      ≡ after_continuations (field_lines (lines_of rest))
 
 -- The rest of a text begins with the next field, or with the empty line.
 pub record IsAfterContinuation (text rest : List ℕ) : Type 0 where
@@ -42,6 +46,7 @@ pub record IsAfterContinuation (text rest : List ℕ) : Type 0 where
 -- A text's first field: its first line, all its octets, and what follows it.
 pub record IsFirstField (text line field rest : List ℕ) : Type 0 where
   pub more : List (List ℕ)
-  pub fields : fields_in (field_lines (lines_of text)) ≡ (line ∷ more) ∷ fields_in (field_lines (lines_of rest))
+  pub fields : fields_in (field_lines (lines_of text))
+      ≡ (line ∷ more) ∷ fields_in (field_lines (lines_of rest))
   pub joined : concat (line ∷ more) ≡ field
   pub shorter : length rest < length text

@@ -1,7 +1,8 @@
 -- The fields of a header, and those with given names (RFC 5322, section 2.2; RFC 9051, section
 -- 6.4.5.1).
 
-use Rattle.std.specs.Prelude.{ℕ, Bool, false, not, ◌||◌, ◌==◌, List, [], ◌∷◌, ◌++◌, Option, Some, None, map, option_map, if◌then◌else◌}
+use Rattle.std.specs.Prelude.{ℕ, Bool, false, not, ◌||◌, ◌==◌, List, [], ◌∷◌, ◌++◌, Option, Some}
+use Rattle.std.specs.Prelude.{None, map, option_map, if◌then◌else◌}
 use Rattle.std.specs.List.{concat, filter, list_all}
 use Rattle.imap_types.specs.Keywords.{has_keyword}
 use Rattle.mail_text.specs.TextLines.{in_first, is_empty_line, lines_of}
@@ -19,7 +20,9 @@ is_continuation (octet ∷ octets) = is_blank octet
 abbrev pub fields_in : List (List ℕ) → List (List (List ℕ))
 fields_in [] = []
 fields_in (line ∷ []) = (line ∷ []) ∷ []
-fields_in (line ∷ next ∷ lines) = if is_continuation next then in_first line (fields_in (next ∷ lines)) else (line ∷ []) ∷ fields_in (next ∷ lines)
+fields_in (line ∷ next ∷ lines) =
+    if is_continuation next then in_first line (fields_in (next ∷ lines))
+    else (line ∷ []) ∷ fields_in (next ∷ lines)
 
 -- The octets, if any, with one before them.
 abbrev pub with_octet : ℕ → Option (List ℕ) → Option (List ℕ)
@@ -29,12 +32,14 @@ with_octet octet (Some octets) = Some (octet ∷ octets)
 -- What comes before the first colon, if there is one.
 abbrev pub before_colon : List ℕ → Option (List ℕ)
 before_colon [] = None
-before_colon (octet ∷ octets) = if octet == 58 then Some [] else with_octet octet (before_colon octets)
+before_colon (octet ∷ octets) =
+    if octet == 58 then Some [] else with_octet octet (before_colon octets)
 
 -- A text without the blanks at its end.
 abbrev pub trim_end_blanks : List ℕ → List ℕ
 trim_end_blanks [] = []
-trim_end_blanks (octet ∷ octets) = if list_all is_blank (octet ∷ octets) then [] else octet ∷ trim_end_blanks octets
+trim_end_blanks (octet ∷ octets) =
+    if list_all is_blank (octet ∷ octets) then [] else octet ∷ trim_end_blanks octets
 
 -- Whether the name is one of these, compared without case.
 abbrev pub is_among : List (List ℕ) → Option (List ℕ) → Bool
@@ -49,7 +54,8 @@ has_asked_name names line = is_among names (option_map trim_end_blanks (before_c
 -- Whether a line begins a selected field: with one of these names if `named`, else with another
 -- name or none.
 abbrev pub is_asked_field : Bool → List (List ℕ) → List ℕ → Bool
-is_asked_field named names line = if named then has_asked_name names line else not (has_asked_name names line)
+is_asked_field named names line =
+    if named then has_asked_name names line else not (has_asked_name names line)
 
 abbrev pub first_asked : (List ℕ → Bool) → List (List ℕ) → Bool
 first_asked asked [] = false
@@ -71,4 +77,6 @@ asked_fields_in asked fields = concat (map concat (filter (first_asked asked) fi
 -- The fields with one of these names, or all others, in the order of the text, and then the empty
 -- line if there is one (RFC 9051, section 6.4.5.1, HEADER.FIELDS and HEADER.FIELDS.NOT).
 abbrev pub fields_of : Bool → List (List ℕ) → List ℕ → List ℕ
-fields_of named names text = asked_fields_in (is_asked_field named names) (fields_in (field_lines (lines_of text))) ++ empty_line (lines_of text)
+fields_of named names text =
+    asked_fields_in (is_asked_field named names) (fields_in (field_lines (lines_of text)))
+    ++ empty_line (lines_of text)

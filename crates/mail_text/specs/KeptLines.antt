@@ -15,4 +15,6 @@ is_kept_line keep line = if keep then line else []
 abbrev pub kept_lines : (List ℕ → Bool) → Bool → List (List ℕ) → List ℕ
 kept_lines asked keep [] = []
 kept_lines asked keep (line ∷ lines) =
-    if is_empty_line line then line else is_kept_line (takes_line asked keep line) line ++ kept_lines asked (takes_line asked keep line) lines
+    if is_empty_line line then line
+    else is_kept_line (takes_line asked keep line) line
+    ++ kept_lines asked (takes_line asked keep line) lines

@@ -20,7 +20,8 @@ in_first a (xs ∷ xss) = (a ∷ xs) ∷ xss
 abbrev pub lines_of : List ℕ → List (List ℕ)
 lines_of [] = []
 lines_of (a ∷ []) = (a ∷ []) ∷ []
-lines_of (a ∷ b ∷ rest) = if is_crlf a b then (a ∷ b ∷ []) ∷ lines_of rest else in_first a (lines_of (b ∷ rest))
+lines_of (a ∷ b ∷ rest) =
+    if is_crlf a b then (a ∷ b ∷ []) ∷ lines_of rest else in_first a (lines_of (b ∷ rest))
 
 -- Whether a line is only CRLF.
 abbrev pub is_empty_line : List ℕ → Bool

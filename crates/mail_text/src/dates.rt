@@ -1,6 +1,7 @@
 //! Date-times of moments, and days of date-times (RFC 9051, section 9, date-time).
 
-ghost use Rattle.std.specs.Prelude.{◌≡◌, ◌↔◌, ◌+◌, ◌/◌, ◌%◌, ◌<◌, ◌≤◌, IsTrue, length, pos, slice_index, unsigned_abs};
+ghost use Rattle.std.specs.Prelude.{◌≡◌, ◌↔◌, ◌+◌, ◌/◌, ◌%◌, ◌<◌, ◌≤◌, IsTrue, length, pos};
+ghost use Rattle.std.specs.Prelude.{slice_index, unsigned_abs};
 ghost use Rattle.jiff.specs.Words.{epoch_day};
 ghost use Rattle.imap_types.specs.DateTimes.{IsDateTime, is_digit, two_digits};
 ghost use Rattle.mail_text.specs.Civil.{IsCivil, month_name, utc_text, written_day};

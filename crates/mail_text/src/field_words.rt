@@ -58,7 +58,8 @@ fn holds(
     name: &[u8],
     word: &[u8],
 ) -> Result<bool, AllocError>
-    ensures { IfOk result (λ is. is ≡ (has_asked_name (name.now ∷ []) line.now && holds word.now (after_colon octets.now))) }
+    ensures { IfOk result (λ is. is
+        ≡ (has_asked_name (name.now ∷ []) line.now && holds word.now (after_colon octets.now))) }
 {
     if !has_field_name(line, name) {
         return Ok(false);
@@ -69,7 +70,8 @@ fn holds(
 /// The first field of a text that begins inside a header; `None` if the header has no further
 /// field.
 fn first_field(text: &[u8]) -> Option<Field<'_>>
-    ensures { MatchOption result (fields_in (field_lines (lines_of text.now)) ≡ []) (λ field. IsFirstField text.now field.line.now field.octets.now field.rest.now) }
+    ensures { MatchOption result (fields_in (field_lines (lines_of text.now)) ≡ [])
+        (λ field. IsFirstField text.now field.line.now field.octets.now field.rest.now) }
 {
     if text.is_empty() {
         return None;

@@ -3,7 +3,9 @@
 ghost use Rattle.std.specs.Prelude.{◌≡◌, ◌≢◌, true, false, ◌++◌, [], OnOk, IfOk};
 ghost use Rattle.std.specs.Option.{option_map};
 ghost use Rattle.imap_types.specs.Keywords.{has_keyword};
-ghost use Rattle.mail_text.specs.HeaderFields.{is_asked_field, before_colon, fields_of, is_continuation, is_among, is_blank, has_asked_name, trim_end_blanks};
+ghost use Rattle.mail_text.specs.HeaderFields.{is_asked_field, before_colon, fields_of};
+ghost use Rattle.mail_text.specs.HeaderFields.{is_continuation, is_among, is_blank, has_asked_name};
+ghost use Rattle.mail_text.specs.HeaderFields.{trim_end_blanks};
 ghost use Rattle.mail_text.specs.KeptLines.{is_kept_line, takes_line};
 
 use crate::text_lines::{first_line, is_empty_line};

@@ -1,6 +1,7 @@
 -- Lists of entries by ascending UID (RFC 9051, section 2.3.1.1), and indexes from origins to UIDs.
 
-use Rattle.std.specs.Prelude.{◌≡◌, ℕ, ◌+◌, ◌-◌, ◌<◌, ◌≤◌, ◌==◌, ◌&&◌, Bool, true, false, List, [], ◌∷◌, Option, Some, None, length, get_or}
+use Rattle.std.specs.Prelude.{◌≡◌, ℕ, ◌+◌, ◌-◌, ◌<◌, ◌≤◌, ◌==◌, ◌&&◌, Bool, true, false, List, []}
+use Rattle.std.specs.Prelude.{◌∷◌, Option, Some, None, length, get_or}
 use Rattle.std.specs.Map.{lookup}
 use Rattle.tags_clocks.specs.declared.id.OpId.{OpId}
 use Rattle.mailbox_rows.specs.declared.entry.ListingEntry.{ListingEntry}

@@ -35,11 +35,15 @@ message_data versions date text = record {
 
 -- The data of a message with these versions and the date and text of its Append, if applied.
 abbrev pub message_data_of : List Version → Option DatedText → MessageData
-message_data_of versions letter = message_data versions (option_map (λ (l : DatedText). l.date) letter) (option_map (λ (l : DatedText). l.text) letter)
+message_data_of versions letter =
+    message_data versions (option_map (λ (l : DatedText). l.date) letter)
+    (option_map (λ (l : DatedText). l.text) letter)
 
 -- The data of a message as pending operations leave it.
 abbrev pub owned_message_data : OwnedMessage → MessageData
-owned_message_data m = message_data m.versions.items (option_map (λ date. date.now) m.date) (option_map (λ text. text.now) m.text)
+owned_message_data m =
+    message_data m.versions.items (option_map (λ date. date.now) m.date)
+    (option_map (λ text. text.now) m.text)
 
 -- The value of a map under this origin, if any.
 abbrev pub entry_under : {X : Type 0} → OpId → List (OpId × X) → Option X
@@ -48,7 +52,8 @@ entry_under origin entries = lookup (is_id origin) entries
 -- The versions under this origin, if there is a table that has it.
 abbrev pub versions_in : Option (List (OpId × Vec Version)) → OpId → Option (List Version)
 versions_in None origin = None
-versions_in (Some messages) origin = option_map (λ (versions : Vec Version). versions.items) (entry_under origin messages)
+versions_in (Some messages) origin =
+    option_map (λ (versions : Vec Version). versions.items) (entry_under origin messages)
 
 -- A mailbox's two tables: its messages' versions, and the dates and texts of all Appends.
 abbrev pub messages_of : FolderMessages → Option (List (OpId × Vec Version))
@@ -59,12 +64,16 @@ dated_texts_of mailbox = mailbox.letters.now.entries
 
 -- The data of the mailbox's stored message of this origin, if it exists.
 abbrev pub kept_message_data : FolderMessages → OpId → Option MessageData
-kept_message_data mailbox origin = option_map (λ versions. message_data_of versions (entry_under origin (dated_texts_of mailbox))) (versions_in (messages_of mailbox) origin)
+kept_message_data mailbox origin =
+    option_map (λ versions. message_data_of versions (entry_under origin (dated_texts_of mailbox)))
+    (versions_in (messages_of mailbox) origin)
 
 -- The data of the message of this origin: as pending operations leave it if they change it, else as
 -- it is stored.
 abbrev pub message_data_at : List (OpId × OwnedMessage) → FolderMessages → OpId → Option MessageData
-message_data_at fresh mailbox origin = first_of (option_map owned_message_data (entry_under origin fresh)) (kept_message_data mailbox origin)
+message_data_at fresh mailbox origin =
+    first_of (option_map owned_message_data (entry_under origin fresh))
+    (kept_message_data mailbox origin)
 
 -- A message with the numbers of its entry.
 abbrev pub with_numbers : ListingEntry → MessageData → ListedMessage
@@ -84,8 +93,10 @@ no_message_data = message_data [] None None
 
 -- The message that an entry shows.
 abbrev pub row_by : List (OpId × OwnedMessage) → FolderMessages → ListingEntry → ListedMessage
-row_by fresh mailbox e = with_numbers e (unwrap_or (message_data_at fresh mailbox e.origin) no_message_data)
+row_by fresh mailbox e =
+    with_numbers e (unwrap_or (message_data_at fresh mailbox e.origin) no_message_data)
 
 -- The messages that these entries show.
-abbrev pub rows_by : List (OpId × OwnedMessage) → FolderMessages → List ListingEntry → List ListedMessage
+abbrev pub rows_by : List (OpId × OwnedMessage) → FolderMessages → List ListingEntry
+    → List ListedMessage
 rows_by fresh mailbox entries = map (row_by fresh mailbox) entries

@@ -52,7 +52,8 @@ AreAscending low (u ∷ us) = (low ≤ u) × AreAscending u us
 -- The entries whose mod-sequences are above `modseq` have UIDs among these.
 abbrev pub AreAmong : ℕ → List ℕ → List ListingEntry → Type 0
 AreAmong modseq us [] = Unit {0}
-AreAmong modseq us (e ∷ es) = (nat_lt modseq e.modseq ≡ true → list_any (λ u. u == e.uid) us ≡ true) × AreAmong modseq us es
+AreAmong modseq us (e ∷ es) =
+    (nat_lt modseq e.modseq ≡ true → list_any (λ u. u == e.uid) us ≡ true) × AreAmong modseq us es
 
 -- If no change was left out, each of the entries got its mod-sequence by one of them.
 abbrev pub AreLoggedIn : LogState → List ListingEntry → Type 0
@@ -60,4 +61,5 @@ AreLoggedIn changes es = changes.is_whole ≡ true → AreLogged changes.list es
 
 -- A stored log, and after it a log of new changes.
 abbrev pub log_over : LogState → LogState → LogState
-log_over kept own = record { list = kept.list ++ own.list; is_whole = kept.is_whole && own.is_whole }
+log_over kept own =
+    record { list = kept.list ++ own.list; is_whole = kept.is_whole && own.is_whole }

@@ -1,6 +1,7 @@
 -- What pieces hold, and what each of them knows of the pieces before it.
 
-use Rattle.std.specs.Prelude.{◌≡◌, ℕ, ◌+◌, ◌-◌, ◌*◌, ◌<◌, ◌≤◌, List, [], ◌∷◌, length, flat_map, get_or, take, drop}
+use Rattle.std.specs.Prelude.{◌≡◌, ℕ, ◌+◌, ◌-◌, ◌*◌, ◌<◌, ◌≤◌, List, [], ◌∷◌, length, flat_map}
+use Rattle.std.specs.Prelude.{get_or, take, drop}
 use Rattle.mailbox_rows.specs.declared.pieces.Piece.{Piece}
 use Rattle.mailbox_rows.specs.declared.pieces.PieceSource.{PieceSource}
 use Rattle.mailbox_rows.specs.declared.pieces.PieceSource.TheVariants.{Kept, Own}

@@ -1,7 +1,8 @@
 -- The messages that rows show, and look-ups in lists of them by UID (RFC 9051, section 2.3.1.1) and
 -- by mod-sequence (RFC 7162, section 3.1.4).
 
-use Rattle.std.specs.Prelude.{ℕ, ◌+◌, ◌≤◌, nat_lt, ◌==◌, List, [], ◌∷◌, Option, Some, None, codes, if◌then◌else◌}
+use Rattle.std.specs.Prelude.{ℕ, ◌+◌, ◌≤◌, nat_lt, ◌==◌, List, [], ◌∷◌, Option, Some, None, codes}
+use Rattle.std.specs.Prelude.{if◌then◌else◌}
 use Rattle.std.specs.List.{filter}
 use Rattle.std.specs.Option.{option_map, unwrap_or}
 use Rattle.imap_types.specs.Unions.{united_flags, version_ids}
@@ -40,7 +41,8 @@ listed_head head = record {
 
 -- A message without its origin, date and text.
 abbrev pub head_of : ListedMessage → ListedHead
-head_of row = record { uid = row.uid; modseq = row.modseq; versions = row.versions; flags = row.flags }
+head_of row =
+    record { uid = row.uid; modseq = row.modseq; versions = row.versions; flags = row.flags }
 
 -- The versions of an owned row, whether borrowed or its own.
 abbrev pub owned_versions : VersionsCow → List Version

@@ -35,7 +35,9 @@ fn push_at(
     place: usize,
     modseq: u64,
 ) -> Result<(), AllocError>
-    ensures { OnOk result (found.new.items ≡ found.old.items ++ changed_since modseq (option_to_list (slice_get list.now.items place))) }
+    ensures { OnOk result (found.new.items
+        ≡ found.old.items
+        ++ changed_since modseq (option_to_list (slice_get list.now.items place))) }
 {
     match list.get(place) {
         Some(entry) => push_changed(found, entry, modseq),
@@ -90,7 +92,8 @@ fn push_with(
     modseq: u64,
 ) -> Result<(), AllocError>
     requires { AreRising 1 list.now.items }
-    ensures { OnOk result (found.new.items ≡ found.old.items ++ changed_with modseq uid list.now.items) }
+    ensures { OnOk result
+        (found.new.items ≡ found.old.items ++ changed_with modseq uid list.now.items) }
 {
     match list.get(first_from(list, uid)) {
         Some(entry) => {

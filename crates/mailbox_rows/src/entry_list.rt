@@ -1,6 +1,7 @@
 //! `EntryList`: lists of entries in which an entry is found by its origin.
 
-ghost use Rattle.std.specs.Prelude.{◌≡◌, ◌+◌, ◌^◌, ◌<◌, ◌≤◌, ℕ, List, [], ◌∷◌, ◌++◌, MatchOption, get_or, length, remove, set};
+ghost use Rattle.std.specs.Prelude.{◌≡◌, ◌+◌, ◌^◌, ◌<◌, ◌≤◌, ℕ, List, [], ◌∷◌, ◌++◌, MatchOption};
+ghost use Rattle.std.specs.Prelude.{get_or, length, remove, set};
 ghost use Rattle.std.specs.List.{slice_get};
 ghost use Rattle.mailbox_rows.specs.declared.entry.ListingEntry.{ListingEntry};
 ghost use Rattle.mailbox_rows.specs.ListingEntries.{AreBelow, IsAt, Lacks};
@@ -29,13 +30,20 @@ pub trait EntryList {
 
     /// The place of the entry with this origin, if any.
     fn place_of(&self, origin: &OpId) -> Option<usize>
-        ensures { MatchOption result (Lacks origin.now (entries self.now)) (IsAt origin.now (entries self.now)) };
+        ensures { MatchOption result (Lacks origin.now (entries self.now))
+            (IsAt origin.now (entries self.now)) };
 
     /// Gives the entry at `place` another mod-sequence; its origin and UID stay.
     fn renew(&mut self, place: usize, modseq: u64)
         requires within { place < length (entries self.old) }
         requires edits { has_edits self.old 1 }
-        ensures entries { (e : ListingEntry) → entries self.new ≡ set (entries self.old) place (record { origin = (get_or (entries self.old) place e).origin; uid = (get_or (entries self.old) place e).uid; modseq = modseq }) }
+        ensures entries { (e : ListingEntry)
+            → entries self.new
+            ≡ set (entries self.old) place (record {
+              origin = (get_or (entries self.old) place e).origin;
+              uid = (get_or (entries self.old) place e).uid;
+              modseq = modseq;
+            }) }
         ensures edits { (n : ℕ) → has_edits self.old (n + 1) → has_edits self.new n }
         ensures room { (n : ℕ) → has_room self.old n → has_room self.new n };
 

@@ -48,7 +48,8 @@ impl<'a> EntryPlaces for PatchedList<'a, ListingEntry> {
 /// The place of the entry with this UID, if it has this origin.
 pub fn place_with<L: EntryPlaces>(list: &L, uid: u32, origin: &OpId) -> Option<usize>
     requires { AreRising 1 (L.entries list.now) }
-    ensures { MatchOption result (LacksAt uid origin.now (L.entries list.now)) (IsAt origin.now (L.entries list.now)) }
+    ensures { MatchOption result (LacksAt uid origin.now (L.entries list.now))
+        (IsAt origin.now (L.entries list.now)) }
 {
     let place = first_from(list, uid);
     match list.at(place) {
@@ -66,7 +67,9 @@ pub fn place_with<L: EntryPlaces>(list: &L, uid: u32, origin: &OpId) -> Option<u
 /// The place of the first entry whose UID is `uid` or above; the length if there is none.
 pub fn first_from<L: EntryPlaces>(list: &L, uid: u32) -> usize
     ensures within { result ≤ length (L.entries list.now) }
-    ensures edge { (d : ListingEntry) → IsEdge (λ i. ltb (get_or (L.entries list.now) i d).uid uid) (length (L.entries list.now)) result }
+    ensures edge { (d : ListingEntry)
+        → IsEdge (λ i. ltb (get_or (L.entries list.now) i d).uid uid) (length (L.entries list.now))
+        result }
 {
     let mut low = 0;
     let mut high = list.count();

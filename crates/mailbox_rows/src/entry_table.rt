@@ -42,7 +42,9 @@ impl Model for EntryTable {
 
     ghost view = { λ t. record { entries = t.list.items; room = min t.list.room (spare t.uids) } };
 
-    ghost invariant = { λ t. AreRising 1 t.list.items × AreIndexed (indexed_value t.uids.entries) t.list.items × AreLoggedIn t.changes t.list.items };
+    ghost invariant = { λ t. AreRising 1 t.list.items
+        × AreIndexed (indexed_value t.uids.entries) t.list.items
+        × AreLoggedIn t.changes t.list.items };
 }
 
 impl EntryTable {
@@ -128,7 +130,8 @@ impl EntryList for EntryTable {
 /// Replaces the entry at `place` by one with these numbers.
 fn put_at(list: &mut ChunkList<ListingEntry>, place: usize, origin: &OpId, uid: u32, modseq: u64)
     requires { place < length list.old.items }
-    ensures items { list.new.items ≡ set list.old.items place (record { origin = origin.now; uid = uid; modseq = modseq }) }
+    ensures items { list.new.items
+        ≡ set list.old.items place (record { origin = origin.now; uid = uid; modseq = modseq }) }
     ensures room { list.new.room ≡ list.old.room }
 {
     let _ = list.replace(

@@ -3,7 +3,9 @@
 
 ghost use Rattle.std.specs.Prelude.{◌≡◌, Some, IfSome, option_map};
 ghost use Rattle.mailbox_rows.specs.RowViews.{head_of, listed_head, listed_message};
-ghost use Rattle.mailbox_rows.specs.MessageData.{entry_under, no_message_data, with_numbers, message_data_of, owned_message_data, kept_message_data, versions_in};
+ghost use Rattle.mailbox_rows.specs.MessageData.{entry_under, no_message_data, with_numbers};
+ghost use Rattle.mailbox_rows.specs.MessageData.{message_data_of, owned_message_data};
+ghost use Rattle.mailbox_rows.specs.MessageData.{kept_message_data, versions_in};
 
 use crate::entry::ListingEntry;
 use crate::row::{Row, RowHead};
@@ -52,7 +54,8 @@ impl<'a> FolderMessages<'a> {
     /// The row of an entry; None if the tables don't have its message. Cost: two look-ups, each by
     /// place if the messages are in the tables in the order of their UIDs, else by hash.
     pub fn row(&self, entry: &ListingEntry) -> Option<Row<'a>>
-        ensures { option_map listed_message result ≡ option_map (with_numbers entry.now) (kept_message_data self.now entry.now.origin) }
+        ensures { option_map listed_message result
+            ≡ option_map (with_numbers entry.now) (kept_message_data self.now entry.now.origin) }
     {
         match lent_versions(self.messages, entry) {
             Some(versions) => Some(with_letter(entry, versions, look_up(self.letters, entry))),
@@ -64,7 +67,9 @@ impl<'a> FolderMessages<'a> {
     /// in `row`.
     #[inline(always)]
     pub fn head(&self, entry: &ListingEntry) -> Option<RowHead<'a>>
-        ensures { option_map listed_head result ≡ option_map (λ message_data_of. head_of (with_numbers entry.now message_data_of)) (kept_message_data self.now entry.now.origin) }
+        ensures { option_map listed_head result
+            ≡ option_map (λ message_data_of. head_of (with_numbers entry.now message_data_of))
+            (kept_message_data self.now entry.now.origin) }
     {
         match lent_versions(self.messages, entry) {
             Some(versions) => Some(head_with(entry, versions)),
@@ -76,7 +81,8 @@ impl<'a> FolderMessages<'a> {
 impl OwnedMessage<'_> {
     /// The head of an entry's row with this message.
     pub fn head(&self, entry: &ListingEntry) -> RowHead<'_>
-        ensures { listed_head result ≡ head_of (with_numbers entry.now (owned_message_data self.now)) }
+        ensures { listed_head result
+            ≡ head_of (with_numbers entry.now (owned_message_data self.now)) }
     {
         head_with(entry, Versions::new(&self.versions))
     }
@@ -99,7 +105,8 @@ impl OwnedMessage<'_> {
 /// The head of an entry's row with these versions.
 #[inline(always)]
 pub(crate) fn head_with<'a>(entry: &ListingEntry, versions: Versions<'a>) -> RowHead<'a>
-    ensures { result ≡ record { uid = entry.now.uid; modseq = entry.now.modseq; versions = versions.entry } }
+    ensures { result
+        ≡ record { uid = entry.now.uid; modseq = entry.now.modseq; versions = versions.entry } }
 {
     RowHead {
         uid: entry.uid,
@@ -128,7 +135,9 @@ fn lent_versions<'a>(
     messages: Option<&'a IndexMap<OpId, Vec<Version>>>,
     entry: &ListingEntry,
 ) -> Option<Versions<'a>>
-    ensures { option_map (λ versions. versions.list.now) result ≡ versions_in (option_map (λ messages. messages.now.entries) messages.entry) entry.now.origin }
+    ensures { option_map (λ versions. versions.list.now) result
+        ≡ versions_in (option_map (λ messages. messages.now.entries) messages.entry)
+        entry.now.origin }
 {
     match messages {
         Some(messages) => versions_at(messages, entry),
@@ -141,7 +150,9 @@ fn versions_at<'a>(
     messages: &'a IndexMap<OpId, Vec<Version>>,
     entry: &ListingEntry,
 ) -> Option<Versions<'a>>
-    ensures { option_map (λ versions. versions.list.now) result ≡ option_map (λ versions. versions.items) (entry_under entry.now.origin messages.now.entries) }
+    ensures { option_map (λ versions. versions.list.now) result
+        ≡ option_map (λ versions. versions.items)
+        (entry_under entry.now.origin messages.now.entries) }
 {
     match look_up(messages, entry) {
         Some(versions) => Some(Versions::new(versions)),
@@ -154,7 +165,8 @@ fn versions_at<'a>(
 /// taken out; else a look-up by hash.
 #[inline(always)]
 fn look_up<'a, V>(table: &'a IndexMap<OpId, V>, entry: &ListingEntry) -> Option<&'a V>
-    ensures { option_map (λ value. value.now) result ≡ entry_under entry.now.origin table.now.entries }
+    ensures { option_map (λ value. value.now) result
+        ≡ entry_under entry.now.origin table.now.entries }
 {
     match look_up_near(table, entry) {
         Some(value) => Some(value),
@@ -165,7 +177,8 @@ fn look_up<'a, V>(table: &'a IndexMap<OpId, V>, entry: &ListingEntry) -> Option<
 /// The value of a table under an entry's origin, if its place there is its UID less 1.
 #[inline(always)]
 fn look_up_near<'a, V>(table: &'a IndexMap<OpId, V>, entry: &ListingEntry) -> Option<&'a V>
-    ensures { IfSome result (λ value. entry_under entry.now.origin table.now.entries ≡ Some value.now) }
+    ensures { IfSome result
+        (λ value. entry_under entry.now.origin table.now.entries ≡ Some value.now) }
 {
     let (origin, value) = table.get_index((entry.uid as usize).saturating_sub(1))?;
     if *origin == entry.origin {
@@ -181,7 +194,9 @@ fn with_letter<'a>(
     versions: Versions<'a>,
     letter: Option<&'a DatedText>,
 ) -> Row<'a>
-    ensures { listed_message result ≡ with_numbers entry.now (message_data_of versions.entry.list.now (option_map (λ letter. letter.now) letter.entry)) }
+    ensures { listed_message result
+        ≡ with_numbers entry.now
+        (message_data_of versions.entry.list.now (option_map (λ letter. letter.now) letter.entry)) }
 {
     match letter {
         Some(letter) => Row {

@@ -1,9 +1,12 @@
 //! `Rows`: the messages of a listing, by ascending UID.
 
-ghost use Rattle.std.specs.Prelude.{◌≡◌, ◌≤◌, ◌<◌, ◌++◌, ◌∷◌, [], true, ltb, length, map, drop, get_or, is_some, option_map, IfOk, OnOk};
+ghost use Rattle.std.specs.Prelude.{◌≡◌, ◌≤◌, ◌<◌, ◌++◌, ◌∷◌, [], true, ltb, length, map, drop};
+ghost use Rattle.std.specs.Prelude.{get_or, is_some, option_map, IfOk, OnOk};
 ghost use Rattle.std.specs.List.{slice_get};
 ghost use Rattle.mailbox_rows.specs.ListedMessage.{ListedMessage};
-ghost use Rattle.mailbox_rows.specs.RowViews.{AreRisingRows, rows_after_uid, changed_since, head_of, listed_head, owned_message, last_uid, listed_message, row_of};
+ghost use Rattle.mailbox_rows.specs.RowViews.{AreRisingRows, rows_after_uid, changed_since};
+ghost use Rattle.mailbox_rows.specs.RowViews.{head_of, listed_head, owned_message, last_uid};
+ghost use Rattle.mailbox_rows.specs.RowViews.{listed_message, row_of};
 ghost use Rattle.mailbox_rows.specs.Windows.{IsEdge, source_rows};
 
 use crate::owned_row::OwnedRow;
@@ -241,7 +244,8 @@ impl<'a> Rows<'a> {
     /// The place of the first row whose UID is no less than this number.
     fn first_from(&self, uid: u64) -> usize
         ensures within { result ≤ length self.now }
-        ensures edge { (d : ListedMessage) → IsEdge (λ i. ltb (get_or self.now i d).uid uid) (length self.now) result }
+        ensures edge { (d : ListedMessage)
+            → IsEdge (λ i. ltb (get_or self.now i d).uid uid) (length self.now) result }
         ensures rising { AreRisingRows 1 self.now }
     {
         let mut low = 0;
@@ -302,7 +306,8 @@ fn slice_row<'r>(rows: &'r [OwnedRow<'_>], place: usize) -> Option<Row<'r>>
 /// The head of a source's row at `place`.
 #[inline(always)]
 fn head_in<'r>(source: &'r Source<'_>, place: usize) -> Option<RowHead<'r>>
-    ensures { option_map listed_head result ≡ option_map head_of (slice_get (source_rows source.now) place) }
+    ensures { option_map listed_head result
+        ≡ option_map head_of (slice_get (source_rows source.now) place) }
 {
     match source {
         Source::Made(rows) => slice_head(rows, place),
@@ -312,7 +317,8 @@ fn head_in<'r>(source: &'r Source<'_>, place: usize) -> Option<RowHead<'r>>
 
 /// The head of a slice's row at `place`.
 fn slice_head<'r>(rows: &'r [OwnedRow<'_>], place: usize) -> Option<RowHead<'r>>
-    ensures { option_map listed_head result ≡ option_map head_of (slice_get (map owned_message rows.now) place) }
+    ensures { option_map listed_head result
+        ≡ option_map head_of (slice_get (map owned_message rows.now) place) }
 {
     match rows.get(place) {
         Some(row) => Some(row.row().head()),
@@ -346,7 +352,8 @@ fn owned_row_in<'a>(
     source: &Source<'a>,
     place: usize,
 ) -> Result<Option<OwnedRow<'a>>, AllocError>
-    ensures { IfOk result (λ row. option_map owned_message row ≡ slice_get (source_rows source.now) place) }
+    ensures { IfOk result
+        (λ row. option_map owned_message row ≡ slice_get (source_rows source.now) place) }
 {
     match source {
         Source::Made(rows) => slice_owned_row(alloc, rows, place),
@@ -360,7 +367,8 @@ fn slice_owned_row<'a>(
     rows: &[OwnedRow<'a>],
     place: usize,
 ) -> Result<Option<OwnedRow<'a>>, AllocError>
-    ensures { IfOk result (λ row. option_map owned_message row ≡ slice_get (map owned_message rows.now) place) }
+    ensures { IfOk result
+        (λ row. option_map owned_message row ≡ slice_get (map owned_message rows.now) place) }
 {
     match rows.get(place) {
         Some(row) => {
@@ -377,7 +385,8 @@ fn changed_rows_in<'a>(
     source: &Source<'a>,
     modseq: u64,
 ) -> Result<Vec<OwnedRow<'a>>, AllocError>
-    ensures { IfOk result (λ kept. map owned_message kept.items ≡ changed_since modseq (source_rows source.now)) }
+    ensures { IfOk result
+        (λ kept. map owned_message kept.items ≡ changed_since modseq (source_rows source.now)) }
 {
     match source {
         Source::Made(rows) => slice_changed_rows(alloc, rows, modseq),
@@ -391,7 +400,8 @@ fn slice_changed_rows<'a>(
     rows: &[OwnedRow<'a>],
     modseq: u64,
 ) -> Result<Vec<OwnedRow<'a>>, AllocError>
-    ensures { IfOk result (λ kept. map owned_message kept.items ≡ changed_since modseq (map owned_message rows.now)) }
+    ensures { IfOk result
+        (λ kept. map owned_message kept.items ≡ changed_since modseq (map owned_message rows.now)) }
 {
     let mut kept = Vec::new(alloc);
     for row in rows {
@@ -407,7 +417,8 @@ fn push_changed<'a>(
     row: &OwnedRow<'a>,
     modseq: u64,
 ) -> Result<(), AllocError>
-    ensures { OnOk result (map owned_message kept.new.items ≡ map owned_message kept.old.items ++ changed_since modseq (owned_message row.now ∷ [])) }
+    ensures { OnOk result (map owned_message kept.new.items
+        ≡ map owned_message kept.old.items ++ changed_since modseq (owned_message row.now ∷ [])) }
 {
     if row.modseq > modseq {
         kept.push(row.copy(alloc)?)?;

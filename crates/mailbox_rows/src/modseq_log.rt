@@ -1,6 +1,7 @@
 //! `ModSeqLog`: which entry got which mod-sequence, in that order.
 
-ghost use Rattle.std.specs.Prelude.{◌≡◌, ◌≤◌, ◌<◌, ◌-◌, ◌++◌, [], true, leb, length, get_or, IfOk, OnOk};
+ghost use Rattle.std.specs.Prelude.{◌≡◌, ◌≤◌, ◌<◌, ◌-◌, ◌++◌, [], true, leb, length, get_or, IfOk};
+ghost use Rattle.std.specs.Prelude.{OnOk};
 ghost use Rattle.mailbox_rows.specs.declared.entry.ListingEntry.{ListingEntry};
 ghost use Rattle.mailbox_rows.specs.declared.modseq_log.ModSeqChange.{ModSeqChange};
 ghost use Rattle.mailbox_rows.specs.ModSeqLog.{AreLogged, IsLogged, changes_of, uids_above};
@@ -84,7 +85,8 @@ impl ModSeqLog {
         entries: &ChunkList<ListingEntry>,
         changes: usize,
     ) -> Result<(), AllocError>
-        ensures { (self.old.is_whole ≡ true → AreLogged self.old.list entries.now.items) → self.new.is_whole ≡ true → AreLogged self.new.list entries.now.items }
+        ensures { (self.old.is_whole ≡ true → AreLogged self.old.list entries.now.items)
+            → self.new.is_whole ≡ true → AreLogged self.new.list entries.now.items }
     {
         if !self.is_whole || self.list.len() / 2 > entries.len().saturating_add(SPARE) {
             *self = rebuilt_log(alloc, entries)?;
@@ -95,8 +97,12 @@ impl ModSeqLog {
     /// Notes that the entry with this UID got this mod-sequence. The change is left out if there is
     /// no room for it or a greater mod-sequence was noted.
     pub fn note(&mut self, modseq: u64, uid: u32)
-        ensures others { self.new.is_whole ≡ true → (self.old.is_whole ≡ true) × ((e : ListingEntry) → IsLogged self.old.list e → IsLogged self.new.list e) }
-        ensures own { self.new.is_whole ≡ true → (e : ListingEntry) → e.modseq ≡ modseq → e.uid ≡ uid → IsLogged self.new.list e }
+        ensures others { self.new.is_whole ≡ true
+            → (self.old.is_whole ≡ true)
+            × ((e : ListingEntry) → IsLogged self.old.list e → IsLogged self.new.list e) }
+        ensures own { self.new.is_whole ≡ true → (e : ListingEntry) → e.modseq ≡ modseq
+            → e.uid ≡ uid
+            → IsLogged self.new.list e }
     {
         if self.list.len() < self.list.capacity() && is_next(&self.list, modseq) {
             self.list.push_reserved(ModSeqChange { modseq, uid });
@@ -121,7 +127,8 @@ impl ModSeqLog {
 /// Whether no change is to a greater mod-sequence than `modseq`. The list ascends, so the last
 /// decides.
 fn is_next(list: &[ModSeqChange], modseq: u64) -> bool
-    ensures { result ≡ true → (d : ModSeqChange) → 0 < length list.now → (get_or list.now (length list.now - 1) d).modseq ≤ modseq }
+    ensures { result ≡ true → (d : ModSeqChange) → 0 < length list.now
+        → (get_or list.now (length list.now - 1) d).modseq ≤ modseq }
 {
     let count = list.len();
     count == 0 || list[count - 1].modseq <= modseq
@@ -161,7 +168,8 @@ fn changes_of(
 /// The place of the first change to a mod-sequence above `modseq`; the length if there is none.
 fn first_above(list: &[ModSeqChange], modseq: u64) -> usize
     ensures within { result ≤ length list.now }
-    ensures edge { (d : ModSeqChange) → IsEdge (λ i. leb (get_or list.now i d).modseq modseq) (length list.now) result }
+    ensures edge { (d : ModSeqChange)
+        → IsEdge (λ i. leb (get_or list.now i d).modseq modseq) (length list.now) result }
 {
     let mut low = 0;
     let mut high = list.len();

@@ -2,7 +2,8 @@
 
 ghost use Rattle.std.specs.Prelude.{◌≡◌, ◌≤◌, IfOk, OnOk};
 ghost use Rattle.mailbox_rows.specs.ModSeqLog.{AreLoggedIn, changed_since};
-ghost use Rattle.mailbox_rows.specs.ListingEntries.{AreIndexed, AreRising, indexed_value, indexed_over};
+ghost use Rattle.mailbox_rows.specs.ListingEntries.{AreIndexed, AreRising, indexed_value};
+ghost use Rattle.mailbox_rows.specs.ListingEntries.{indexed_over};
 ghost use Rattle.mailbox_rows.specs.EntryTables.{HasEdits};
 
 use crate::changed_entries::{changed_entries_among, changed_entries_by_scan};
@@ -47,9 +48,15 @@ impl<'a> Model for EntryOverlay<'a> {
 
     ghost Value = { OverlayState };
 
-    ghost view = { λ o. record { entries = o.list.items; places = o.list.places; ids = spare o.own } };
+    ghost view = { λ o. record {
+      entries = o.list.items;
+      places = o.list.places;
+      ids = spare o.own;
+    } };
 
-    ghost invariant = { λ o. AreRising 1 o.list.items × AreIndexed (indexed_over o.own.entries o.kept.now.entries) o.list.items × AreLoggedIn (log_over o.kept_changes.now o.own_changes) o.list.items };
+    ghost invariant = { λ o. AreRising 1 o.list.items
+        × AreIndexed (indexed_over o.own.entries o.kept.now.entries) o.list.items
+        × AreLoggedIn (log_over o.kept_changes.now o.own_changes) o.list.items };
 }
 
 impl<'a> EntryOverlay<'a> {

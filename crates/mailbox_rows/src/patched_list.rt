@@ -1,6 +1,7 @@
 //! `PatchedList`: edits over a borrowed list.
 
-ghost use Rattle.std.specs.Prelude.{◌≡◌, ℕ, ◌+◌, ◌^◌, ◌<◌, ◌≤◌, [], ◌∷◌, ◌++◌, IfOk, OnOk, length, remove, set};
+ghost use Rattle.std.specs.Prelude.{◌≡◌, ℕ, ◌+◌, ◌^◌, ◌<◌, ◌≤◌, [], ◌∷◌, ◌++◌, IfOk, OnOk, length};
+ghost use Rattle.std.specs.Prelude.{remove, set};
 ghost use Rattle.std.specs.List.{slice_get};
 ghost use Rattle.mailbox_rows.specs.Pieces.{HasRoom};
 
@@ -23,9 +24,13 @@ impl<'a, T> Model for PatchedList<'a, T> {
 
     ghost Value = { PatchedState T };
 
-    ghost view = { λ a. record { items = items_of a.base.now.items a.pieces.items; places = vec_capacity a.pieces - vec_len a.pieces } };
+    ghost view = { λ a. record {
+      items = items_of a.base.now.items a.pieces.items;
+      places = vec_capacity a.pieces - vec_len a.pieces;
+    } };
 
-    ghost invariant = { λ a. ArePieces a.base.now.items 0 a.pieces.items × (a.len ≡ length (items_of a.base.now.items a.pieces.items)) };
+    ghost invariant = { λ a. ArePieces a.base.now.items 0 a.pieces.items
+        × (a.len ≡ length (items_of a.base.now.items a.pieces.items)) };
 }
 
 impl<'a, T: Copy + Drop> PatchedList<'a, T> {

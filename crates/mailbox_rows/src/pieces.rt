@@ -1,8 +1,10 @@
 //! Pieces of a list with edits: runs of the list below and single new items, and how they are cut.
 
-ghost use Rattle.std.specs.Prelude.{◌≡◌, ℕ, ◌+◌, ◌-◌, ◌^◌, ◌<◌, ◌≤◌, [], ◌∷◌, ◌++◌, length, take, drop, map, remove, set, get_or, vec_len, vec_capacity};
+ghost use Rattle.std.specs.Prelude.{◌≡◌, ℕ, ◌+◌, ◌-◌, ◌^◌, ◌<◌, ◌≤◌, [], ◌∷◌, ◌++◌, length, take};
+ghost use Rattle.std.specs.Prelude.{drop, map, remove, set, get_or, vec_len, vec_capacity};
 ghost use Rattle.std.specs.List.{insert, slice_get};
-ghost use Rattle.mailbox_rows.specs.Pieces.{ArePieces, IsAlone, IsPiece, StandsIn, items_of, with_one_less, piece_items};
+ghost use Rattle.mailbox_rows.specs.Pieces.{ArePieces, IsAlone, IsPiece, StandsIn, items_of};
+ghost use Rattle.mailbox_rows.specs.Pieces.{with_one_less, piece_items};
 
 use chunk_list::ChunkList;
 
@@ -82,12 +84,19 @@ fn split_piece<T: Copy + Drop>(
     requires room { vec_len pieces.old < vec_capacity pieces.old }
     requires some { 0 < count }
     requires more { (d : Piece T) → count < (get_or pieces.old.items at d).len }
-    ensures items { items_of base.now.items pieces.new.items ≡ items_of base.now.items pieces.old.items }
+    ensures items { items_of base.now.items pieces.new.items
+        ≡ items_of base.now.items pieces.old.items }
     ensures pieces { ArePieces base.now.items 0 pieces.new.items }
     ensures len { vec_len pieces.new ≡ vec_len pieces.old + 1 }
     ensures capacity { vec_capacity pieces.old ≤ vec_capacity pieces.new }
-    ensures front { (d : Piece T) → ((get_or pieces.new.items at d).start ≡ (get_or pieces.old.items at d).start) × ((get_or pieces.new.items at d).len ≡ count) }
-    ensures back { (d : Piece T) → ((get_or pieces.new.items (at + 1) d).start ≡ (get_or pieces.old.items at d).start + count) × ((get_or pieces.new.items (at + 1) d).len + count ≡ (get_or pieces.old.items at d).len) }
+    ensures front { (d : Piece T)
+        → ((get_or pieces.new.items at d).start ≡ (get_or pieces.old.items at d).start)
+        × ((get_or pieces.new.items at d).len ≡ count) }
+    ensures back { (d : Piece T)
+        → ((get_or pieces.new.items (at + 1) d).start
+        ≡ (get_or pieces.old.items at d).start + count)
+        × ((get_or pieces.new.items (at + 1) d).len + count
+        ≡ (get_or pieces.old.items at d).len) }
 {
     let piece = pieces[at];
     let back = piece_after(base, piece, count);
@@ -120,7 +129,8 @@ fn piece_after<T: Copy + Drop>(base: &ChunkList<T>, piece: Piece<T>, count: usiz
     requires fits { piece.start + piece.len < 2 ^ 64 }
     ensures start { result.start ≡ piece.start + count }
     ensures len { result.len + count ≡ piece.len }
-    ensures items { piece_items base.now.items (record piece { len = count }) ++ piece_items base.now.items result ≡ piece_items base.now.items piece }
+    ensures items { piece_items base.now.items (record piece { len = count })
+        ++ piece_items base.now.items result ≡ piece_items base.now.items piece }
     ensures many { length (piece_items base.now.items result) ≡ result.len }
 {
     let _len = base.len();
@@ -145,7 +155,8 @@ pub fn isolate<T: Copy + Drop>(
     requires within { index < length (items_of base.now.items pieces.old.items) }
     requires fits { length (items_of base.now.items pieces.old.items) < 2 ^ 64 }
     requires room { vec_len pieces.old + 2 ≤ vec_capacity pieces.old }
-    ensures items { items_of base.now.items pieces.new.items ≡ items_of base.now.items pieces.old.items }
+    ensures items { items_of base.now.items pieces.new.items
+        ≡ items_of base.now.items pieces.old.items }
     ensures pieces { ArePieces base.now.items 0 pieces.new.items }
     ensures alone { IsAlone pieces.new.items index result }
     ensures len { vec_len pieces.new ≤ vec_len pieces.old + 2 }
@@ -171,10 +182,12 @@ fn cut_front<T: Copy + Drop>(
     requires fits { length (items_of base.now.items pieces.old.items) < 2 ^ 64 }
     requires room { vec_len pieces.old < vec_capacity pieces.old }
     requires more { (d : Piece T) → front < (get_or pieces.old.items at d).len }
-    ensures items { items_of base.now.items pieces.new.items ≡ items_of base.now.items pieces.old.items }
+    ensures items { items_of base.now.items pieces.new.items
+        ≡ items_of base.now.items pieces.old.items }
     ensures pieces { ArePieces base.now.items 0 pieces.new.items }
     ensures within { result < vec_len pieces.new }
-    ensures first { (d : Piece T) → (get_or pieces.new.items result d).start ≡ (get_or pieces.old.items at d).start + front }
+    ensures first { (d : Piece T)
+        → (get_or pieces.new.items result d).start ≡ (get_or pieces.old.items at d).start + front }
     ensures len { vec_len pieces.new ≤ vec_len pieces.old + 1 }
     ensures capacity { vec_capacity pieces.old ≤ vec_capacity pieces.new }
 {
@@ -191,10 +204,13 @@ fn cut_after<T: Copy + Drop>(base: &ChunkList<T>, pieces: &mut Vec<Piece<T>>, at
     requires within { at < vec_len pieces.old }
     requires fits { length (items_of base.now.items pieces.old.items) < 2 ^ 64 }
     requires room { vec_len pieces.old < vec_capacity pieces.old }
-    ensures items { items_of base.now.items pieces.new.items ≡ items_of base.now.items pieces.old.items }
+    ensures items { items_of base.now.items pieces.new.items
+        ≡ items_of base.now.items pieces.old.items }
     ensures pieces { ArePieces base.now.items 0 pieces.new.items }
     ensures within { at < vec_len pieces.new }
-    ensures one { (d : Piece T) → ((get_or pieces.new.items at d).start ≡ (get_or pieces.old.items at d).start) × ((get_or pieces.new.items at d).len ≡ 1) }
+    ensures one { (d : Piece T)
+        → ((get_or pieces.new.items at d).start ≡ (get_or pieces.old.items at d).start)
+        × ((get_or pieces.new.items at d).len ≡ 1) }
     ensures len { vec_len pieces.new ≤ vec_len pieces.old + 1 }
     ensures capacity { vec_capacity pieces.old ≤ vec_capacity pieces.new }
 {
@@ -214,7 +230,8 @@ pub fn replace_piece<T: Copy + Drop>(
 )
     requires pieces { ArePieces base.now.items 0 pieces.old.items }
     requires alone { IsAlone pieces.old.items index at }
-    ensures items { items_of base.now.items pieces.new.items ≡ set (items_of base.now.items pieces.old.items) index item }
+    ensures items { items_of base.now.items pieces.new.items
+        ≡ set (items_of base.now.items pieces.old.items) index item }
     ensures pieces { ArePieces base.now.items 0 pieces.new.items }
     ensures len { vec_len pieces.new ≡ vec_len pieces.old }
     ensures capacity { vec_capacity pieces.new ≡ vec_capacity pieces.old }
@@ -236,7 +253,8 @@ pub fn take_piece<T: Copy + Drop>(
 )
     requires pieces { ArePieces base.now.items 0 pieces.old.items }
     requires alone { IsAlone pieces.old.items index at }
-    ensures items { items_of base.now.items pieces.new.items ≡ remove (items_of base.now.items pieces.old.items) index }
+    ensures items { items_of base.now.items pieces.new.items
+        ≡ remove (items_of base.now.items pieces.old.items) index }
     ensures pieces { ArePieces base.now.items 0 pieces.new.items }
     ensures len { vec_len pieces.new ≤ vec_len pieces.old }
     ensures capacity { vec_capacity pieces.new ≡ vec_capacity pieces.old }
@@ -248,8 +266,10 @@ pub fn take_piece<T: Copy + Drop>(
 /// Lowers `start` by one in each piece after the one at `at`.
 fn count_down_after<T>(pieces: &mut [Piece<T>], at: usize)
     requires within { at < length pieces.old }
-    requires some { (k : ℕ) (d : Piece T) → at < k → k < length pieces.old → 0 < (get_or pieces.old k d).start }
-    ensures { pieces.new ≡ take (at + 1) pieces.old ++ map with_one_less (drop (at + 1) pieces.old) }
+    requires some { (k : ℕ) (d : Piece T) → at < k → k < length pieces.old
+        → 0 < (get_or pieces.old k d).start }
+    ensures { pieces.new
+        ≡ take (at + 1) pieces.old ++ map with_one_less (drop (at + 1) pieces.old) }
 {
     count_down(&mut pieces[at + 1..]);
 }
@@ -274,7 +294,8 @@ pub fn push_piece<T: Copy + Drop>(
     requires pieces { ArePieces base.now.items 0 pieces.old.items }
     requires len { len ≡ length (items_of base.now.items pieces.old.items) }
     requires room { vec_len pieces.old < vec_capacity pieces.old }
-    ensures items { items_of base.now.items pieces.new.items ≡ items_of base.now.items pieces.old.items ++ item ∷ [] }
+    ensures items { items_of base.now.items pieces.new.items
+        ≡ items_of base.now.items pieces.old.items ++ item ∷ [] }
     ensures pieces { ArePieces base.now.items 0 pieces.new.items }
     ensures len { vec_len pieces.new ≡ vec_len pieces.old + 1 }
     ensures capacity { vec_capacity pieces.new ≡ vec_capacity pieces.old }

@@ -2,9 +2,12 @@
 
 ghost use Rattle.std.specs.Prelude.{◌≡◌, ◌++◌, ◌∷◌, [], Some, length, map, option_map, IfOk, OnOk};
 ghost use Rattle.std.specs.List.{slice_get};
-ghost use Rattle.mailbox_rows.specs.RowViews.{AreRisingRows, changed_since, head_of, listed_head, owned_message, listed_message};
+ghost use Rattle.mailbox_rows.specs.RowViews.{AreRisingRows, changed_since, head_of, listed_head};
+ghost use Rattle.mailbox_rows.specs.RowViews.{owned_message, listed_message};
 ghost use Rattle.std.specs.Option.{unwrap_or};
-ghost use Rattle.mailbox_rows.specs.MessageData.{entry_under, no_message_data, with_numbers, row_by, rows_by, owned_message_data, kept_message_data};
+ghost use Rattle.mailbox_rows.specs.MessageData.{entry_under, no_message_data, with_numbers};
+ghost use Rattle.mailbox_rows.specs.MessageData.{row_by, rows_by, owned_message_data};
+ghost use Rattle.mailbox_rows.specs.MessageData.{kept_message_data};
 
 use crate::entry::ListingEntry;
 use crate::entry_list::EntryList;
@@ -129,7 +132,8 @@ impl<'a> Window<'a> {
     /// The messages whose mod-sequences are above `modseq`, as owned rows; `Err` if memory runs
     /// out. Cost: that of `EntryOverlay::changed_since`, and the messages in the result.
     pub fn changed_since(&self, alloc: Global, modseq: u64) -> Result<Vec<OwnedRow<'a>>, AllocError>
-        ensures { IfOk result (λ rows. map owned_message rows.items ≡ changed_since modseq self.now) }
+        ensures { IfOk result
+            (λ rows. map owned_message rows.items ≡ changed_since modseq self.now) }
     {
         let entries = self.entries.changed_since(alloc, modseq)?;
         owned_rows(alloc, &self.fresh, &self.mailbox, &entries)
@@ -143,7 +147,8 @@ fn owned_rows<'a>(
     mailbox: &FolderMessages<'a>,
     entries: &[ListingEntry],
 ) -> Result<Vec<OwnedRow<'a>>, AllocError>
-    ensures { IfOk result (λ rows. map owned_message rows.items ≡ rows_by fresh.now.entries mailbox.now entries.now) }
+    ensures { IfOk result
+        (λ rows. map owned_message rows.items ≡ rows_by fresh.now.entries mailbox.now entries.now) }
 {
     let mut rows = Vec::with_capacity(alloc, entries.len())?;
     for entry in entries {
@@ -160,7 +165,8 @@ fn push_held<'a>(
     mailbox: &FolderMessages<'a>,
     entry: &ListingEntry,
 ) -> Result<(), AllocError>
-    ensures { OnOk result (map owned_message rows.new.items ≡ map owned_message rows.old.items ++ row_by fresh.now.entries mailbox.now entry.now ∷ []) }
+    ensures { OnOk result (map owned_message rows.new.items
+        ≡ map owned_message rows.old.items ++ row_by fresh.now.entries mailbox.now entry.now ∷ []) }
 {
     match owned_row_of(alloc, fresh, mailbox, entry)? {
         Some(row) => {
@@ -209,7 +215,8 @@ fn fresh_at<'r, 'a>(
     fresh: &'r IndexMap<OpId, OwnedMessage<'a>>,
     origin: &OpId,
 ) -> Option<&'r OwnedMessage<'a>>
-    ensures { option_map (λ message. message.now) result ≡ entry_under origin.now fresh.now.entries }
+    ensures { option_map (λ message. message.now) result
+        ≡ entry_under origin.now fresh.now.entries }
 {
     if fresh.is_empty() {
         return None;
@@ -219,7 +226,9 @@ fn fresh_at<'r, 'a>(
 
 /// The row of an entry by the mailbox's stored messages.
 fn kept_row<'r>(mailbox: &FolderMessages<'r>, entry: &ListingEntry) -> Row<'r>
-    ensures { listed_message result ≡ with_numbers entry.now (unwrap_or (kept_message_data mailbox.now entry.now.origin) no_message_data) }
+    ensures { listed_message result
+        ≡ with_numbers entry.now
+        (unwrap_or (kept_message_data mailbox.now entry.now.origin) no_message_data) }
 {
     match mailbox.row(entry) {
         Some(row) => row,
@@ -230,7 +239,9 @@ fn kept_row<'r>(mailbox: &FolderMessages<'r>, entry: &ListingEntry) -> Row<'r>
 /// The head of an entry's row by the mailbox's stored messages.
 #[inline(always)]
 fn kept_head<'r>(mailbox: &FolderMessages<'r>, entry: &ListingEntry) -> RowHead<'r>
-    ensures { listed_head result ≡ head_of (with_numbers entry.now (unwrap_or (kept_message_data mailbox.now entry.now.origin) no_message_data)) }
+    ensures { listed_head result
+        ≡ head_of (with_numbers entry.now
+        (unwrap_or (kept_message_data mailbox.now entry.now.origin) no_message_data)) }
 {
     match mailbox.head(entry) {
         Some(head) => head,
@@ -245,7 +256,8 @@ fn owned_row_of<'a>(
     mailbox: &FolderMessages<'a>,
     entry: &ListingEntry,
 ) -> Result<Option<OwnedRow<'a>>, AllocError>
-    ensures { IfOk result (λ row. option_map owned_message row ≡ Some (row_by fresh.now.entries mailbox.now entry.now)) }
+    ensures { IfOk result (λ row. option_map owned_message row
+        ≡ Some (row_by fresh.now.entries mailbox.now entry.now)) }
 {
     match fresh_at(fresh, &entry.origin) {
         Some(message) => owned_changed_row(alloc, entry, message),
@@ -274,7 +286,8 @@ fn owned_changed_row<'a>(
     entry: &ListingEntry,
     message: &OwnedMessage<'a>,
 ) -> Result<Option<OwnedRow<'a>>, AllocError>
-    ensures { IfOk result (λ row. option_map owned_message row ≡ Some (with_numbers entry.now (owned_message_data message.now))) }
+    ensures { IfOk result (λ row. option_map owned_message row
+        ≡ Some (with_numbers entry.now (owned_message_data message.now))) }
 {
     let versions = copy_versions(alloc, &message.versions)?;
     Ok(Some(OwnedRow {

@@ -32,7 +32,8 @@ abbrev pub IsBefore : {O : Type 0} → (O → OpId) → (O → List (ℕ × ℕ)
 IsBefore id clock a b = IsCause (clock b) (id a)
 
 -- Two different operations, neither of them before the other.
-pub record IsConcurrent {O : Type 0} (id : O → OpId) (clock : O → List (ℕ × ℕ)) (a b : O) : Type 0 where
+pub record IsConcurrent {O : Type 0} (id : O → OpId) (clock : O → List (ℕ × ℕ)) (a b : O) :
+    Type 0 where
   pub apart : id a ≢ id b
   pub not_before : ¬ IsBefore id clock a b
   pub not_after : ¬ IsBefore id clock b a
@@ -44,7 +45,8 @@ IsRipe id clock os o = ((i : OpId) → IsCause (clock o) i → HasId id os i) ×
 -- Each operation of the list was ripe after those before it: no id occurs twice, and each cause
 -- comes earlier.
 abbrev pub IsCausal : {O : Type 0} → (O → OpId) → (O → List (ℕ × ℕ)) → List O → Type 0
-IsCausal {O} id clock os = (front : List O) (o : O) (back : List O) → os ≡ front ++ o ∷ back → IsRipe id clock front o
+IsCausal {O} id clock os =
+    (front : List O) (o : O) (back : List O) → os ≡ front ++ o ∷ back → IsRipe id clock front o
 
 -- The value after the operations, one after another.
 abbrev pub fold_of : {V O : Type 0} → (V → O → V) → V → List O → V
@@ -52,7 +54,8 @@ fold_of effect v [] = v
 fold_of effect v (o ∷ os) = fold_of effect (effect v o) os
 
 -- Causal lists of the same sound operations lead from one value to one value.
-abbrev pub GivesOneValue : {O V : Type 0} → (O → OpId) → (O → List (ℕ × ℕ)) → (O → Type 0) → (V → O → V) → Type 0
+abbrev pub GivesOneValue : {O V : Type 0} → (O → OpId) → (O → List (ℕ × ℕ)) → (O → Type 0)
+    → (V → O → V) → Type 0
 GivesOneValue {O} {V} id clock is_sound effect =
     (v : V) (xs ys : List O)
     → AreSound is_sound xs

@@ -47,8 +47,10 @@ pub trait Caused {
         ensures { is_sound self.now };
 
     /// A sound operation comes right after those that its clock counts of its own replica.
-    ghost next_number: { (o : Self) → is_sound o → count_of (clock o) (id o).replica + 1 ≡ (id o).number };
+    ghost next_number: { (o : Self) → is_sound o
+        → count_of (clock o) (id o).replica + 1 ≡ (id o).number };
 
     /// A sound operation removes only what came before it.
-    ghost removes_causes: { (o : Self) → is_sound o → (i : OpId) → IsIn i (removed o) → IsCause (clock o) i };
+    ghost removes_causes: { (o : Self) → is_sound o → (i : OpId) → IsIn i (removed o)
+        → IsCause (clock o) i };
 }

@@ -44,19 +44,39 @@ pub trait Follower<R: Replicated> {
     fn ready(&mut self, alloc: Global, value: &R, ops: &[R::Op]) -> Result<(), NotReady>
         ensures start { start self.new ≡ start self.old }
         ensures follows { (list : List R.Op) → follows self.old list → follows self.new list }
-        ensures ready { OnOk result ((list : List R.Op) → follows self.old list → IsCausal R.Op.id R.Op.clock (list ++ ops.now) → R.meaning value.now ≡ fold_of R.effect R.initial list → is_ready self.new list ops.now) }
-        ensures exhausted { (list : List R.Op) → follows self.old list → IsCausal R.Op.id R.Op.clock (list ++ ops.now) → R.meaning value.now ≡ fold_of R.effect R.initial list → ((result ≡ Err UsedUp) ↔ exhausts (start self.old) list ops.now) };
+        ensures ready { OnOk result ((list : List R.Op) → follows self.old list
+            → IsCausal R.Op.id R.Op.clock (list ++ ops.now)
+            → R.meaning value.now ≡ fold_of R.effect R.initial list
+            → is_ready self.new list ops.now) }
+        ensures exhausted { (list : List R.Op) → follows self.old list
+            → IsCausal R.Op.id R.Op.clock (list ++ ops.now)
+            → R.meaning value.now ≡ fold_of R.effect R.initial list
+            → ((result ≡ Err UsedUp) ↔ exhausts (start self.old) list ops.now) };
 
     /// Notes an operation for which the follower was made ready, given the value after that
     /// operation. Takes no memory, and the follower stays ready for the operations after it.
     fn note(&mut self, value: &R, op: &R::Op)
-        requires { (list : List R.Op) × (follows self.old list) × (is_ready self.old list (op.now ∷ [])) × (IsCausal R.Op.id R.Op.clock (list ++ op.now ∷ [])) × (R.meaning value.now ≡ fold_of R.effect R.initial (list ++ op.now ∷ [])) }
+        requires { (list : List R.Op)
+            × (follows self.old list)
+            × (is_ready self.old list (op.now ∷ []))
+            × (IsCausal R.Op.id R.Op.clock (list ++ op.now ∷ []))
+            × (R.meaning value.now ≡ fold_of R.effect R.initial (list ++ op.now ∷ [])) }
         ensures start { start self.new ≡ start self.old }
-        ensures follows { (list : List R.Op) → follows self.old list → is_ready self.old list (op.now ∷ []) → IsCausal R.Op.id R.Op.clock (list ++ op.now ∷ []) → R.meaning value.now ≡ fold_of R.effect R.initial (list ++ op.now ∷ []) → follows self.new (list ++ op.now ∷ []) }
-        ensures others { (list rest : List R.Op) → follows self.old list → is_ready self.old list (op.now ∷ rest) → IsCausal R.Op.id R.Op.clock (list ++ op.now ∷ []) → R.meaning value.now ≡ fold_of R.effect R.initial (list ++ op.now ∷ []) → is_ready self.new (list ++ op.now ∷ []) rest };
+        ensures follows { (list : List R.Op) → follows self.old list
+            → is_ready self.old list (op.now ∷ [])
+            → IsCausal R.Op.id R.Op.clock (list ++ op.now ∷ [])
+            → R.meaning value.now ≡ fold_of R.effect R.initial (list ++ op.now ∷ [])
+            → follows self.new (list ++ op.now ∷ []) }
+        ensures others { (list rest : List R.Op) → follows self.old list
+            → is_ready self.old list (op.now ∷ rest)
+            → IsCausal R.Op.id R.Op.clock (list ++ op.now ∷ [])
+            → R.meaning value.now ≡ fold_of R.effect R.initial (list ++ op.now ∷ [])
+            → is_ready self.new (list ++ op.now ∷ []) rest };
 
     /// A follower that is ready for some operations is ready for the first of them.
-    ghost first: { (x : Self) (list : List R.Op) (o : R.Op) (os : List R.Op) → is_ready x list (o ∷ os) → is_ready x list (o ∷ []) };
+    ghost first: { (x : Self) (list : List R.Op) (o : R.Op) (os : List R.Op)
+        → is_ready x list (o ∷ os)
+        → is_ready x list (o ∷ []) };
 }
 
 /// A follower that is always ready and notes nothing.

@@ -28,7 +28,10 @@ impl<A: Replicated, B: Replicated<Op = A::Op>> Replicated for Pair<A, B> {
 
     ghost first = { λ p o os h. (A.first p.first o os h.0, B.first p.second o os h.1) };
 
-    ghost commutes = { λ v a b s t c. λ i. (A.commutes v.0 a b s t c i, B.commutes v.1 a b s t c i) };
+    ghost commutes = { λ v a b s t c. λ i. (
+      A.commutes v.0 a b s t c i,
+      B.commutes v.1 a b s t c i,
+    ) };
 
     fn prepare(&mut self, alloc: Global, ops: &[A::Op]) -> Result<(), AllocError> {
         self.first.prepare(alloc, ops)?;

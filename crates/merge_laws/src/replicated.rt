@@ -37,11 +37,16 @@ pub trait Replicated {
     fn apply(&mut self, op: &Self::Op)
         requires { is_prepared self.old (op.now ∷ []) }
         ensures meaning { meaning self.new ≡ effect (meaning self.old) op.now }
-        ensures others { (rest : List Self.Op) → is_prepared self.old (op.now ∷ rest) → is_prepared self.new rest };
+        ensures others { (rest : List Self.Op)
+            → is_prepared self.old (op.now ∷ rest)
+            → is_prepared self.new rest };
 
     /// If some operations are prepared, the first of them is.
-    ghost first: { (x : Self) (o : Self.Op) (os : List Self.Op) → is_prepared x (o ∷ os) → is_prepared x (o ∷ []) };
+    ghost first: { (x : Self) (o : Self.Op) (os : List Self.Op) → is_prepared x (o ∷ os)
+        → is_prepared x (o ∷ []) };
 
     /// Sound operations that are concurrent commute.
-    ghost commutes: { (v : Meaning) (a b : Self.Op) → Self.Op.is_sound a → Self.Op.is_sound b → IsConcurrent Self.Op.id Self.Op.clock a b → effect (effect v a) b ≡ effect (effect v b) a };
+    ghost commutes: { (v : Meaning) (a b : Self.Op) → Self.Op.is_sound a → Self.Op.is_sound b
+        → IsConcurrent Self.Op.id Self.Op.clock a b
+        → effect (effect v a) b ≡ effect (effect v b) a };
 }

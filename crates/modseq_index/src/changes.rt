@@ -26,7 +26,10 @@ pub fn changed_since<'a>(
     name: &Name,
     modseq: u64,
 ) -> Result<Rows<'a>, AllocError>
-    ensures { (list : List Op) → Follows charts.now list → IsMadeBy (contents_of value.now) list → IfOk result (λ rows. rows ≡ changed_since modseq (listing charts.now.start name.now list)) }
+    ensures { (list : List Op) → Follows charts.now list
+        → IsMadeBy (contents_of value.now) list
+        → IfOk result
+        (λ rows. rows ≡ changed_since modseq (listing charts.now.start name.now list)) }
 {
     let rows = charts.rows(alloc, value, name)?;
     rows.changed_since(alloc, modseq)
@@ -34,7 +37,8 @@ pub fn changed_since<'a>(
 
 /// The folder's HIGHESTMODSEQ (RFC 7162, section 3.1.2.1). Takes no memory. Cost: a look-up.
 pub fn highest(charts: &Charts, name: &Name) -> u64
-    ensures { (list : List Op) → Follows charts.now list → result ≡ highest_modseq_of name.now list }
+    ensures { (list : List Op) → Follows charts.now list
+        → result ≡ highest_modseq_of name.now list }
 {
     charts.highest(name)
 }

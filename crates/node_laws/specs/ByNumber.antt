@@ -44,4 +44,6 @@ pub record KeepsPlaces (before after : ViewState) : Type 0 where
 
 -- If a session had a view, it still has one, in which each message keeps its number.
 abbrev pub AreKeptInPlace : Option ViewState → Option ViewState → Type 0
-AreKeptInPlace before after = (view : ViewState) → before ≡ Some view → (now : ViewState) × (after ≡ Some now) × KeepsPlaces view now
+AreKeptInPlace before after =
+    (view : ViewState) → before ≡ Some view
+    → (now : ViewState) × (after ≡ Some now) × KeepsPlaces view now

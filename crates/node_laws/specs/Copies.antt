@@ -27,7 +27,8 @@ asked moment tag command = inputs.Command moment (record { tag = tag; command = 
 
 -- A tagged line with this code is among the answers.
 abbrev pub HasCode : Code → List Answer → Type 0
-HasCode code answers = (tag : List ℕ) × (word : CompletedWord) × IsIn (Completed tag (Some code) word) answers
+HasCode code answers =
+    (tag : List ℕ) × (word : CompletedWord) × IsIn (Completed tag (Some code) word) answers
 
 -- Whether an operation appends a message to the mailbox.
 abbrev pub is_append_to : List ℕ → Kind → Bool
@@ -46,7 +47,8 @@ pub record IsLanded (rows : List ListedMessage) (number : ℕ) (op : Op) : Type 
   pub appended : row.origin ≡ op.id
 
 -- The operation appends a copy of the message with UID `source`, and the copy has UID `copy`.
-pub record IsCopied (before after : List ListedMessage) (name : List ℕ) (source copy : ℕ) (op : Op) : Type 0 where
+pub record IsCopied (before after : List ListedMessage) (name : List ℕ) (source copy : ℕ) (op : Op)
+    : Type 0 where
   pub message : ListedMessage
   pub there : IsIn message before
   pub numbered : message.uid ≡ source
@@ -54,21 +56,26 @@ pub record IsCopied (before after : List ListedMessage) (name : List ℕ) (sourc
   pub landed : IsLanded after copy op
 
 -- Each source has its copy and its operation, at the same place.
-abbrev pub AreCopied : List ListedMessage → List ListedMessage → List ℕ → List ℕ → List ℕ → List Op → Type 0
+abbrev pub AreCopied : List ListedMessage → List ListedMessage → List ℕ → List ℕ → List ℕ → List Op
+    → Type 0
 AreCopied before after name [] [] [] = Unit {0}
-AreCopied before after name (source ∷ sources) (copy ∷ copies) (op ∷ ops) = IsCopied before after name source copy op × AreCopied before after name sources copies ops
+AreCopied before after name (source ∷ sources) (copy ∷ copies) (op ∷ ops) =
+    IsCopied before after name source copy op × AreCopied before after name sources copies ops
 AreCopied before after name _ _ _ = ⊥
 
 -- COPYUID is right (RFC 9051, section 7.1): the mailbox has this UIDVALIDITY, and each message of
 -- the view with a UID of the sources was appended to it as the message with the UID at the same
 -- place among the copies.
-pub record AreCopiesTold (old new : NodeState) (view : ViewState) (name : List ℕ) (issued : List Op) (uidvalidity : ℕ) (sources copies : List ℕ) : Type 0 where
+pub record AreCopiesTold (old new : NodeState) (view : ViewState) (name : List ℕ) (issued : List Op)
+    (uidvalidity : ℕ) (sources copies : List ℕ) : Type 0 where
   pub under : uidvalidity_of new.start name new.applied ≡ Some uidvalidity
-  pub copied : AreCopied (rows_for old.start old.applied view) (listing new.start name new.applied) name sources copies (appends_among name issued)
+  pub copied : AreCopied (rows_for old.start old.applied view) (listing new.start name new.applied)
+      name sources copies (appends_among name issued)
 
 -- APPENDUID is right (RFC 9051, section 7.1): the mailbox has this UIDVALIDITY, and the one
 -- operation that was issued appended the message with this UID.
-pub record IsAppendTold (new : NodeState) (name : List ℕ) (issued : List Op) (uidvalidity number : ℕ) : Type 0 where
+pub record IsAppendTold (new : NodeState) (name : List ℕ) (issued : List Op)
+    (uidvalidity number : ℕ) : Type 0 where
   pub under : uidvalidity_of new.start name new.applied ≡ Some uidvalidity
   pub op : Op
   pub only : issued ≡ op ∷ []

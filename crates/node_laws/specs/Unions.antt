@@ -15,5 +15,6 @@ pub record IsUnion (parts : List Flags) (union : Flags) : Type 0 where
   pub deleted : union.deleted ≡ list_any (λ f. f.deleted) parts
   pub seen : union.seen ≡ list_any (λ f. f.seen) parts
   pub draft : union.draft ≡ list_any (λ f. f.draft) parts
-  pub words : (word : List ℕ) → holds union.keywords word ≡ list_any (λ f. holds f.keywords word) parts
+  pub words : (word : List ℕ)
+      → holds union.keywords word ≡ list_any (λ f. holds f.keywords word) parts
   pub ascending : AreAscending union.keywords

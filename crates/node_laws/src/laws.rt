@@ -26,8 +26,13 @@ ghost use Rattle.uid_projection.specs.Applied.{IsApplied};
 /// FETCH, STORE and SEARCH by message numbers are answered without EXPUNGE, and after them each
 /// message that the session was shown before still has its number (RFC 9051, section 7.5.1).
 pub fn by_number_keeps_places()
-    ensures expunges { (old new : NodeState) (n : ℕ) (input : Input) (reply : Reply) → Responds old n input reply new → asks_by_number input ≡ true → HasNoExpunge (answers_in reply) }
-    ensures places { (old new : NodeState) (n : ℕ) (input : Input) (reply : Reply) → Responds old n input reply new → asks_by_number input ≡ true
+    ensures expunges { (old new : NodeState) (n : ℕ) (input : Input) (reply : Reply)
+        → Responds old n input reply new
+        → asks_by_number input ≡ true
+        → HasNoExpunge (answers_in reply) }
+    ensures places { (old new : NodeState) (n : ℕ) (input : Input) (reply : Reply)
+        → Responds old n input reply new
+        → asks_by_number input ≡ true
         → AreKeptInPlace (view_at old.sessions n) (view_at new.sessions n) }
 {}
 
@@ -35,12 +40,25 @@ pub fn by_number_keeps_places()
 /// UIDVALIDITY the UID of an APPEND is that of the message that its one operation appended, and the
 /// copies of a COPY or MOVE have the reported UIDs, in the order of their sources.
 pub fn told_uids_are_those_of_the_messages()
-    ensures appends { (old new : NodeState) (n moment : ℕ) (tag : List ℕ) (append : Appended) (told : List Answer) (silent : List SilentFlags) (issued : List Op) (v number : ℕ)
-        → IsApplied old.applied → Responds old n (asked moment tag (Append append)) (Done told silent issued) new → HasCode (AppendUid v number) told → IsAppendTold new append.name issued v number }
-    ensures copies { (old new : NodeState) (n moment : ℕ) (tag : List ℕ) (transfer : Transfer) (told : List Answer) (silent : List SilentFlags) (issued : List Op) (view : ViewState) (v : ℕ)
-        (sources copies : List ℕ) → 1 ≤ old.start.uid → IsApplied old.applied → Responds old n (asked moment tag (Copy transfer)) (Done told silent issued) new → view_at old.sessions n ≡ Some view
-        → HasCode (CopyUid v sources copies) told → AreCopiesTold old new view transfer.name issued v sources copies }
-    ensures moves { (old new : NodeState) (n moment : ℕ) (tag : List ℕ) (transfer : Transfer) (told : List Answer) (silent : List SilentFlags) (issued : List Op) (view : ViewState) (v : ℕ)
-        (sources copies : List ℕ) → 1 ≤ old.start.uid → IsApplied old.applied → Responds old n (asked moment tag (Move transfer)) (Done told silent issued) new → view_at old.sessions n ≡ Some view
-        → IsIn (Tell (Moved v sources copies)) told → AreCopiesTold old new view transfer.name issued v sources copies }
+    ensures appends { (old new : NodeState) (n moment : ℕ) (tag : List ℕ) (append : Appended)
+        (told : List Answer) (silent : List SilentFlags) (issued : List Op) (v number : ℕ)
+        → IsApplied old.applied
+        → Responds old n (asked moment tag (Append append)) (Done told silent issued) new
+        → HasCode (AppendUid v number) told → IsAppendTold new append.name issued v number }
+    ensures copies { (old new : NodeState) (n moment : ℕ) (tag : List ℕ) (transfer : Transfer)
+        (told : List Answer) (silent : List SilentFlags) (issued : List Op) (view : ViewState)
+        (v : ℕ)
+        (sources copies : List ℕ) → 1 ≤ old.start.uid → IsApplied old.applied
+        → Responds old n (asked moment tag (Copy transfer)) (Done told silent issued) new
+        → view_at old.sessions n ≡ Some view
+        → HasCode (CopyUid v sources copies) told
+        → AreCopiesTold old new view transfer.name issued v sources copies }
+    ensures moves { (old new : NodeState) (n moment : ℕ) (tag : List ℕ) (transfer : Transfer)
+        (told : List Answer) (silent : List SilentFlags) (issued : List Op) (view : ViewState)
+        (v : ℕ)
+        (sources copies : List ℕ) → 1 ≤ old.start.uid → IsApplied old.applied
+        → Responds old n (asked moment tag (Move transfer)) (Done told silent issued) new
+        → view_at old.sessions n ≡ Some view
+        → IsIn (Tell (Moved v sources copies)) told
+        → AreCopiesTold old new view transfer.name issued v sources copies }
 {}

@@ -11,6 +11,9 @@ ghost use Rattle.node_laws.specs.Unions.{IsUnion};
 /// 6.4.6).
 pub fn flags_are_unions()
     ensures union { (parts : List Flags) → IsUnion parts (union_of parts) }
-    ensures only { (parts : List Flags) (union : Flags) → IsUnion parts union → union ≡ union_of parts }
-    ensures added { (flags more : Flags) → AreAscending flags.keywords → IsUnion (flags ∷ more ∷ []) (with_flags flags more) }
+    ensures only { (parts : List Flags) (union : Flags) → IsUnion parts union
+        → union ≡ union_of parts }
+    ensures added { (flags more : Flags)
+        → AreAscending flags.keywords
+        → IsUnion (flags ∷ more ∷ []) (with_flags flags more) }
 {}

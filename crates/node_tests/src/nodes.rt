@@ -88,8 +88,8 @@ fn user(alloc: Global, name: &[u8], password: &[u8]) -> Option<Auth> {
     })
 }
 
-/// Whether a conversation over this input, which comes in pieces of at most this many octets, ends so
-/// with this output.
+/// Whether a conversation over this input, which comes in pieces of at most this many octets, ends
+/// so with this output.
 fn is_told<R: Wait, O: Others>(
     rt: &R,
     alloc: Global,

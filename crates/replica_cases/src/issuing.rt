@@ -70,7 +70,9 @@ fn listed(alloc: Global, op: SoundOp) -> Result<Vec<SoundOp>, AllocError>
 }
 
 fn issue_listed(inbox: &mut Node, ops: Vec<SoundOp>, answer: &mut Words)
-    requires { (op : Op) × (ops.items ≡ op ∷ []) × IsIssued id_of clock_of inbox.old.seen.applied op }
+    requires { (op : Op)
+        × (ops.items ≡ op ∷ [])
+        × IsIssued id_of clock_of inbox.old.seen.applied op }
 {
     if inbox.ready(answer.alloc(), &ops).is_ok() {
         inbox.issue(ops);

@@ -1,7 +1,8 @@
 -- What a replica does with the messages of others, and what the worker of a link does: definitions
 -- over any taker and any way to the other replicas.
 
-use Rattle.std.specs.Prelude.{◌≡◌, ◌⊎◌, ◌||◌, ℕ, Bool, true, false, List, [], ◌∷◌, map, Option, None, Some, Ok, Err}
+use Rattle.std.specs.Prelude.{◌≡◌, ◌⊎◌, ◌||◌, ℕ, Bool, true, false, List, [], ◌∷◌, map, Option}
+use Rattle.std.specs.Prelude.{None, Some, Ok, Err}
 use Rattle.causal_inbox.specs.declared.delivery.Arrival.{Arrival}
 use Rattle.causal_inbox.specs.declared.delivery.Arrival.TheVariants.{Applied, Held, Repeat}
 use Rattle.causal_inbox.specs.declared.delivery.DeliverFault.TheVariants.{Conflict}
@@ -27,7 +28,8 @@ abbrev pub took_lacking : Took
 took_lacking = record { lacking = true; stalled = false }
 
 abbrev pub took_both : Took → Took → Took
-took_both one other = record { lacking = one.lacking || other.lacking; stalled = one.stalled || other.stalled }
+took_both one other =
+    record { lacking = one.lacking || other.lacking; stalled = one.stalled || other.stalled }
 
 -- A delivery, with its result.
 pub record Delivery : Type 0 where
@@ -46,7 +48,8 @@ Steps {S} takes s (g ∷ given) t = (next : S) × takes s g.op g.took next × St
 
 -- Exactly these operations were delivered to the taker, each once and in this order, and the result
 -- is that of all deliveries.
-pub record Takes {S : Type 0} (takes : S → Op → Took → S → Type 0) (s : S) (ops : List Op) (result : Took) (t : S) : Type 0 where
+pub record Takes {S : Type 0} (takes : S → Op → Took → S → Type 0) (s : S) (ops : List Op)
+    (result : Took) (t : S) : Type 0 where
   pub given : List Delivery
   pub steps : Steps takes s given t
   pub those : map (λ (g : Delivery). g.op) given ≡ ops
@@ -60,7 +63,8 @@ is_held Held = true
 is_held Repeat = false
 
 abbrev pub took_of : Outcome → Took
-took_of (Delivered (Ok receipt)) = record { lacking = is_held receipt.arrival; stalled = receipt.stalled }
+took_of (Delivered (Ok receipt)) =
+    record { lacking = is_held receipt.arrival; stalled = receipt.stalled }
 took_of (Delivered (Err (Conflict id))) = took_nothing
 took_of _ = took_lacking
 
@@ -68,7 +72,8 @@ took_of _ = took_lacking
 -- this operation; or there was no call, and the operation is lacking.
 abbrev pub IsTakenBy : PassState → Op → Took → PassState → Type 0
 IsTakenBy p op took q =
-    (IsCalled p (Deliver op) q × ((outcome : Outcome) × (q.last ≡ Some outcome) × (took ≡ took_of outcome)))
+    (IsCalled p (Deliver op) q
+    × ((outcome : Outcome) × (q.last ≡ Some outcome) × (took ≡ took_of outcome)))
     ⊎ ((q ≡ p) × (took ≡ took_lacking))
 
 -- After a delivery that stalled, one call applies held operations.
@@ -78,11 +83,13 @@ IsDrained drains s false t = s ≡ t
 
 -- Requests, over three relations: memory may run out for the replica's clock; it has this clock;
 -- another replica is asked for all that a clock doesn't cover.
-module _ {S P : Type 0} (lacks : S → Type 0) (has : S → List (ℕ × ℕ) → Type 0) (asks : P → ℕ → List (ℕ × ℕ) → P → Type 0) where
+module _ {S P : Type 0} (lacks : S → Type 0) (has : S → List (ℕ × ℕ) → Type 0)
+    (asks : P → ℕ → List (ℕ × ℕ) → P → Type 0) where
   -- The replica is asked, once, for all that this one's clock doesn't cover; not at all if memory
   -- runs out for the clock.
   abbrev pub MayAsk : S → P → ℕ → P → Type 0
-  MayAsk s p from q = ((clock : List (ℕ × ℕ)) × has s clock × asks p from clock q) ⊎ (lacks s × (p ≡ q))
+  MayAsk s p from q =
+      ((clock : List (ℕ × ℕ)) × has s clock × asks p from clock q) ⊎ (lacks s × (p ≡ q))
 
   -- Each of these replicas is asked so, one after another.
   abbrev pub AreAsked : S → P → List ℕ → P → Type 0
@@ -101,7 +108,9 @@ module _ {S P : Type 0} (lacks : S → Type 0) (has : S → List (ℕ × ℕ) �
 
 -- Messages of operations, over two further relations: a replica takes an operation; it applies held
 -- ones.
-module _ {S P : Type 0} (takes : S → Op → Took → S → Type 0) (drains : S → S → Type 0) (lacks : S → Type 0) (has : S → List (ℕ × ℕ) → Type 0) (asks : P → ℕ → List (ℕ × ℕ) → P → Type 0) where
+module _ {S P : Type 0} (takes : S → Op → Took → S → Type 0) (drains : S → S → Type 0)
+    (lacks : S → Type 0) (has : S → List (ℕ × ℕ) → Type 0)
+    (asks : P → ℕ → List (ℕ × ℕ) → P → Type 0) where
   -- The result of a message of operations: they are delivered, each once and in their order; if one
   -- stalled, held ones are applied; and if one is lacking, the sender is asked for it.
   pub record IsTaken (s : S) (p : P) (from : ℕ) (ops : List Op) (t : S) (q : P) : Type 0 where
@@ -118,11 +127,13 @@ MaySendOps hands p to (op ∷ ops) q = hands p to (op ∷ ops) q
 
 -- Answers to requests, over three relations: memory may run out for the operations; the replica
 -- gives these for a clock; another replica is sent operations.
-module _ {S P : Type 0} (lacks : S → Type 0) (gives : S → List (ℕ × ℕ) → List Op → Type 0) (hands : P → ℕ → List Op → P → Type 0) where
+module _ {S P : Type 0} (lacks : S → Type 0) (gives : S → List (ℕ × ℕ) → List Op → Type 0)
+    (hands : P → ℕ → List Op → P → Type 0) where
   -- The result of a request: the sender is sent what the replica gives for its clock, and nothing
   -- if memory runs out for that.
   abbrev pub IsAnswered : S → P → ℕ → List (ℕ × ℕ) → P → Type 0
-  IsAnswered s p from clock q = ((ops : List Op) × gives s clock ops × MaySendOps hands p from ops q) ⊎ (lacks s × (p ≡ q))
+  IsAnswered s p from clock q =
+      ((ops : List Op) × gives s clock ops × MaySendOps hands p from ops q) ⊎ (lacks s × (p ≡ q))
 
 -- A replica under its lock applied held operations by one call, noted in its pass; or there was no
 -- call.
@@ -131,36 +142,47 @@ IsDrainedBy p q = IsCalled p Drain q ⊎ (q ≡ p)
 
 -- The clock of a list that the replica had applied when it was asked.
 abbrev pub IsClockOfList : List (ℕ × ℕ) → Type 0
-IsClockOfList clock = (applied : List Op) × IsCausal id_of clock_of applied × IsClockOf id_of applied clock
+IsClockOfList clock =
+    (applied : List Op) × IsCausal id_of clock_of applied × IsClockOf id_of applied clock
 
 -- The operations that a replica had applied when it was asked and that the clock doesn't cover, in
 -- their order.
 abbrev pub AreUncoveredOps : List (ℕ × ℕ) → List Op → Type 0
-AreUncoveredOps clock ops = (applied : List Op) × IsCausal id_of clock_of applied × (ops ≡ uncovered_ops id_of clock applied)
+AreUncoveredOps clock ops =
+    (applied : List Op)
+    × IsCausal id_of clock_of applied
+    × (ops ≡ uncovered_ops id_of clock applied)
 
 -- A caller of a replica under its lock can't know when memory runs out.
 abbrev pub MayLack : PassState → Type 0
 MayLack p = Unit {0}
 
 -- Turns of a link, over all of these relations.
-module _ {S P : Type 0} (takes : S → Op → Took → S → Type 0) (drains : S → S → Type 0) (lacks : S → Type 0) (has : S → List (ℕ × ℕ) → Type 0) (gives : S → List (ℕ × ℕ) → List Op → Type 0) (asks : P → ℕ → List (ℕ × ℕ) → P → Type 0) (hands : P → ℕ → List Op → P → Type 0) where
+module _ {S P : Type 0} (takes : S → Op → Took → S → Type 0) (drains : S → S → Type 0)
+    (lacks : S → Type 0) (has : S → List (ℕ × ℕ) → Type 0)
+    (gives : S → List (ℕ × ℕ) → List Op → Type 0) (asks : P → ℕ → List (ℕ × ℕ) → P → Type 0)
+    (hands : P → ℕ → List Op → P → Type 0) where
   -- The result of a message: its operations are taken; a request is answered; and after `Stop` no
   -- message is taken.
   abbrev pub IsLetterAnswered : ℕ → LinkMsg → Bool → S → P → S → P → Type 0
-  IsLetterAnswered from (Ops ops) more s p t q = (more ≡ true) × IsTaken takes drains lacks has asks s p from ops.items t q
-  IsLetterAnswered from (Have clock) more s p t q = (more ≡ true) × (s ≡ t) × IsAnswered lacks gives hands s p from clock q
+  IsLetterAnswered from (Ops ops) more s p t q =
+      (more ≡ true) × IsTaken takes drains lacks has asks s p from ops.items t q
+  IsLetterAnswered from (Have clock) more s p t q =
+      (more ≡ true) × (s ≡ t) × IsAnswered lacks gives hands s p from clock q
   IsLetterAnswered from Stop more s p t q = (more ≡ false) × (s ≡ t) × (p ≡ q)
 
   -- A turn of a link's worker: a message is taken and answered, or these others are asked for what
   -- the replica lacks.
   abbrev pub IsTurn : List ℕ → Option PeerMsg → S → P → S → P → Type 0
-  IsTurn peers (Some letter) s p t q = (more : Bool) × IsLetterAnswered letter.from letter.message more s p t q
+  IsTurn peers (Some letter) s p t q =
+      (more : Bool) × IsLetterAnswered letter.from letter.message more s p t q
   IsTurn peers None s p t q = (s ≡ t) × AreAsked lacks has asks s p peers q
 
   -- These turns, one after another.
   abbrev pub Turns : List ℕ → List (Option PeerMsg) → S → P → S → P → Type 0
   Turns peers [] s p t q = (s ≡ t) × (p ≡ q)
-  Turns peers (turn ∷ turns) s p t q = (next : S) × (sent : P) × IsTurn peers turn s p next sent × Turns peers turns next sent t q
+  Turns peers (turn ∷ turns) s p t q =
+      (next : S) × (sent : P) × IsTurn peers turn s p next sent × Turns peers turns next sent t q
 
   -- Only such turns change a replica and its way to the others.
   abbrev pub TakesTurns : List ℕ → S → P → S → P → Type 0
@@ -169,4 +191,5 @@ module _ {S P : Type 0} (takes : S → Op → Took → S → Type 0) (drains : S
   -- What a link's worker does: it asks the others first, if it is to, and then takes turns and does
   -- nothing else.
   abbrev pub IsWorked : List ℕ → Bool → S → P → S → P → Type 0
-  IsWorked peers asks_first s p t q = (begun : P) × IsBegun lacks has asks peers asks_first s p begun × TakesTurns peers s begun t q
+  IsWorked peers asks_first s p t q =
+      (begun : P) × IsBegun lacks has asks peers asks_first s p begun × TakesTurns peers s begun t q

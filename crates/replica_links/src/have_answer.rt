@@ -2,7 +2,8 @@
 
 ghost use Rattle.std.specs.Prelude.{◌≡◌, ℕ, List};
 ghost use Rattle.crdt_ops.specs.declared.op.Op.{Op};
-ghost use Rattle.replica_links.specs.Links.{AreAsked, IsAnswered, IsAsked, IsDrained, IsTaken, MayAsk, MaySendOps};
+ghost use Rattle.replica_links.specs.Links.{AreAsked, IsAnswered, IsAsked, IsDrained, IsTaken};
+ghost use Rattle.replica_links.specs.Links.{MayAsk, MaySendOps};
 
 use crate::op_taker::{Taker, hand_on};
 use crdt_ops::SoundOp;
@@ -30,7 +31,8 @@ pub trait PeerLinks {
 /// operation is lacking, the sender is asked, once, for all that this replica's clock doesn't cover
 /// then. If memory runs out for the clock, nothing is asked for.
 pub fn take_ops<T: Taker, P: PeerLinks>(taker: &mut T, post: &mut P, from: usize, ops: Vec<SoundOp>)
-    ensures { IsTaken T.takes T.drains T.lacks T.has P.asks taker.old post.old from ops.items taker.new post.new }
+    ensures { IsTaken T.takes T.drains T.lacks T.has P.asks taker.old post.old from ops.items
+        taker.new post.new }
 {
     let took = hand_on(taker, ops);
     drain_after(taker, took.stalled);

@@ -97,7 +97,8 @@ pub fn link_worker<R: Wait + Clock, T: Taker, G: Gate, P: PeerLinks>(
     taker: &mut T,
     post: &mut P,
 )
-    ensures { IsWorked T.takes T.drains T.lacks T.has T.gives P.asks P.hands inbox.now.peers.now inbox.now.asks_first taker.old post.old taker.new post.new }
+    ensures { IsWorked T.takes T.drains T.lacks T.has T.gives P.asks P.hands inbox.now.peers.now
+        inbox.now.asks_first taker.old post.old taker.new post.new }
 {
     begin(taker, post, inbox.peers, inbox.asks_first);
     let mut pace = WorkerState {
@@ -129,7 +130,8 @@ fn turn<R: Wait + Clock, T: Taker, G: Gate, P: PeerLinks>(
     taker: &mut T,
     post: &mut P,
 ) -> bool
-    ensures { TakesTurns T.takes T.drains T.lacks T.has T.gives P.asks P.hands inbox.now.peers.now taker.old post.old taker.new post.new }
+    ensures { TakesTurns T.takes T.drains T.lacks T.has T.gives P.asks P.hands inbox.now.peers.now
+        taker.old post.old taker.new post.new }
 {
     match inbox.next(rt, pace.due) {
         NextEvent::Letter(letter) => {
@@ -150,7 +152,8 @@ fn turn<R: Wait + Clock, T: Taker, G: Gate, P: PeerLinks>(
 
 /// Takes and answers a message. False if the link ends.
 fn answer<T: Taker, P: PeerLinks>(taker: &mut T, post: &mut P, letter: PeerMsg) -> bool
-    ensures { IsLetterAnswered T.takes T.drains T.lacks T.has T.gives P.asks P.hands letter.from letter.message result taker.old post.old taker.new post.new }
+    ensures { IsLetterAnswered T.takes T.drains T.lacks T.has T.gives P.asks P.hands letter.from
+        letter.message result taker.old post.old taker.new post.new }
 {
     let PeerMsg { from, message } = letter;
     match message {

@@ -2,7 +2,8 @@
 
 ghost use Rattle.std.specs.Prelude.{◌≡◌, None, Some};
 ghost use Rattle.std.specs.Option.{option_map};
-ghost use Rattle.replica_links.specs.Links.{AreUncoveredOps, IsClockOfList, IsDrainedBy, IsTakenBy, MayLack, took_of};
+ghost use Rattle.replica_links.specs.Links.{AreUncoveredOps, IsClockOfList, IsDrainedBy, IsTakenBy};
+ghost use Rattle.replica_links.specs.Links.{MayLack, took_of};
 ghost use Rattle.replica_lock.specs.declared.outcome.Outcome.{Outcome};
 
 use crate::op_taker::Taker;
@@ -112,7 +113,9 @@ fn deliver_in<L: Ledger, R: Wait>(
 
 /// The result of a delivery, from a pass's last outcome; lacking if it has none.
 fn took_of_last(last: Option<&Outcome>) -> Took
-    ensures { (outcome : Outcome) → option_map (λ o. o.now) last.entry ≡ Some outcome → result ≡ took_of outcome }
+    ensures { (outcome : Outcome)
+        → option_map (λ o. o.now) last.entry ≡ Some outcome
+        → result ≡ took_of outcome }
 {
     match last {
         Some(outcome) => took_of(outcome),

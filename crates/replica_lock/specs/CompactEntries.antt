@@ -22,7 +22,11 @@ noop_done tag = Done (Completed tag None words.Noop ∷ []) [] []
 
 -- The entry of a NOOP with that reply.
 abbrev pub noop_entry : ℕ → ℕ → List ℕ → JournalEntry
-noop_entry session moment tag = record { event = Command session moment (record { tag = tag; command = commands.Noop }); outcome = Replied (noop_done tag) }
+noop_entry session moment tag =
+    record {
+      event = Command session moment (record { tag = tag; command = commands.Noop });
+      outcome = Replied (noop_done tag);
+    }
 
 -- The entry of a session that was closed.
 abbrev pub closed_entry : ℕ → JournalEntry

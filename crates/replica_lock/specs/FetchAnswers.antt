@@ -21,7 +21,15 @@ use Rattle.replica_lock.specs.declared.fetch_exchange.FetchExchange.{FetchExchan
 
 -- The flags without keywords (RFC 9051, section 2.3.2).
 abbrev pub flags_of : SystemFlags → Flags
-flags_of flags = record { answered = flags.answered; flagged = flags.flagged; deleted = flags.deleted; seen = flags.seen; draft = flags.draft; keywords = [] }
+flags_of flags =
+    record {
+      answered = flags.answered;
+      flagged = flags.flagged;
+      deleted = flags.deleted;
+      seen = flags.seen;
+      draft = flags.draft;
+      keywords = [];
+    }
 
 -- The number, or none for 0.
 abbrev pub told_if_nonzero : ℕ → Option ℕ
@@ -30,7 +38,15 @@ told_if_nonzero number = if number == 0 then None else Some number
 -- The items of a line, with these parts of the message's text, and the FETCH answer that has them
 -- (RFC 9051, section 7.5.2).
 abbrev pub items_of : FetchLine → List SectionData → FetchItems
-items_of line sections = record { uid = told_if_nonzero line.uid; flags = option_map flags_of line.flags; date = None; size = None; modseq = told_if_nonzero line.modseq; sections = sections }
+items_of line sections =
+    record {
+      uid = told_if_nonzero line.uid;
+      flags = option_map flags_of line.flags;
+      date = None;
+      size = None;
+      modseq = told_if_nonzero line.modseq;
+      sections = sections;
+    }
 
 abbrev pub answer_with : List SectionData → FetchLine → Answer
 answer_with sections line = Fetch line.number (items_of line sections)
@@ -55,4 +71,8 @@ fetch_exchange_reply tag word shown = Done (fetch_exchange_answers tag word show
 
 -- The command's entry.
 abbrev pub fetch_exchange_entry : FetchExchange → JournalEntry
-fetch_exchange_entry told = record { event = Command told.session told.moment told.tagged; outcome = Replied (fetch_exchange_reply told.tagged.tag told.word told.shown) }
+fetch_exchange_entry told =
+    record {
+      event = Command told.session told.moment told.tagged;
+      outcome = Replied (fetch_exchange_reply told.tagged.tag told.word told.shown);
+    }

@@ -14,14 +14,19 @@ use Rattle.causal_inbox.specs.OwnIds.{IsLeastOwn}
 use Rattle.replica_lock.specs.declared.book.JournalEntry.{JournalEntry}
 use Rattle.replica_lock.specs.declared.event.BookEvent.TheVariants.{Deliver}
 use Rattle.replica_lock.specs.declared.faults.JoinFault.{JoinFault}
-use Rattle.replica_lock.specs.declared.faults.JoinFault.TheVariants.{Exhausted, NoMemory, NotCausal, Own}
+use Rattle.replica_lock.specs.declared.faults.JoinFault.TheVariants.{Exhausted, NoMemory, NotCausal}
+use Rattle.replica_lock.specs.declared.faults.JoinFault.TheVariants.{Own}
 use Rattle.replica_lock.specs.declared.outcome.Outcome.{Outcome}
 use Rattle.replica_lock.specs.declared.outcome.Outcome.TheVariants.{Delivered}
 use Rattle.uid_projection.specs.Exhaustion.{Exhausts}
 
 -- The entry of an operation that was delivered and applied, and for which no held one waited.
 abbrev pub applied_entry : Op → JournalEntry
-applied_entry op = record { event = Deliver op; outcome = Delivered (Ok (record { arrival = Applied 1; stalled = false })) }
+applied_entry op =
+    record {
+      event = Deliver op;
+      outcome = Delivered (Ok (record { arrival = Applied 1; stalled = false }));
+    }
 
 -- The book of a replica of this name to which these operations were delivered, one after another,
 -- and at which nothing else happened.
@@ -43,8 +48,13 @@ pub record Stops (name : ℕ) (ops : List Op) (Why : List Op → Op → Type 0) 
 -- looked for first.
 abbrev pub IsJoinFault : ℕ → List Op → JoinFault → Type 0
 IsJoinFault name ops (Own id) = IsLeastOwn id_of name ops (Some id)
-IsJoinFault name ops (NotCausal id) = IsLeastOwn id_of name ops None × Stops name ops (λ front op. (op.id ≡ id) × ¬ IsRipe id_of clock_of front op)
-IsJoinFault name ops Exhausted = IsLeastOwn id_of name ops None × Stops name ops (λ front op. IsRipe id_of clock_of front op × Exhausts (first_numbers name) front (op ∷ []))
+IsJoinFault name ops (NotCausal id) =
+    IsLeastOwn id_of name ops None
+    × Stops name ops (λ front op. (op.id ≡ id) × ¬ IsRipe id_of clock_of front op)
+IsJoinFault name ops Exhausted =
+    IsLeastOwn id_of name ops None
+    × Stops name ops
+    (λ front op. IsRipe id_of clock_of front op × Exhausts (first_numbers name) front (op ∷ []))
 IsJoinFault name ops NoMemory = IsLeastOwn id_of name ops None
 
 -- ---- one operation
@@ -53,7 +63,8 @@ IsJoinFault name ops NoMemory = IsLeastOwn id_of name ops None
 abbrev pub IsApplyFault : NodeState → Op → JoinFault → Type 0
 IsApplyFault node op (Own id) = ⊥
 IsApplyFault node op (NotCausal id) = (op.id ≡ id) × ¬ IsRipe id_of clock_of node.applied op
-IsApplyFault node op Exhausted = IsRipe id_of clock_of node.applied op × Exhausts node.start node.applied (op ∷ [])
+IsApplyFault node op Exhausted =
+    IsRipe id_of clock_of node.applied op × Exhausts node.start node.applied (op ∷ [])
 IsApplyFault node op NoMemory = Unit {0}
 
 -- The fault, if any, shown by a delivery: none if the operation was applied at once.

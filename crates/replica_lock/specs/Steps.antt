@@ -9,9 +9,11 @@ pub use Rattle.imap_node.specs.Steps.{ClosesAt, DeliversAt, DrainsAt, IsAwayAt, 
 use Rattle.imap_node.specs.declared.input.Input.{Input}
 use Rattle.imap_node.specs.declared.input.Input.TheVariants as inputs
 use Rattle.replica_lock.specs.declared.event.BookEvent.{BookEvent}
-use Rattle.replica_lock.specs.declared.event.BookEvent.TheVariants.{Close, Command, Deliver, Drain, Line, Open, Poll}
+use Rattle.replica_lock.specs.declared.event.BookEvent.TheVariants.{Close, Command, Deliver, Drain}
+use Rattle.replica_lock.specs.declared.event.BookEvent.TheVariants.{Line, Open, Poll}
 use Rattle.replica_lock.specs.declared.outcome.Outcome.{Outcome}
-use Rattle.replica_lock.specs.declared.outcome.Outcome.TheVariants.{Closed, Delivered, Drained, Opened, PassedOver, Replied}
+use Rattle.replica_lock.specs.declared.outcome.Outcome.TheVariants.{Closed, Delivered, Drained}
+use Rattle.replica_lock.specs.declared.outcome.Outcome.TheVariants.{Opened, PassedOver, Replied}
 
 -- Whether a copy of an outcome takes memory: only that of the reply to an input that was carried
 -- out does.
@@ -42,7 +44,8 @@ TakesInput old n input _ new = ⊥
 -- One event at a node: with this outcome it leads from one state to the other.
 abbrev pub IsStep : NodeState → BookEvent → Outcome → NodeState → Type 0
 IsStep old (Open auth) (Opened answer) new = OpensAt old auth answer new
-IsStep old (Command n moment tagged) outcome new = TakesInput old n (inputs.Command moment tagged) outcome new
+IsStep old (Command n moment tagged) outcome new =
+    TakesInput old n (inputs.Command moment tagged) outcome new
 IsStep old (Line n line) outcome new = TakesInput old n (inputs.Line line) outcome new
 IsStep old (Poll n) outcome new = TakesInput old n inputs.Poll outcome new
 IsStep old (Deliver op) (Delivered answer) new = DeliversAt old op answer new

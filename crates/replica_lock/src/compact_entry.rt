@@ -3,7 +3,8 @@
 ghost use Rattle.std.specs.Prelude.{◌≡◌, ◌↔◌, ◌∷◌, [], None, IfOk, IsTrue};
 ghost use Rattle.imap_answers.specs.declared.answer.Answer.TheVariants.{Completed};
 ghost use Rattle.imap_answers.specs.declared.fixed_words.CompletedWord.TheVariants as words;
-ghost use Rattle.replica_lock.specs.CompactEntries.{closed_entry, entry_of_ref, noop_done, noop_entry};
+ghost use Rattle.replica_lock.specs.CompactEntries.{closed_entry, entry_of_ref, noop_done};
+ghost use Rattle.replica_lock.specs.CompactEntries.{noop_entry};
 ghost use Rattle.replica_lock.specs.FetchAnswers.{fetch_exchange_entry};
 ghost use Rattle.replica_lock.specs.declared.outcome.Outcome.TheVariants as outcomes;
 

@@ -1,10 +1,13 @@
 //! What a replica's lock guards: the book, and the count of all calls.
 
-ghost use Rattle.std.specs.Prelude.{◌≡◌, ◌⊎◌, ◌↔◌, ℕ, ◌<◌, ◌≤◌, ◌^◌, length, IsTrue, IsOk, slice_get, OnOk, OnErr, IfOk, IfErr, IfSome, IfNone, Some, false, true};
+ghost use Rattle.std.specs.Prelude.{◌≡◌, ◌⊎◌, ◌↔◌, ℕ, ◌<◌, ◌≤◌, ◌^◌, length, IsTrue, IsOk};
+ghost use Rattle.std.specs.Prelude.{slice_get, OnOk, OnErr, IfOk, IfErr, IfSome, IfNone, Some};
+ghost use Rattle.std.specs.Prelude.{false, true};
 ghost use Rattle.imap_node.specs.SessionFeeds.{IsCurrent};
 ghost use Rattle.imap_node.specs.Replays.{view_at};
 ghost use Rattle.session_view.specs.ViewState.{ViewState};
-ghost use Rattle.replica_lock.specs.Passes.{OutcomesStand, PassState, OutcomeStands, calls_of, parts_of};
+ghost use Rattle.replica_lock.specs.Passes.{OutcomesStand, PassState, OutcomeStands, calls_of};
+ghost use Rattle.replica_lock.specs.Passes.{parts_of};
 ghost use Rattle.replica_lock.specs.Histories.{may_affect_sessions};
 ghost use Rattle.replica_lock.specs.Steps.{ends_session};
 
@@ -46,12 +49,17 @@ impl<L: Ledger> Model for CountedBook<L> {
 
     ghost view = { λ s. s.book };
 
-    ghost invariant = { λ s. record { counted : length s.book.journal ≡ s.calls.total; within : s.last_visible ≤ length s.book.journal; quiet : AreQuietAfter s.book.journal s.last_visible } };
+    ghost invariant = { λ s. record {
+      counted : length s.book.journal ≡ s.calls.total;
+      within : s.last_visible ≤ length s.book.journal;
+      quiet : AreQuietAfter s.book.journal s.last_visible;
+    } };
 }
 
 impl<L: Ledger> CountedBook<L> {
     ghost use Rattle.replica_lock.specs.Histories.{AreQuietAfter};
-    ghost use Rattle.replica_lock.specs.Passes.{IsFinishFault, PassesFit, IsCall, IsCallFault, is_missing};
+    ghost use Rattle.replica_lock.specs.Passes.{IsFinishFault, PassesFit, IsCall, IsCallFault};
+    ghost use Rattle.replica_lock.specs.Passes.{is_missing};
 
     /// A book, each of whose entries is counted in `calls`.
     pub fn new(book: Book, calls: Calls<L>) -> CountedBook<L>
@@ -87,7 +95,10 @@ impl<L: Ledger> CountedBook<L> {
     /// is current.
     pub fn has_session_change(&self, session: SessionNo, seen: u64) -> bool
         ensures some { result ≡ true → seen < length self.now.journal }
-        ensures none { result ≡ false → AreQuietAfter self.now.journal seen ⊎ ((view : ViewState) → view_at self.now.node.sessions session ≡ Some view → IsCurrent self.now.node.start self.now.node.applied view) }
+        ensures none { result ≡ false
+            → AreQuietAfter self.now.journal seen
+            ⊎ ((view : ViewState) → view_at self.now.node.sessions session ≡ Some view
+            → IsCurrent self.now.node.start self.now.node.applied view) }
     {
         self.last_visible > seen && self.book.node().may_be_behind(session)
     }
@@ -111,7 +122,8 @@ impl<L: Ledger> CountedBook<L> {
         ensures called { OnOk result (IsCall self.old event self.new pass.old pass.new) }
         ensures unchanged { OnErr result ((self.new ≡ self.old) × (pass.new ≡ pass.old)) }
         ensures refused { IfErr result (IsCallFault pass.old.seen (length self.old.journal)) }
-        ensures close { pass.old.seen ≤ length self.old.journal → ends_session self.old.node event ≡ true → IsOk result }
+        ensures close { pass.old.seen ≤ length self.old.journal
+            → ends_session self.old.node event ≡ true → IsOk result }
     {
         let found = self.book.len();
         let seen = pass.seen();
@@ -137,7 +149,8 @@ impl<L: Ledger> CountedBook<L> {
         ensures same { IfOk result (λ book. book ≡ self) }
         ensures fits { IfOk result (λ book. PassesFit book.journal passes.items) }
         ensures denied { IfErr result (IsFinishFault self.journal passes.items) }
-        ensures whole { parts_of passes.items ≡ 4294967295 → IfErr result (λ fault. is_missing fault ≡ false) }
+        ensures whole { parts_of passes.items ≡ 4294967295
+            → IfErr result (λ fault. is_missing fault ≡ false) }
     {
         let CountedBook {
             book,
@@ -209,7 +222,9 @@ fn stands<L: Ledger>(book: &Book, pass: &Pass<L>) -> bool
 /// The place seen by the first pass whose last outcome isn't the journal's at that place, if any.
 fn first_mismatch<L: Ledger>(book: &Book, passes: &[Pass<L>]) -> Option<u64>
     ensures all { IfNone result (OutcomesStand book.now.journal passes.now) }
-    ensures one { IfSome result (λ place. (k : ℕ) × (p : PassState) × (slice_get passes.now k ≡ Some p) × (p.seen ≡ place) × (OutcomeStands book.now.journal p.last p.seen → ⊥)) }
+    ensures one { IfSome result (λ place. (k : ℕ) × (p : PassState)
+        × (slice_get passes.now k ≡ Some p) × (p.seen ≡ place)
+        × (OutcomeStands book.now.journal p.last p.seen → ⊥)) }
 {
     for pass in passes {
         if !stands(book, pass) {

@@ -2,7 +2,8 @@
 
 ghost use Rattle.std.specs.Prelude.{◌≡◌, ◌↔◌, [], None, IfErr, IfOk, IfSome, IsTrue};
 ghost use Rattle.imap_answers.specs.declared.answer.Answer.TheVariants.{Completed};
-ghost use Rattle.replica_lock.specs.FetchAnswers.{fetch_exchange_answers, fetch_exchange_entry, fetch_exchange_reply};
+ghost use Rattle.replica_lock.specs.FetchAnswers.{fetch_exchange_answers, fetch_exchange_entry};
+ghost use Rattle.replica_lock.specs.FetchAnswers.{fetch_exchange_reply};
 ghost use Rattle.replica_lock.specs.declared.event.BookEvent.TheVariants.{Command};
 ghost use Rattle.replica_lock.specs.declared.outcome.Outcome.TheVariants.{Replied};
 
@@ -52,7 +53,8 @@ impl FetchExchange {
         tagged: Tagged,
         reply: &Reply,
     ) -> Result<Box<FetchExchange>, Tagged>
-        ensures told { IfOk result (λ told. fetch_exchange_entry told.value ≡ record { event = Command session moment tagged; outcome = Replied reply.now }) }
+        ensures told { IfOk result (λ told. fetch_exchange_entry told.value
+            ≡ record { event = Command session moment tagged; outcome = Replied reply.now }) }
         ensures back { IfErr result (λ back. back ≡ tagged) }
     {
         let Some(telling) = fetch_reply_of(alloc, &tagged.tag, reply) else {
@@ -88,7 +90,9 @@ impl FetchExchange {
 
     /// Whether this is the outcome of the command.
     pub(crate) fn has_outcome(&self, outcome: &Outcome) -> bool
-        ensures { IsTrue result ↔ (Replied (fetch_exchange_reply self.now.tagged.tag self.now.word self.now.shown) ≡ outcome.now) }
+        ensures { IsTrue result
+            ↔ (Replied (fetch_exchange_reply self.now.tagged.tag self.now.word self.now.shown)
+            ≡ outcome.now) }
     {
         match outcome {
             Outcome::Replied { reply } => self.has_reply(reply),
@@ -98,7 +102,8 @@ impl FetchExchange {
 
     /// Whether this is the reply to the command.
     fn has_reply(&self, reply: &Reply) -> bool
-        ensures { IsTrue result ↔ (fetch_exchange_reply self.now.tagged.tag self.now.word self.now.shown ≡ reply.now) }
+        ensures { IsTrue result
+            ↔ (fetch_exchange_reply self.now.tagged.tag self.now.word self.now.shown ≡ reply.now) }
     {
         match reply {
             Reply::Done {
@@ -116,7 +121,9 @@ impl FetchExchange {
 
     /// Whether these are the answers to the command.
     fn has_answers(&self, answers: &[Answer]) -> bool
-        ensures { IsTrue result ↔ (fetch_exchange_answers self.now.tagged.tag self.now.word self.now.shown ≡ answers.now) }
+        ensures { IsTrue result
+            ↔ (fetch_exchange_answers self.now.tagged.tag self.now.word self.now.shown
+            ≡ answers.now) }
     {
         match answers.split_last() {
             Some((end, others)) => {
@@ -144,7 +151,8 @@ struct FetchReply {
 /// The compact form of a reply to the command with this tag; `None` if it has none, or if memory
 /// runs out.
 fn fetch_reply_of(alloc: Global, tag: &Octets, reply: &Reply) -> Option<FetchReply>
-    ensures { IfSome result (λ telling. fetch_exchange_reply tag.now telling.word telling.shown ≡ reply.now) }
+    ensures { IfSome result
+        (λ telling. fetch_exchange_reply tag.now telling.word telling.shown ≡ reply.now) }
 {
     match reply {
         Reply::Done {
@@ -164,7 +172,8 @@ fn fetch_reply_of(alloc: Global, tag: &Octets, reply: &Reply) -> Option<FetchRep
 /// The compact form of these answers to the command with this tag; `None` if they have none, or if
 /// memory runs out.
 fn told_by(alloc: Global, tag: &Octets, answers: &[Answer]) -> Option<FetchReply>
-    ensures { IfSome result (λ telling. fetch_exchange_answers tag.now telling.word telling.shown ≡ answers.now) }
+    ensures { IfSome result
+        (λ telling. fetch_exchange_answers tag.now telling.word telling.shown ≡ answers.now) }
 {
     let (end, others) = answers.split_last()?;
     let word = word_of(end, tag)?;

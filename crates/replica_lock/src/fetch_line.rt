@@ -2,7 +2,8 @@
 
 ghost use Rattle.std.specs.Prelude.{◌≡◌, ◌↔◌, IfSome, IsTrue};
 ghost use Rattle.std.specs.Option.{option_map};
-ghost use Rattle.replica_lock.specs.FetchAnswers.{answer_of, answer_with, flags_of, items_of, told_if_nonzero};
+ghost use Rattle.replica_lock.specs.FetchAnswers.{answer_of, answer_with, flags_of, items_of};
+ghost use Rattle.replica_lock.specs.FetchAnswers.{told_if_nonzero};
 
 use imap_answers::{Answer, FetchItems, Sections};
 use imap_types::Flags;
@@ -82,7 +83,8 @@ impl FetchLine {
 
     /// The line of these items but for the parts of the text; `None` if they have none.
     pub(crate) fn without_parts(number: u32, items: &FetchItems) -> Option<FetchLine>
-        ensures { IfSome result (λ line. (line.number ≡ number) × (items_of line items.now.sections ≡ items.now)) }
+        ensures { IfSome result
+            (λ line. (line.number ≡ number) × (items_of line items.now.sections ≡ items.now)) }
     {
         if items.date.is_some() || items.size.is_some() {
             return None;

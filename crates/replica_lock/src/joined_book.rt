@@ -4,7 +4,9 @@ ghost use Rattle.std.specs.Prelude.{◌≡◌, ◌∷◌, ◌++◌, [], IfErr, M
 ghost use Rattle.merge_laws.specs.Orders.{IsCausal, IsRipe};
 ghost use Rattle.imap_node.specs.Nodes.{first_numbers};
 ghost use Rattle.imap_node.specs.Operations.{clock_of, id_of};
-ghost use Rattle.replica_lock.specs.JoinedBook.{IsJoinFault, IsApplyFault, joined_book, applied_entry, join_fault_of, join_fault_of_arrival};
+ghost use Rattle.replica_lock.specs.JoinedBook.{IsJoinFault, IsApplyFault, joined_book};
+ghost use Rattle.replica_lock.specs.JoinedBook.{applied_entry, join_fault_of};
+ghost use Rattle.replica_lock.specs.JoinedBook.{join_fault_of_arrival};
 ghost use Rattle.causal_inbox.specs.OwnIds.{IsLeastOwn};
 ghost use Rattle.uid_projection.specs.Exhaustion.{Exhausts};
 
@@ -32,7 +34,8 @@ impl Book {
     /// and the journal's.
     pub fn join(alloc: Global, id: ReplicaId, ops: &[SoundOp]) -> Result<Book, JoinFault>
         ensures { MatchResult result
-            (λ book. (book ≡ joined_book id ops.now) × IsLeastOwn id_of id ops.now None × IsCausal id_of clock_of ops.now × (¬ Exhausts (first_numbers id) [] ops.now))
+            (λ book. (book ≡ joined_book id ops.now) × IsLeastOwn id_of id ops.now None
+            × IsCausal id_of clock_of ops.now × (¬ Exhausts (first_numbers id) [] ops.now))
             (IsJoinFault id ops.now) }
     {
         if let Some(own) = least_own(id, ops) {
@@ -59,8 +62,10 @@ impl Book {
 /// first that isn't applied.
 fn take_all(alloc: Global, book: &mut Book, ops: &[SoundOp]) -> Result<(), JoinFault>
     requires { book.old ≡ joined_book book.old.node.start.replica [] }
-    ensures ok { OnOk result ((book.new ≡ joined_book book.old.node.start.replica ops.now) × IsCausal id_of clock_of ops.now × (¬ Exhausts book.old.node.start [] ops.now)) }
-    ensures fault { IsLeastOwn id_of book.old.node.start.replica ops.now None → IfErr result (IsJoinFault book.old.node.start.replica ops.now) }
+    ensures ok { OnOk result ((book.new ≡ joined_book book.old.node.start.replica ops.now)
+        × IsCausal id_of clock_of ops.now × (¬ Exhausts book.old.node.start [] ops.now)) }
+    ensures fault { IsLeastOwn id_of book.old.node.start.replica ops.now None
+        → IfErr result (IsJoinFault book.old.node.start.replica ops.now) }
 {
     for op in ops {
         take(alloc, book, op)?;
@@ -71,8 +76,13 @@ fn take_all(alloc: Global, book: &mut Book, ops: &[SoundOp]) -> Result<(), JoinF
 /// Delivers a copy of an operation to a replica that holds nothing.
 fn take(alloc: Global, book: &mut Book, op: &SoundOp) -> Result<(), JoinFault>
     requires { book.old.node.held ≡ [] }
-    ensures ok { OnOk result ((book.new ≡ record { node = record book.old.node { applied = book.old.node.applied ++ op.now ∷ [] }; journal = book.old.journal ++ applied_entry op.now ∷ [] })
-        × IsRipe id_of clock_of book.old.node.applied op.now × (¬ Exhausts book.old.node.start book.old.node.applied (op.now ∷ []))) }
+    ensures ok { OnOk result ((book.new
+        ≡ record {
+          node = record book.old.node { applied = book.old.node.applied ++ op.now ∷ [] };
+          journal = book.old.journal ++ applied_entry op.now ∷ [];
+        })
+        × IsRipe id_of clock_of book.old.node.applied op.now
+        × (¬ Exhausts book.old.node.start book.old.node.applied (op.now ∷ []))) }
     ensures fault { IfErr result (IsApplyFault book.old.node op.now) }
 {
     let id = op.id();

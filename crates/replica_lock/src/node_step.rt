@@ -32,8 +32,10 @@ pub struct StepResult {
 /// Takes an event at a node. `Err` if memory runs out for the journal entry; the node is then as it
 /// was. The close of a session takes no memory.
 pub fn step_node(alloc: Global, node: &mut Node, event: BookEvent) -> Result<StepResult, NoRoom>
-    ensures kept { IfOk result (λ stepped. stepped.kept ≡ record { event = event; outcome = stepped.outcome }) }
-    ensures step { IfOk result (λ stepped. IsStep node.old.state event stepped.outcome node.new.state) }
+    ensures kept { IfOk result
+        (λ stepped. stepped.kept ≡ record { event = event; outcome = stepped.outcome }) }
+    ensures step { IfOk result
+        (λ stepped. IsStep node.old.state event stepped.outcome node.new.state) }
     ensures err { OnErr result (node.new.state ≡ node.old.state) }
     ensures close { ends_session node.old.state event ≡ true → IsOk result }
 {
@@ -54,8 +56,10 @@ pub fn step_node(alloc: Global, node: &mut Node, event: BookEvent) -> Result<Ste
 
 /// Opens a session.
 fn open_step(alloc: Global, node: &mut Node, auth: Auth) -> Result<StepResult, NoRoom>
-    ensures kept { IfOk result (λ stepped. stepped.kept ≡ record { event = events.Open auth; outcome = stepped.outcome }) }
-    ensures step { IfOk result (λ stepped. IsStep node.old.state (events.Open auth) stepped.outcome node.new.state) }
+    ensures kept { IfOk result
+        (λ stepped. stepped.kept ≡ record { event = events.Open auth; outcome = stepped.outcome }) }
+    ensures step { IfOk result
+        (λ stepped. IsStep node.old.state (events.Open auth) stepped.outcome node.new.state) }
     ensures err { OnErr result (node.new.state ≡ node.old.state) }
 {
     let Ok(kept) = copy_auth(alloc, &auth) else {
@@ -113,8 +117,10 @@ fn input_step(
     session: SessionNo,
     input: Input,
 ) -> Result<StepResult, NoRoom>
-    ensures kept { IfOk result (λ stepped. stepped.kept ≡ record { event = event_of session input; outcome = stepped.outcome }) }
-    ensures step { IfOk result (λ stepped. TakesInput node.old.state session input stepped.outcome node.new.state) }
+    ensures kept { IfOk result (λ stepped. stepped.kept
+        ≡ record { event = event_of session input; outcome = stepped.outcome }) }
+    ensures step { IfOk result
+        (λ stepped. TakesInput node.old.state session input stepped.outcome node.new.state) }
     ensures err { OnErr result (node.new.state ≡ node.old.state) }
 {
     if !awaits(node, session, &input) {
@@ -139,7 +145,8 @@ fn kept_of(
     input: Input,
     reply: &Reply,
 ) -> Result<CompactEntry, AllocError>
-    ensures { IfOk result (λ kept. kept ≡ record { event = event_of session input; outcome = outcomes.Replied reply.now }) }
+    ensures { IfOk result (λ kept. kept
+        ≡ record { event = event_of session input; outcome = outcomes.Replied reply.now }) }
 {
     match input {
         Input::Command { moment, tagged } => {
@@ -158,7 +165,11 @@ fn kept_of_command(
     tagged: Tagged,
     reply: &Reply,
 ) -> Result<CompactEntry, AllocError>
-    ensures { IfOk result (λ kept. kept ≡ record { event = events.Command session moment tagged; outcome = outcomes.Replied reply.now }) }
+    ensures { IfOk result (λ kept. kept
+        ≡ record {
+          event = events.Command session moment tagged;
+          outcome = outcomes.Replied reply.now;
+        }) }
 {
     if is_noop(&tagged.command) && is_done(reply, &tagged.tag) {
         let Tagged { tag, command } = tagged;
@@ -189,7 +200,8 @@ fn is_noop(command: &Command) -> bool
 
 /// The journal entry of any event with this reply, not in compact form; `Err` if memory runs out.
 fn whole_entry(alloc: Global, event: BookEvent, reply: &Reply) -> Result<CompactEntry, AllocError>
-    ensures { IfOk result (λ kept. kept ≡ record { event = event; outcome = outcomes.Replied reply.now }) }
+    ensures { IfOk result
+        (λ kept. kept ≡ record { event = event; outcome = outcomes.Replied reply.now }) }
 {
     let begun = PendingEntry::new(alloc, event)?;
     let reply = reply.copy()?;
@@ -198,7 +210,8 @@ fn whole_entry(alloc: Global, event: BookEvent, reply: &Reply) -> Result<Compact
 
 /// Passes over an event that isn't possible. `Err` if memory runs out for its journal entry.
 fn pass_over(alloc: Global, event: BookEvent) -> Result<StepResult, NoRoom>
-    ensures kept { IfOk result (λ stepped. stepped.kept ≡ record { event = event; outcome = stepped.outcome }) }
+    ensures kept { IfOk result
+        (λ stepped. stepped.kept ≡ record { event = event; outcome = stepped.outcome }) }
     ensures outcome { IfOk result (λ stepped. stepped.outcome ≡ outcomes.PassedOver) }
 {
     let Ok(begun) = PendingEntry::new(alloc, event) else {
@@ -212,8 +225,10 @@ fn pass_over(alloc: Global, event: BookEvent) -> Result<StepResult, NoRoom>
 
 /// Delivers an operation.
 fn deliver_step(alloc: Global, node: &mut Node, op: SoundOp) -> Result<StepResult, NoRoom>
-    ensures kept { IfOk result (λ stepped. stepped.kept ≡ record { event = events.Deliver op; outcome = stepped.outcome }) }
-    ensures step { IfOk result (λ stepped. IsStep node.old.state (events.Deliver op) stepped.outcome node.new.state) }
+    ensures kept { IfOk result (λ stepped. stepped.kept
+        ≡ record { event = events.Deliver op; outcome = stepped.outcome }) }
+    ensures step { IfOk result
+        (λ stepped. IsStep node.old.state (events.Deliver op) stepped.outcome node.new.state) }
     ensures err { OnErr result (node.new.state ≡ node.old.state) }
 {
     let Ok(kept) = op.copy(alloc) else {
@@ -239,8 +254,10 @@ fn outcome_of_delivery(answer: &Result<Delivered, DeliverFault>) -> Outcome
 
 /// Applies held operations whose causes were applied.
 fn drain_step(alloc: Global, node: &mut Node) -> Result<StepResult, NoRoom>
-    ensures kept { IfOk result (λ stepped. stepped.kept ≡ record { event = events.Drain; outcome = stepped.outcome }) }
-    ensures step { IfOk result (λ stepped. IsStep node.old.state events.Drain stepped.outcome node.new.state) }
+    ensures kept { IfOk result
+        (λ stepped. stepped.kept ≡ record { event = events.Drain; outcome = stepped.outcome }) }
+    ensures step { IfOk result
+        (λ stepped. IsStep node.old.state events.Drain stepped.outcome node.new.state) }
     ensures err { OnErr result (node.new.state ≡ node.old.state) }
 {
     let Ok(begun) = PendingEntry::new(alloc, BookEvent::Drain) else {
@@ -255,8 +272,10 @@ fn drain_step(alloc: Global, node: &mut Node) -> Result<StepResult, NoRoom>
 
 /// Closes a session, if it is open.
 fn close_step(alloc: Global, node: &mut Node, session: SessionNo) -> Result<StepResult, NoRoom>
-    ensures kept { IfOk result (λ stepped. stepped.kept ≡ record { event = events.Close session; outcome = stepped.outcome }) }
-    ensures step { IfOk result (λ stepped. IsStep node.old.state (events.Close session) stepped.outcome node.new.state) }
+    ensures kept { IfOk result (λ stepped. stepped.kept
+        ≡ record { event = events.Close session; outcome = stepped.outcome }) }
+    ensures step { IfOk result
+        (λ stepped. IsStep node.old.state (events.Close session) stepped.outcome node.new.state) }
     ensures err { OnErr result (node.new.state ≡ node.old.state) }
     ensures close { ends_session node.old.state (events.Close session) ≡ true → IsOk result }
 {

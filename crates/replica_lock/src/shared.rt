@@ -1,6 +1,7 @@
 //! A replica that threads share.
 
-ghost use Rattle.std.specs.Prelude.{◌≡◌, ◌≢◌, OnOk, OnErr, ◌<◌, IfOk, IfErr, IfSome, IsSome, List, None, length, false};
+ghost use Rattle.std.specs.Prelude.{◌≡◌, ◌≢◌, OnOk, OnErr, ◌<◌, IfOk, IfErr, IfSome, IsSome, List};
+ghost use Rattle.std.specs.Prelude.{None, length, false};
 ghost use Rattle.causal_inbox.specs.Inbox.{IsClockOf, uncovered_ops};
 ghost use Rattle.crdt_ops.specs.declared.op.Op.{Op};
 ghost use Rattle.merge_laws.specs.Orders.{IsCausal};
@@ -74,7 +75,8 @@ impl<'a, L: Ledger> LockTurn<'a, L> {
         tagged: Tagged,
     ) -> Result<(), CallFault>
         requires session { IsSome pass.old.session }
-        ensures called { OnOk result (IsCalledIn pass.old (λ n. events.Command n moment tagged) pass.new) }
+        ensures called { OnOk result
+            (IsCalledIn pass.old (λ n. events.Command n moment tagged) pass.new) }
         ensures unchanged { OnErr result (pass.new ≡ pass.old) }
         ensures refused { IfErr result (IsCallRefused pass.old.seen) }
     {
@@ -97,7 +99,8 @@ impl<'a, L: Ledger> LockTurn<'a, L> {
 }
 
 impl<L: Ledger> Shared<L> {
-    ghost use Rattle.replica_lock.specs.Passes.{IsFinishFault, PassesFit, IsCalled, IsCalledIn, IsCallRefused, is_missing, parts_of, unused_pass};
+    ghost use Rattle.replica_lock.specs.Passes.{IsFinishFault, PassesFit, IsCalled, IsCalledIn};
+    ghost use Rattle.replica_lock.specs.Passes.{IsCallRefused, is_missing, parts_of, unused_pass};
     ghost use Rattle.replica_lock.specs.declared.book.JournalEntry.{JournalEntry};
     ghost use Rattle.replica_lock.specs.declared.event.BookEvent.TheVariants as events;
 
@@ -194,7 +197,8 @@ impl<L: Ledger> Shared<L> {
         tagged: Tagged,
     ) -> Result<(), CallFault>
         requires { IsSome pass.old.session }
-        ensures called { OnOk result (IsCalledIn pass.old (λ n. events.Command n moment tagged) pass.new) }
+        ensures called { OnOk result
+            (IsCalledIn pass.old (λ n. events.Command n moment tagged) pass.new) }
         ensures unchanged { OnErr result (pass.new ≡ pass.old) }
         ensures refused { IfErr result (IsCallRefused pass.old.seen) }
     {
@@ -327,7 +331,8 @@ impl<L: Ledger> Shared<L> {
     /// A copy of the clock that counts the operations that the replica applied; `Err` if memory
     /// runs out. It takes the lock, and makes no entry.
     pub fn clock<R: Wait>(&self, rt: &R, alloc: Global) -> Result<Clock, AllocError>
-        ensures { IfOk result (λ clock. (applied : List Op) × IsCausal id_of clock_of applied × IsClockOf id_of applied clock) }
+        ensures { IfOk result (λ clock. (applied : List Op) × IsCausal id_of clock_of applied
+            × IsClockOf id_of applied clock) }
     {
         clock_in(alloc, self.locked.lock(rt).book())
     }
@@ -340,7 +345,8 @@ impl<L: Ledger> Shared<L> {
         alloc: Global,
         clock: &Clock,
     ) -> Result<Vec<SoundOp>, AllocError>
-        ensures { IfOk result (λ ops. (applied : List Op) × IsCausal id_of clock_of applied × (ops.items ≡ uncovered_ops id_of clock.now applied)) }
+        ensures { IfOk result (λ ops. (applied : List Op) × IsCausal id_of clock_of applied
+            × (ops.items ≡ uncovered_ops id_of clock.now applied)) }
     {
         ops_in(alloc, self.locked.lock(rt).book(), clock)
     }
@@ -350,8 +356,10 @@ impl<L: Ledger> Shared<L> {
     pub fn finish(self, passes: Vec<Pass<L>>) -> Result<Book, FinishFault>
         requires { L.parts ≡ 4294967295 }
         ensures fits { IfOk result (λ book. PassesFit book.journal passes.items) }
-        ensures denied { IfErr result (λ fault. (journal : List JournalEntry) × IsFinishFault journal passes.items fault) }
-        ensures whole { parts_of passes.items ≡ 4294967295 → IfErr result (λ fault. is_missing fault ≡ false) }
+        ensures denied { IfErr result
+            (λ fault. (journal : List JournalEntry) × IsFinishFault journal passes.items fault) }
+        ensures whole { parts_of passes.items ≡ 4294967295
+            → IfErr result (λ fault. is_missing fault ≡ false) }
     {
         let Shared {
             locked,
@@ -408,7 +416,8 @@ fn clock_in(alloc: Global, book: &Book) -> Result<Clock, AllocError>
 
 /// Copies of the operations applied that the clock doesn't cover, in their order.
 fn ops_in(alloc: Global, book: &Book, clock: &Clock) -> Result<Vec<SoundOp>, AllocError>
-    ensures ops { IfOk result (λ ops. ops.items ≡ uncovered_ops id_of clock.now book.now.node.applied) }
+    ensures ops { IfOk result
+        (λ ops. ops.items ≡ uncovered_ops id_of clock.now book.now.node.applied) }
     ensures causal { IsCausal id_of clock_of book.now.node.applied }
 {
     let _ops = book.node().op_list();

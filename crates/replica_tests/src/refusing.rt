@@ -6,7 +6,8 @@ ghost use Rattle.std.specs.Prelude.{◌≡◌, ◌-◌, ◌↔◌, if◌then◌e
 /// is refused.
 pub fn is_refused(before: &mut Option<u32>) -> bool
     ensures refused { IsTrue result ↔ (before.old ≡ Some 0) }
-    ensures left { before.new ≡ (if result then None else option_map (λ count. count - 1) before.old) }
+    ensures left { before.new
+        ≡ (if result then None else option_map (λ count. count - 1) before.old) }
 {
     match *before {
         Some(0) => {

@@ -32,7 +32,8 @@ CallsOnceIn p event q = (q ≡ p) ⊎ IsCalledIn p event q
 
 -- A pass made one call with this command in its session, at some moment, or none.
 abbrev pub CommandsOnce : PassState → Tagged → PassState → Type 0
-CommandsOnce p tagged q = (q ≡ p) ⊎ ((moment : ℕ) × IsCalledIn p (λ n. events.Command n moment tagged) q)
+CommandsOnce p tagged q =
+    (q ≡ p) ⊎ ((moment : ℕ) × IsCalledIn p (λ n. events.Command n moment tagged) q)
 
 -- The session of a pass was closed by one call, or it had none.
 abbrev pub IsClosedIn : PassState → PassState → Type 0
@@ -48,22 +49,33 @@ text_of_poll _ = []
 -- and the greeting has the login; or the call found too many sessions; or no session was opened for
 -- another reason.
 abbrev pub OpensIn : Access → PassState → Result Login PortFault → PassState → Type 0
-OpensIn access p (Ok login) q = (login ≡ login_of access) × IsCalled p (events.Open (auth_of access)) q × ((n : ℕ) × (q.last ≡ Some (Opened (Ok n))))
-OpensIn access p (Err TooManySessions) q = IsCalled p (events.Open (auth_of access)) q × (q.last ≡ Some (Opened (Err refusals.TooManySessions)))
+OpensIn access p (Ok login) q =
+    (login ≡ login_of access)
+    × IsCalled p (events.Open (auth_of access)) q
+    × ((n : ℕ) × (q.last ≡ Some (Opened (Ok n))))
+OpensIn access p (Err TooManySessions) q =
+    IsCalled p (events.Open (auth_of access)) q
+    × (q.last ≡ Some (Opened (Err refusals.TooManySessions)))
 OpensIn access p (Err fault) q = Unit {0}
 
 -- The result of a command, or of a line of IDLE, by the pass before and after: the outcome of one
 -- call with exactly this command, at some moment, or with exactly this line, in the session of the
 -- pass.
 abbrev pub StepsIn : PassState → PortCall → Result Reply PortFault → PassState → Type 0
-StepsIn p (asked.Command tagged) (Ok reply) q = (moment : ℕ) × IsCalledIn p (λ n. events.Command n moment tagged) q × (q.last ≡ Some (Replied reply))
-StepsIn p (asked.Line line) (Ok reply) q = IsCalledIn p (λ n. events.Line n line) q × (q.last ≡ Some (Replied reply))
+StepsIn p (asked.Command tagged) (Ok reply) q =
+    (moment : ℕ)
+    × IsCalledIn p (λ n. events.Command n moment tagged) q
+    × (q.last ≡ Some (Replied reply))
+StepsIn p (asked.Line line) (Ok reply) q =
+    IsCalledIn p (λ n. events.Line n line) q × (q.last ≡ Some (Replied reply))
 StepsIn p call (Err fault) q = Unit {0}
 
 -- The result of a command or line, by at most one call.
 abbrev pub StepsOnce : PassState → PortCall → Result Reply PortFault → PassState → Type 0
-StepsOnce p (asked.Command tagged) told q = StepsIn p (asked.Command tagged) told q × CommandsOnce p tagged q
-StepsOnce p (asked.Line line) told q = StepsIn p (asked.Line line) told q × CallsOnceIn p (λ n. events.Line n line) q
+StepsOnce p (asked.Command tagged) told q =
+    StepsIn p (asked.Command tagged) told q × CommandsOnce p tagged q
+StepsOnce p (asked.Line line) told q =
+    StepsIn p (asked.Line line) told q × CallsOnceIn p (λ n. events.Line n line) q
 
 -- A pass that had seen at least as much of the journal as a connection opened a session for it, and
 -- the connection's new position is the pass's.
@@ -73,18 +85,30 @@ BeginsFrom from p q to = (from.seen ≤ p.seen) × (to.session ≡ q.session) ×
 -- A pass in the session of a connection, which had seen at least as much of the journal, has now
 -- seen it up to the connection's new position, in the same session.
 abbrev pub GoesFrom : SessionPosition → PassState → PassState → SessionPosition → Type 0
-GoesFrom from p q to = (from.session ≡ p.session) × (from.seen ≤ p.seen) × (to.session ≡ from.session) × (to.seen ≡ q.seen)
+GoesFrom from p q to =
+    (from.session ≡ p.session)
+    × (from.seen ≤ p.seen)
+    × (to.session ≡ from.session)
+    × (to.seen ≡ q.seen)
 
 -- The result of opening a connection's session is that of a call of some pass, between these
 -- positions in the journal.
-abbrev pub OpensByCall : Access → SessionPosition → Result Login PortFault → SessionPosition → Type 0
-OpensByCall access from (Ok login) to = (p : PassState) × (q : PassState) × BeginsFrom from p q to × OpensIn access p (Ok login) q
-OpensByCall access from (Err TooManySessions) to = (p : PassState) × (q : PassState) × BeginsFrom from p q to × OpensIn access p (Err TooManySessions) q
+abbrev pub OpensByCall : Access → SessionPosition → Result Login PortFault → SessionPosition
+    → Type 0
+OpensByCall access from (Ok login) to =
+    (p : PassState) × (q : PassState) × BeginsFrom from p q to × OpensIn access p (Ok login) q
+OpensByCall access from (Err TooManySessions) to =
+    (p : PassState)
+    × (q : PassState)
+    × BeginsFrom from p q to
+    × OpensIn access p (Err TooManySessions) q
 OpensByCall access from (Err fault) to = Unit {0}
 
 -- The result of a command, or of a line of IDLE, is that of a call of some pass in the connection's
 -- session, between these positions in the journal: the call's entry is at the second, after the
 -- first. After a fault the session is the same, and the position isn't before the first.
-abbrev pub StepsByCall : SessionPosition → PortCall → Result Reply PortFault → SessionPosition → Type 0
-StepsByCall from call (Ok reply) to = (p : PassState) × (q : PassState) × GoesFrom from p q to × StepsIn p call (Ok reply) q
+abbrev pub StepsByCall : SessionPosition → PortCall → Result Reply PortFault → SessionPosition
+    → Type 0
+StepsByCall from call (Ok reply) to =
+    (p : PassState) × (q : PassState) × GoesFrom from p q to × StepsIn p call (Ok reply) q
 StepsByCall from call (Err fault) to = (to.session ≡ from.session) × (from.seen ≤ to.seen)

@@ -140,7 +140,10 @@ pub fn talk_over<L: Ledger, R: Wait + Clock, G: Gate, S: Source, K: Sink>(
 ) -> Ended
     requires source { S.failures source.old < 18446744073709551615 }
     requires sink { K.failures sink.old < 18446744073709551615 }
-    ensures { Talked (λ s r t. OpensByCall s.server.now.access s.at r t.at) (λ s call r t. StepsByCall s.at call r t.at) (λ s t. Unit {0}) port.old port.new Limits.STANDARD (S.left source.old) (S.left source.new) (S.is_ended source.new) (K.taken sink.old) (K.taken sink.new) result }
+    ensures { Talked (λ s r t. OpensByCall s.server.now.access s.at r t.at)
+        (λ s call r t. StepsByCall s.at call r t.at) (λ s t. Unit {0}) port.old port.new
+        Limits.STANDARD (S.left source.old) (S.left source.new) (S.is_ended source.new)
+        (K.taken sink.old) (K.taken sink.new) result }
 {
     converse(rt, alloc, source, sink, port)
 }

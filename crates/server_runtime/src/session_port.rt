@@ -1,12 +1,15 @@
 //! One session of a replica under its lock, as the port of a conversation.
 
-ghost use Rattle.std.specs.Prelude.{◌≡◌, ◌⊎◌, ◌≤◌, ◌<◌, ℕ, [], Err, IfOk, IsOk, IsSome, IsTrue, Ok, OnErr, OnOk, Some, length, vec_capacity};
+ghost use Rattle.std.specs.Prelude.{◌≡◌, ◌⊎◌, ◌≤◌, ◌<◌, ℕ, [], Err, IfOk, IsOk, IsSome, IsTrue, Ok};
+ghost use Rattle.std.specs.Prelude.{OnErr, OnOk, Some, length, vec_capacity};
 ghost use Rattle.std.specs.Option.{option_map};
 ghost use Rattle.imap_node.specs.declared.sessions.OpenFault.TheVariants as refusals;
 ghost use Rattle.imap_connection.specs.PortCalls as asked;
 ghost use Rattle.imap_connection.specs.Batches.{Carries};
-ghost use Rattle.imap_connection.specs.declared.fault.PortFault.TheVariants.{NoRoom, TooManySessions, Torn};
-ghost use Rattle.server_runtime.specs.Calls.{CallsOnce, CallsOnceIn, CommandsOnce, IsClosedIn, OpensByCall, OpensIn, StepsByCall, StepsIn, StepsOnce};
+ghost use Rattle.imap_connection.specs.declared.fault.PortFault.TheVariants.{NoRoom};
+ghost use Rattle.imap_connection.specs.declared.fault.PortFault.TheVariants.{TooManySessions, Torn};
+ghost use Rattle.server_runtime.specs.Calls.{CallsOnce, CallsOnceIn, CommandsOnce, IsClosedIn};
+ghost use Rattle.server_runtime.specs.Calls.{OpensByCall, OpensIn, StepsByCall, StepsIn, StepsOnce};
 ghost use Rattle.server_runtime.specs.Logins.{auth_of};
 ghost use Rattle.replica_lock.specs.declared.event.BookEvent.TheVariants as events;
 ghost use Rattle.replica_lock.specs.declared.outcome.Outcome.TheVariants.{Opened, Replied};
@@ -83,7 +86,8 @@ impl<'a, L: Ledger, R: Wait + Clock, G: Gate> SessionPort<'a, L, R, G> {
     /// Opens the session in its pass, by at most one call.
     fn open_in(&self, alloc: Global, pass: &mut Pass<L>) -> Result<Login, PortFault>
         ensures told { OpensIn self.now.server.now.access pass.old result pass.new }
-        ensures once { CallsOnce pass.old (events.Open (auth_of self.now.server.now.access)) pass.new }
+        ensures once { CallsOnce pass.old (events.Open (auth_of self.now.server.now.access))
+            pass.new }
     {
         if pass.session().is_some() {
             return Err(PortFault::PassedOver);
@@ -322,8 +326,10 @@ fn fault_of(fault: CallFault) -> PortFault
 
 /// The result of opening a session, for its connection: `login` if the session was opened.
 fn login_of_outcome(last: Option<&Outcome>, login: Login) -> Result<Login, PortFault>
-    ensures ok { IfOk result (λ told. (told ≡ login) × ((n : ℕ) × (option_map (λ o. o.now) last.entry ≡ Some (Opened (Ok n))))) }
-    ensures full { result ≡ Err TooManySessions → option_map (λ o. o.now) last.entry ≡ Some (Opened (Err refusals.TooManySessions)) }
+    ensures ok { IfOk result (λ told. (told ≡ login)
+        × ((n : ℕ) × (option_map (λ o. o.now) last.entry ≡ Some (Opened (Ok n))))) }
+    ensures full { result ≡ Err TooManySessions
+        → option_map (λ o. o.now) last.entry ≡ Some (Opened (Err refusals.TooManySessions)) }
 {
     match last {
         Some(Outcome::Opened { answer: Ok(_) }) => Ok(login),

@@ -11,7 +11,8 @@ use Rattle.server_settings.specs.declared.settings.Access.TheVariants.{Password,
 -- ---- the words that the program knows
 
 abbrev pub preauth_word : Rule
-preauth_word = record (new_rule (codes "preauth")) { long = Some (codes "preauth"); action = Some SetTrue }
+preauth_word =
+    record (new_rule (codes "preauth")) { long = Some (codes "preauth"); action = Some SetTrue }
 
 -- A word with a value.
 abbrev pub named_word : List ℕ → Rule
@@ -25,11 +26,17 @@ join_word = record (new_rule (codes "join")) { long = Some (codes "join"); actio
 
 abbrev pub replica_word : Rule
 replica_word =
-    record (new_rule (codes "REPLICA")) { required = true; action = Some Append; range = Some (record { start_inclusive = 1; end_inclusive = usize_max }) }
+    record (new_rule (codes "REPLICA")) {
+      required = true;
+      action = Some Append;
+      range = Some (record { start_inclusive = 1; end_inclusive = usize_max });
+    }
 
 -- The words for users.
 abbrev pub with_access_words : App → App
-with_access_words app = with_rule (with_rule (with_rule app preauth_word) (named_word (codes "user"))) (named_word (codes "pass"))
+with_access_words app =
+    with_rule (with_rule (with_rule app preauth_word) (named_word (codes "user")))
+    (named_word (codes "pass"))
 
 -- The words for replicas, for replicas that join, and for the end of the server.
 abbrev pub with_replica_words : App → App
@@ -43,11 +50,16 @@ server_words = with_replica_words (with_access_words (new_app (codes "imap_serve
 
 -- `--preauth` was given: its value is present, and isn't the default.
 abbrev pub IsPreauth : List Row → Type 0
-IsPreauth rows = ((one_of (codes "preauth") rows ≡ None) → ⊥) × ((one_of (codes "preauth") rows ≡ Some (codes "false")) → ⊥)
+IsPreauth rows =
+    ((one_of (codes "preauth") rows ≡ None) → ⊥)
+    × ((one_of (codes "preauth") rows ≡ Some (codes "false")) → ⊥)
 
 -- The access that was named: `--preauth`, and neither `--user` nor `--pass`; or both of these, and
 -- not `--preauth`.
 abbrev pub NamesAccess : List Row → Access → Type 0
-NamesAccess rows Preauth = IsPreauth rows × (first_of (codes "user") rows ≡ None) × (first_of (codes "pass") rows ≡ None)
+NamesAccess rows Preauth =
+    IsPreauth rows × (first_of (codes "user") rows ≡ None) × (first_of (codes "pass") rows ≡ None)
 NamesAccess rows (Password user pass) =
-    ((one_of (codes "preauth") rows ≡ Some (codes "true")) → ⊥) × (first_of (codes "user") rows ≡ Some user.now) × (first_of (codes "pass") rows ≡ Some pass.now)
+    ((one_of (codes "preauth") rows ≡ Some (codes "true")) → ⊥)
+    × (first_of (codes "user") rows ≡ Some user.now)
+    × (first_of (codes "pass") rows ≡ Some pass.now)

@@ -1,6 +1,7 @@
 -- The replicas that a command line names, and the form of the words that name them.
 
-use Rattle.std.specs.Prelude.{◌≡◌, ◌≢◌, ◌<◌, ◌==◌, ℕ, Bool, false, true, List, [], ◌∷◌, ◌++◌, Option, None, Some, map}
+use Rattle.std.specs.Prelude.{◌≡◌, ◌≢◌, ◌<◌, ◌==◌, ℕ, Bool, false, true, List, [], ◌∷◌, ◌++◌}
+use Rattle.std.specs.Prelude.{Option, None, Some, map}
 use Rattle.std.specs.Borrow.{Bor}
 use Rattle.std.specs.Fmt.{decimal}
 use Rattle.std.specs.List.{list_any}
@@ -20,7 +21,11 @@ is_named name names = list_any (λ other. other == name) names
 -- Each name is from 1 to 65,535, and differs from the given ones and from all before it.
 abbrev pub AreNew : List ℕ → List ℕ → Type 0
 AreNew before [] = Unit {0}
-AreNew before (name ∷ names) = (0 < name) × (name < 65536) × (is_named name before ≡ false) × AreNew (before ++ name ∷ []) names
+AreNew before (name ∷ names) =
+    (0 < name)
+    × (name < 65536)
+    × (is_named name before ≡ false)
+    × AreNew (before ++ name ∷ []) names
 
 -- Each name is from 1 to 65,535, and the names are distinct.
 abbrev pub AreNames : List ℕ → Type 0
@@ -33,7 +38,8 @@ newcomers_of joins = map (λ (join : Join). join.place.replica) joins
 -- Each takes the operations of a replica with one of these names, or of one that joins before it.
 abbrev pub HavePeers : List ℕ → List Join → Type 0
 HavePeers names [] = Unit {0}
-HavePeers names (join ∷ joins) = (is_named join.peer names ≡ true) × HavePeers (names ++ join.place.replica ∷ []) joins
+HavePeers names (join ∷ joins) =
+    (is_named join.peer names ≡ true) × HavePeers (names ++ join.place.replica ∷ []) joins
 
 -- The text is a replica's name: the digits of a number from 1 to 65,535, without leading zeros.
 abbrev pub IsNameText : List ℕ → ℕ → Type 0
@@ -42,12 +48,20 @@ IsNameText text name = (0 < name) × (name < 65536) × (text ≡ decimal name)
 -- The text is a replica with its address: its name, `=` (61), which no name has, so that it is the
 -- text's first, and an address of at least one octet.
 abbrev pub IsPlaceText : List ℕ → Place → Type 0
-IsPlaceText text place = (name : List ℕ) × IsNameText name place.replica × (place.address.now ≢ []) × (text ≡ name ++ 61 ∷ place.address.now)
+IsPlaceText text place =
+    (name : List ℕ)
+    × IsNameText name place.replica
+    × (place.address.now ≢ [])
+    × (text ≡ name ++ 61 ∷ place.address.now)
 
 -- The text is a replica that joins: the replica with its address, `/` (47), which no name has, so
 -- that it is the text's last, and the name of its peer.
 abbrev pub IsJoinText : List ℕ → Join → Type 0
-IsJoinText text join = (place peer : List ℕ) × IsPlaceText place join.place × IsNameText peer join.peer × (text ≡ place ++ 47 ∷ peer)
+IsJoinText text join =
+    (place peer : List ℕ)
+    × IsPlaceText place join.place
+    × IsNameText peer join.peer
+    × (text ≡ place ++ 47 ∷ peer)
 
 -- Who may use the server: every client, or one that gives this user and this password. There is no
 -- access for any other combination.

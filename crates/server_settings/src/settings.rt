@@ -1,10 +1,15 @@
 //! The program's command line.
 
-ghost use Rattle.std.specs.Prelude.{ℕ, ◌≡◌, ◌++◌, ◌∷◌, ◌<◌, [], false, true, IfNone, IfOk, IfSome, OnOk, Some, map, slice_get};
+ghost use Rattle.std.specs.Prelude.{ℕ, ◌≡◌, ◌++◌, ◌∷◌, ◌<◌, [], false, true, IfNone, IfOk, IfSome};
+ghost use Rattle.std.specs.Prelude.{OnOk, Some, map, slice_get};
 ghost use Rattle.clap.specs.Words.{app_of, found_of, matches_of, rows_of};
 ghost use Rattle.clap_laws.specs.Words.{Add, IsWord};
-ghost use Rattle.server_settings.specs.Options.{NamesAccess, join_word, named_word, preauth_word, replica_word, server_words, stop_word, with_access_words, with_replica_words};
-ghost use Rattle.server_settings.specs.Settings.{AreNames, HavePeers, IsJoinText, IsNameText, IsPlaceText, access_of, is_named, names_of, newcomers_of};
+ghost use Rattle.server_settings.specs.Options.{NamesAccess, join_word, named_word, preauth_word};
+ghost use Rattle.server_settings.specs.Options.{replica_word, server_words, stop_word};
+ghost use Rattle.server_settings.specs.Options.{with_access_words, with_replica_words};
+ghost use Rattle.server_settings.specs.Settings.{AreNames, HavePeers, IsJoinText, IsNameText};
+ghost use Rattle.server_settings.specs.Settings.{IsPlaceText, access_of, is_named, names_of};
+ghost use Rattle.server_settings.specs.Settings.{newcomers_of};
 ghost use Rattle.server_settings.specs.declared.settings.Join.{Join};
 ghost use Rattle.server_settings.specs.declared.settings.Place.{Place};
 
@@ -63,8 +68,11 @@ impl CommandLine<'_> {
     /// The place, from 0 on, of the replica with this name; those that are to join come after the
     /// others. `None` if no replica has the name.
     pub fn place_of_name(&self, name: u16) -> Option<usize>
-        ensures some { IfSome result (λ place. slice_get (names_of self.now.places.items ++ newcomers_of self.now.joins.items) place ≡ Some name) }
-        ensures none { IfNone result (is_named name (names_of self.now.places.items ++ newcomers_of self.now.joins.items) ≡ false) }
+        ensures some { IfSome result (λ place. slice_get
+            (names_of self.now.places.items ++ newcomers_of self.now.joins.items) place
+            ≡ Some name) }
+        ensures none { IfNone result (is_named name
+            (names_of self.now.places.items ++ newcomers_of self.now.joins.items) ≡ false) }
     {
         if let Some(place) = place_among(&self.places, name) {
             return Some(place);
@@ -140,9 +148,12 @@ pub fn read_settings<'a>(
     alloc: Global,
     words: &'a [String],
 ) -> Result<CommandLine<'a>, SettingsFault<'a>>
-    ensures access { IfOk result (λ settings. NamesAccess (matches_of server_words (map ⟦<String as AsStr>⟧.text words.entry.now)) settings.access) }
-    ensures names { IfOk result (λ settings. AreNames (names_of settings.places.items ++ newcomers_of settings.joins.items)) }
-    ensures peers { IfOk result (λ settings. HavePeers (names_of settings.places.items) settings.joins.items) }
+    ensures access { IfOk result (λ settings. NamesAccess
+        (matches_of server_words (map ⟦<String as AsStr>⟧.text words.entry.now)) settings.access) }
+    ensures names { IfOk result (λ settings. AreNames
+        (names_of settings.places.items ++ newcomers_of settings.joins.items)) }
+    ensures peers { IfOk result
+        (λ settings. HavePeers (names_of settings.places.items) settings.joins.items) }
 {
     let matches = match find_words(alloc, words) {
         Ok(matches) => matches,
@@ -184,7 +195,8 @@ fn access_in<'a>(matches: &ArgMatches<'a>) -> Option<Access<'a>>
 }
 
 fn find_words<'a>(alloc: Global, words: &'a [String]) -> Result<ArgMatches<'a>, Error>
-    ensures { IfOk result (λ matches. rows_of (found_of matches) ≡ matches_of server_words (map ⟦<String as AsStr>⟧.text words.entry.now)) }
+    ensures { IfOk result (λ matches. rows_of (found_of matches)
+        ≡ matches_of server_words (map ⟦<String as AsStr>⟧.text words.entry.now)) }
 {
     let command = command_words(alloc)?;
     command.try_get_matches_from(words)
@@ -204,7 +216,8 @@ const ABOUT: &str =
 /// The arguments for users, followed by those for replicas, for replicas that join, and for the end
 /// of the server.
 fn known_words<'a>(alloc: Global) -> Result<Vec<Arg<'a>>, AllocError>
-    ensures { IfOk result (λ words. Add words.items (λ app. with_replica_words (with_access_words app))) }
+    ensures { IfOk result
+        (λ words. Add words.items (λ app. with_replica_words (with_access_words app))) }
 {
     let words = vec![in alloc;
         preauth(alloc),
@@ -339,7 +352,10 @@ fn add_join<'a>(
 ) -> Result<(), UsageFault<'a>>
     requires { AreNames names.old.items }
     ensures names { OnOk result (AreNames names.new.items) }
-    ensures more { OnOk result ((join : Join) × (names.new.items ≡ names.old.items ++ join.place.replica ∷ []) × (is_named join.peer names.old.items ≡ true) × (joins.new.items ≡ joins.old.items ++ join ∷ [])) }
+    ensures more { OnOk result ((join : Join)
+        × (names.new.items ≡ names.old.items ++ join.place.replica ∷ [])
+        × (is_named join.peer names.old.items ≡ true)
+        × (joins.new.items ≡ joins.old.items ++ join ∷ [])) }
 {
     let Some(join) = join_of(text) else {
         return Err(UsageFault::BadJoin(text));
@@ -390,7 +406,8 @@ fn add_name(names: &mut Vec<u16>, name: u16) -> Result<bool, AllocError>
     requires positive { 0 < name }
     requires names { AreNames names.old.items }
     ensures names { IfOk result (λ is_new. is_new ≡ true → AreNames names.new.items) }
-    ensures items { IfOk result (λ is_new. is_new ≡ true → names.new.items ≡ names.old.items ++ name ∷ []) }
+    ensures items { IfOk result
+        (λ is_new. is_new ≡ true → names.new.items ≡ names.old.items ++ name ∷ []) }
 {
     if names.contains(&name) {
         return Ok(false);

@@ -16,9 +16,12 @@ pub fn settings_or_status<'a, R: Print + AllocGlobal>(
     rt: &R,
     words: &'a [String],
 ) -> Result<CommandLine<'a>, u8>
-    ensures access { IfOk result (λ settings. NamesAccess (matches_of server_words (map ⟦<String as AsStr>⟧.text words.entry.now)) settings.access) }
-    ensures names { IfOk result (λ settings. AreNames (names_of settings.places.items ++ newcomers_of settings.joins.items)) }
-    ensures peers { IfOk result (λ settings. HavePeers (names_of settings.places.items) settings.joins.items) }
+    ensures access { IfOk result (λ settings. NamesAccess
+        (matches_of server_words (map ⟦<String as AsStr>⟧.text words.entry.now)) settings.access) }
+    ensures names { IfOk result (λ settings. AreNames
+        (names_of settings.places.items ++ newcomers_of settings.joins.items)) }
+    ensures peers { IfOk result
+        (λ settings. HavePeers (names_of settings.places.items) settings.joins.items) }
 {
     match read_settings(rt.alloc(), words) {
         Ok(settings) => Ok(settings),

@@ -1,7 +1,8 @@
 -- Notes of what differs between a view and its mailbox's listing, and the plan of a sync that looks
 -- only at noted messages (RFC 9051, section 7.5).
 
-use Rattle.std.specs.Prelude.{◌≡◌, ◌⊎◌, ℕ, ◌≤◌, ◌==◌, ◌-◌, Bool, true, false, List, [], ◌∷◌, ◌++◌, map, length, Option, Some, None, if◌then◌else◌}
+use Rattle.std.specs.Prelude.{◌≡◌, ◌⊎◌, ℕ, ◌≤◌, ◌==◌, ◌-◌, Bool, true, false, List, [], ◌∷◌, ◌++◌}
+use Rattle.std.specs.Prelude.{map, length, Option, Some, None, if◌then◌else◌}
 use Rattle.std.specs.List.{flat_map, list_any}
 use Rattle.imap_answers.specs.declared.answer.Answer.{Answer}
 use Rattle.imap_answers.specs.declared.answer.Answer.TheVariants.{Exists, Expunge, Fetch}
@@ -37,7 +38,8 @@ is_noted notes uid = list_any (note_names uid) notes
 -- The notes name every row that differs between this view and this listing: for each UID, both show
 -- the same, or a note names it.
 abbrev pub NoteAllChanges : List Note → List ListedMessage → List ViewEntry → Type 0
-NoteAllChanges notes rows view = (uid : ℕ) → (flags_at uid view ≡ flags_at uid (entries_of rows)) ⊎ (is_noted notes uid ≡ true)
+NoteAllChanges notes rows view =
+    (uid : ℕ) → (flags_at uid view ≡ flags_at uid (entries_of rows)) ⊎ (is_noted notes uid ≡ true)
 
 -- The notes that a partial sync leaves: those of the messages that are gone.
 abbrev pub gone_notes : List ListedMessage → List ViewEntry → List Note
@@ -93,7 +95,8 @@ abbrev pub all_fetched_flags : List Answer → List SilentFlags
 all_fetched_flags answers = flat_map fetched_flags answers
 
 -- The view's messages without those that are gone, with the new ones, and with these flags.
-abbrev pub patched_entries : List ViewEntry → List ℕ → List ViewEntry → List SilentFlags → List ViewEntry
+abbrev pub patched_entries : List ViewEntry → List ℕ → List ViewEntry → List SilentFlags
+    → List ViewEntry
 patched_entries view gone came flags = after_silent (without_from gone view ++ came) flags
 
 -- The note of the message with this number.
@@ -107,7 +110,9 @@ named_by_silent uid (e ∷ es) k = if k == 1 then e.uid == uid else named_by_sil
 
 -- There is room for the new messages after the view's, if there are any.
 abbrev pub HasRoomForArrivals : List ViewEntry → Patch → Type 0
-HasRoomForArrivals view patch = (patch.came.items ≡ []) ⊎ ((length view ≤ patch.place.most) × (length patch.came.items ≤ patch.place.room))
+HasRoomForArrivals view patch =
+    (patch.came.items ≡ [])
+    ⊎ ((length view ≤ patch.place.most) × (length patch.came.items ≤ patch.place.room))
 
 -- The flags are of messages with numbers up to this one.
 abbrev pub AreUpTo : ℕ → List SilentFlags → Type 0
@@ -121,17 +126,21 @@ all_silent_notes view silents = flat_map (λ s. silent_notes view s.number) sile
 -- The messages with flags set back, the last one first.
 abbrev pub with_flags_restored : List ViewEntry → List SilentFlags → List ViewEntry
 with_flags_restored view [] = view
-with_flags_restored view (s ∷ silents) = with_flags_at (with_flags_restored view silents) s.number s.flags
+with_flags_restored view (s ∷ silents) =
+    with_flags_at (with_flags_restored view silents) s.number s.flags
 
 -- The plan is that of a sync of this view with this listing: its answers, its changes to the view,
 -- with room for them, and the notes of what it leaves unsent.
-pub record IsSyncPlan (kind : SyncKind) (modseq : Bool) (rows : List ListedMessage) (view : List ViewEntry) (told : SyncPlan) : Type 0 where
+pub record IsSyncPlan (kind : SyncKind) (modseq : Bool) (rows : List ListedMessage)
+    (view : List ViewEntry) (told : SyncPlan) : Type 0 where
   pub answers : told.answers.items ≡ sync_answers kind modseq rows view
-  pub patch : patched_entries view told.patch.gone.items told.patch.came.items told.patch.flags.items ≡ view_after_sync kind rows view
+  pub patch : patched_entries view told.patch.gone.items told.patch.came.items
+      told.patch.flags.items ≡ view_after_sync kind rows view
   pub place : HasRoomForArrivals view told.patch
   pub rising : AreRising 1 (view_after_sync kind rows view)
   pub left : told.left.items ≡ notes_left_by_sync kind rows view
-  pub whole : told.whole ≡ true → NoteAllChanges told.left.items rows (view_after_sync kind rows view)
+  pub whole : told.whole ≡ true
+      → NoteAllChanges told.left.items rows (view_after_sync kind rows view)
 
 -- The answer shifts messages' numbers or shows new messages.
 abbrev pub is_shifting : Answer → Bool

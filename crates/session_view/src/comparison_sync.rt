@@ -1,10 +1,14 @@
 //! Syncs that compare the whole view with the listing: the answers, and the new view.
 
-ghost use Rattle.std.specs.Prelude.{◌≡◌, ◌≤◌, ◌+◌, ◌<◌, ◌^◌, ◌++◌, ◌∷◌, [], ℕ, length, get_or, take, drop, IfOk, OnOk, None, Some};
+ghost use Rattle.std.specs.Prelude.{◌≡◌, ◌≤◌, ◌+◌, ◌<◌, ◌^◌, ◌++◌, ◌∷◌, [], ℕ, length, get_or};
+ghost use Rattle.std.specs.Prelude.{take, drop, IfOk, OnOk, None, Some};
 ghost use Rattle.mailbox_rows.specs.RowViews.{AreRisingRows, rows_after_uid, listed_message};
 ghost use Rattle.session_view.specs.Views.{AreRising, entries_of, same_flags};
 ghost use Rattle.session_view.specs.declared.view_entry.ViewEntry.{ViewEntry};
-ghost use Rattle.session_view.specs.Sync.{exists_if_more, exists_of_sync, fetch_if_changed, fetch_of_row, fetches_of_sync, expunges, staying_entries, staying_entry, expunge_if_gone, expunges_of_sync, entries_staying, sync_answers, view_after_sync};
+ghost use Rattle.session_view.specs.Sync.{exists_if_more, exists_of_sync, fetch_if_changed};
+ghost use Rattle.session_view.specs.Sync.{fetch_of_row, fetches_of_sync, expunges, staying_entries};
+ghost use Rattle.session_view.specs.Sync.{staying_entry, expunge_if_gone, expunges_of_sync};
+ghost use Rattle.session_view.specs.Sync.{entries_staying, sync_answers, view_after_sync};
 
 use crate::message_list::MessageList;
 use crate::view_entry::{SyncKind, ViewEntries, ViewEntry, count_of, last_uid, uid_at};
@@ -36,9 +40,11 @@ pub fn sync_by_comparison(
     view: &ViewEntries,
 ) -> Result<SyncOutcome, AllocError>
     requires { AreRising 1 view.now.items }
-    ensures entries { IfOk result (λ s. s.entries.items ≡ view_after_sync kind rows.now view.now.items) }
+    ensures entries { IfOk result
+        (λ s. s.entries.items ≡ view_after_sync kind rows.now view.now.items) }
     ensures rising { IfOk result (λ s. AreRising 1 s.entries.items) }
-    ensures answers { IfOk result (λ s. s.answers.items ≡ sync_answers kind modseq rows.now view.now.items) }
+    ensures answers { IfOk result
+        (λ s. s.answers.items ≡ sync_answers kind modseq rows.now view.now.items) }
 {
     let _count = count_of(view);
     let mut answers = Vec::new(alloc);
@@ -57,9 +63,12 @@ fn refresh_view(
     answers: &mut Vec<Answer>,
 ) -> Result<ViewEntries, AllocError>
     requires { AreRising 1 view.now.items }
-    ensures entries { IfOk result (λ entries. entries.items ≡ view_after_sync kind rows.now view.now.items) }
+    ensures entries { IfOk result
+        (λ entries. entries.items ≡ view_after_sync kind rows.now view.now.items) }
     ensures rising { IfOk result (λ entries. AreRising 1 entries.items) }
-    ensures answers { OnOk result (answers.new.items ≡ answers.old.items ++ exists_of_sync rows.now (entries_staying kind rows.now view.now.items)) }
+    ensures answers { OnOk result (answers.new.items
+        ≡ answers.old.items
+        ++ exists_of_sync rows.now (entries_staying kind rows.now view.now.items)) }
 {
     let _count = rows.count();
     let mut entries = staying_entries(alloc, kind, rows, view)?;
@@ -78,7 +87,8 @@ fn push_losses(
     answers: &mut Vec<Answer>,
 ) -> Result<(), AllocError>
     requires { length view.now.items < 2 ^ 32 }
-    ensures { OnOk result (answers.new.items ≡ answers.old.items ++ expunges_of_sync kind rows.now view.now.items) }
+    ensures { OnOk result
+        (answers.new.items ≡ answers.old.items ++ expunges_of_sync kind rows.now view.now.items) }
 {
     match kind {
         SyncKind::Full => push_expunges(rows, view, answers),
@@ -93,7 +103,8 @@ fn push_expunges(
     answers: &mut Vec<Answer>,
 ) -> Result<(), AllocError>
     requires { length view.now.items < 2 ^ 32 }
-    ensures { OnOk result (answers.new.items ≡ answers.old.items ++ expunges rows.now 1 view.now.items) }
+    ensures { OnOk result
+        (answers.new.items ≡ answers.old.items ++ expunges rows.now 1 view.now.items) }
 {
     for i in (0..view.len()).rev() {
         push_loss(rows, i, view, answers)?;
@@ -110,7 +121,10 @@ fn push_loss(
 ) -> Result<(), AllocError>
     requires within { place < length view.now.items }
     requires count { length view.now.items < 2 ^ 32 }
-    ensures { OnOk result ((d : ViewEntry) → answers.new.items ≡ answers.old.items ++ expunge_if_gone rows.now (place + 1) (get_or view.now.items place d)) }
+    ensures { OnOk result ((d : ViewEntry)
+        → answers.new.items
+        ≡ answers.old.items
+        ++ expunge_if_gone rows.now (place + 1) (get_or view.now.items place d)) }
 {
     let number = place as u32 + 1;
     if let None = rows.row_near(place, uid_at(view, place)) {
@@ -139,7 +153,9 @@ fn push_changes(
     answers: &mut Vec<Answer>,
 ) -> Result<(), AllocError>
     requires { length view.now.items < 2 ^ 32 }
-    ensures { OnOk result (answers.new.items ≡ answers.old.items ++ fetches_of_sync modseq rows.now 1 (entries_staying kind rows.now view.now.items)) }
+    ensures { OnOk result (answers.new.items
+        ≡ answers.old.items
+        ++ fetches_of_sync modseq rows.now 1 (entries_staying kind rows.now view.now.items)) }
 {
     let mut number = 0;
     for entry in view.iter_from(0) {
@@ -167,7 +183,9 @@ fn push_change(
     row: &Row<'_>,
     answers: &mut Vec<Answer>,
 ) -> Result<(), AllocError>
-    ensures { OnOk result (answers.new.items ≡ answers.old.items ++ fetch_if_changed modseq number entry.now (Some (listed_message row.now))) }
+    ensures { OnOk result (answers.new.items
+        ≡ answers.old.items
+        ++ fetch_if_changed modseq number entry.now (Some (listed_message row.now))) }
 {
     if !are_same(&entry.flags, row) {
         answers.push(change_of(alloc, modseq, number, row)?)?;
@@ -229,7 +247,8 @@ fn push_kept(
     entry: &ViewEntry,
     kept: &mut ViewEntries,
 ) -> Result<(), AllocError>
-    ensures { OnOk result (kept.new.items ≡ kept.old.items ++ staying_entry kind rows.now entry.now) }
+    ensures { OnOk result
+        (kept.new.items ≡ kept.old.items ++ staying_entry kind rows.now entry.now) }
 {
     match rows.row_near(kept.len(), entry.uid) {
         Some(row) => {
@@ -253,7 +272,8 @@ pub fn push_new<L: MessageList>(
     rows: &Rows<'_>,
     entries: &mut L,
 ) -> Result<(), AllocError>
-    ensures { OnOk result (L.entries entries.new ≡ L.entries entries.old ++ entries_of (rows_after_uid uid rows.now)) }
+    ensures { OnOk result (L.entries entries.new
+        ≡ L.entries entries.old ++ entries_of (rows_after_uid uid rows.now)) }
 {
     let count = rows.count();
     push_rows(alloc, rows, rows.place_after_uid(uid), count, entries)?;
@@ -270,7 +290,8 @@ pub fn push_rows<L: MessageList>(
     entries: &mut L,
 ) -> Result<(), AllocError>
     requires { start < 2 ^ 32 }
-    ensures { OnOk result (L.entries entries.new ≡ L.entries entries.old ++ entries_of (take count (drop start rows.now))) }
+    ensures { OnOk result (L.entries entries.new
+        ≡ L.entries entries.old ++ entries_of (take count (drop start rows.now))) }
 {
     for step in 0..count as usize {
         match rows.row_at(start + step) {
@@ -283,7 +304,8 @@ pub fn push_rows<L: MessageList>(
 
 /// Appends a message of the listing.
 fn push_row<L: MessageList>(alloc: Global, row: &Row<'_>, entries: &mut L) -> Result<(), AllocError>
-    ensures { OnOk result (L.entries entries.new ≡ L.entries entries.old ++ entries_of (listed_message row.now ∷ [])) }
+    ensures { OnOk result (L.entries entries.new
+        ≡ L.entries entries.old ++ entries_of (listed_message row.now ∷ [])) }
 {
     let flags = row.versions.flags(alloc)?;
     let uid = row.uid;

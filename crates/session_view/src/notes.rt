@@ -3,7 +3,8 @@
 ghost use Rattle.std.specs.Prelude.{◌≡◌, ◌==◌, ℕ, ◌++◌, List, IfOk, OnOk};
 ghost use Rattle.std.specs.List.{list_any};
 ghost use Rattle.mailbox_rows.specs.ListedMessage.{ListedMessage};
-ghost use Rattle.session_view.specs.NoteChanges.{AreAscending, NoteAllChanges, is_end, uid_in, uids_in, uids_of};
+ghost use Rattle.session_view.specs.NoteChanges.{AreAscending, NoteAllChanges, is_end, uid_in};
+ghost use Rattle.session_view.specs.NoteChanges.{uids_in, uids_of};
 ghost use Rattle.session_view.specs.Notes.{Covers};
 ghost use Rattle.session_view.specs.Views.{AreRising};
 
@@ -68,7 +69,8 @@ impl Changes {
 pub fn noted_uids(alloc: Global, notes: &[Note], view: &ViewEntries) -> Result<Vec<u32>, AllocError>
     requires { AreRising 1 view.now.items }
     ensures ascending { IfOk result (λ uids. AreAscending 0 uids.items) }
-    ensures covers { IfOk result (λ uids. (rows : List ListedMessage) → NoteAllChanges notes.now rows view.now.items → Covers uids.items rows view.now.items) }
+    ensures covers { IfOk result (λ uids. (rows : List ListedMessage)
+        → NoteAllChanges notes.now rows view.now.items → Covers uids.items rows view.now.items) }
 {
     if has_ended(notes) {
         return uids_of(alloc, view);
@@ -79,7 +81,8 @@ pub fn noted_uids(alloc: Global, notes: &[Note], view: &ViewEntries) -> Result<V
 /// The UIDs that the notes name one by one, ascending. `Err` if memory runs out.
 fn ascending_uids(alloc: Global, notes: &[Note]) -> Result<Vec<u32>, AllocError>
     ensures ascending { IfOk result (λ uids. AreAscending 0 uids.items) }
-    ensures same { IfOk result (λ uids. (uid : ℕ) → list_any (λ u. u == uid) uids.items ≡ list_any (λ u. u == uid) (uids_in notes.now)) }
+    ensures same { IfOk result (λ uids. (uid : ℕ)
+        → list_any (λ u. u == uid) uids.items ≡ list_any (λ u. u == uid) (uids_in notes.now)) }
 {
     let mut uids = uids_in(alloc, notes)?;
     uids.sort_by_key(|uid| *uid)?;

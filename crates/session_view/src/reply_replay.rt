@@ -3,7 +3,9 @@
 ghost use Rattle.std.specs.Prelude.{◌≡◌, ◌++◌, IfOk, OnOk};
 ghost use Rattle.mailbox_rows.specs.RowViews.{AreRisingRows};
 ghost use Rattle.session_view.specs.Views.{AreRising};
-ghost use Rattle.session_view.specs.Replay.{after_answer, after_answers, after_silent, arrivals_up_to, with_fetched_flags, with_flags_at, view_after_reply, without_message};
+ghost use Rattle.session_view.specs.Replay.{after_answer, after_answers, after_silent};
+ghost use Rattle.session_view.specs.Replay.{arrivals_up_to, with_fetched_flags, with_flags_at};
+ghost use Rattle.session_view.specs.Replay.{view_after_reply, without_message};
 
 use crate::comparison_sync::push_rows;
 use crate::view_entry::{ViewEntries, ViewEntry, copy_entries, last_uid, uid_at};
@@ -32,7 +34,8 @@ pub fn replay_reply(
     answers: &[Answer],
 ) -> Result<ViewEntries, AllocError>
     requires { AreRising 1 view.now.items }
-    ensures entries { IfOk result (λ entries. entries.items ≡ view_after_reply rows.now view.now.items silents.now answers.now) }
+    ensures entries { IfOk result (λ entries. entries.items
+        ≡ view_after_reply rows.now view.now.items silents.now answers.now) }
     ensures rising { IfOk result (λ entries. AreRising 1 entries.items) }
 {
     let _count = rows.count();
@@ -47,7 +50,8 @@ fn replay_all(
     silents: &[SilentFlags],
     answers: &[Answer],
 ) -> Result<ViewEntries, AllocError>
-    ensures { IfOk result (λ entries. entries.items ≡ view_after_reply rows.now view.now.items silents.now answers.now) }
+    ensures { IfOk result (λ entries. entries.items
+        ≡ view_after_reply rows.now view.now.items silents.now answers.now) }
 {
     let mut entries = copy_entries(alloc, view)?;
     for silent in silents {
@@ -107,7 +111,8 @@ fn take_in(
     count: u32,
     entries: &mut ViewEntries,
 ) -> Result<(), AllocError>
-    ensures { OnOk result (entries.new.items ≡ entries.old.items ++ arrivals_up_to rows.now entries.old.items count) }
+    ensures { OnOk result
+        (entries.new.items ≡ entries.old.items ++ arrivals_up_to rows.now entries.old.items count) }
 {
     let uid = last_uid(entries);
     let wanted = (count as usize).saturating_sub(entries.len());

@@ -1,10 +1,12 @@
 //! The places of the messages that a set names.
 
-ghost use Rattle.std.specs.Prelude.{◌≡◌, ◌≤◌, ◌+◌, ◌-◌, ◌<◌, ◌^◌, ◌++◌, ◌∷◌, List, min, max, map, length, IfOk, OnOk};
+ghost use Rattle.std.specs.Prelude.{◌≡◌, ◌≤◌, ◌+◌, ◌-◌, ◌<◌, ◌^◌, ◌++◌, ◌∷◌, List, min, max, map};
+ghost use Rattle.std.specs.Prelude.{length, IfOk, OnOk};
 ghost use Rattle.session_view.specs.Views.{AreRising};
 ghost use Rattle.session_view.specs.Sets.{bound_of, numbers_in_set, top_of};
 ghost use Rattle.session_view.specs.declared.set_places.Span.{Span};
-ghost use Rattle.session_view.specs.Spans.{AreSorted, count_below, covered, numbered, span_between, span_of};
+ghost use Rattle.session_view.specs.Spans.{AreSorted, count_below, covered, numbered, span_between};
+ghost use Rattle.session_view.specs.Spans.{span_of};
 
 use crate::view_entry::{ViewEntries, count_of, last_uid};
 use imap_types::{SequenceBound, SequenceRange};
@@ -26,7 +28,8 @@ pub fn numbers_in_set(
     view: &ViewEntries,
 ) -> Result<Vec<u32>, AllocError>
     requires { AreRising 1 view.now.items }
-    ensures { IfOk result (λ numbers. numbers.items ≡ numbers_in_set by_uid set.now view.now.items) }
+    ensures { IfOk result
+        (λ numbers. numbers.items ≡ numbers_in_set by_uid set.now view.now.items) }
 {
     let count = count_of(view);
     let spans = sorted_spans(alloc, by_uid, set, view)?;
@@ -44,7 +47,8 @@ fn sorted_spans(
 ) -> Result<Vec<Span>, AllocError>
     requires { AreRising 1 view.now.items }
     ensures sorted { IfOk result (λ spans. AreSorted 0 spans.items) }
-    ensures named { IfOk result (λ spans. covered spans.items 0 (length view.now.items) ≡ numbers_in_set by_uid set.now view.now.items) }
+    ensures named { IfOk result (λ spans. covered spans.items 0 (length view.now.items)
+        ≡ numbers_in_set by_uid set.now view.now.items) }
 {
     let mut spans = spans_of(alloc, by_uid, set, view)?;
     spans.sort_by_key(|span| span.start)?;
@@ -145,7 +149,9 @@ fn push_span(
     requires count { count < 2 ^ 32 }
     requires done { done ≤ count }
     ensures done { IfOk result (λ next. next ≤ count) }
-    ensures numbers { IfOk result (λ next. (rest : List Span) → AreSorted span.start rest → numbers.new.items ++ covered rest next (count - next) ≡ numbers.old.items ++ covered (span ∷ rest) done (count - done)) }
+    ensures numbers { IfOk result (λ next. (rest : List Span) → AreSorted span.start rest
+        → numbers.new.items ++ covered rest next (count - next)
+        ≡ numbers.old.items ++ covered (span ∷ rest) done (count - done)) }
 {
     let end = span.end.min(count);
     push_places(span.start.max(done), end, numbers)?;

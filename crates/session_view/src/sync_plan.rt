@@ -1,12 +1,16 @@
 //! Plans of syncs that look only at named messages, and how a plan is carried out without memory.
 
-ghost use Rattle.std.specs.Prelude.{◌≡◌, ◌⊎◌, true, ◌≤◌, ◌+◌, ◌-◌, ◌<◌, ◌^◌, ◌++◌, List, [], ℕ, ◌∷◌, drop, length, IfOk, OnOk, Some};
+ghost use Rattle.std.specs.Prelude.{◌≡◌, ◌⊎◌, true, ◌≤◌, ◌+◌, ◌-◌, ◌<◌, ◌^◌, ◌++◌, List, [], ℕ};
+ghost use Rattle.std.specs.Prelude.{◌∷◌, drop, length, IfOk, OnOk, Some};
 ghost use Rattle.std.specs.List.{slice_get};
 ghost use Rattle.std.specs.Option.{option_copied};
 ghost use Rattle.mailbox_rows.specs.RowViews.{listed_message};
-ghost use Rattle.session_view.specs.NoteChanges.{AreAscending, HasRoomForArrivals, NoteAllChanges, all_fetched_flags, expunges_of_numbers, notes_left_by_sync, patched_entries, without_from};
+ghost use Rattle.session_view.specs.NoteChanges.{AreAscending, HasRoomForArrivals, NoteAllChanges};
+ghost use Rattle.session_view.specs.NoteChanges.{all_fetched_flags, expunges_of_numbers};
+ghost use Rattle.session_view.specs.NoteChanges.{notes_left_by_sync, patched_entries, without_from};
 ghost use Rattle.session_view.specs.Notes.{Covers};
-ghost use Rattle.session_view.specs.Sync.{exists_if_more, fetch_if_changed, entries_staying, sync_answers, view_after_sync};
+ghost use Rattle.session_view.specs.Sync.{exists_if_more, fetch_if_changed, entries_staying};
+ghost use Rattle.session_view.specs.Sync.{sync_answers, view_after_sync};
 ghost use Rattle.session_view.specs.Views.{AreRising, last_from, last_uid};
 ghost use Rattle.session_view.specs.Walks.{IsWalk, gone_numbers, notes_left};
 ghost use Rattle.session_view.specs.declared.view_entry.SyncKind.TheVariants.{Full};
@@ -84,10 +88,16 @@ pub fn plan_sync(
     requires rising { AreRising 1 view.now.items }
     requires ascending { AreAscending 0 uids.now }
     requires covers { Covers uids.now rows.now view.now.items }
-    ensures answers { IfOk result (λ told. told.answers.items ≡ sync_answers form.kind form.modseq rows.now view.now.items) }
-    ensures patch { IfOk result (λ told. patched_entries view.now.items told.patch.gone.items told.patch.came.items told.patch.flags.items ≡ view_after_sync form.kind rows.now view.now.items) }
-    ensures left { IfOk result (λ told. told.left.items ≡ notes_left_by_sync form.kind rows.now view.now.items) }
-    ensures whole { IfOk result (λ told. told.whole ≡ true → NoteAllChanges told.left.items rows.now (view_after_sync form.kind rows.now view.now.items)) }
+    ensures answers { IfOk result
+        (λ told. told.answers.items ≡ sync_answers form.kind form.modseq rows.now view.now.items) }
+    ensures patch { IfOk result (λ told. patched_entries view.now.items told.patch.gone.items
+        told.patch.came.items told.patch.flags.items
+        ≡ view_after_sync form.kind rows.now view.now.items) }
+    ensures left { IfOk result
+        (λ told. told.left.items ≡ notes_left_by_sync form.kind rows.now view.now.items) }
+    ensures whole { IfOk result (λ told. told.whole ≡ true
+        → NoteAllChanges told.left.items rows.now
+        (view_after_sync form.kind rows.now view.now.items)) }
     ensures place { IfOk result (λ told. HasRoomForArrivals view.now.items told.patch) }
 {
     let count = count_of(view);
@@ -111,13 +121,18 @@ fn finish_walk(
 ) -> Result<SyncPlan, AllocError>
     requires few { length walk.gone.items ≤ count }
     requires fits { count - length walk.gone.items + length came.items < 2 ^ 32 }
-    ensures answers { IfOk result (λ told. told.answers.items ≡ expunges_of_numbers walk.gone.items ++ (exists_if_more (count - length walk.gone.items) (count - length walk.gone.items + length came.items) ++ walk.fetches.items)) }
+    ensures answers { IfOk result (λ told. told.answers.items
+        ≡ expunges_of_numbers walk.gone.items
+        ++ (exists_if_more (count - length walk.gone.items)
+        (count - length walk.gone.items + length came.items) ++ walk.fetches.items)) }
     ensures gone { IfOk result (λ told. told.patch.gone.items ≡ walk.gone.items) }
     ensures came { IfOk result (λ told. told.patch.came.items ≡ came.items) }
     ensures flags { IfOk result (λ told. told.patch.flags.items ≡ walk.flags.items) }
     ensures left { IfOk result (λ told. told.left.items ≡ walk.left.items) }
-    ensures whole { IfOk result (λ told. told.whole ≡ true → count - length walk.gone.items + length came.items ≡ listed + length walk.left.items) }
-    ensures place { IfOk result (λ told. (came.items ≡ []) ⊎ ((count ≤ told.patch.place.most) × (length came.items ≤ told.patch.place.room))) }
+    ensures whole { IfOk result (λ told. told.whole ≡ true
+        → count - length walk.gone.items + length came.items ≡ listed + length walk.left.items) }
+    ensures place { IfOk result (λ told. (came.items ≡ [])
+        ⊎ ((count ≤ told.patch.place.most) × (length came.items ≤ told.patch.place.room))) }
 {
     let SyncWalk {
         gone,
@@ -160,7 +175,8 @@ fn place_for(
     count: usize,
     came: &[ViewEntry],
 ) -> Result<ReservedRoom<ViewEntry>, AllocError>
-    ensures { IfOk result (λ place. (came.now ≡ []) ⊎ ((count ≤ place.most) × (length came.now ≤ place.room))) }
+    ensures { IfOk result
+        (λ place. (came.now ≡ []) ⊎ ((count ≤ place.most) × (length came.now ≤ place.room))) }
 {
     if came.is_empty() {
         return Ok(ReservedRoom::none(alloc));
@@ -189,7 +205,10 @@ fn answers_of_walk(
 ) -> Result<Vec<Answer>, AllocError>
     requires few { length gone.now ≤ count }
     requires fits { count - length gone.now + length came.now < 2 ^ 32 }
-    ensures { IfOk result (λ answers. answers.items ≡ expunges_of_numbers gone.now ++ (exists_if_more (count - length gone.now) (count - length gone.now + length came.now) ++ fetches.items)) }
+    ensures { IfOk result (λ answers. answers.items
+        ≡ expunges_of_numbers gone.now
+        ++ (exists_if_more (count - length gone.now) (count - length gone.now + length came.now)
+        ++ fetches.items)) }
 {
     let mut answers = Vec::new(alloc);
     push_expunged(gone, &mut answers)?;
@@ -274,7 +293,9 @@ fn walk_one(
     requires count { length view.now.items < 2 ^ 32 }
     requires few { length walk.now.gone.items ≤ walk.now.done }
     ensures few { OnOk result (length walk.new.gone.items ≤ walk.new.done) }
-    ensures stands { OnOk result ((rest : List ℕ) → IsWalk form.kind form.modseq rows.now view.now.items (uid ∷ rest) walk.old → IsWalk form.kind form.modseq rows.now view.now.items rest walk.new) }
+    ensures stands { OnOk result ((rest : List ℕ)
+        → IsWalk form.kind form.modseq rows.now view.now.items (uid ∷ rest) walk.old
+        → IsWalk form.kind form.modseq rows.now view.now.items rest walk.new) }
 {
     let place = count_below(view, u64::from(uid));
     if place < walk.done {
@@ -308,7 +329,11 @@ fn take_noted(
     requires few { length walk.now.gone.items ≤ walk.now.done }
     requires fits { walk.now.done + 1 < 2 ^ 32 }
     ensures few { OnOk result (length walk.new.gone.items ≤ walk.new.done) }
-    ensures stands { OnOk result ((view : List ViewEntry) → (rest : List ℕ) → (back : List ViewEntry) → drop walk.old.done view ≡ entry.now ∷ back → Covers rest rows.now back → IsWalk form.kind form.modseq rows.now view (entry.now.uid ∷ rest) walk.old → IsWalk form.kind form.modseq rows.now view rest walk.new) }
+    ensures stands { OnOk result ((view : List ViewEntry) → (rest : List ℕ)
+        → (back : List ViewEntry) → drop walk.old.done view ≡ entry.now ∷ back
+        → Covers rest rows.now back
+        → IsWalk form.kind form.modseq rows.now view (entry.now.uid ∷ rest) walk.old
+        → IsWalk form.kind form.modseq rows.now view rest walk.new) }
 {
     let number = (walk.done - walk.gone.len()) as u32 + 1;
     walk.done += 1;
@@ -334,8 +359,13 @@ fn push_flag_change(
     row: &Row<'_>,
     walk: &mut SyncWalk,
 ) -> Result<(), AllocError>
-    ensures fetches { OnOk result (walk.new.fetches.items ≡ walk.old.fetches.items ++ fetch_if_changed modseq number entry.now (Some (listed_message row.now))) }
-    ensures flags { OnOk result (walk.new.flags.items ≡ walk.old.flags.items ++ all_fetched_flags (fetch_if_changed modseq number entry.now (Some (listed_message row.now)))) }
+    ensures fetches { OnOk result (walk.new.fetches.items
+        ≡ walk.old.fetches.items
+        ++ fetch_if_changed modseq number entry.now (Some (listed_message row.now))) }
+    ensures flags { OnOk result (walk.new.flags.items
+        ≡ walk.old.flags.items
+        ++ all_fetched_flags
+        (fetch_if_changed modseq number entry.now (Some (listed_message row.now)))) }
     ensures done { walk.new.done ≡ walk.old.done }
     ensures gone { walk.new.gone ≡ walk.old.gone }
     ensures left { walk.new.left ≡ walk.old.left }
@@ -371,7 +401,8 @@ fn push_gone(
 /// Carries out a sync in the view's messages. There is room for the new ones. Takes no memory.
 pub fn patch_in(entries: &mut ViewEntries, patch: Patch)
     requires { HasRoomForArrivals entries.now.items patch }
-    ensures { entries.new.items ≡ patched_entries entries.old.items patch.gone.items patch.came.items patch.flags.items }
+    ensures { entries.new.items
+        ≡ patched_entries entries.old.items patch.gone.items patch.came.items patch.flags.items }
 {
     let Patch {
         gone,
@@ -398,7 +429,8 @@ fn take_all_out(gone: &[u32], entries: &mut ViewEntries)
 
 /// Appends messages, for which `place` is room. Takes no memory.
 fn append_in_room(came: Vec<ViewEntry>, place: ReservedRoom<ViewEntry>, entries: &mut ViewEntries)
-    requires { (came.items ≡ []) ⊎ ((length entries.now.items ≤ place.most) × (length came.items ≤ place.room)) }
+    requires { (came.items ≡ [])
+        ⊎ ((length entries.now.items ≤ place.most) × (length came.items ≤ place.room)) }
     ensures { entries.new.items ≡ entries.old.items ++ came.items }
 {
     if came.is_empty() {

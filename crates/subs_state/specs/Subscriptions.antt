@@ -21,7 +21,8 @@ no_subscriptions name id = false
 -- adds.
 abbrev pub effect_of : Subscriptions → Op → Subscriptions
 effect_of subscriptions op name id =
-    adds (SubscriptionTag name id) op || (not (removes (SubscriptionTag name id) op) && subscriptions name id)
+    adds (SubscriptionTag name id) op
+    || (not (removes (SubscriptionTag name id) op) && subscriptions name id)
 
 -- The contents that a set of operations means: its present subscription tags.
 abbrev pub subscriptions_by : List Op → Subscriptions

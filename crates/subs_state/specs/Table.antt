@@ -22,9 +22,16 @@ pub record IsPrepared (subs : Subs) (ops : List Op) : Type 0 where
   pub room : (name : List ℕ) → times name ops ≤ room_of name subs.tags.entries
 
 -- If some operations are prepared, the first of them is.
-pub prepared_first : (subs : Subs) (o : Op) (os : List Op) → IsPrepared subs (o ∷ os) → IsPrepared subs (o ∷ [])
-prepared_first subs o os p = record { room = λ n. at_first (subscribes n o) o (filter (subscribes n) os) (room_of n subs.tags.entries) (p.room n) }
+pub prepared_first : (subs : Subs) (o : Op) (os : List Op) → IsPrepared subs (o ∷ os)
+    → IsPrepared subs (o ∷ [])
+prepared_first subs o os p =
+    record {
+      room = λ n. at_first (subscribes n o) o (filter (subscribes n) os) (room_of n subs.tags.entries)
+          (p.room n);
+    }
   where
-    at_first : (b : Bool) (o : Op) (rest : List Op) (room : ℕ) → length (cond b (o ∷ rest) rest) ≤ room → length (cond b (o ∷ []) []) ≤ room
+    at_first : (b : Bool) (o : Op) (rest : List Op) (room : ℕ)
+        → length (cond b (o ∷ rest) rest) ≤ room
+        → length (cond b (o ∷ []) []) ≤ room
     at_first true o rest room h = omega (arith, h)
     at_first false o rest room h = omega (arith, h)

@@ -42,8 +42,11 @@ impl Subs {
 
     /// The subscribed names, ascending by octets; `Err` if memory runs out.
     pub fn names(&self, alloc: Global) -> Result<Vec<Name>, AllocError>
-        ensures contents { IfOk result (λ names. IsListOf octet_order (IsSubscribed (subscriptions_of self.now)) names.items) }
-        ensures set { (ops : List Op) → IsMadeBy (subscriptions_of self.now) ops → IfOk result (λ names. names.items ≡ subscribed_names_of ops) }
+        ensures contents { IfOk result
+            (λ names. IsListOf octet_order (IsSubscribed (subscriptions_of self.now)) names.items) }
+        ensures set { (ops : List Op)
+            → IsMadeBy (subscriptions_of self.now) ops
+            → IfOk result (λ names. names.items ≡ subscribed_names_of ops) }
     {
         let names = subscribed_names(alloc, &self.tags)?;
         Ok(names)
@@ -52,8 +55,11 @@ impl Subs {
     /// The ids of the name's present subscription tags, which an Unsubscribe lists; `Err` if memory
     /// runs out.
     pub fn tags(&self, alloc: Global, name: &Name) -> Result<Ids, AllocError>
-        ensures contents { IfOk result (λ ids. IsListOf id_order (λ i. subscriptions_of self.now name.now i ≡ true) ids) }
-        ensures set { (ops : List Op) → IsMadeBy (subscriptions_of self.now) ops → IfOk result (λ ids. ids ≡ subscription_tags_of ops name.now) }
+        ensures contents { IfOk result
+            (λ ids. IsListOf id_order (λ i. subscriptions_of self.now name.now i ≡ true) ids) }
+        ensures set { (ops : List Op)
+            → IsMadeBy (subscriptions_of self.now) ops
+            → IfOk result (λ ids. ids ≡ subscription_tags_of ops name.now) }
     {
         let ids = tag_ids(alloc, &self.tags, name)?;
         Ok(ids)

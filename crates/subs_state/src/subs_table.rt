@@ -1,12 +1,14 @@
 //! The table of subscription tags by name, and its changes.
 
-ghost use Rattle.std.specs.Prelude.{◌≡◌, ◌≤◌, ◌<◌, ◌+◌, ◌==◌, ℕ, List, None, IfOk, OnOk, true, not, ◌&&◌, ◌||◌, length, if◌then◌else◌};
+ghost use Rattle.std.specs.Prelude.{◌≡◌, ◌≤◌, ◌<◌, ◌+◌, ◌==◌, ℕ, List, None, IfOk, OnOk, true, not};
+ghost use Rattle.std.specs.Prelude.{◌&&◌, ◌||◌, length, if◌then◌else◌};
 ghost use Rattle.std.specs.List.{filter, fold, list_any};
 ghost use Rattle.std.specs.Str.{bytes_eq};
 ghost use Rattle.indexmap.specs.IndexSet.{spare};
 ghost use Rattle.imap_types.specs.Ascending.{octet_order};
 ghost use Rattle.tags_clocks.specs.declared.id.OpId.{OpId};
-ghost use Rattle.crdt_ops.specs.SortedSets.{IsListOf, id_order, sorted_set, insert_ordered, same_id};
+ghost use Rattle.crdt_ops.specs.SortedSets.{IsListOf, id_order, sorted_set, insert_ordered};
+ghost use Rattle.crdt_ops.specs.SortedSets.{same_id};
 ghost use Rattle.crdt_ops.specs.Tags.{SubscriptionTag, adds, removes};
 ghost use Rattle.subs_state.specs.Keys.{is_among, is_at};
 ghost use Rattle.subs_state.specs.Entries.{ids_entry, ids_in, room_of, subscribes, tag_in};
@@ -32,7 +34,9 @@ impl Drop for NameTags {
 
 /// Takes out the subscription tags that the operation removes. Names stay, with their room.
 pub fn remove_tags_of(tags: &mut IndexMap<Vec<u8>, NameTags>, op: &Op)
-    ensures found { (n : List ℕ) (i : OpId) → tag_in tags.new.entries n i ≡ (not (removes (SubscriptionTag n i) op.now) && tag_in tags.old.entries n i) }
+    ensures found { (n : List ℕ) (i : OpId)
+        → tag_in tags.new.entries n i
+        ≡ (not (removes (SubscriptionTag n i) op.now) && tag_in tags.old.entries n i) }
     ensures room { (n : List ℕ) → room_of n tags.old.entries ≤ room_of n tags.new.entries }
 {
     match &op.kind {
@@ -49,8 +53,12 @@ pub fn remove_tags_of(tags: &mut IndexMap<Vec<u8>, NameTags>, op: &Op)
 /// Puts in the subscription tag that the operation adds, for which there is room. Takes no memory.
 pub fn add_tag_of(tags: &mut IndexMap<Vec<u8>, NameTags>, op: &Op)
     requires { (n : List ℕ) → (if subscribes n op.now then 1 else 0) ≤ room_of n tags.old.entries }
-    ensures found { (n : List ℕ) (i : OpId) → tag_in tags.new.entries n i ≡ (adds (SubscriptionTag n i) op.now || tag_in tags.old.entries n i) }
-    ensures room { (n : List ℕ) → room_of n tags.old.entries ≤ room_of n tags.new.entries + (if subscribes n op.now then 1 else 0) }
+    ensures found { (n : List ℕ) (i : OpId)
+        → tag_in tags.new.entries n i
+        ≡ (adds (SubscriptionTag n i) op.now || tag_in tags.old.entries n i) }
+    ensures room { (n : List ℕ)
+        → room_of n tags.old.entries
+        ≤ room_of n tags.new.entries + (if subscribes n op.now then 1 else 0) }
 {
     match &op.kind {
         Kind::Subscribe { name } => put_tag(tags, name.as_bytes(), &op.id),
@@ -65,7 +73,9 @@ pub fn add_tag_of(tags: &mut IndexMap<Vec<u8>, NameTags>, op: &Op)
 
 /// Takes out the name's tags with these ids.
 fn remove_ids(tags: &mut IndexMap<Vec<u8>, NameTags>, name: &[u8], ids: &[OpId])
-    ensures found { (n : List ℕ) (i : OpId) → tag_in tags.new.entries n i ≡ (not (is_among n i name.now ids.now) && tag_in tags.old.entries n i) }
+    ensures found { (n : List ℕ) (i : OpId)
+        → tag_in tags.new.entries n i
+        ≡ (not (is_among n i name.now ids.now) && tag_in tags.old.entries n i) }
     ensures room { (n : List ℕ) → room_of n tags.old.entries ≤ room_of n tags.new.entries }
 {
     match tags.get_mut(name) {
@@ -75,7 +85,9 @@ fn remove_ids(tags: &mut IndexMap<Vec<u8>, NameTags>, name: &[u8], ids: &[OpId])
 }
 
 fn remove_matching_ids(held: &mut NameTags, ids: &[OpId])
-    ensures found { (i : OpId) → list_any (same_id i) held.new.ids.keys ≡ (not (list_any (same_id i) ids.now) && list_any (same_id i) held.old.ids.keys) }
+    ensures found { (i : OpId)
+        → list_any (same_id i) held.new.ids.keys
+        ≡ (not (list_any (same_id i) ids.now) && list_any (same_id i) held.old.ids.keys) }
     ensures room { spare held.old.ids ≤ spare held.new.ids }
 {
     for id in ids {
@@ -86,8 +98,11 @@ fn remove_matching_ids(held: &mut NameTags, ids: &[OpId])
 /// Puts in a tag, for which there is room.
 fn put_tag(tags: &mut IndexMap<Vec<u8>, NameTags>, name: &[u8], id: &OpId)
     requires { 0 < room_of name.now tags.old.entries }
-    ensures found { (n : List ℕ) (i : OpId) → tag_in tags.new.entries n i ≡ (is_at n i name.now id.now || tag_in tags.old.entries n i) }
-    ensures room { (n : List ℕ) → room_of n tags.old.entries ≤ room_of n tags.new.entries + (if bytes_eq n name.now then 1 else 0) }
+    ensures found { (n : List ℕ) (i : OpId)
+        → tag_in tags.new.entries n i ≡ (is_at n i name.now id.now || tag_in tags.old.entries n i) }
+    ensures room { (n : List ℕ)
+        → room_of n tags.old.entries
+        ≤ room_of n tags.new.entries + (if bytes_eq n name.now then 1 else 0) }
 {
     match tags.get_mut(name) {
         Some(held) => put_id(held, id),
@@ -97,7 +112,9 @@ fn put_tag(tags: &mut IndexMap<Vec<u8>, NameTags>, name: &[u8], id: &OpId)
 
 fn put_id(held: &mut NameTags, id: &OpId)
     requires { 0 < spare held.old.ids }
-    ensures found { (i : OpId) → list_any (same_id i) held.new.ids.keys ≡ (same_id i id.now || list_any (same_id i) held.old.ids.keys) }
+    ensures found { (i : OpId)
+        → list_any (same_id i) held.new.ids.keys
+        ≡ (same_id i id.now || list_any (same_id i) held.old.ids.keys) }
     ensures room { spare held.old.ids ≤ spare held.new.ids + 1 }
 {
     if held.ids.insert(*id).is_err() {
@@ -112,8 +129,10 @@ pub fn make_room(
     tags: &mut IndexMap<Vec<u8>, NameTags>,
     ops: &[SoundOp],
 ) -> Result<(), AllocError>
-    ensures found { (n : List ℕ) (i : OpId) → tag_in tags.new.entries n i ≡ tag_in tags.old.entries n i }
-    ensures room { OnOk result ((n : List ℕ) → length (filter (subscribes n) ops.now) ≤ room_of n tags.new.entries) }
+    ensures found { (n : List ℕ) (i : OpId)
+        → tag_in tags.new.entries n i ≡ tag_in tags.old.entries n i }
+    ensures room { OnOk result
+        ((n : List ℕ) → length (filter (subscribes n) ops.now) ≤ room_of n tags.new.entries) }
 {
     for op in ops {
         make_room_of(alloc, tags, op.op(), ops)?;
@@ -128,8 +147,10 @@ fn make_room_of(
     op: &Op,
     ops: &[SoundOp],
 ) -> Result<(), AllocError>
-    ensures found { (n : List ℕ) (i : OpId) → tag_in tags.new.entries n i ≡ tag_in tags.old.entries n i }
-    ensures ok { OnOk result ((n : List ℕ) → subscribes n op.now ≡ true → length (filter (subscribes n) ops.now) ≤ room_of n tags.new.entries) }
+    ensures found { (n : List ℕ) (i : OpId)
+        → tag_in tags.new.entries n i ≡ tag_in tags.old.entries n i }
+    ensures ok { OnOk result ((n : List ℕ) → subscribes n op.now ≡ true
+        → length (filter (subscribes n) ops.now) ≤ room_of n tags.new.entries) }
     ensures room { (n : List ℕ) → room_of n tags.old.entries ≤ room_of n tags.new.entries }
 {
     match &op.kind {
@@ -176,7 +197,8 @@ fn make_room_for(
     name: &[u8],
     more: usize,
 ) -> Result<(), AllocError>
-    ensures found { (n : List ℕ) (i : OpId) → tag_in tags.new.entries n i ≡ tag_in tags.old.entries n i }
+    ensures found { (n : List ℕ) (i : OpId)
+        → tag_in tags.new.entries n i ≡ tag_in tags.old.entries n i }
     ensures ok { OnOk result (more ≤ room_of name.now tags.new.entries) }
     ensures room { (n : List ℕ) → room_of n tags.old.entries ≤ room_of n tags.new.entries }
 {
@@ -194,7 +216,8 @@ fn put_name(
     more: usize,
 ) -> Result<(), AllocError>
     requires { ids_entry name.now tags.old.entries ≡ None }
-    ensures found { (n : List ℕ) (i : OpId) → tag_in tags.new.entries n i ≡ tag_in tags.old.entries n i }
+    ensures found { (n : List ℕ) (i : OpId)
+        → tag_in tags.new.entries n i ≡ tag_in tags.old.entries n i }
     ensures ok { OnOk result (more ≤ room_of name.now tags.new.entries) }
     ensures room { (n : List ℕ) → room_of n tags.old.entries ≤ room_of n tags.new.entries }
 {
@@ -212,7 +235,8 @@ pub fn subscribed_names(
     alloc: Global,
     tags: &IndexMap<Vec<u8>, NameTags>,
 ) -> Result<Vec<Name>, AllocError>
-    ensures { IfOk result (λ names. IsListOf octet_order (IsSubscribed (tag_in tags.now.entries)) names.items) }
+    ensures { IfOk result
+        (λ names. IsListOf octet_order (IsSubscribed (tag_in tags.now.entries)) names.items) }
 {
     let mut names = Vec::new(alloc);
     for (key, held) in tags.iter() {
@@ -228,7 +252,9 @@ fn insert_if_tagged(
     key: &[u8],
     held: &NameTags,
 ) -> Result<(), AllocError>
-    ensures { OnOk result (names.new.items ≡ (if length held.now.ids.keys == 0 then names.old.items else insert_ordered octet_order key.now names.old.items)) }
+    ensures { OnOk result (names.new.items
+        ≡ (if length held.now.ids.keys == 0 then names.old.items
+        else insert_ordered octet_order key.now names.old.items)) }
 {
     if held.ids.len() > 0 {
         let name = Name::from_slice(alloc, key)?;
@@ -243,7 +269,8 @@ pub fn tag_ids(
     tags: &IndexMap<Vec<u8>, NameTags>,
     name: &Name,
 ) -> Result<Ids, AllocError>
-    ensures { IfOk result (λ ids. ids ≡ sorted_set id_order (ids_in (ids_entry name.now tags.now.entries))) }
+    ensures { IfOk result
+        (λ ids. ids ≡ sorted_set id_order (ids_in (ids_entry name.now tags.now.entries))) }
 {
     let mut ids = Ids::none(alloc);
     if let Some(held) = tags.get(name.as_bytes()) {
@@ -253,7 +280,8 @@ pub fn tag_ids(
 }
 
 fn place_ids(ids: &mut Ids, found: &[OpId]) -> Result<(), AllocError>
-    ensures { OnOk result (ids.new ≡ fold (λ done id. insert_ordered id_order id done) ids.old found.now) }
+    ensures { OnOk result
+        (ids.new ≡ fold (λ done id. insert_ordered id_order id done) ids.old found.now) }
 {
     for id in found {
         ids.insert(*id)?;

@@ -2,7 +2,8 @@
 
 use Rattle.std.specs.Prelude.{ℕ, List}
 use Rattle.tags_clocks.specs.declared.clock.ClockOrder.{ClockOrder}
-use Rattle.tags_clocks.specs.declared.clock.ClockOrder.TheVariants.{Before, After, Equal, Concurrent}
+use Rattle.tags_clocks.specs.declared.clock.ClockOrder.TheVariants.{Before, After, Equal}
+use Rattle.tags_clocks.specs.declared.clock.ClockOrder.TheVariants.{Concurrent}
 use Rattle.tags_clocks.specs.Clock.{IsCoveredBy}
 
 -- `es` is covered by `fs`, the other way round, both, or neither.

@@ -1,7 +1,8 @@
 -- How the readers take a field apart. What a field means is defined by its text (`id_text` and
 -- `entry_text` of Fields); laws of the crates that read whole lines join the two.
 
-use Rattle.std.specs.Prelude.{ℕ, Bool, true, false, not, ◌&&◌, ◌==◌, nat_le, List, [], ◌∷◌, ◌++◌, Option, Some, None, option_and_then, if◌then◌else◌}
+use Rattle.std.specs.Prelude.{ℕ, Bool, true, false, not, ◌&&◌, ◌==◌, nat_le, List, [], ◌∷◌, ◌++◌}
+use Rattle.std.specs.Prelude.{Option, Some, None, option_and_then, if◌then◌else◌}
 use Rattle.std.specs.Char.{is_ascii_digit}
 use Rattle.std.specs.List.{list_all}
 use Rattle.std.specs.Str.Parse.{digits_value}
@@ -20,7 +21,9 @@ in_front front (Some cut) = Some (front ++ cut.0, cut.1)
 -- What comes before the first separator, and what comes after it.
 abbrev pub cut_at : ℕ → List ℕ → Option (List ℕ × List ℕ)
 cut_at separator [] = None
-cut_at separator (octet ∷ octets) = if octet == separator then Some ([], octets) else in_front (octet ∷ []) (cut_at separator octets)
+cut_at separator (octet ∷ octets) =
+    if octet == separator then Some ([], octets)
+    else in_front (octet ∷ []) (cut_at separator octets)
 
 -- Whether a text isn't empty, and doesn't begin with zero (48) unless that is all of it.
 abbrev pub has_no_leading_zero : List ℕ → Bool
@@ -30,7 +33,10 @@ has_no_leading_zero (digit ∷ next ∷ digits) = not (digit == 48)
 
 -- The number that the digits write without a leading zero, if it is at most the limit.
 unfoldable pub number_at : ℕ → List ℕ → Option ℕ
-number_at limit text = if (has_no_leading_zero text && list_all is_ascii_digit text) && nat_le (digits_value 10 text) limit then Some (digits_value 10 text) else None
+number_at limit text =
+    if (has_no_leading_zero text && list_all is_ascii_digit text)
+    && nat_le (digits_value 10 text) limit then Some (digits_value 10 text)
+    else None
 
 -- The number, if it is at least 1.
 abbrev pub positive : ℕ → Option ℕ

@@ -5,7 +5,8 @@ ghost use Rattle.std.specs.Option.{option_map};
 ghost use Rattle.std.specs.Char.{is_ascii_digit};
 ghost use Rattle.std.specs.List.{list_all};
 ghost use Rattle.std.specs.Str.Parse.{digits_value};
-ghost use Rattle.text_fields.specs.FieldReading.{cut_at, has_no_leading_zero, id_at, number_at, pair_at, replica_at};
+ghost use Rattle.text_fields.specs.FieldReading.{cut_at, has_no_leading_zero, id_at, number_at};
+ghost use Rattle.text_fields.specs.FieldReading.{pair_at, replica_at};
 
 use std::str;
 use tags_clocks::{OpId, ReplicaId};

@@ -46,10 +46,16 @@ pub record HasBounds (start : Counters) (folder : List ℕ) (ops : List Op) : Ty
   pub uidnext : uidnext_of start folder ops ≤ 4294967295
   pub highest_from : 1 ≤ highest_modseq_of folder ops
   pub highest : highest_modseq_of folder ops ≤ 1 + length ops
-  pub validity_from : (uidvalidity : ℕ) → uidvalidity_of start folder ops ≡ Some uidvalidity → 1 ≤ uidvalidity
-  pub validity : (uidvalidity : ℕ) → uidvalidity_of start folder ops ≡ Some uidvalidity → uidvalidity ≤ 4294967295
+  pub validity_from : (uidvalidity : ℕ)
+      → uidvalidity_of start folder ops ≡ Some uidvalidity
+      → 1 ≤ uidvalidity
+  pub validity : (uidvalidity : ℕ)
+      → uidvalidity_of start folder ops ≡ Some uidvalidity
+      → uidvalidity ≤ 4294967295
   pub rising : AreRisingRows 1 (listing start folder ops)
-  pub rows : (row : ListedMessage) → IsIn row (listing start folder ops) → IsRowWithin (uidnext_of start folder ops) (length ops) row
+  pub rows : (row : ListedMessage)
+      → IsIn row (listing start folder ops)
+      → IsRowWithin (uidnext_of start folder ops) (length ops) row
 
 -- The number of octets that the operation appends fits in 64 bits.
 abbrev pub IsCountable : Kind → Type 0

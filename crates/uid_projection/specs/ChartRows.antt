@@ -11,7 +11,10 @@ use Rattle.uid_projection.specs.Listing.{listed_message_with}
 -- The row of an entry: the message of its origin after these operations, if the origin has a
 -- version.
 abbrev pub row_by : List Op → List ℕ → ListingEntry → Option ListedMessage
-row_by ops folder e = if has_version folder e.origin ops then Some (listed_message_with e.uid e.modseq (message_of ops folder e.origin)) else None
+row_by ops folder e =
+    if has_version folder e.origin ops
+    then Some (listed_message_with e.uid e.modseq (message_of ops folder e.origin))
+    else None
 
 -- The entry with this UID, if any.
 abbrev pub entry_with : ℕ → List ListingEntry → Option ListingEntry

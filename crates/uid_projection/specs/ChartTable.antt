@@ -1,7 +1,8 @@
 -- The charts of all folders by name: which list of operations they are up to, and the room that
 -- they have.
 
-use Rattle.std.specs.Prelude.{◌≡◌, ℕ, ◌+◌, ◌≤◌, true, false, Option, None, Some, List, [], ◌∷◌, ◌++◌}
+use Rattle.std.specs.Prelude.{◌≡◌, ℕ, ◌+◌, ◌≤◌, true, false, Option, None, Some, List, [], ◌∷◌}
+use Rattle.std.specs.Prelude.{◌++◌}
 use Rattle.std.specs.Global.{Vec}
 use Rattle.std.specs.Map.{lookup}
 use Rattle.std.specs.Str.{bytes_eq}
@@ -39,9 +40,12 @@ pub record IsUpTo (start : Counters) (folder : List ℕ) (ops : List Op) (c : Ch
   pub small : c.there ≡ true → (folder ≡ inbox → ⊥) → c.k ≤ 65535
 
 -- The charts are up to these operations, and each existing folder has one.
-pub record IsTable (start : Counters) (ops : List Op) (next_k : ℕ) (charts : List (Vec ℕ × Chart)) : Type 0 where
+pub record IsTable (start : Counters) (ops : List Op) (next_k : ℕ) (charts : List (Vec ℕ × Chart)) :
+    Type 0 where
   pub is_k : next_k ≡ start.k + count_all begins_incarnation ops
-  pub shows : (folder : List ℕ) (c : Chart) → chart_at folder charts ≡ Some c → IsUpTo start folder ops c
+  pub shows : (folder : List ℕ) (c : Chart)
+      → chart_at folder charts ≡ Some c
+      → IsUpTo start folder ops c
   pub covers : (folder : List ℕ) → chart_at folder charts ≡ None → folder_exists folder ops ≡ false
 
 -- The chart has `n` further mod-sequences and, if an origin is added, places for `n` entries and
@@ -63,7 +67,8 @@ HasRooms origin n folder charts = HasRoomsIn origin n (chart_at folder charts)
 
 -- The operation is applied next after the list, with these contents as its result. It lacks no
 -- number.
-pub record ComesNext (start : Counters) (next_k : ℕ) (value : Contents) (list : List Op) (o : Op) : Type 0 where
+pub record ComesNext (start : Counters) (next_k : ℕ) (value : Contents) (list : List Op) (o : Op) :
+    Type 0 where
   pub first : 1 ≤ start.uid
   pub applied : IsApplied (list ++ o ∷ [])
   pub made : IsMadeBy value (list ++ o ∷ [])
@@ -72,14 +77,16 @@ pub record ComesNext (start : Counters) (next_k : ℕ) (value : Contents) (list 
 
 -- The operation is applied next after the list that its folder's chart is up to, and the chart has
 -- room for it.
-pub record IsNextAt (start : Counters) (next_k : ℕ) (value : Contents) (list : List Op) (o : Op) (c : Chart) : Type 0 where
+pub record IsNextAt (start : Counters) (next_k : ℕ) (value : Contents) (list : List Op) (o : Op)
+    (c : Chart) : Type 0 where
   pub next : ComesNext start next_k value list o
   pub about : kind_names_folder (name_of o.kind) o.kind ≡ true
   pub up : IsUpTo start (name_of o.kind) list c
   pub roomy : IsRoomy (added_origin o) 1 c
 
 -- The operation is applied next after the list that the charts are up to.
-pub record IsNextOn (start : Counters) (next_k : ℕ) (charts : List (Vec ℕ × Chart)) (value : Contents) (list : List Op) (o : Op) : Type 0 where
+pub record IsNextOn (start : Counters) (next_k : ℕ) (charts : List (Vec ℕ × Chart))
+    (value : Contents) (list : List Op) (o : Op) : Type 0 where
   pub next : ComesNext start next_k value list o
   pub table : IsTable start list next_k charts
 
@@ -96,7 +103,8 @@ pub record IsSame (old new : Chart) : Type 0 where
 
 -- The operation is applied next after the list that the folder's numbers are up to, the folder
 -- exists afterwards, and the chart has room for it.
-pub record Advances (start : Counters) (folder : List ℕ) (value : Contents) (list : List Op) (o : Op) (c : Chart) : Type 0 where
+pub record Advances (start : Counters) (folder : List ℕ) (value : Contents) (list : List Op)
+    (o : Op) (c : Chart) : Type 0 where
   pub first : 1 ≤ start.uid
   pub applied : IsApplied (list ++ o ∷ [])
   pub made : IsMadeBy value (list ++ o ∷ [])

@@ -14,7 +14,8 @@ pub record Split (O : Type 0) : Type 0 where
 -- it.
 abbrev pub splits_from : {O : Type 0} → List O → List O → List (Split O)
 splits_from front [] = []
-splits_from front (op ∷ back) = record { front = front; op = op; back = back } ∷ splits_from (front ++ op ∷ []) back
+splits_from front (op ∷ back) =
+    record { front = front; op = op; back = back } ∷ splits_from (front ++ op ∷ []) back
 
 -- Each operation of the list, with the operations before it and those after it.
 abbrev pub splits_of : {O : Type 0} → List O → List (Split O)
@@ -31,15 +32,18 @@ has_held_since there cut = holds_since there (cut.front ++ cut.op ∷ []) cut.ba
 
 -- The number of operations that have the property `P` and since which `there` has always held.
 abbrev pub count_since : {O : Type 0} → (List O → Bool) → (List O → O → Bool) → List O → ℕ
-count_since there P ops = length (filter (λ cut. P cut.front cut.op && has_held_since there cut) (splits_of ops))
+count_since there P ops =
+    length (filter (λ cut. P cut.front cut.op && has_held_since there cut) (splits_of ops))
 
 -- The number of such operations among the first `n`.
 abbrev pub count_since_up_to : {O : Type 0} → ℕ → (List O → Bool) → (List O → O → Bool) → List O → ℕ
-count_since_up_to n there P ops = count_since there (λ front op. P front op && nat_lt (length front) n) ops
+count_since_up_to n there P ops =
+    count_since there (λ front op. P front op && nat_lt (length front) n) ops
 
 -- The number of operations that have the property `P` and since which `there` hasn't always held.
 abbrev pub count_not_since : {O : Type 0} → (List O → Bool) → (List O → O → Bool) → List O → ℕ
-count_not_since there P ops = length (filter (λ cut. P cut.front cut.op && not (has_held_since there cut)) (splits_of ops))
+count_not_since there P ops =
+    length (filter (λ cut. P cut.front cut.op && not (has_held_since there cut)) (splits_of ops))
 
 -- The number of operations that have the property `P`.
 abbrev pub count_all : {O : Type 0} → (List O → O → Bool) → List O → ℕ

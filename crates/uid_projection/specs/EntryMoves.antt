@@ -1,6 +1,7 @@
 -- How an operation about a folder changes the folder's entries and the origins of its versions.
 
-use Rattle.std.specs.Prelude.{ℕ, ◌<◌, ◌≤◌, ◌^◌, Bool, true, false, not, Option, None, Some, List, [], ◌∷◌, ◌++◌, length, if◌then◌else◌}
+use Rattle.std.specs.Prelude.{ℕ, ◌<◌, ◌≤◌, ◌^◌, Bool, true, false, not, Option, None, Some, List}
+use Rattle.std.specs.Prelude.{[], ◌∷◌, ◌++◌, length, if◌then◌else◌}
 use Rattle.std.specs.List.{filter_map, list_any}
 use Rattle.std.specs.Option.{option_map}
 use Rattle.tags_clocks.specs.declared.id.OpId.{OpId}
@@ -34,7 +35,9 @@ with_modseq modseq e = record { origin = e.origin; uid = e.uid; modseq = modseq 
 -- The entry after the operation: unchanged if its message doesn't change; else with this
 -- mod-sequence if the message stays, or removed.
 abbrev pub move_of : (OpId → Bool) → (OpId → Bool) → ℕ → ListingEntry → Option ListingEntry
-move_of changes stays modseq e = if changes e.origin then (if stays e.origin then Some (with_modseq modseq e) else None) else Some e
+move_of changes stays modseq e =
+    if changes e.origin then (if stays e.origin then Some (with_modseq modseq e) else None)
+    else Some e
 
 -- The entries after the operation, without the one that it may add.
 abbrev pub moved_entries : (OpId → Bool) → (OpId → Bool) → ℕ → List ListingEntry → List ListingEntry
@@ -54,7 +57,9 @@ takes_uid (Some origin) entries = not (has_entry entries origin)
 -- the others.
 abbrev pub with_line : OpId → ℕ → ℕ → List ListingEntry → List ListingEntry
 with_line origin uid modseq entries =
-    if has_entry entries origin then moved_entries (λ other. same_id other origin) (λ other. true) modseq entries else entries ++ record { origin = origin; uid = uid; modseq = modseq } ∷ []
+    if has_entry entries origin
+    then moved_entries (λ other. same_id other origin) (λ other. true) modseq entries
+    else entries ++ record { origin = origin; uid = uid; modseq = modseq } ∷ []
 
 -- The entries have distinct origins.
 abbrev pub AreApart : List ListingEntry → Type 0

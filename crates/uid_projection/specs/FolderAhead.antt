@@ -15,7 +15,8 @@ use Rattle.folder_state.specs.Tables.{contents_of}
 use Rattle.folder_state.specs.LentMessages.{message_of_data}
 use Rattle.uid_projection.specs.declared.folder_ahead.FolderAhead.{FolderAhead}
 use Rattle.uid_projection.specs.declared.folder_ahead.MailboxAhead.{MailboxAhead}
-use Rattle.uid_projection.specs.TagChanges.{AreAll, IsWhole, bodies_of, kept_of, dated_text_over, list_of, tag_over}
+use Rattle.uid_projection.specs.TagChanges.{AreAll, IsWhole, bodies_of, kept_of, dated_text_over}
+use Rattle.uid_projection.specs.TagChanges.{list_of, tag_over}
 
 -- The folder's name.
 abbrev pub folder_of : FolderAhead → List ℕ
@@ -31,15 +32,21 @@ tag_data_ahead ahead = bodies_of ahead.messages
 
 -- The date and text of the Append with this id, if it was applied.
 abbrev pub dated_texts_ahead : FolderAhead → OpId → Option DatedText
-dated_texts_ahead ahead = dated_text_over ahead.letters.entries (contents_of ahead.value.now).letters
+dated_texts_ahead ahead =
+    dated_text_over ahead.letters.entries (contents_of ahead.value.now).letters
 
 -- The stored tags are those of this folder. The origin of each changed tag, and each id with an
 -- added date and text, has a list, so that its message counts as changed.
 pub record IsOrderly (ahead : FolderAhead) : Type 0 where
-  pub tags : (id : OpId) → (contents_of ahead.value.now).tags ahead.name id ≡ has_tag_in (kept_of ahead.messages) id
-  pub bodies : (id : OpId) → (contents_of ahead.value.now).bodies ahead.name id ≡ body_in_folder (kept_of ahead.messages) id
+  pub tags : (id : OpId)
+      → (contents_of ahead.value.now).tags ahead.name id ≡ has_tag_in (kept_of ahead.messages) id
+  pub bodies : (id : OpId)
+      → (contents_of ahead.value.now).bodies ahead.name id
+      ≡ body_in_folder (kept_of ahead.messages) id
   pub whole : IsWhole ahead.messages
-  pub letters : (id : OpId) → IsSome (lookup (same_id id) ahead.letters.entries) → IsSome (list_of ahead.messages id)
+  pub letters : (id : OpId)
+      → IsSome (lookup (same_id id) ahead.letters.entries)
+      → IsSome (list_of ahead.messages id)
 
 -- The folder is as in these contents.
 pub record IsAhead (contents : Contents) (ahead : FolderAhead) : Type 0 where
@@ -51,17 +58,23 @@ pub record IsAhead (contents : Contents) (ahead : FolderAhead) : Type 0 where
 -- The message has the versions of the origin, and the date and text of its Append.
 pub record IsHeld (ahead : FolderAhead) (origin : OpId) (message : OwnedMessage) : Type 0 where
   pub versions : AreAll (tag_data_ahead ahead) origin message.versions.items
-  pub date : option_map (λ date. date.now) message.date ≡ option_map (λ (letter : DatedText). letter.date) (dated_texts_ahead ahead origin)
-  pub text : option_map (λ text. text.now) message.text ≡ option_map (λ (letter : DatedText). letter.text) (dated_texts_ahead ahead origin)
+  pub date : option_map (λ date. date.now) message.date
+      ≡ option_map (λ (letter : DatedText). letter.date) (dated_texts_ahead ahead origin)
+  pub text : option_map (λ text. text.now) message.text
+      ≡ option_map (λ (letter : DatedText). letter.text) (dated_texts_ahead ahead origin)
 
 -- The message of this origin, if there is one, was put among the others.
-abbrev pub IsHeldAt : FolderAhead → Option OpId → List (OpId × OwnedMessage) → List (OpId × OwnedMessage) → Type 0
+abbrev pub IsHeldAt : FolderAhead → Option OpId → List (OpId × OwnedMessage)
+    → List (OpId × OwnedMessage) → Type 0
 IsHeldAt ahead None old new = new ≡ old
 IsHeldAt ahead (Some origin) old new =
     (message : OwnedMessage) × (IsOrderly ahead → IsHeld ahead origin message)
-    × ((id : OpId) → lookup (same_id id) new ≡ (if same_id origin id then Some message else lookup (same_id id) old))
+    × ((id : OpId)
+    → lookup (same_id id) new
+    ≡ (if same_id origin id then Some message else lookup (same_id id) old))
 
 -- The message of an origin in a mailbox after pending operations: the one that replaces a stored
 -- one, or the stored one.
 abbrev pub message_ahead : MailboxAhead → OpId → Option Message
-message_ahead ahead origin = option_map (message_of_data origin) (message_data_at ahead.fresh.entries ahead.mailbox origin)
+message_ahead ahead origin =
+    option_map (message_of_data origin) (message_data_at ahead.fresh.entries ahead.mailbox origin)

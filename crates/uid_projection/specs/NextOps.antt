@@ -15,7 +15,8 @@ use Rattle.uid_projection.specs.EntryMoves.{loses}
 
 -- These operations come next after the list that led to the contents, and the folder is as in these
 -- contents.
-pub record IsNextAhead (start : Counters) (folder : List ℕ) (nothing : List ListingEntry) (c : Contents) (list ops : List Op) (ahead : FolderAhead) : Type 0 where
+pub record IsNextAhead (start : Counters) (folder : List ℕ) (nothing : List ListingEntry)
+    (c : Contents) (list ops : List Op) (ahead : FolderAhead) : Type 0 where
   pub own : folder_of ahead ≡ folder
   pub none : nothing ≡ []
   pub applied : IsApplied (list ++ ops)
@@ -24,7 +25,8 @@ pub record IsNextAhead (start : Counters) (folder : List ℕ) (nothing : List Li
 
 -- The operation about the folder comes next after the list that led to the contents. These origins
 -- lose a version by it, and the folder is as it leaves it.
-pub record AdvancesAhead (c : Contents) (list : List Op) (o : Op) (lost : OpId → Bool) (ahead : FolderAhead) : Type 0 where
+pub record AdvancesAhead (c : Contents) (list : List Op) (o : Op) (lost : OpId → Bool)
+    (ahead : FolderAhead) : Type 0 where
   pub applied : IsApplied (list ++ o ∷ [])
   pub about : kind_names_folder (folder_of ahead) o.kind ≡ true
   pub made : IsMadeBy c list

@@ -16,7 +16,10 @@ use Rattle.uid_projection.specs.EntryMoves.{added_origin}
 use Rattle.uid_projection.specs.ChartTable.{HasRooms, HasRoomsIn, chart_at}
 
 -- Room for more operations is room for fewer.
-pub less_room : (origin : Option OpId) (m n : ℕ) (folder : List ℕ) (charts : List (Vec ℕ × Chart)) → m ≤ n → HasRooms origin n folder charts → HasRooms origin m folder charts
+pub less_room : (origin : Option OpId) (m n : ℕ) (folder : List ℕ) (charts : List (Vec ℕ × Chart))
+    → m ≤ n
+    → HasRooms origin n folder charts
+    → HasRooms origin m folder charts
 less_room origin m n folder charts l r = fewer (chart_at folder charts) r
   where
     fewer : (c : Option Chart) → HasRoomsIn origin n c → HasRoomsIn origin m c
@@ -29,14 +32,21 @@ less_room origin m n folder charts l r = fewer (chart_at folder charts) r
     }
 
 -- Charts that are ready for some operations are ready for the first of them.
-pub ready_first : (x : Charts) (list : List Op) (o : Op) (os : List Op) → IsReadyFor x list (o ∷ os) → IsReadyFor x list (o ∷ [])
+pub ready_first : (x : Charts) (list : List Op) (o : Op) (os : List Op)
+    → IsReadyFor x list (o ∷ os)
+    → IsReadyFor x list (o ∷ [])
 ready_first x list o os r = record {
   applied =
-      let whole : IsApplied ((list ++ o ∷ []) ++ os) = subst IsApplied (sym (append_assoc list (o ∷ []) os)) r.applied in
+      let whole : IsApplied ((list ++ o ∷ []) ++ os) = subst IsApplied
+      (sym (append_assoc list (o ∷ []) os)) r.applied in
       record {
         sound = λ p h. whole.sound p (in_front p (list ++ o ∷ []) os h);
         causal = causal_front (λ (p : Op). p.id) (λ p. p.clock) (list ++ o ∷ []) os whole.causal;
       };
-  lasts = λ e. let (front, p, back, k, h) = e in r.lasts (front, p, back ++ os, ap (λ xs. xs ++ os) k ∙ append_assoc front (p ∷ back) os, h);
-  rooms = λ p i about. less_room (added_origin p) 1 (length (o ∷ os)) (name_of p.kind) x.charts.entries (omega arith) (r.rooms p (in_front p (o ∷ []) os i) about);
+  lasts =
+      λ e. let (front, p, back, k, h) = e in
+      r.lasts (front, p, back ++ os, ap (λ xs. xs ++ os) k ∙ append_assoc front (p ∷ back) os, h);
+  rooms =
+      λ p i about. less_room (added_origin p) 1 (length (o ∷ os)) (name_of p.kind) x.charts.entries
+      (omega arith) (r.rooms p (in_front p (o ∷ []) os i) about);
 }

@@ -1,5 +1,6 @@
 -- The changes that pending operations make to one folder's tags, laid over the stored folder.
-use Rattle.std.specs.Prelude.{◌≡◌, ◌⊎◌, ◌||◌, Bool, true, false, Option, None, Some, IsSome, List, []}
+use Rattle.std.specs.Prelude.{◌≡◌, ◌⊎◌, ◌||◌, Bool, true, false, Option, None, Some, IsSome, List}
+use Rattle.std.specs.Prelude.{[]}
 use Rattle.std.specs.Global.{Vec}
 use Rattle.std.specs.Map.{lookup}
 use Rattle.std.specs.Option.{option_map}
@@ -21,7 +22,8 @@ is_some (Some x) = true
 
 -- The data of a message tag after a change, if the tag is present.
 abbrev pub body_lent : TagChange → Option MessageTagData
-body_lent change = option_map (λ flags. record { flags = flags.now; origin = change.origin }) change.flags
+body_lent change =
+    option_map (λ flags. record { flags = flags.now; origin = change.origin }) change.flags
 
 -- A borrowed date and text, as a value.
 abbrev pub change_value : LentDatedText → DatedText
@@ -50,7 +52,8 @@ tag_over tags kept id = after_change (has_tag_in kept id) (lookup (same_id id) t
 
 -- The data that the message tag with this id carries, if it is present.
 abbrev pub body_over : List (OpId × TagChange) → Option FolderTables → OpId → Option MessageTagData
-body_over changes kept id = after_change (body_in_folder kept id) (option_map body_lent (lookup (same_id id) changes))
+body_over changes kept id =
+    after_change (body_in_folder kept id) (option_map body_lent (lookup (same_id id) changes))
 
 -- The stored folder.
 abbrev pub kept_of : MessagesAhead → Option FolderTables
@@ -74,15 +77,23 @@ ids_listed (Some ids) = ids.items
 
 -- The stored tag with this id has this origin and isn't changed.
 abbrev pub IsLeft : MessagesAhead → OpId → OpId → Type 0
-IsLeft messages origin id = (change_of messages id ≡ None) × (origin_of (body_in_folder (kept_of messages) id) ≡ Some origin)
+IsLeft messages origin id =
+    (change_of messages id ≡ None)
+    × (origin_of (body_in_folder (kept_of messages) id) ≡ Some origin)
 
 -- A tag with this id was added for this origin, and is present.
 abbrev pub IsPut : MessagesAhead → OpId → OpId → Type 0
-IsPut messages origin id = (change : TagChange) × (change_of messages id ≡ Some change) × (origin_of (body_lent change) ≡ Some origin)
+IsPut messages origin id =
+    (change : TagChange)
+    × (change_of messages id ≡ Some change)
+    × (origin_of (body_lent change) ≡ Some origin)
 
 -- The date and text of the Append with this id.
-abbrev pub dated_text_over : List (OpId × LentDatedText) → (OpId → Option DatedText) → OpId → Option DatedText
-dated_text_over letters kept id = after_change (kept id) (option_map (λ letter. Some (change_value letter)) (lookup (same_id id) letters))
+abbrev pub dated_text_over : List (OpId × LentDatedText) → (OpId → Option DatedText) → OpId
+    → Option DatedText
+dated_text_over letters kept id =
+    after_change (kept id)
+    (option_map (λ letter. Some (change_value letter)) (lookup (same_id id) letters))
 
 -- The id is in the list.
 abbrev pub IsListed : OpId → Option (Vec OpId) → Type 0
@@ -91,31 +102,45 @@ IsListed id (Some ids) = IsIn id ids.items
 
 -- Each origin's list has the ids that it had, and perhaps further ones.
 pub record Grows (old new : List (OpId × Vec OpId)) : Type 0 where
-  pub touched : (origin : OpId) → IsSome (lookup (same_id origin) old) → IsSome (lookup (same_id origin) new)
-  pub listed : (origin id : OpId) → IsListed id (lookup (same_id origin) old) → IsListed id (lookup (same_id origin) new)
+  pub touched : (origin : OpId)
+      → IsSome (lookup (same_id origin) old)
+      → IsSome (lookup (same_id origin) new)
+  pub listed : (origin id : OpId)
+      → IsListed id (lookup (same_id origin) old)
+      → IsListed id (lookup (same_id origin) new)
 
 -- Each added tag is listed for its origin, and the origin of each changed stored tag has a list.
-pub record AreFound (changes : List (OpId × TagChange)) (versions : List (OpId × Vec OpId)) (kept : Option FolderTables) : Type 0 where
-  pub listed : (id : OpId) (change : TagChange) → lookup (same_id id) changes ≡ Some change → IsSome change.flags → IsListed id (lookup (same_id change.origin) versions)
-  pub touched : (id origin : OpId) → IsSome (lookup (same_id id) changes) → origin_of (body_in_folder kept id) ≡ Some origin → IsSome (lookup (same_id origin) versions)
+pub record AreFound (changes : List (OpId × TagChange)) (versions : List (OpId × Vec OpId))
+    (kept : Option FolderTables) : Type 0 where
+  pub listed : (id : OpId) (change : TagChange)
+      → lookup (same_id id) changes ≡ Some change → IsSome change.flags
+      → IsListed id (lookup (same_id change.origin) versions)
+  pub touched : (id origin : OpId)
+      → IsSome (lookup (same_id id) changes)
+      → origin_of (body_in_folder kept id) ≡ Some origin
+      → IsSome (lookup (same_id origin) versions)
 
 -- The lists of these messages are complete.
 abbrev pub IsWhole : MessagesAhead → Type 0
 IsWhole messages = AreFound messages.changes.entries messages.versions.entries (kept_of messages)
 
 -- These are versions of the origin, in ascending order.
-pub record AreSome (bodies : OpId → Option MessageTagData) (origin : OpId) (versions : List Version) : Type 0 where
+pub record AreSome (bodies : OpId → Option MessageTagData) (origin : OpId) (versions : List Version)
+    : Type 0 where
   pub ascending : IsAscending id_order (version_ids versions)
-  pub carried : (version : Version) → IsIn version versions → bodies version.id ≡ Some (record { flags = version.flags; origin = origin })
+  pub carried : (version : Version) → IsIn version versions
+      → bodies version.id ≡ Some (record { flags = version.flags; origin = origin })
 
 -- The versions with the property `P` were put in their places among the existing ones.
-pub record IsPlaced (bodies : OpId → Option MessageTagData) (origin : OpId) (P : OpId → Type 0) (old new : List Version) : Type 0 where
+pub record IsPlaced (bodies : OpId → Option MessageTagData) (origin : OpId) (P : OpId → Type 0)
+    (old new : List Version) : Type 0 where
   pub some : AreSome bodies origin old → AreSome bodies origin new
   pub kept : (id : OpId) → IsIn id (version_ids old) → IsIn id (version_ids new)
   pub all : (id : OpId) → P id → IsIn id (version_ids new)
 
 -- These are all versions of the origin, in ascending order.
-pub record AreAll (bodies : OpId → Option MessageTagData) (origin : OpId) (versions : List Version) : Type 0 where
+pub record AreAll (bodies : OpId → Option MessageTagData) (origin : OpId) (versions : List Version)
+    : Type 0 where
   pub some : AreSome bodies origin versions
   pub all : (id : OpId) → origin_of (bodies id) ≡ Some origin → IsIn id (version_ids versions)
 
@@ -129,7 +154,8 @@ IsKeptTag kept id = (has_tag_in kept id ≡ true) ⊎ IsSome (body_in_folder kep
 
 -- Whether a folder tag or a message tag with this id is present.
 abbrev pub is_there : List (OpId × Bool) → MessagesAhead → OpId → Bool
-is_there tags messages id = tag_over tags (kept_of messages) id || is_some (origin_of (bodies_of messages id))
+is_there tags messages id =
+    tag_over tags (kept_of messages) id || is_some (origin_of (bodies_of messages id))
 
 -- Whether such a tag is present, if there is an id.
 abbrev pub is_there_at : List (OpId × Bool) → MessagesAhead → Option OpId → Bool
@@ -147,6 +173,7 @@ is_put None = false
 is_put (Some change) = is_some change.flags
 
 -- Whether the change of an entry's id has the property.
-abbrev pub value_at_key : {X : Type 0} → (Option X → Bool) → List (OpId × X) → Option (OpId × X) → Bool
+abbrev pub value_at_key : {X : Type 0} → (Option X → Bool) → List (OpId × X) → Option (OpId × X)
+    → Bool
 value_at_key test entries None = false
 value_at_key test entries (Some entry) = test (lookup (same_id entry.0) entries)

@@ -1,6 +1,7 @@
 -- Which messages operations name, and what operations leave unchanged in a listing.
 
-use Rattle.std.specs.Prelude.{◌≡◌, ◌⊎◌, ℕ, ◌≤◌, Bool, true, false, ◌&&◌, ◌||◌, Option, None, Some, List, ◌++◌}
+use Rattle.std.specs.Prelude.{◌≡◌, ◌⊎◌, ℕ, ◌≤◌, Bool, true, false, ◌&&◌, ◌||◌, Option, None, Some}
+use Rattle.std.specs.Prelude.{List, ◌++◌}
 use Rattle.tags_clocks.specs.declared.id.OpId.{OpId}
 use Rattle.merge_laws.specs.Orders.{IsIn}
 use Rattle.mailbox_rows.specs.declared.entry.ListingEntry.{ListingEntry}
@@ -20,14 +21,16 @@ use Rattle.uid_projection.specs.EntryMoves.{AreApart, added_origin, loses}
 
 -- Below this UIDNEXT, the two listings have the same row under each UID that isn't one of these.
 abbrev pub RowsStayExcept : List ℕ → ℕ → List ListedMessage → List ListedMessage → Type 0
-RowsStayExcept uids uidnext before behind = (uid : ℕ) → IsIn uid uids ⊎ ((uidnext ≤ uid) ⊎ (row_of uid behind ≡ row_of uid before))
+RowsStayExcept uids uidnext before behind =
+    (uid : ℕ) → IsIn uid uids ⊎ ((uidnext ≤ uid) ⊎ (row_of uid behind ≡ row_of uid before))
 
 -- No operation of the list is about the folder.
 abbrev pub AreAboutOthers : List ℕ → List Op → Type 0
 AreAboutOthers folder ops = (op : Op) → IsIn op ops → kind_names_folder folder op.kind ≡ false
 
 -- What is shown of a folder is the same after both lists.
-pub record IsShownAlike (start : Counters) (folder : List ℕ) (before behind : List Op) : Type 0 where
+pub record IsShownAlike (start : Counters) (folder : List ℕ) (before behind : List Op) :
+    Type 0 where
   pub rows : listing start folder behind ≡ listing start folder before
   pub uidvalidity : uidvalidity_of start folder behind ≡ uidvalidity_of start folder before
   pub uidnext : uidnext_of start folder behind ≡ uidnext_of start folder before
@@ -35,20 +38,29 @@ pub record IsShownAlike (start : Counters) (folder : List ℕ) (before behind : 
 
 -- Operations that are all about other folders leave what is shown of this one unchanged.
 abbrev pub LeaveOthers : Counters → Type 0
-LeaveOthers start = (folder : List ℕ) (list ops : List Op) → IsApplied (list ++ ops) → AreAboutOthers folder ops → IsShownAlike start folder list (list ++ ops)
+LeaveOthers start =
+    (folder : List ℕ) (list ops : List Op) → IsApplied (list ++ ops) → AreAboutOthers folder ops
+    → IsShownAlike start folder list (list ++ ops)
 
 -- A listing has no message with the UID UIDNEXT or above.
 abbrev pub EndsAtUidnext : Counters → Type 0
-EndsAtUidnext start = (folder : List ℕ) (list : List Op) (uid : ℕ) → IsApplied list → uidnext_of start folder list ≤ uid → row_of uid (listing start folder list) ≡ None
+EndsAtUidnext start =
+    (folder : List ℕ) (list : List Op) (uid : ℕ) → IsApplied list
+    → uidnext_of start folder list ≤ uid
+    → row_of uid (listing start folder list) ≡ None
 
 -- ---- which messages operations name
 
 -- Whether the operation names the message of this origin: it is about the folder, and removes or
 -- adds a version of the message. The function maps the id of a version to its origin.
 abbrev pub names_message : (OpId → Option OpId) → List ℕ → OpId → Op → Bool
-names_message origin_of folder origin op = kind_names_folder folder op.kind && (loses origin_of (removed_ids op.kind) origin || is_some_id origin (added_origin op))
+names_message origin_of folder origin op =
+    kind_names_folder folder op.kind
+    && (loses origin_of (removed_ids op.kind) origin || is_some_id origin (added_origin op))
 
 -- The new UIDs include the old ones and those of the entries that are named.
-pub record AddsUids (is_named : OpId → Bool) (entries : List ListingEntry) (old new : List ℕ) : Type 0 where
+pub record AddsUids (is_named : OpId → Bool) (entries : List ListingEntry) (old new : List ℕ) :
+    Type 0 where
   pub kept : (uid : ℕ) → IsIn uid old → IsIn uid new
-  pub named : AreApart entries → (e : ListingEntry) → IsIn e entries → is_named e.origin ≡ true → IsIn e.uid new
+  pub named : AreApart entries → (e : ListingEntry) → IsIn e entries → is_named e.origin ≡ true
+      → IsIn e.uid new

@@ -1,14 +1,16 @@
 -- Lines, UIDs and UIDNEXT (RFC 9051, section 2.3.1.1) and mod-sequences (RFC 7162, section 3.1), as
 -- counts over the applied list.
 
-use Rattle.std.specs.Prelude.{ℕ, ◌+◌, Bool, true, false, not, ◌&&◌, Option, None, Some, List, [], ◌∷◌, ◌++◌, length, reverse, if◌then◌else◌}
+use Rattle.std.specs.Prelude.{ℕ, ◌+◌, Bool, true, false, not, ◌&&◌, Option, None, Some, List, []}
+use Rattle.std.specs.Prelude.{◌∷◌, ◌++◌, length, reverse, if◌then◌else◌}
 use Rattle.std.specs.List.{list_any}
 use Rattle.std.specs.Option.{option_map, unwrap_or}
 use Rattle.std.specs.Str.{bytes_eq}
 use Rattle.imap_types.specs.Names.{inbox}
 use Rattle.tags_clocks.specs.declared.id.OpId.{OpId}
 use Rattle.crdt_ops.specs.declared.kind.Kind.{Kind}
-use Rattle.crdt_ops.specs.declared.kind.Kind.TheVariants.{Create, Delete, Append, Expunge, Store, Subscribe, Unsubscribe}
+use Rattle.crdt_ops.specs.declared.kind.Kind.TheVariants.{Create, Delete, Append, Expunge, Store}
+use Rattle.crdt_ops.specs.declared.kind.Kind.TheVariants.{Subscribe, Unsubscribe}
 use Rattle.crdt_ops.specs.declared.op.Op.{Op}
 use Rattle.crdt_ops.specs.SortedSets.{same_id}
 use Rattle.crdt_ops.specs.Sets.{tag_data_from, first_some, origins_of, versions_of}
@@ -29,7 +31,8 @@ has_version folder origin ops = list_any (same_id origin) (origins_of ops folder
 -- Whether a line of the origin begins with the operation: the origin has a version in the folder,
 -- and had none before.
 abbrev pub begins_line_of_origin : List ℕ → OpId → List Op → Op → Bool
-begins_line_of_origin folder origin front op = has_version folder origin (front ++ op ∷ []) && not (has_version folder origin front)
+begins_line_of_origin folder origin front op =
+    has_version folder origin (front ++ op ∷ []) && not (has_version folder origin front)
 
 -- The origin of the folder's message tag that the operation adds, if any.
 abbrev pub origin_added : List ℕ → Op → Option OpId
@@ -43,7 +46,8 @@ holds_of_some P (Some origin) = P origin
 -- Whether a line of the folder begins with the operation. An operation adds at most one message
 -- tag, so only a line of that tag's origin can begin.
 abbrev pub begins_line : List ℕ → List Op → Op → Bool
-begins_line folder front op = holds_of_some (λ origin. begins_line_of_origin folder origin front op) (origin_added folder op)
+begins_line folder front op =
+    holds_of_some (λ origin. begins_line_of_origin folder origin front op) (origin_added folder op)
 
 -- The last value that the function has in the list, if any.
 abbrev pub last_some : {X Y : Type 0} → (X → Option Y) → List X → Option Y
@@ -52,7 +56,11 @@ last_some f xs = first_some f (reverse xs)
 -- The number of operations before the one with which the origin's latest line begins. If the origin
 -- has a version at the list's end, that is its line there.
 abbrev pub line_start_of : List ℕ → List Op → OpId → ℕ
-line_start_of folder ops origin = unwrap_or (last_some (λ cut. if begins_line_of_origin folder origin cut.front cut.op then Some (length cut.front) else None) (splits_of ops)) 0
+line_start_of folder ops origin =
+    unwrap_or
+    (last_some
+    (λ cut. if begins_line_of_origin folder origin cut.front cut.op then Some (length cut.front)
+    else None) (splits_of ops)) 0
 
 -- The first UID of the folder's incarnations.
 abbrev pub first_uid : Counters → List ℕ → ℕ
@@ -61,11 +69,15 @@ first_uid start folder = if bytes_eq folder inbox then start.uid else 1
 -- The UID of the message of this origin: the first one, and one for each line of the incarnation
 -- that began before its own. Lines whose messages are gone still count.
 abbrev pub uid_of : Counters → List ℕ → List Op → OpId → ℕ
-uid_of start folder ops origin = first_uid start folder + count_since_up_to (line_start_of folder ops origin) (folder_exists folder) (begins_line folder) ops
+uid_of start folder ops origin =
+    first_uid start folder
+    + count_since_up_to (line_start_of folder ops origin) (folder_exists folder)
+    (begins_line folder) ops
 
 -- The UID of the incarnation's next line.
 abbrev pub uidnext_of : Counters → List ℕ → List Op → ℕ
-uidnext_of start folder ops = first_uid start folder + count_since (folder_exists folder) (begins_line folder) ops
+uidnext_of start folder ops =
+    first_uid start folder + count_since (folder_exists folder) (begins_line folder) ops
 
 -- ---- mod-sequences (RFC 7162, section 3.1)
 
@@ -91,16 +103,24 @@ same_ids (i ∷ is) (j ∷ js) = same_id i j && same_ids is js
 
 -- Whether the operation changes which versions of the origin the folder has.
 abbrev pub changes_versions : List ℕ → OpId → List Op → Op → Bool
-changes_versions folder origin front op = not (same_ids (versions_of front folder origin) (versions_of (front ++ op ∷ []) folder origin))
+changes_versions folder origin front op =
+    not (same_ids (versions_of front folder origin) (versions_of (front ++ op ∷ []) folder origin))
 
 -- The number of operations up to and including the latest one that changed the message's versions.
 abbrev pub last_change_of : List ℕ → List Op → OpId → ℕ
-last_change_of folder ops origin = unwrap_or (last_some (λ cut. if changes_versions folder origin cut.front cut.op then Some (length cut.front + 1) else None) (splits_of ops)) 0
+last_change_of folder ops origin =
+    unwrap_or
+    (last_some
+    (λ cut. if changes_versions folder origin cut.front cut.op then Some (length cut.front + 1)
+    else None) (splits_of ops)) 0
 
 -- The mod-sequence of the message of this origin: 1, and one for each operation about the folder
 -- from the beginning of its incarnation to the latest one that changed the message's versions.
 abbrev pub modseq_of : List ℕ → List Op → OpId → ℕ
-modseq_of folder ops origin = 1 + count_since_up_to (last_change_of folder ops origin) (folder_exists folder) (names_folder folder) ops
+modseq_of folder ops origin =
+    1
+    + count_since_up_to (last_change_of folder ops origin) (folder_exists folder)
+    (names_folder folder) ops
 
 -- HIGHESTMODSEQ: 1, and one for each operation about the folder from the beginning of its
 -- incarnation.

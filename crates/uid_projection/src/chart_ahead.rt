@@ -1,6 +1,7 @@
 //! `ChartAhead`: a folder's entries after pending operations, laid over its stored entries.
 
-ghost use Rattle.std.specs.Prelude.{◌≡◌, ◌⊎◌, ◌<◌, ◌+◌, ◌-◌, ℕ, List, [], ◌∷◌, ◌++◌, true, false, ◌||◌, if◌then◌else◌, IfOk, OnOk, length, get_or, option_copied};
+ghost use Rattle.std.specs.Prelude.{◌≡◌, ◌⊎◌, ◌<◌, ◌+◌, ◌-◌, ℕ, List, [], ◌∷◌, ◌++◌, true, false};
+ghost use Rattle.std.specs.Prelude.{◌||◌, if◌then◌else◌, IfOk, OnOk, length, get_or, option_copied};
 ghost use Rattle.std.specs.List.{list_any};
 ghost use Rattle.tags_clocks.specs.declared.id.OpId.{OpId};
 ghost use Rattle.mailbox_rows.specs.declared.entry.ListingEntry.{ListingEntry};
@@ -15,7 +16,8 @@ ghost use Rattle.uid_projection.specs.Chart.{IsChart};
 ghost use Rattle.uid_projection.specs.declared.first_numbers.Counters.{Counters};
 ghost use Rattle.uid_projection.specs.Incarnations.{folder_exists};
 ghost use Rattle.uid_projection.specs.UidsAndModSeqs.{kind_names_folder, has_version};
-ghost use Rattle.uid_projection.specs.EntryMoves.{AreApart, IsNext, has_entry, loses, moved_entries, with_line};
+ghost use Rattle.uid_projection.specs.EntryMoves.{AreApart, IsNext, has_entry, loses};
+ghost use Rattle.uid_projection.specs.EntryMoves.{moved_entries, with_line};
 ghost use Rattle.uid_projection.specs.ChartTable.{IsTable, chart_at};
 
 use crate::chart::Chart;
@@ -48,7 +50,11 @@ pub fn kept_ahead<'a>(
     charts: &'a Charts,
     folder: &Name,
 ) -> Result<ChartAhead<'a>, AllocError>
-    ensures { (list : List Op) (k : ℕ) → IsTable charts.now.start list k charts.now.charts.entries → charts.now.nothing.entries ≡ [] → IfOk result (λ c. IsChart charts.now.start folder.now list c.uidnext c.highest c.entries.entries) }
+    ensures { (list : List Op) (k : ℕ)
+        → IsTable charts.now.start list k charts.now.charts.entries
+        → charts.now.nothing.entries ≡ []
+        → IfOk result
+        (λ c. IsChart charts.now.start folder.now list c.uidnext c.highest c.entries.entries) }
 {
     ahead_by(alloc, charts, folder, chart_of(&charts.charts, folder))
 }
@@ -61,7 +67,12 @@ pub fn ahead_by<'a>(
     folder: &Name,
     chart: Option<&'a Chart>,
 ) -> Result<ChartAhead<'a>, AllocError>
-    ensures { (list : List Op) (k : ℕ) → IsTable charts.now.start list k charts.now.charts.entries → option_copied chart.entry ≡ chart_at folder.now charts.now.charts.entries → charts.now.nothing.entries ≡ [] → IfOk result (λ c. IsChart charts.now.start folder.now list c.uidnext c.highest c.entries.entries) }
+    ensures { (list : List Op) (k : ℕ)
+        → IsTable charts.now.start list k charts.now.charts.entries
+        → option_copied chart.entry ≡ chart_at folder.now charts.now.charts.entries
+        → charts.now.nothing.entries ≡ []
+        → IfOk result
+        (λ c. IsChart charts.now.start folder.now list c.uidnext c.highest c.entries.entries) }
 {
     match chart {
         Some(chart) => Ok(ChartAhead {
@@ -79,7 +90,8 @@ fn absent_chart_ahead<'a>(
     first: u32,
     nothing: &'a EntryTable,
 ) -> Result<ChartAhead<'a>, AllocError>
-    ensures { IfOk result (λ c. (c.uidnext ≡ first) × (c.highest ≡ 1) × (c.entries.entries ≡ nothing.now.entries)) }
+    ensures { IfOk result
+        (λ c. (c.uidnext ≡ first) × (c.highest ≡ 1) × (c.entries.entries ≡ nothing.now.entries)) }
 {
     Ok(ChartAhead {
         uidnext: first,
@@ -101,8 +113,15 @@ pub fn advance_over<'a>(
     ops: &'a [SoundOp],
 ) -> Result<(), AllocError>
     ensures folder { folder_of ahead.new ≡ folder_of ahead.old }
-    ensures ahead { OnOk result ((c : Contents) → IsAhead c ahead.old → IsAhead (after c ops.now) ahead.new) }
-    ensures shows { OnOk result ((list : List Op) (c : Contents) → IsNextAhead charts.now.start folder.now charts.now.nothing.entries c list ops.now ahead.old → IsChart charts.now.start folder.now list chart.old.uidnext chart.old.highest chart.old.entries.entries → IsChart charts.now.start folder.now (list ++ ops.now) chart.new.uidnext chart.new.highest chart.new.entries.entries) }
+    ensures ahead { OnOk result
+        ((c : Contents) → IsAhead c ahead.old → IsAhead (after c ops.now) ahead.new) }
+    ensures shows { OnOk result ((list : List Op) (c : Contents)
+        → IsNextAhead charts.now.start folder.now charts.now.nothing.entries c list ops.now
+        ahead.old
+        → IsChart charts.now.start folder.now list chart.old.uidnext chart.old.highest
+        chart.old.entries.entries
+        → IsChart charts.now.start folder.now (list ++ ops.now) chart.new.uidnext chart.new.highest
+        chart.new.entries.entries) }
 {
     for op in ops {
         advance_over_one(alloc, chart, ahead, charts, folder, op)?;
@@ -120,8 +139,15 @@ fn advance_over_one<'a>(
     op: &'a SoundOp,
 ) -> Result<(), AllocError>
     ensures folder { folder_of ahead.new ≡ folder_of ahead.old }
-    ensures ahead { OnOk result ((c : Contents) → IsAhead c ahead.old → IsAhead (effect_of c op.now) ahead.new) }
-    ensures shows { OnOk result ((list : List Op) (c : Contents) → IsNextAhead charts.now.start folder.now charts.now.nothing.entries c list (op.now ∷ []) ahead.old → IsChart charts.now.start folder.now list chart.old.uidnext chart.old.highest chart.old.entries.entries → IsChart charts.now.start folder.now (list ++ op.now ∷ []) chart.new.uidnext chart.new.highest chart.new.entries.entries) }
+    ensures ahead { OnOk result
+        ((c : Contents) → IsAhead c ahead.old → IsAhead (effect_of c op.now) ahead.new) }
+    ensures shows { OnOk result ((list : List Op) (c : Contents)
+        → IsNextAhead charts.now.start folder.now charts.now.nothing.entries c list (op.now ∷ [])
+        ahead.old
+        → IsChart charts.now.start folder.now list chart.old.uidnext chart.old.highest
+        chart.old.entries.entries
+        → IsChart charts.now.start folder.now (list ++ op.now ∷ []) chart.new.uidnext
+        chart.new.highest chart.new.entries.entries) }
 {
     if !is_about(&op.op().kind, folder) {
         return ahead.step(alloc, op);
@@ -141,7 +167,9 @@ fn origins_lost(
     ahead: &FolderAhead<'_>,
     removed: &[OpId],
 ) -> Result<Vec<OpId>, AllocError>
-    ensures { IfOk result (λ lost. (c : Contents) → IsAhead c ahead.now → (g : OpId) → list_any (same_id g) lost.items ≡ loses (origin_in c (folder_of ahead.now)) removed.now g) }
+    ensures { IfOk result (λ lost. (c : Contents) → IsAhead c ahead.now → (g : OpId)
+        → list_any (same_id g) lost.items
+        ≡ loses (origin_in c (folder_of ahead.now)) removed.now g) }
 {
     let mut lost = Vec::new(alloc);
     for id in removed {
@@ -152,7 +180,9 @@ fn origins_lost(
 
 /// Appends the origin, if there is one, to `lost`.
 fn push_origin(lost: &mut Vec<OpId>, origin: Option<OpId>) -> Result<(), AllocError>
-    ensures { OnOk result ((g : OpId) → list_any (same_id g) lost.new.items ≡ (list_any (same_id g) lost.old.items || is_some_id g origin)) }
+    ensures { OnOk result ((g : OpId)
+        → list_any (same_id g) lost.new.items
+        ≡ (list_any (same_id g) lost.old.items || is_some_id g origin)) }
 {
     match origin {
         Some(origin) => {
@@ -176,7 +206,13 @@ fn advance(
     lost: &[OpId],
     op: &Op,
 ) -> Result<(), AllocError>
-    ensures { OnOk result ((start : Counters) (list : List Op) (c : Contents) → folder_exists (folder_of ahead.now) (list ++ op.now ∷ []) ≡ true → AdvancesAhead c list op.now (λ g. list_any (same_id g) lost.now) ahead.now → IsChart start (folder_of ahead.now) list chart.old.uidnext chart.old.highest chart.old.entries.entries → IsChart start (folder_of ahead.now) (list ++ op.now ∷ []) chart.new.uidnext chart.new.highest chart.new.entries.entries) }
+    ensures { OnOk result ((start : Counters) (list : List Op) (c : Contents)
+        → folder_exists (folder_of ahead.now) (list ++ op.now ∷ []) ≡ true
+        → AdvancesAhead c list op.now (λ g. list_any (same_id g) lost.now) ahead.now
+        → IsChart start (folder_of ahead.now) list chart.old.uidnext chart.old.highest
+        chart.old.entries.entries
+        → IsChart start (folder_of ahead.now) (list ++ op.now ∷ []) chart.new.uidnext
+        chart.new.highest chart.new.entries.entries) }
 {
     if chart.highest == u64::MAX {
         return Err(AllocError);
@@ -198,7 +234,11 @@ fn lose(
     lost: &[OpId],
     modseq: u64,
 ) -> Result<usize, AllocError>
-    ensures { OnOk result ((list : List Op) (c : Contents) → IsAhead c ahead.now → IsMadeBy c list → AreApart entries.old.entries → entries.new.entries ≡ moved_entries (λ g. list_any (same_id g) lost.now) (λ g. has_version (folder_of ahead.now) g list) modseq entries.old.entries) }
+    ensures { OnOk result ((list : List Op) (c : Contents) → IsAhead c ahead.now → IsMadeBy c list
+        → AreApart entries.old.entries
+        → entries.new.entries
+        ≡ moved_entries (λ g. list_any (same_id g) lost.now)
+        (λ g. has_version (folder_of ahead.now) g list) modseq entries.old.entries) }
 {
     let mut near = 0;
     for origin in lost {
@@ -210,7 +250,8 @@ fn lose(
 
 /// Whether the origin has a version in the folder.
 fn has_version(ahead: &FolderAhead<'_>, origin: &OpId) -> bool
-    ensures { (list : List Op) (c : Contents) → IsAhead c ahead.now → IsMadeBy c list → result ≡ has_version (folder_of ahead.now) origin.now list }
+    ensures { (list : List Op) (c : Contents) → IsAhead c ahead.now → IsMadeBy c list
+        → result ≡ has_version (folder_of ahead.now) origin.now list }
 {
     ahead.has_version(origin)
 }
@@ -219,9 +260,13 @@ fn has_version(ahead: &FolderAhead<'_>, origin: &OpId) -> bool
 /// one with the next UID, after the others. `near` is a guess at the place of its entry. `Err` if
 /// memory runs out.
 fn add(chart: &mut ChartAhead<'_>, origin: &OpId, near: usize) -> Result<(), AllocError>
-    ensures uidnext { OnOk result (chart.new.uidnext ≡ (if has_entry chart.old.entries.entries origin.now then chart.old.uidnext else chart.old.uidnext + 1)) }
+    ensures uidnext { OnOk result (chart.new.uidnext
+        ≡ (if has_entry chart.old.entries.entries origin.now then chart.old.uidnext
+        else chart.old.uidnext + 1)) }
     ensures highest { chart.new.highest ≡ chart.old.highest }
-    ensures entries { OnOk result (AreApart chart.old.entries.entries → chart.new.entries.entries ≡ with_line origin.now chart.old.uidnext chart.old.highest chart.old.entries.entries) }
+    ensures entries { OnOk result (AreApart chart.old.entries.entries
+        → chart.new.entries.entries
+        ≡ with_line origin.now chart.old.uidnext chart.old.highest chart.old.entries.entries) }
 {
     chart.entries.reserve(1)?;
     if renew(&mut chart.entries, origin, near, chart.highest) {
@@ -248,7 +293,10 @@ fn can_follow(entries: &EntryOverlay<'_>, uid: u32) -> bool
 
 /// Whether the last entry's UID is below this one, or there is no entry.
 fn is_last_below(entries: &EntryOverlay<'_>, uid: u32) -> bool
-    ensures { result ≡ true → (length entries.now.entries ≡ 0) ⊎ ((e : ListingEntry) → (get_or entries.now.entries (length entries.now.entries - 1) e).uid < uid) }
+    ensures { result ≡ true
+        → (length entries.now.entries ≡ 0)
+        ⊎ ((e : ListingEntry)
+        → (get_or entries.now.entries (length entries.now.entries - 1) e).uid < uid) }
 {
     let count = entries.len();
     if count == 0 {

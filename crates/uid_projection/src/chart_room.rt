@@ -28,8 +28,12 @@ pub fn make_rooms(
     charts: &mut IndexMap<Vec<u8>, Chart>,
     ops: &[SoundOp],
 ) -> Result<(), AllocError>
-    ensures table { (list : List Op) (k : ℕ) → IsTable start.now list k charts.old.entries → IsTable start.now list k charts.new.entries }
-    ensures ok { OnOk result ((o : Op) → IsIn o ops.now → kind_names_folder (name_of o.kind) o.kind ≡ true → HasRooms (added_origin o) (length ops.now) (name_of o.kind) charts.new.entries) }
+    ensures table { (list : List Op) (k : ℕ)
+        → IsTable start.now list k charts.old.entries
+        → IsTable start.now list k charts.new.entries }
+    ensures ok { OnOk result ((o : Op) → IsIn o ops.now
+        → kind_names_folder (name_of o.kind) o.kind ≡ true
+        → HasRooms (added_origin o) (length ops.now) (name_of o.kind) charts.new.entries) }
 {
     for op in ops {
         room_for(alloc, start, charts, op.op(), ops.len())?;
@@ -45,9 +49,14 @@ fn room_for(
     op: &Op,
     more: usize,
 ) -> Result<(), AllocError>
-    ensures table { (list : List Op) (k : ℕ) → IsTable start.now list k charts.old.entries → IsTable start.now list k charts.new.entries }
-    ensures rooms { (g : Option OpId) (n : ℕ) (f : List ℕ) → HasRooms g n f charts.old.entries → HasRooms g n f charts.new.entries }
-    ensures ok { OnOk result (kind_names_folder (name_of op.now.kind) op.now.kind ≡ true → HasRooms (added_origin op.now) more (name_of op.now.kind) charts.new.entries) }
+    ensures table { (list : List Op) (k : ℕ)
+        → IsTable start.now list k charts.old.entries
+        → IsTable start.now list k charts.new.entries }
+    ensures rooms { (g : Option OpId) (n : ℕ) (f : List ℕ)
+        → HasRooms g n f charts.old.entries
+        → HasRooms g n f charts.new.entries }
+    ensures ok { OnOk result (kind_names_folder (name_of op.now.kind) op.now.kind ≡ true
+        → HasRooms (added_origin op.now) more (name_of op.now.kind) charts.new.entries) }
 {
     if names_folder(&op.kind) {
         make_room(
@@ -88,8 +97,12 @@ fn make_room(
     origin: &Option<OpId>,
     more: usize,
 ) -> Result<(), AllocError>
-    ensures table { (list : List Op) (k : ℕ) → IsTable start.now list k charts.old.entries → IsTable start.now list k charts.new.entries }
-    ensures rooms { (g : Option OpId) (n : ℕ) (f : List ℕ) → HasRooms g n f charts.old.entries → HasRooms g n f charts.new.entries }
+    ensures table { (list : List Op) (k : ℕ)
+        → IsTable start.now list k charts.old.entries
+        → IsTable start.now list k charts.new.entries }
+    ensures rooms { (g : Option OpId) (n : ℕ) (f : List ℕ)
+        → HasRooms g n f charts.old.entries
+        → HasRooms g n f charts.new.entries }
     ensures ok { OnOk result (HasRooms origin.now more folder.now charts.new.entries) }
 {
     match charts.get_mut(folder.as_bytes()) {
@@ -108,8 +121,12 @@ fn put_chart(
     more: usize,
 ) -> Result<(), AllocError>
     requires { chart_at folder.now charts.old.entries ≡ None }
-    ensures table { (list : List Op) (k : ℕ) → IsTable start.now list k charts.old.entries → IsTable start.now list k charts.new.entries }
-    ensures rooms { (g : Option OpId) (n : ℕ) (f : List ℕ) → HasRooms g n f charts.old.entries → HasRooms g n f charts.new.entries }
+    ensures table { (list : List Op) (k : ℕ)
+        → IsTable start.now list k charts.old.entries
+        → IsTable start.now list k charts.new.entries }
+    ensures rooms { (g : Option OpId) (n : ℕ) (f : List ℕ)
+        → HasRooms g n f charts.old.entries
+        → HasRooms g n f charts.new.entries }
     ensures ok { OnOk result (HasRooms origin.now more folder.now charts.new.entries) }
 {
     let mut chart = absent_chart(alloc, first_of(start, folder));

@@ -26,7 +26,10 @@ pub fn row_with<'a>(
     folder: &Name,
     uid: u32,
 ) -> Option<Row<'a>>
-    ensures { (start : Counters) (list : List Op) (u h : ℕ) → IsMadeBy (contents_of value.now) list → IsChart start folder.now list u h entries.now.entries → option_map listed_message result ≡ row_of uid (listing start folder.now list) }
+    ensures { (start : Counters) (list : List Op) (u h : ℕ)
+        → IsMadeBy (contents_of value.now) list
+        → IsChart start folder.now list u h entries.now.entries
+        → option_map listed_message result ≡ row_of uid (listing start folder.now list) }
 {
     match entry_with(entries, uid) {
         Some(entry) => value.mailbox(folder).row(&entry),
@@ -47,7 +50,9 @@ fn entry_with(entries: &EntryTable, uid: u32) -> Option<ListingEntry>
 /// The place of the first entry whose UID isn't below this one, or the number of entries.
 fn first_from(entries: &EntryTable, uid: u32) -> usize
     ensures within { result ≤ length entries.now.entries }
-    ensures edge { (d : ListingEntry) → IsEdge (λ i. ltb (get_or entries.now.entries i d).uid uid) (length entries.now.entries) result }
+    ensures edge { (d : ListingEntry)
+        → IsEdge (λ i. ltb (get_or entries.now.entries i d).uid uid) (length entries.now.entries)
+        result }
 {
     let mut low = 0;
     let mut high = entries.len();

@@ -27,14 +27,19 @@ pub fn chart_of<'a>(charts: &'a IndexMap<Vec<u8>, Chart>, folder: &Name) -> Opti
 
 /// The UID of the folder's next line. Takes no memory. Cost: a look-up.
 pub fn uidnext_in(start: &Counters, charts: &IndexMap<Vec<u8>, Chart>, folder: &Name) -> u32
-    ensures { (list : List Op) (k : ℕ) → IsTable start.now list k charts.now.entries → result ≡ uidnext_of start.now folder.now list }
+    ensures { (list : List Op) (k : ℕ)
+        → IsTable start.now list k charts.now.entries
+        → result ≡ uidnext_of start.now folder.now list }
 {
     uidnext_by(start, folder, chart_of(charts, folder))
 }
 
 /// The UID of the next line of a folder with this chart, or without one.
 pub fn uidnext_by(start: &Counters, folder: &Name, chart: Option<&Chart>) -> u32
-    ensures { (list : List Op) (k : ℕ) (charts : List (Bytes ℕ × Chart)) → IsTable start.now list k charts → option_copied chart.entry ≡ chart_at folder.now charts → result ≡ uidnext_of start.now folder.now list }
+    ensures { (list : List Op) (k : ℕ) (charts : List (Bytes ℕ × Chart))
+        → IsTable start.now list k charts
+        → option_copied chart.entry ≡ chart_at folder.now charts
+        → result ≡ uidnext_of start.now folder.now list }
 {
     match chart {
         Some(chart) => chart.uidnext,
@@ -51,11 +56,16 @@ pub fn note_on(
     value: &Folders,
     op: &Op,
 )
-    requires next { (list : List Op) × IsNextOn start.now next_k.old charts.old.entries (contents_of value.now) list op.now }
+    requires next { (list : List Op)
+        × IsNextOn start.now next_k.old charts.old.entries (contents_of value.now) list op.now }
     requires rooms { HasRooms (added_origin op.now) 1 (name_of op.now.kind) charts.old.entries }
     requires kind { kind_names_folder (name_of op.now.kind) op.now.kind ≡ true }
-    ensures next { (list : List Op) → IsNextOn start.now next_k.old charts.old.entries (contents_of value.now) list op.now → IsTable start.now (list ++ op.now ∷ []) next_k.new charts.new.entries }
-    ensures rooms { (origin : Option OpId) (n : ℕ) (folder : List ℕ) → HasRooms origin (n + 1) folder charts.old.entries → HasRooms origin n folder charts.new.entries }
+    ensures next { (list : List Op)
+        → IsNextOn start.now next_k.old charts.old.entries (contents_of value.now) list op.now
+        → IsTable start.now (list ++ op.now ∷ []) next_k.new charts.new.entries }
+    ensures rooms { (origin : Option OpId) (n : ℕ) (folder : List ℕ)
+        → HasRooms origin (n + 1) folder charts.old.entries
+        → HasRooms origin n folder charts.new.entries }
 {
     match charts.get_mut(op.kind.name().as_bytes()) {
         Some(chart) => step(chart, start, next_k, value, op),

@@ -1,8 +1,10 @@
 //! How an operation changes a folder's entries, whether in their table or in an overlay on it.
 
-ghost use Rattle.std.specs.Prelude.{◌≡◌, ◌<◌, ◌+◌, ℕ, [], ◌∷◌, ◌++◌, true, false, Some, MatchOption, length, get_or, set, remove};
+ghost use Rattle.std.specs.Prelude.{◌≡◌, ◌<◌, ◌+◌, ℕ, [], ◌∷◌, ◌++◌, true, false, Some};
+ghost use Rattle.std.specs.Prelude.{MatchOption, length, get_or, set, remove};
 ghost use Rattle.mailbox_rows.specs.declared.entry.ListingEntry.{ListingEntry};
-ghost use Rattle.uid_projection.specs.EntryMoves.{AreApart, IsNext, added_origin, has_entry, moved_entries, with_modseq};
+ghost use Rattle.uid_projection.specs.EntryMoves.{AreApart, IsNext, added_origin, has_entry};
+ghost use Rattle.uid_projection.specs.EntryMoves.{moved_entries, with_modseq};
 ghost use Rattle.crdt_ops.specs.SortedSets.{same_id};
 ghost use Rattle.mailbox_rows.specs.ListingEntries.{IsAt, Lacks};
 
@@ -28,7 +30,8 @@ pub fn added_origin(op: &Op) -> Option<OpId>
 /// The place of the entry with this origin. `near` is a guess: if it is right, no search is
 /// made.
 pub fn place_by<L: EntryList>(entries: &L, origin: &OpId, near: usize) -> Option<usize>
-    ensures { MatchOption result (Lacks origin.now (L.entries entries.now)) (IsAt origin.now (L.entries entries.now)) }
+    ensures { MatchOption result (Lacks origin.now (L.entries entries.now))
+        (IsAt origin.now (L.entries entries.now)) }
 {
     if is_of(entries.get(near), origin) {
         return Some(near);
@@ -50,7 +53,9 @@ fn is_of(entry: Option<ListingEntry>, origin: &OpId) -> bool
 /// otherwise. Returns the place where the entry is or was, or 0 if there is none.
 pub fn settle<L: EntryList>(entries: &mut L, origin: &OpId, stays: bool, modseq: u64) -> usize
     requires { L.has_edits entries.old 1 }
-    ensures entries { AreApart (L.entries entries.old) → L.entries entries.new ≡ moved_entries (λ g. same_id g origin.now) (λ g. stays) modseq (L.entries entries.old) }
+    ensures entries { AreApart (L.entries entries.old)
+        → L.entries entries.new
+        ≡ moved_entries (λ g. same_id g origin.now) (λ g. stays) modseq (L.entries entries.old) }
     ensures room { (n : ℕ) → L.has_room entries.old n → L.has_room entries.new n }
 {
     match entries.place_of(origin) {
@@ -67,7 +72,9 @@ pub fn settle<L: EntryList>(entries: &mut L, origin: &OpId, stays: bool, modseq:
 pub fn renew<L: EntryList>(entries: &mut L, origin: &OpId, near: usize, modseq: u64) -> bool
     requires { L.has_edits entries.old 1 }
     ensures held { result ≡ has_entry (L.entries entries.old) origin.now }
-    ensures entries { AreApart (L.entries entries.old) → L.entries entries.new ≡ moved_entries (λ g. same_id g origin.now) (λ g. true) modseq (L.entries entries.old) }
+    ensures entries { AreApart (L.entries entries.old)
+        → L.entries entries.new
+        ≡ moved_entries (λ g. same_id g origin.now) (λ g. true) modseq (L.entries entries.old) }
     ensures same { result ≡ false → entries.new ≡ entries.old }
     ensures room { (n : ℕ) → L.has_room entries.old n → L.has_room entries.new n }
 {
@@ -84,7 +91,10 @@ pub fn renew<L: EntryList>(entries: &mut L, origin: &OpId, near: usize, modseq: 
 fn settle_at<L: EntryList>(entries: &mut L, place: usize, stays: bool, modseq: u64)
     requires within { place < length (L.entries entries.old) }
     requires edits { L.has_edits entries.old 1 }
-    ensures stays { stays ≡ true → (e : ListingEntry) → L.entries entries.new ≡ set (L.entries entries.old) place (with_modseq modseq (get_or (L.entries entries.old) place e)) }
+    ensures stays { stays ≡ true → (e : ListingEntry)
+        → L.entries entries.new
+        ≡ set (L.entries entries.old) place
+        (with_modseq modseq (get_or (L.entries entries.old) place e)) }
     ensures goes { stays ≡ false → L.entries entries.new ≡ remove (L.entries entries.old) place }
     ensures room { (n : ℕ) → L.has_room entries.old n → L.has_room entries.new n }
 {
@@ -101,7 +111,8 @@ pub fn begin_line<L: EntryList>(entries: &mut L, origin: &OpId, uid: u32, modseq
     requires room { L.has_room entries.old 1 }
     requires fresh { has_entry (L.entries entries.old) origin.now ≡ false }
     requires next { IsNext uid (L.entries entries.old) }
-    ensures entries { L.entries entries.new ≡ L.entries entries.old ++ record { origin = origin.now; uid = uid; modseq = modseq } ∷ [] }
+    ensures entries { L.entries entries.new
+        ≡ L.entries entries.old ++ record { origin = origin.now; uid = uid; modseq = modseq } ∷ [] }
     ensures room { (n : ℕ) → L.has_room entries.old (n + 1) → L.has_room entries.new n }
 {
     entries.put(ListingEntry {

@@ -1,7 +1,8 @@
 //! Tests whether operations that are applied next need a number that a counter lacks. Nothing here
 //! takes memory.
 
-ghost use Rattle.std.specs.Prelude.{◌≡◌, ◌↔◌, ◌≤◌, ◌<◌, ◌+◌, ◌-◌, ◌&&◌, not, ℕ, List, [], ◌∷◌, ◌++◌, nat_le, if◌then◌else◌, IsTrue};
+ghost use Rattle.std.specs.Prelude.{◌≡◌, ◌↔◌, ◌≤◌, ◌<◌, ◌+◌, ◌-◌, ◌&&◌, not, ℕ, List, [], ◌∷◌};
+ghost use Rattle.std.specs.Prelude.{◌++◌, nat_le, if◌then◌else◌, IsTrue};
 ghost use Rattle.std.specs.Str.{bytes_eq};
 ghost use Rattle.crdt_ops.specs.declared.op.Op.{Op};
 ghost use Rattle.folder_state.specs.Contents.{IsMadeBy};
@@ -11,7 +12,8 @@ ghost use Rattle.uid_projection.specs.Applied.{IsApplied};
 ghost use Rattle.uid_projection.specs.Exhaustion.{Exhausts, LacksK, LacksUid};
 ghost use Rattle.uid_projection.specs.Counting.{count_all};
 ghost use Rattle.uid_projection.specs.Incarnations.{begins_incarnation};
-ghost use Rattle.uid_projection.specs.UidsAndModSeqs.{begins_line, first_uid, has_version, uidnext_of};
+ghost use Rattle.uid_projection.specs.UidsAndModSeqs.{begins_line, first_uid, has_version};
+ghost use Rattle.uid_projection.specs.UidsAndModSeqs.{uidnext_of};
 ghost use Rattle.uid_projection.specs.ChartTable.{IsTable};
 
 use crate::chart::Chart;
@@ -34,7 +36,11 @@ pub fn are_exhausting(
     value: &Folders,
     ops: &[SoundOp],
 ) -> bool
-    ensures { (list : List Op) → IsApplied (list ++ ops.now) → IsTable start.now list next_k charts.now.entries → IsMadeBy (contents_of value.now) list → IsTrue result ↔ Exhausts start.now list ops.now }
+    ensures { (list : List Op)
+        → IsApplied (list ++ ops.now)
+        → IsTable start.now list next_k charts.now.entries
+        → IsMadeBy (contents_of value.now) list
+        → IsTrue result ↔ Exhausts start.now list ops.now }
 {
     for at in 0..ops.len() {
         let op = ops[at].op();
@@ -55,7 +61,11 @@ fn lacks_uid(
     front: &[SoundOp],
     op: &Op,
 ) -> bool
-    ensures { (list : List Op) (k : ℕ) → IsApplied ((list ++ front.now) ++ op.now ∷ []) → IsTable start.now list k charts.now.entries → IsMadeBy (contents_of value.now) list → IsTrue result ↔ LacksUid start.now (list ++ front.now) op.now }
+    ensures { (list : List Op) (k : ℕ)
+        → IsApplied ((list ++ front.now) ++ op.now ∷ [])
+        → IsTable start.now list k charts.now.entries
+        → IsMadeBy (contents_of value.now) list
+        → IsTrue result ↔ LacksUid start.now (list ++ front.now) op.now }
 {
     let folder = op.kind.name();
     let first = first_of(start, folder);
@@ -76,7 +86,10 @@ fn is_near(uid: u32, more: usize) -> bool
 
 /// Whether a line of the folder begins with the operation, applied after those of `front`.
 fn begins_line(value: &Folders, folder: &Name, front: &[SoundOp], op: &Op) -> bool
-    ensures { (list : List Op) → IsApplied ((list ++ front.now) ++ op.now ∷ []) → IsMadeBy (contents_of value.now) list → result ≡ begins_line folder.now (list ++ front.now) op.now }
+    ensures { (list : List Op)
+        → IsApplied ((list ++ front.now) ++ op.now ∷ [])
+        → IsMadeBy (contents_of value.now) list
+        → result ≡ begins_line folder.now (list ++ front.now) op.now }
 {
     match &op.kind {
         Kind::Append { folder: own, .. } => is_same_name(folder, own),
@@ -95,7 +108,12 @@ fn begins_line(value: &Folders, folder: &Name, front: &[SoundOp], op: &Op) -> bo
 
 /// Whether both names are the same and the origin has no version in that folder after `front`.
 fn begins_anew(value: &Folders, folder: &Name, own: &Name, origin: &OpId, front: &[SoundOp]) -> bool
-    ensures { (list : List Op) → IsApplied (list ++ front.now) → IsMadeBy (contents_of value.now) list → result ≡ (bytes_eq folder.now own.now && not (has_version folder.now origin.now (list ++ front.now))) }
+    ensures { (list : List Op)
+        → IsApplied (list ++ front.now)
+        → IsMadeBy (contents_of value.now) list
+        → result
+        ≡ (bytes_eq folder.now own.now
+        && not (has_version folder.now origin.now (list ++ front.now))) }
 {
     if !is_same_name(folder, own) {
         return false;
@@ -105,7 +123,10 @@ fn begins_anew(value: &Folders, folder: &Name, own: &Name, origin: &OpId, front:
 
 /// Whether the origin has a version in the folder after the operations of `front`.
 fn has_version(value: &Folders, folder: &Name, origin: &OpId, front: &[SoundOp]) -> bool
-    ensures { (list : List Op) → IsApplied (list ++ front.now) → IsMadeBy (contents_of value.now) list → result ≡ has_version folder.now origin.now (list ++ front.now) }
+    ensures { (list : List Op)
+        → IsApplied (list ++ front.now)
+        → IsMadeBy (contents_of value.now) list
+        → result ≡ has_version folder.now origin.now (list ++ front.now) }
 {
     value.has_version_after(folder, origin, front)
 }
@@ -119,7 +140,12 @@ pub fn is_same_name(folder: &Name, other: &Name) -> bool
 
 /// The UID of the folder's next line after these operations, if it is `now` before them.
 pub fn uid_after(value: &Folders, folder: &Name, first: u32, now: u32, ops: &[SoundOp]) -> u64
-    ensures { (start : Counters) (list : List Op) → IsApplied (list ++ ops.now) → IsMadeBy (contents_of value.now) list → first ≡ first_uid start folder.now → now ≡ uidnext_of start folder.now list → result ≡ uidnext_of start folder.now (list ++ ops.now) }
+    ensures { (start : Counters) (list : List Op)
+        → IsApplied (list ++ ops.now)
+        → IsMadeBy (contents_of value.now) list
+        → first ≡ first_uid start folder.now
+        → now ≡ uidnext_of start folder.now list
+        → result ≡ uidnext_of start folder.now (list ++ ops.now) }
 {
     let mut uid = u64::from(now);
     for at in 0..ops.len() {
@@ -143,7 +169,12 @@ fn uid_after_op(there: bool, begun: bool, first: u32, uid: u64) -> u64
 
 /// Whether an incarnation begins with the operation and its k is above 65,535.
 fn lacks_k(next_k: u32, value: &Folders, front: &[SoundOp], through: &[SoundOp], op: &Op) -> bool
-    ensures { (start : Counters) (list : List Op) → through.now ≡ front.now ++ op.now ∷ [] → IsApplied (list ++ through.now) → IsMadeBy (contents_of value.now) list → next_k ≡ start.k + count_all begins_incarnation list → IsTrue result ↔ LacksK start (list ++ front.now) op.now }
+    ensures { (start : Counters) (list : List Op)
+        → through.now ≡ front.now ++ op.now ∷ []
+        → IsApplied (list ++ through.now)
+        → IsMadeBy (contents_of value.now) list
+        → next_k ≡ start.k + count_all begins_incarnation list
+        → IsTrue result ↔ LacksK start (list ++ front.now) op.now }
 {
     if next_k <= 65_535 && front.len() <= (65_535 - next_k) as usize {
         return false;
@@ -154,7 +185,11 @@ fn lacks_k(next_k: u32, value: &Folders, front: &[SoundOp], through: &[SoundOp],
 /// Whether an incarnation begins with the operation. `through` holds the operations of `front` and
 /// this one.
 pub fn begins(value: &Folders, front: &[SoundOp], through: &[SoundOp], op: &Op) -> bool
-    ensures { (list : List Op) → through.now ≡ front.now ++ op.now ∷ [] → IsApplied (list ++ through.now) → IsMadeBy (contents_of value.now) list → result ≡ begins_incarnation (list ++ front.now) op.now }
+    ensures { (list : List Op)
+        → through.now ≡ front.now ++ op.now ∷ []
+        → IsApplied (list ++ through.now)
+        → IsMadeBy (contents_of value.now) list
+        → result ≡ begins_incarnation (list ++ front.now) op.now }
 {
     let folder = op.kind.name();
     value.exists_after(folder, through) && !value.exists_after(folder, front)
@@ -162,7 +197,11 @@ pub fn begins(value: &Folders, front: &[SoundOp], through: &[SoundOp], op: &Op) 
 
 /// The k of the next incarnation that begins after these operations, if it is `now` before them.
 fn k_after(now: u32, value: &Folders, ops: &[SoundOp]) -> u64
-    ensures { (start : Counters) (list : List Op) → IsApplied (list ++ ops.now) → IsMadeBy (contents_of value.now) list → now ≡ start.k + count_all begins_incarnation list → result ≡ start.k + count_all begins_incarnation (list ++ ops.now) }
+    ensures { (start : Counters) (list : List Op)
+        → IsApplied (list ++ ops.now)
+        → IsMadeBy (contents_of value.now) list
+        → now ≡ start.k + count_all begins_incarnation list
+        → result ≡ start.k + count_all begins_incarnation (list ++ ops.now) }
 {
     let mut k = u64::from(now);
     for at in 0..ops.len() {

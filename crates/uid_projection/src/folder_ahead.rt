@@ -1,6 +1,7 @@
 //! `FolderAhead`: one folder after pending operations.
 
-ghost use Rattle.std.specs.Prelude.{◌≡◌, ◌↔◌, ◌&&◌, ◌||◌, not, None, Some, true, if◌then◌else◌, IfOk, OnOk, IsTrue};
+ghost use Rattle.std.specs.Prelude.{◌≡◌, ◌↔◌, ◌&&◌, ◌||◌, not, None, Some, true, if◌then◌else◌};
+ghost use Rattle.std.specs.Prelude.{IfOk, OnOk, IsTrue};
 ghost use Rattle.std.specs.List.{list_any, slice_get};
 ghost use Rattle.std.specs.Map.{lookup};
 ghost use Rattle.std.specs.Option.{option_map, option_or};
@@ -10,9 +11,12 @@ ghost use Rattle.tags_clocks.specs.declared.id.OpId.{OpId};
 ghost use Rattle.crdt_ops.specs.SortedSets.{same_id};
 ghost use Rattle.crdt_ops.specs.Sets.{tag_data_by, dated_text_from};
 ghost use Rattle.crdt_ops.specs.Tags.{FolderTag, MessageTag, adds, removes};
-ghost use Rattle.folder_state.specs.Contents.{Contents, HasVersion, IsFolder, IsMessageOf, effect_of, origin_in};
+ghost use Rattle.folder_state.specs.Contents.{Contents, HasVersion, IsFolder, IsMessageOf};
+ghost use Rattle.folder_state.specs.Contents.{effect_of, origin_in};
 ghost use Rattle.folder_state.specs.Tables.{contents_of};
-ghost use Rattle.uid_projection.specs.FolderAhead.{IsAhead, IsHeld, IsHeldAt, IsOrderly, tag_data_ahead, folder_of, dated_texts_ahead, message_ahead, tags_ahead};
+ghost use Rattle.uid_projection.specs.FolderAhead.{IsAhead, IsHeld, IsHeldAt, IsOrderly};
+ghost use Rattle.uid_projection.specs.FolderAhead.{tag_data_ahead, folder_of, dated_texts_ahead};
+ghost use Rattle.uid_projection.specs.FolderAhead.{message_ahead, tags_ahead};
 ghost use Rattle.uid_projection.specs.TagChanges.{change_value};
 
 use crate::messages_ahead::MessagesAhead;
@@ -86,7 +90,8 @@ impl<'a> FolderAhead<'a> {
     /// text.
     pub fn step(&mut self, alloc: Global, op: &'a SoundOp) -> Result<(), AllocError>
         ensures folder { folder_of self.new ≡ folder_of self.old }
-        ensures ahead { OnOk result ((c : Contents) → IsAhead c self.old → IsAhead (effect_of c op.now) self.new) }
+        ensures ahead { OnOk result
+            ((c : Contents) → IsAhead c self.old → IsAhead (effect_of c op.now) self.new) }
     {
         let op = op.op();
         self.take_tags_of(alloc, op)?;
@@ -98,9 +103,16 @@ impl<'a> FolderAhead<'a> {
     fn take_tags_of(&mut self, alloc: Global, op: &Op) -> Result<(), AllocError>
         ensures folder { folder_of self.new ≡ folder_of self.old }
         ensures orderly { OnOk result (IsOrderly self.old → IsOrderly self.new) }
-        ensures tags { OnOk result ((i : OpId) → tags_ahead self.new i ≡ (not (removes (FolderTag (folder_of self.old) i) op.now) && tags_ahead self.old i)) }
-        ensures bodies { OnOk result ((i : OpId) → tag_data_ahead self.new i ≡ (if removes (MessageTag (folder_of self.old) i) op.now then None else tag_data_ahead self.old i)) }
-        ensures letters { OnOk result ((i : OpId) → dated_texts_ahead self.new i ≡ dated_texts_ahead self.old i) }
+        ensures tags { OnOk result ((i : OpId)
+            → tags_ahead self.new i
+            ≡ (not (removes (FolderTag (folder_of self.old) i) op.now)
+            && tags_ahead self.old i)) }
+        ensures bodies { OnOk result ((i : OpId)
+            → tag_data_ahead self.new i
+            ≡ (if removes (MessageTag (folder_of self.old) i) op.now then None
+            else tag_data_ahead self.old i)) }
+        ensures letters { OnOk result
+            ((i : OpId) → dated_texts_ahead self.new i ≡ dated_texts_ahead self.old i) }
     {
         match &op.kind {
             Kind::Delete { folder, seen } => self.take_all(alloc, folder, seen.as_slice()),
@@ -117,9 +129,17 @@ impl<'a> FolderAhead<'a> {
     fn take_all(&mut self, alloc: Global, folder: &Name, ids: &[OpId]) -> Result<(), AllocError>
         ensures folder { folder_of self.new ≡ folder_of self.old }
         ensures orderly { OnOk result (IsOrderly self.old → IsOrderly self.new) }
-        ensures tags { OnOk result ((i : OpId) → tags_ahead self.new i ≡ (not (bytes_eq (folder_of self.old) folder.now && list_any (same_id i) ids.now) && tags_ahead self.old i)) }
-        ensures bodies { OnOk result ((i : OpId) → tag_data_ahead self.new i ≡ (if bytes_eq (folder_of self.old) folder.now && list_any (same_id i) ids.now then None else tag_data_ahead self.old i)) }
-        ensures letters { OnOk result ((i : OpId) → dated_texts_ahead self.new i ≡ dated_texts_ahead self.old i) }
+        ensures tags { OnOk result ((i : OpId)
+            → tags_ahead self.new i
+            ≡ (not (bytes_eq (folder_of self.old) folder.now && list_any (same_id i) ids.now)
+            && tags_ahead self.old i)) }
+        ensures bodies { OnOk result ((i : OpId)
+            → tag_data_ahead self.new i
+            ≡ (if bytes_eq (folder_of self.old) folder.now && list_any (same_id i) ids.now
+            then None
+            else tag_data_ahead self.old i)) }
+        ensures letters { OnOk result
+            ((i : OpId) → dated_texts_ahead self.new i ≡ dated_texts_ahead self.old i) }
     {
         if self.name.as_bytes() != folder.as_bytes() {
             return Ok(());
@@ -138,7 +158,11 @@ impl<'a> FolderAhead<'a> {
         ensures folder { folder_of self.new ≡ folder_of self.old }
         ensures orderly { OnOk result (IsOrderly self.old → IsOrderly self.new) }
         ensures tags { (i : OpId) → tags_ahead self.new i ≡ tags_ahead self.old i }
-        ensures bodies { OnOk result ((i : OpId) → tag_data_ahead self.new i ≡ (if bytes_eq (folder_of self.old) folder.now && list_any (same_id i) ids.now then None else tag_data_ahead self.old i)) }
+        ensures bodies { OnOk result ((i : OpId)
+            → tag_data_ahead self.new i
+            ≡ (if bytes_eq (folder_of self.old) folder.now && list_any (same_id i) ids.now
+            then None
+            else tag_data_ahead self.old i)) }
         ensures letters { (i : OpId) → dated_texts_ahead self.new i ≡ dated_texts_ahead self.old i }
     {
         if self.name.as_bytes() != folder.as_bytes() {
@@ -151,9 +175,16 @@ impl<'a> FolderAhead<'a> {
     fn put_tag_of(&mut self, alloc: Global, op: &'a Op) -> Result<(), AllocError>
         ensures folder { folder_of self.new ≡ folder_of self.old }
         ensures orderly { OnOk result (IsOrderly self.old → IsOrderly self.new) }
-        ensures tags { OnOk result ((i : OpId) → tags_ahead self.new i ≡ (adds (FolderTag (folder_of self.old) i) op.now || tags_ahead self.old i)) }
-        ensures bodies { OnOk result ((i : OpId) → tag_data_ahead self.new i ≡ (if adds (MessageTag (folder_of self.old) i) op.now then tag_data_by op.now.id op.now.kind else tag_data_ahead self.old i)) }
-        ensures letters { OnOk result ((i : OpId) → dated_texts_ahead self.new i ≡ dated_texts_ahead self.old i) }
+        ensures tags { OnOk result ((i : OpId)
+            → tags_ahead self.new i
+            ≡ (adds (FolderTag (folder_of self.old) i) op.now || tags_ahead self.old i)) }
+        ensures bodies { OnOk result ((i : OpId)
+            → tag_data_ahead self.new i
+            ≡ (if adds (MessageTag (folder_of self.old) i) op.now
+            then tag_data_by op.now.id op.now.kind
+            else tag_data_ahead self.old i)) }
+        ensures letters { OnOk result
+            ((i : OpId) → dated_texts_ahead self.new i ≡ dated_texts_ahead self.old i) }
     {
         match &op.kind {
             Kind::Create { folder } => self.put_tag(folder, &op.id),
@@ -177,7 +208,10 @@ impl<'a> FolderAhead<'a> {
     fn put_tag(&mut self, folder: &Name, id: &OpId) -> Result<(), AllocError>
         ensures folder { folder_of self.new ≡ folder_of self.old }
         ensures orderly { OnOk result (IsOrderly self.old → IsOrderly self.new) }
-        ensures tags { OnOk result ((i : OpId) → tags_ahead self.new i ≡ (bytes_eq (folder_of self.old) folder.now && same_id i id.now || tags_ahead self.old i)) }
+        ensures tags { OnOk result ((i : OpId)
+            → tags_ahead self.new i
+            ≡ (bytes_eq (folder_of self.old) folder.now && same_id i id.now
+            || tags_ahead self.old i)) }
         ensures bodies { (i : OpId) → tag_data_ahead self.new i ≡ tag_data_ahead self.old i }
         ensures letters { (i : OpId) → dated_texts_ahead self.new i ≡ dated_texts_ahead self.old i }
     {
@@ -199,7 +233,11 @@ impl<'a> FolderAhead<'a> {
         ensures folder { folder_of self.new ≡ folder_of self.old }
         ensures orderly { OnOk result (IsOrderly self.old → IsOrderly self.new) }
         ensures tags { (i : OpId) → tags_ahead self.new i ≡ tags_ahead self.old i }
-        ensures bodies { OnOk result ((i : OpId) → tag_data_ahead self.new i ≡ (if bytes_eq (folder_of self.old) folder.now && same_id i id.now then Some (record { flags = flags.now; origin = origin.now }) else tag_data_ahead self.old i)) }
+        ensures bodies { OnOk result ((i : OpId)
+            → tag_data_ahead self.new i
+            ≡ (if bytes_eq (folder_of self.old) folder.now && same_id i id.now
+            then Some (record { flags = flags.now; origin = origin.now })
+            else tag_data_ahead self.old i)) }
         ensures letters { (i : OpId) → dated_texts_ahead self.new i ≡ dated_texts_ahead self.old i }
     {
         if self.name.as_bytes() != folder.as_bytes() {
@@ -215,7 +253,9 @@ impl<'a> FolderAhead<'a> {
         ensures orderly { OnOk result (IsOrderly self.old → IsOrderly self.new) }
         ensures tags { (i : OpId) → tags_ahead self.new i ≡ tags_ahead self.old i }
         ensures bodies { (i : OpId) → tag_data_ahead self.new i ≡ tag_data_ahead self.old i }
-        ensures letters { OnOk result ((i : OpId) → dated_texts_ahead self.new i ≡ option_or (dated_text_from i op.now) (dated_texts_ahead self.old i)) }
+        ensures letters { OnOk result ((i : OpId)
+            → dated_texts_ahead self.new i
+            ≡ option_or (dated_text_from i op.now) (dated_texts_ahead self.old i)) }
     {
         match &op.kind {
             Kind::Append { date, text, .. } => self.put_dated_text(alloc, &op.id, date, text),
@@ -235,7 +275,10 @@ impl<'a> FolderAhead<'a> {
         ensures orderly { OnOk result (IsOrderly self.old → IsOrderly self.new) }
         ensures tags { (i : OpId) → tags_ahead self.new i ≡ tags_ahead self.old i }
         ensures bodies { (i : OpId) → tag_data_ahead self.new i ≡ tag_data_ahead self.old i }
-        ensures letters { OnOk result ((i : OpId) → dated_texts_ahead self.new i ≡ (if same_id i id.now then Some (record { date = date.now; text = text.now }) else dated_texts_ahead self.old i)) }
+        ensures letters { OnOk result ((i : OpId)
+            → dated_texts_ahead self.new i
+            ≡ (if same_id i id.now then Some (record { date = date.now; text = text.now })
+            else dated_texts_ahead self.old i)) }
     {
         touch(alloc, &mut self.messages.versions, id)?;
         note_dated_text(&mut self.letters, id, date, text)
@@ -245,7 +288,8 @@ impl<'a> FolderAhead<'a> {
     /// that the operations changed, from the last one on, and then the stored ones, up to the first
     /// present one.
     pub fn exists(&self) -> bool
-        ensures { (c : Contents) → IsAhead c self.now → IsTrue result ↔ IsFolder c (folder_of self.now) }
+        ensures { (c : Contents) → IsAhead c self.now
+            → IsTrue result ↔ IsFolder c (folder_of self.now) }
     {
         self.is_inbox()
             || has_tag_put(&self.tags)
@@ -263,7 +307,8 @@ impl<'a> FolderAhead<'a> {
     /// Whether the origin has a version in the folder. Takes no memory. Cost: the origin's added
     /// and stored versions, up to the first present one.
     pub fn has_version(&self, origin: &OpId) -> bool
-        ensures { (c : Contents) → IsAhead c self.now → IsTrue result ↔ HasVersion c (folder_of self.now) origin.now }
+        ensures { (c : Contents) → IsAhead c self.now
+            → IsTrue result ↔ HasVersion c (folder_of self.now) origin.now }
     {
         self.messages.has_version(origin)
     }
@@ -271,7 +316,8 @@ impl<'a> FolderAhead<'a> {
     /// The origin of the message tag with this id, or `None` if the tag isn't present. Takes no
     /// memory. Cost: two look-ups.
     pub fn origin_of(&self, id: &OpId) -> Option<OpId>
-        ensures { (c : Contents) → IsAhead c self.now → result ≡ origin_in c (folder_of self.now) id.now }
+        ensures { (c : Contents) → IsAhead c self.now
+            → result ≡ origin_in c (folder_of self.now) id.now }
     {
         self.messages.origin_of(id)
     }
@@ -283,7 +329,9 @@ impl<'a> FolderAhead<'a> {
         place: usize,
         fresh: &mut IndexMap<OpId, OwnedMessage<'a>>,
     ) -> Result<(), AllocError>
-        ensures { OnOk result (IsHeldAt self.now (option_map (λ e. e.0) (slice_get self.now.messages.versions.entries place)) fresh.old.entries fresh.new.entries) }
+        ensures { OnOk result (IsHeldAt self.now
+            (option_map (λ e. e.0) (slice_get self.now.messages.versions.entries place))
+            fresh.old.entries fresh.new.entries) }
     {
         match self.messages.versions.get_index(place) {
             Some((origin, _)) => put_held(fresh, origin, self.held(alloc, origin)?),
@@ -312,7 +360,9 @@ impl<'a> FolderAhead<'a> {
     /// The folder's messages. `Err` if memory runs out. Cost: the versions of the messages that the
     /// operations added or changed.
     pub fn mailbox(&self, alloc: Global) -> Result<MailboxAhead<'a>, AllocError>
-        ensures { IfOk result (λ ahead. (c : Contents) → IsAhead c self.now → (origin : OpId) → HasVersion c (folder_of self.now) origin → IsMessageOf c (folder_of self.now) origin (message_ahead ahead origin)) }
+        ensures { IfOk result (λ ahead. (c : Contents) → IsAhead c self.now → (origin : OpId)
+            → HasVersion c (folder_of self.now) origin
+            → IsMessageOf c (folder_of self.now) origin (message_ahead ahead origin)) }
     {
         let mut fresh = IndexMap::new(alloc);
         for at in 0..self.messages.versions.len() {
@@ -331,7 +381,10 @@ fn put_held<'a>(
     origin: &OpId,
     message: OwnedMessage<'a>,
 ) -> Result<(), AllocError>
-    ensures { OnOk result ((o : OpId) → lookup (same_id o) fresh.new.entries ≡ (if same_id origin.now o then Some message.entry else lookup (same_id o) fresh.old.entries)) }
+    ensures { OnOk result ((o : OpId)
+        → lookup (same_id o) fresh.new.entries
+        ≡ (if same_id origin.now o then Some message.entry
+        else lookup (same_id o) fresh.old.entries)) }
 {
     if fresh.insert(*origin, message).is_err() {
         return Err(AllocError);
@@ -358,8 +411,10 @@ fn with_dated_text<'a>(
     versions: Vec<Version>,
 ) -> OwnedMessage<'a>
     ensures versions { result.versions ≡ versions }
-    ensures date { option_map (λ date. date.now) result.date ≡ option_map (λ l. l.date) (option_map change_value letter.entry) }
-    ensures text { option_map (λ text. text.now) result.text ≡ option_map (λ l. l.text) (option_map change_value letter.entry) }
+    ensures date { option_map (λ date. date.now) result.date
+        ≡ option_map (λ l. l.date) (option_map change_value letter.entry) }
+    ensures text { option_map (λ text. text.now) result.text
+        ≡ option_map (λ l. l.text) (option_map change_value letter.entry) }
 {
     match letter {
         Some(letter) => OwnedMessage {

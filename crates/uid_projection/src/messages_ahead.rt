@@ -1,13 +1,15 @@
 //! `MessagesAhead`: a folder's message tags after pending operations.
 
-ghost use Rattle.std.specs.Prelude.{◌≡◌, ◌↔◌, true, false, None, Some, IsSome, if◌then◌else◌, IfOk, IsTrue, OnOk};
+ghost use Rattle.std.specs.Prelude.{◌≡◌, ◌↔◌, true, false, None, Some, IsSome, if◌then◌else◌, IfOk};
+ghost use Rattle.std.specs.Prelude.{IsTrue, OnOk};
 ghost use Rattle.std.specs.List.{list_any};
 ghost use Rattle.std.specs.Map.{lookup};
 ghost use Rattle.std.specs.Option.{option_map};
 ghost use Rattle.tags_clocks.specs.declared.id.OpId.{OpId};
 ghost use Rattle.crdt_ops.specs.SortedSets.{same_id};
 ghost use Rattle.folder_state.specs.FolderTables.{body_in_folder};
-ghost use Rattle.uid_projection.specs.TagChanges.{AreAll, Grows, HasOrigin, IsWhole, bodies_of, kept_of, origin_of};
+ghost use Rattle.uid_projection.specs.TagChanges.{AreAll, Grows, HasOrigin, IsWhole, bodies_of};
+ghost use Rattle.uid_projection.specs.TagChanges.{kept_of, origin_of};
 
 use crate::overlay::{has_kept, has_listed, kept_origin, origin_of, place_kept, place_listed};
 use crate::presence_ahead::has_change_put;
@@ -67,7 +69,9 @@ impl<'a> MessagesAhead<'a> {
         ensures kept { self.new.kept ≡ self.old.kept }
         ensures grows { OnOk result (Grows self.old.versions.entries self.new.versions.entries) }
         ensures whole { OnOk result (IsWhole self.old → IsWhole self.new) }
-        ensures bodies { OnOk result ((i : OpId) → bodies_of self.new i ≡ (if list_any (same_id i) ids.now then None else bodies_of self.old i)) }
+        ensures bodies { OnOk result ((i : OpId)
+            → bodies_of self.new i
+            ≡ (if list_any (same_id i) ids.now then None else bodies_of self.old i)) }
     {
         for id in ids {
             self.take_one(alloc, id)?;
@@ -80,7 +84,8 @@ impl<'a> MessagesAhead<'a> {
         ensures kept { self.new.kept ≡ self.old.kept }
         ensures grows { OnOk result (Grows self.old.versions.entries self.new.versions.entries) }
         ensures whole { OnOk result (IsWhole self.old → IsWhole self.new) }
-        ensures bodies { OnOk result ((i : OpId) → bodies_of self.new i ≡ (if same_id id.now i then None else bodies_of self.old i)) }
+        ensures bodies { OnOk result ((i : OpId)
+            → bodies_of self.new i ≡ (if same_id id.now i then None else bodies_of self.old i)) }
     {
         list_kept_origin(alloc, self.kept, &mut self.versions, id)?;
         note_change(&mut self.changes, id, None, id)
@@ -98,7 +103,10 @@ impl<'a> MessagesAhead<'a> {
         ensures kept { self.new.kept ≡ self.old.kept }
         ensures grows { OnOk result (Grows self.old.versions.entries self.new.versions.entries) }
         ensures whole { OnOk result (IsWhole self.old → IsWhole self.new) }
-        ensures bodies { OnOk result ((i : OpId) → bodies_of self.new i ≡ (if same_id id.now i then Some (record { flags = flags.now; origin = origin.now }) else bodies_of self.old i)) }
+        ensures bodies { OnOk result ((i : OpId)
+            → bodies_of self.new i
+            ≡ (if same_id id.now i then Some (record { flags = flags.now; origin = origin.now })
+            else bodies_of self.old i)) }
     {
         list_kept_origin(alloc, self.kept, &mut self.versions, id)?;
         list(alloc, &mut self.versions, origin, id)?;
@@ -117,14 +125,17 @@ impl<'a> MessagesAhead<'a> {
     /// first present one.
     pub fn has_put(&self) -> bool
         ensures yes { result ≡ true → (i : OpId) × IsSome (bodies_of self.now i) }
-        ensures no { result ≡ false → (i : OpId) → IsSome (bodies_of self.now i) → IsSome (body_in_folder (kept_of self.now) i) }
+        ensures no { result ≡ false → (i : OpId)
+            → IsSome (bodies_of self.now i)
+            → IsSome (body_in_folder (kept_of self.now) i) }
     {
         has_change_put(&self.changes)
     }
 
     /// Copies of the origin's versions, ascending by id. `Err` if memory runs out.
     pub fn versions_of(&self, alloc: Global, origin: &OpId) -> Result<Vec<Version>, AllocError>
-        ensures { IsWhole self.now → IfOk result (λ versions. AreAll (bodies_of self.now) origin.now versions.items) }
+        ensures { IsWhole self.now
+            → IfOk result (λ versions. AreAll (bodies_of self.now) origin.now versions.items) }
     {
         let mut versions = Vec::new(alloc);
         place_kept(alloc, self, origin, &mut versions)?;
@@ -147,7 +158,9 @@ fn list_kept_origin(
     id: &OpId,
 ) -> Result<(), AllocError>
     ensures grows { Grows versions.old.entries versions.new.entries }
-    ensures touched { OnOk result ((o : OpId) → origin_of (body_in_folder (option_map (λ folder. folder.now) kept.entry) id.now) ≡ Some o → IsSome (lookup (same_id o) versions.new.entries)) }
+    ensures touched { OnOk result ((o : OpId)
+        → origin_of (body_in_folder (option_map (λ folder. folder.now) kept.entry) id.now) ≡ Some o
+        → IsSome (lookup (same_id o) versions.new.entries)) }
 {
     match kept_origin(kept, id) {
         Some(origin) => touch(alloc, versions, &origin),

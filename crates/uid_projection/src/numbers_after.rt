@@ -1,6 +1,7 @@
 //! A folder's numbers after operations that are applied next. Nothing here takes memory.
 
-ghost use Rattle.std.specs.Prelude.{◌≡◌, ◌≤◌, ◌<◌, ◌+◌, ◌*◌, ℕ, true, List, ◌++◌, Some, min, if◌then◌else◌};
+ghost use Rattle.std.specs.Prelude.{◌≡◌, ◌≤◌, ◌<◌, ◌+◌, ◌*◌, ℕ, true, List, ◌++◌, Some, min};
+ghost use Rattle.std.specs.Prelude.{if◌then◌else◌};
 ghost use Rattle.crdt_ops.specs.declared.op.Op.{Op};
 ghost use Rattle.folder_state.specs.Contents.{IsMadeBy};
 ghost use Rattle.folder_state.specs.Tables.{contents_of};
@@ -8,7 +9,8 @@ ghost use Rattle.uid_projection.specs.declared.first_numbers.Counters.{Counters}
 ghost use Rattle.uid_projection.specs.Applied.{IsApplied};
 ghost use Rattle.uid_projection.specs.Counting.{count_all};
 ghost use Rattle.std.specs.List.{list_any};
-ghost use Rattle.uid_projection.specs.Incarnations.{begins_incarnation, deletes_folder, k_of, uidvalidity_of};
+ghost use Rattle.uid_projection.specs.Incarnations.{begins_incarnation, deletes_folder, k_of};
+ghost use Rattle.uid_projection.specs.Incarnations.{uidvalidity_of};
 ghost use Rattle.uid_projection.specs.UidsAndModSeqs.{highest_modseq_of};
 ghost use Rattle.uid_projection.specs.ChartTable.{IsTable};
 
@@ -44,7 +46,11 @@ pub fn modseq_within(modseq: u128) -> u64
 
 /// The folder's HIGHESTMODSEQ after these operations, if it is `now` before them.
 pub fn highest_after(value: &Folders, folder: &Name, now: u64, ops: &[SoundOp]) -> u128
-    ensures { (list : List Op) → IsApplied (list ++ ops.now) → IsMadeBy (contents_of value.now) list → now ≡ highest_modseq_of folder.now list → result ≡ highest_modseq_of folder.now (list ++ ops.now) }
+    ensures { (list : List Op)
+        → IsApplied (list ++ ops.now)
+        → IsMadeBy (contents_of value.now) list
+        → now ≡ highest_modseq_of folder.now list
+        → result ≡ highest_modseq_of folder.now (list ++ ops.now) }
 {
     let mut highest = u128::from(now);
     for at in 0..ops.len() {
@@ -68,7 +74,9 @@ fn highest_after_op(there: bool, about: bool, highest: u128) -> u128
 
 /// The k of the folder's incarnation, or of the next one that begins if the folder doesn't exist.
 pub fn k_in(charts: &IndexMap<Vec<u8>, Chart>, next_k: u32, folder: &Name) -> u32
-    ensures { (start : Counters) (list : List Op) → IsTable start list next_k charts.now.entries → result ≡ k_of start folder.now list }
+    ensures { (start : Counters) (list : List Op)
+        → IsTable start list next_k charts.now.entries
+        → result ≡ k_of start folder.now list }
 {
     match chart_of(charts, folder) {
         Some(chart) => k_now(chart, next_k),
@@ -86,7 +94,12 @@ fn k_now(chart: &Chart, next_k: u32) -> u32
 /// folder doesn't exist then. Before the operations it is `now`, and that of the next incarnation
 /// is `next_k`.
 pub fn k_of_after(value: &Folders, folder: &Name, now: u32, next_k: u32, ops: &[SoundOp]) -> u64
-    ensures { (start : Counters) (list : List Op) → IsApplied (list ++ ops.now) → IsMadeBy (contents_of value.now) list → next_k ≡ start.k + count_all begins_incarnation list → now ≡ k_of start folder.now list → result ≡ k_of start folder.now (list ++ ops.now) }
+    ensures { (start : Counters) (list : List Op)
+        → IsApplied (list ++ ops.now)
+        → IsMadeBy (contents_of value.now) list
+        → next_k ≡ start.k + count_all begins_incarnation list
+        → now ≡ k_of start folder.now list
+        → result ≡ k_of start folder.now (list ++ ops.now) }
 {
     let mut next = u64::from(next_k);
     let mut k = u64::from(now);
@@ -102,7 +115,11 @@ pub fn k_of_after(value: &Folders, folder: &Name, now: u32, next_k: u32, ops: &[
 /// Whether the folder exists and none of these operations deletes it, so that it exists before and
 /// after each of them. Cost: the number of operations, and a test whether the folder exists.
 pub fn remains(value: &Folders, folder: &Name, ops: &[SoundOp]) -> bool
-    ensures { result ≡ true → (start : Counters) (list : List Op) → IsApplied (list ++ ops.now) → IsMadeBy (contents_of value.now) list → uidvalidity_of start folder.now (list ++ ops.now) ≡ uidvalidity_of start folder.now list }
+    ensures { result ≡ true
+        → (start : Counters) (list : List Op)
+        → IsApplied (list ++ ops.now)
+        → IsMadeBy (contents_of value.now) list
+        → uidvalidity_of start folder.now (list ++ ops.now) ≡ uidvalidity_of start folder.now list }
 {
     value.exists(folder) && !is_deleted(folder, ops)
 }

@@ -19,7 +19,9 @@ pub fn origin_at(versions: &IndexMap<OpId, OpId>, id: &OpId) -> Option<OpId>
 
 /// Takes out the versions with these ids.
 pub fn take_versions(versions: &mut IndexMap<OpId, OpId>, removed: &[OpId])
-    ensures told { (i : OpId) → origin_at versions.new.entries i ≡ origins_without (origin_at versions.old.entries) removed.now i }
+    ensures told { (i : OpId)
+        → origin_at versions.new.entries i
+        ≡ origins_without (origin_at versions.old.entries) removed.now i }
     ensures room { spare versions.old ≤ spare versions.new }
 {
     for id in removed {
@@ -29,7 +31,9 @@ pub fn take_versions(versions: &mut IndexMap<OpId, OpId>, removed: &[OpId])
 
 /// Takes out the version with this id.
 fn take_version(versions: &mut IndexMap<OpId, OpId>, id: &OpId)
-    ensures told { (i : OpId) → origin_at versions.new.entries i ≡ (if same_id id.now i then None else origin_at versions.old.entries i) }
+    ensures told { (i : OpId)
+        → origin_at versions.new.entries i
+        ≡ (if same_id id.now i then None else origin_at versions.old.entries i) }
     ensures room { spare versions.old ≤ spare versions.new }
 {
     versions.swap_remove(id);
@@ -38,7 +42,9 @@ fn take_version(versions: &mut IndexMap<OpId, OpId>, id: &OpId)
 /// Puts in a version of this origin. The table has room for it.
 pub fn put_version(versions: &mut IndexMap<OpId, OpId>, id: &OpId, origin: &OpId)
     requires { 0 < spare versions.old }
-    ensures told { (i : OpId) → origin_at versions.new.entries i ≡ origins_with (origin_at versions.old.entries) id.now origin.now i }
+    ensures told { (i : OpId)
+        → origin_at versions.new.entries i
+        ≡ origins_with (origin_at versions.old.entries) id.now origin.now i }
     ensures room { spare versions.old ≤ spare versions.new + 1 }
 {
     if versions.insert(*id, *origin).is_err() {

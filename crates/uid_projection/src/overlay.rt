@@ -8,7 +8,8 @@ ghost use Rattle.merge_laws.specs.Orders.{IsIn};
 ghost use Rattle.folder_state.specs.FolderTables.{body_in_folder};
 ghost use Rattle.imap_types.specs.declared.version.Version.{Version};
 ghost use Rattle.imap_types.specs.Unions.{version_ids};
-ghost use Rattle.uid_projection.specs.TagChanges.{HasOrigin, IsLeft, IsPlaced, IsPut, bodies_of, ids_listed, is_version, kept_of, origin_of};
+ghost use Rattle.uid_projection.specs.TagChanges.{HasOrigin, IsLeft, IsPlaced, IsPut, bodies_of};
+ghost use Rattle.uid_projection.specs.TagChanges.{ids_listed, is_version, kept_of, origin_of};
 
 use crate::messages_ahead::MessagesAhead;
 use crate::versions_ahead::place;
@@ -39,7 +40,8 @@ fn put_origin(flags: Option<&Flags>, origin: &OpId) -> Option<OpId>
 
 /// The origin of the stored message tag with this id, if there is one.
 pub fn kept_origin(kept: Option<&Folder>, id: &OpId) -> Option<OpId>
-    ensures { result ≡ origin_of (body_in_folder (option_map (λ folder. folder.now) kept.entry) id.now) }
+    ensures { result
+        ≡ origin_of (body_in_folder (option_map (λ folder. folder.now) kept.entry) id.now) }
 {
     match kept {
         Some(folder) => folder.origin_of(id),
@@ -59,7 +61,9 @@ fn is_version(messages: &MessagesAhead<'_>, id: &OpId, origin: &OpId) -> bool
 
 /// Whether one of these ids, if there are any, is a present version of the origin.
 pub fn has_listed(messages: &MessagesAhead<'_>, ids: Option<&Vec<OpId>>, origin: &OpId) -> bool
-    ensures { result ≡ list_any (is_version (bodies_of messages.now) origin.now) (ids_listed (option_map (λ ids. ids.now) ids.entry)) }
+    ensures { result
+        ≡ list_any (is_version (bodies_of messages.now) origin.now)
+        (ids_listed (option_map (λ ids. ids.now) ids.entry)) }
 {
     match ids {
         Some(ids) => has_one(messages, ids, origin),
@@ -82,7 +86,10 @@ fn has_one(messages: &MessagesAhead<'_>, ids: &[OpId], origin: &OpId) -> bool
 /// Whether a stored version of the origin is still present.
 pub fn has_kept(messages: &MessagesAhead<'_>, origin: &OpId) -> bool
     ensures yes { result ≡ true → HasOrigin (bodies_of messages.now) origin.now }
-    ensures no { result ≡ false → (i : OpId) → origin_of (body_in_folder (kept_of messages.now) i) ≡ Some origin.now → origin_of (bodies_of messages.now i) ≡ Some origin.now → ⊥ }
+    ensures no { result ≡ false → (i : OpId)
+        → origin_of (body_in_folder (kept_of messages.now) i) ≡ Some origin.now
+        → origin_of (bodies_of messages.now i) ≡ Some origin.now
+        → ⊥ }
 {
     match messages.kept {
         Some(folder) => has_kept_in(messages, folder, origin),
@@ -93,7 +100,10 @@ pub fn has_kept(messages: &MessagesAhead<'_>, origin: &OpId) -> bool
 /// Whether a version of the origin that `folder` stores is still present.
 fn has_kept_in(messages: &MessagesAhead<'_>, folder: &Folder, origin: &OpId) -> bool
     ensures yes { result ≡ true → HasOrigin (bodies_of messages.now) origin.now }
-    ensures no { result ≡ false → (i : OpId) → origin_of (body_in_folder (Some folder.now) i) ≡ Some origin.now → origin_of (bodies_of messages.now i) ≡ Some origin.now → ⊥ }
+    ensures no { result ≡ false → (i : OpId)
+        → origin_of (body_in_folder (Some folder.now) i) ≡ Some origin.now
+        → origin_of (bodies_of messages.now i) ≡ Some origin.now
+        → ⊥ }
 {
     match folder.versions_of(origin) {
         Some(versions) => has_one_of(messages, versions, origin),
@@ -103,7 +113,9 @@ fn has_kept_in(messages: &MessagesAhead<'_>, folder: &Folder, origin: &OpId) -> 
 
 /// Whether one of these versions is a present version of the origin.
 fn has_one_of(messages: &MessagesAhead<'_>, versions: &[Version], origin: &OpId) -> bool
-    ensures { result ≡ list_any (λ version. is_version (bodies_of messages.now) origin.now version.id) versions.now }
+    ensures { result
+        ≡ list_any (λ version. is_version (bodies_of messages.now) origin.now version.id)
+        versions.now }
 {
     for version in versions {
         if is_version(messages, &version.id, origin) {
@@ -121,7 +133,8 @@ pub fn place_kept(
     origin: &OpId,
     versions: &mut Vec<Version>,
 ) -> Result<(), AllocError>
-    ensures { OnOk result (IsPlaced (bodies_of messages.now) origin.now (λ i. IsLeft messages.now origin.now i) versions.old.items versions.new.items) }
+    ensures { OnOk result (IsPlaced (bodies_of messages.now) origin.now
+        (λ i. IsLeft messages.now origin.now i) versions.old.items versions.new.items) }
 {
     match messages.kept {
         Some(folder) => place_kept_in(alloc, messages, folder, origin, versions),
@@ -138,7 +151,8 @@ fn place_kept_in(
     versions: &mut Vec<Version>,
 ) -> Result<(), AllocError>
     requires { kept_of messages.now ≡ Some folder.now }
-    ensures { OnOk result (IsPlaced (bodies_of messages.now) origin.now (λ i. IsLeft messages.now origin.now i) versions.old.items versions.new.items) }
+    ensures { OnOk result (IsPlaced (bodies_of messages.now) origin.now
+        (λ i. IsLeft messages.now origin.now i) versions.old.items versions.new.items) }
 {
     match folder.versions_of(origin) {
         Some(kept) => place_left(alloc, messages, kept, origin, versions),
@@ -155,8 +169,12 @@ fn place_left(
     origin: &OpId,
     versions: &mut Vec<Version>,
 ) -> Result<(), AllocError>
-    requires { (v : Version) → IsIn v kept.now → body_in_folder (kept_of messages.now) v.id ≡ Some (record { flags = v.flags; origin = origin.now }) }
-    ensures { OnOk result (IsPlaced (bodies_of messages.now) origin.now (λ i. IsLeft messages.now origin.now i × IsIn i (version_ids kept.now)) versions.old.items versions.new.items) }
+    requires { (v : Version) → IsIn v kept.now
+        → body_in_folder (kept_of messages.now) v.id
+        ≡ Some (record { flags = v.flags; origin = origin.now }) }
+    ensures { OnOk result (IsPlaced (bodies_of messages.now) origin.now
+        (λ i. IsLeft messages.now origin.now i × IsIn i (version_ids kept.now)) versions.old.items
+        versions.new.items) }
 {
     for version in kept {
         if !messages.changes.contains_key(&version.id) {
@@ -175,7 +193,10 @@ pub fn place_listed(
     origin: &OpId,
     versions: &mut Vec<Version>,
 ) -> Result<(), AllocError>
-    ensures { OnOk result (IsPlaced (bodies_of messages.now) origin.now (λ i. IsPut messages.now origin.now i × IsIn i (ids_listed (option_map (λ ids. ids.now) ids.entry))) versions.old.items versions.new.items) }
+    ensures { OnOk result (IsPlaced (bodies_of messages.now) origin.now
+        (λ i. IsPut messages.now origin.now i
+        × IsIn i (ids_listed (option_map (λ ids. ids.now) ids.entry))) versions.old.items
+        versions.new.items) }
 {
     match ids {
         Some(ids) => place_put(alloc, messages, ids, origin, versions),
@@ -191,7 +212,9 @@ fn place_put(
     origin: &OpId,
     versions: &mut Vec<Version>,
 ) -> Result<(), AllocError>
-    ensures { OnOk result (IsPlaced (bodies_of messages.now) origin.now (λ i. IsPut messages.now origin.now i × IsIn i ids.now) versions.old.items versions.new.items) }
+    ensures { OnOk result (IsPlaced (bodies_of messages.now) origin.now
+        (λ i. IsPut messages.now origin.now i × IsIn i ids.now) versions.old.items
+        versions.new.items) }
 {
     for id in ids {
         place_one(alloc, messages, id, origin, versions)?;
@@ -208,7 +231,9 @@ fn place_one(
     origin: &OpId,
     versions: &mut Vec<Version>,
 ) -> Result<(), AllocError>
-    ensures { OnOk result (IsPlaced (bodies_of messages.now) origin.now (λ i. IsPut messages.now origin.now i × (i ≡ id.now)) versions.old.items versions.new.items) }
+    ensures { OnOk result (IsPlaced (bodies_of messages.now) origin.now
+        (λ i. IsPut messages.now origin.now i × (i ≡ id.now)) versions.old.items
+        versions.new.items) }
 {
     match put_flags(messages, id, origin) {
         Some(flags) => {
@@ -221,7 +246,9 @@ fn place_one(
 
 /// The flags that were added with this id, if they were added for this origin.
 fn put_flags<'a>(messages: &MessagesAhead<'a>, id: &OpId, origin: &OpId) -> Option<&'a Flags>
-    ensures { MatchOption result (IsPut messages.now origin.now id.now → ⊥) (λ flags. bodies_of messages.now id.now ≡ Some (record { flags = flags.now; origin = origin.now })) }
+    ensures { MatchOption result (IsPut messages.now origin.now id.now → ⊥)
+        (λ flags. bodies_of messages.now id.now
+        ≡ Some (record { flags = flags.now; origin = origin.now })) }
 {
     match messages.changes.get(id).copied() {
         Some(change) => {

@@ -6,7 +6,8 @@ ghost use Rattle.std.specs.Map.{lookup};
 ghost use Rattle.tags_clocks.specs.declared.id.OpId.{OpId};
 ghost use Rattle.crdt_ops.specs.SortedSets.{same_id};
 ghost use Rattle.folder_state.specs.FolderTables.{folder_ids};
-ghost use Rattle.uid_projection.specs.TagChanges.{IsKeptTag, value_at_key, is_put, is_tag, is_there, is_there_at, kept_of, tag_over};
+ghost use Rattle.uid_projection.specs.TagChanges.{IsKeptTag, value_at_key, is_put, is_tag};
+ghost use Rattle.uid_projection.specs.TagChanges.{is_there, is_there_at, kept_of, tag_over};
 
 use crate::messages_ahead::MessagesAhead;
 use crate::tag_changes::TagChange;
@@ -16,8 +17,11 @@ use tags_clocks::OpId;
 
 /// Whether one of these changed folder tags is present.
 pub fn has_tag_put(tags: &IndexMap<OpId, bool>) -> bool
-    ensures yes { result ≡ true → (i : OpId) × (is_tag (lookup (same_id i) tags.now.entries) ≡ true) }
-    ensures no { result ≡ false → (i : OpId) → is_tag (lookup (same_id i) tags.now.entries) ≡ true → ⊥ }
+    ensures yes { result ≡ true
+        → (i : OpId) × (is_tag (lookup (same_id i) tags.now.entries) ≡ true) }
+    ensures no { result ≡ false → (i : OpId)
+        → is_tag (lookup (same_id i) tags.now.entries) ≡ true
+        → ⊥ }
 {
     let mut at = tags.len();
     while at > 0 {
@@ -51,8 +55,11 @@ fn is_tag(tags: &IndexMap<OpId, bool>, id: &OpId) -> bool
 
 /// Whether one of these changed message tags is present.
 pub fn has_change_put(changes: &IndexMap<OpId, TagChange<'_>>) -> bool
-    ensures yes { result ≡ true → (i : OpId) × (is_put (lookup (same_id i) changes.now.entries) ≡ true) }
-    ensures no { result ≡ false → (i : OpId) → is_put (lookup (same_id i) changes.now.entries) ≡ true → ⊥ }
+    ensures yes { result ≡ true
+        → (i : OpId) × (is_put (lookup (same_id i) changes.now.entries) ≡ true) }
+    ensures no { result ≡ false → (i : OpId)
+        → is_put (lookup (same_id i) changes.now.entries) ≡ true
+        → ⊥ }
 {
     let mut at = changes.len();
     while at > 0 {
@@ -66,7 +73,8 @@ pub fn has_change_put(changes: &IndexMap<OpId, TagChange<'_>>) -> bool
 
 /// Whether the changed message tag at this place is present.
 fn is_put_at(changes: &IndexMap<OpId, TagChange<'_>>, place: usize) -> bool
-    ensures { result ≡ value_at_key is_put changes.now.entries (slice_get changes.now.entries place) }
+    ensures { result
+        ≡ value_at_key is_put changes.now.entries (slice_get changes.now.entries place) }
 {
     match changes.get_index(place) {
         Some((id, _)) => is_put(changes, id),
@@ -87,7 +95,10 @@ fn is_put(changes: &IndexMap<OpId, TagChange<'_>>, id: &OpId) -> bool
 /// Whether a stored tag is still present.
 pub fn has_tag_left(tags: &IndexMap<OpId, bool>, messages: &MessagesAhead<'_>) -> bool
     ensures yes { result ≡ true → (i : OpId) × (is_there tags.now.entries messages.now i ≡ true) }
-    ensures no { result ≡ false → (i : OpId) → IsKeptTag (kept_of messages.now) i → is_there tags.now.entries messages.now i ≡ true → ⊥ }
+    ensures no { result ≡ false → (i : OpId)
+        → IsKeptTag (kept_of messages.now) i
+        → is_there tags.now.entries messages.now i ≡ true
+        → ⊥ }
 {
     match messages.kept {
         Some(folder) => has_tag_left_in(tags, messages, folder),
@@ -103,7 +114,10 @@ fn has_tag_left_in(
 ) -> bool
     requires { kept_of messages.now ≡ Some folder.now }
     ensures yes { result ≡ true → (i : OpId) × (is_there tags.now.entries messages.now i ≡ true) }
-    ensures no { result ≡ false → (i : OpId) → IsKeptTag (kept_of messages.now) i → is_there tags.now.entries messages.now i ≡ true → ⊥ }
+    ensures no { result ≡ false → (i : OpId)
+        → IsKeptTag (kept_of messages.now) i
+        → is_there tags.now.entries messages.now i ≡ true
+        → ⊥ }
 {
     for place in 0..folder.count() {
         if is_there_at(tags, messages, folder, place) {
@@ -121,7 +135,8 @@ fn is_there_at(
     place: usize,
 ) -> bool
     requires { kept_of messages.now ≡ Some folder.now }
-    ensures { result ≡ is_there_at tags.now.entries messages.now (slice_get (folder_ids folder.now) place) }
+    ensures { result
+        ≡ is_there_at tags.now.entries messages.now (slice_get (folder_ids folder.now) place) }
 {
     match folder.id_at(place) {
         Some(id) => is_there(tags, messages, folder, &id),

@@ -33,7 +33,9 @@ pub struct LentDatedText<'a> {
 /// Notes whether the folder tag with this id is present. `Err` if memory runs out; the notes are
 /// then unchanged.
 pub fn note_tag(tags: &mut IndexMap<OpId, bool>, id: &OpId, present: bool) -> Result<(), AllocError>
-    ensures { OnOk result ((i : OpId) → lookup (same_id i) tags.new.entries ≡ (if same_id id.now i then Some present else lookup (same_id i) tags.old.entries)) }
+    ensures { OnOk result ((i : OpId)
+        → lookup (same_id i) tags.new.entries
+        ≡ (if same_id id.now i then Some present else lookup (same_id i) tags.old.entries)) }
 {
     if tags.insert(*id, present).is_err() {
         return Err(AllocError);
@@ -43,7 +45,10 @@ pub fn note_tag(tags: &mut IndexMap<OpId, bool>, id: &OpId, present: bool) -> Re
 
 /// Notes that the folder tags with these ids are removed. `Err` if memory runs out.
 pub fn note_tags_gone(tags: &mut IndexMap<OpId, bool>, ids: &[OpId]) -> Result<(), AllocError>
-    ensures { OnOk result ((i : OpId) → lookup (same_id i) tags.new.entries ≡ (if list_any (same_id i) ids.now then Some false else lookup (same_id i) tags.old.entries)) }
+    ensures { OnOk result ((i : OpId)
+        → lookup (same_id i) tags.new.entries
+        ≡ (if list_any (same_id i) ids.now then Some false
+        else lookup (same_id i) tags.old.entries)) }
 {
     for id in ids {
         note_tag(tags, id, false)?;
@@ -59,8 +64,12 @@ pub fn note_change<'a>(
     flags: Option<&'a Flags>,
     origin: &OpId,
 ) -> Result<(), AllocError>
-    ensures ok { OnOk result ((i : OpId) → lookup (same_id i) changes.new.entries ≡ (if same_id id.now i then Some (record { flags = flags.entry; origin = origin.now }) else lookup (same_id i) changes.old.entries)) }
-    ensures err { OnErr result ((i : OpId) → lookup (same_id i) changes.new.entries ≡ lookup (same_id i) changes.old.entries) }
+    ensures ok { OnOk result ((i : OpId)
+        → lookup (same_id i) changes.new.entries
+        ≡ (if same_id id.now i then Some (record { flags = flags.entry; origin = origin.now })
+        else lookup (same_id i) changes.old.entries)) }
+    ensures err { OnErr result ((i : OpId)
+        → lookup (same_id i) changes.new.entries ≡ lookup (same_id i) changes.old.entries) }
 {
     let change = TagChange {
         flags,
@@ -80,8 +89,12 @@ pub fn note_dated_text<'a>(
     date: &'a DateTime,
     text: &'a Text,
 ) -> Result<(), AllocError>
-    ensures ok { OnOk result ((i : OpId) → lookup (same_id i) letters.new.entries ≡ (if same_id id.now i then Some (record { date = date.entry; text = text.entry }) else lookup (same_id i) letters.old.entries)) }
-    ensures err { OnErr result ((i : OpId) → lookup (same_id i) letters.new.entries ≡ lookup (same_id i) letters.old.entries) }
+    ensures ok { OnOk result ((i : OpId)
+        → lookup (same_id i) letters.new.entries
+        ≡ (if same_id id.now i then Some (record { date = date.entry; text = text.entry })
+        else lookup (same_id i) letters.old.entries)) }
+    ensures err { OnErr result ((i : OpId)
+        → lookup (same_id i) letters.new.entries ≡ lookup (same_id i) letters.old.entries) }
 {
     if letters.insert(*id, LentDatedText { date, text }).is_err() {
         return Err(AllocError);

@@ -39,7 +39,13 @@ impl Charts {
         name: &Name,
         ops: &[SoundOp],
     ) -> Result<Vec<u32>, AllocError>
-        ensures { (list : List Op) → Follows self.now list → IsApplied (list ++ ops.now) → uidvalidity_of self.now.start name.now (list ++ ops.now) ≡ uidvalidity_of self.now.start name.now list → IfOk result (λ uids. RowsStayExcept uids.items (uidnext_of self.now.start name.now list) (listing self.now.start name.now list) (listing self.now.start name.now (list ++ ops.now))) }
+        ensures { (list : List Op) → Follows self.now list
+            → IsApplied (list ++ ops.now)
+            → uidvalidity_of self.now.start name.now (list ++ ops.now)
+            ≡ uidvalidity_of self.now.start name.now list
+            → IfOk result (λ uids. RowsStayExcept uids.items
+            (uidnext_of self.now.start name.now list) (listing self.now.start name.now list)
+            (listing self.now.start name.now (list ++ ops.now))) }
     {
         match chart_of(&self.charts, name) {
             Some(chart) => uids_of_messages_named(alloc, chart, name, ops),
@@ -55,7 +61,9 @@ fn uids_of_messages_named(
     folder: &Name,
     ops: &[SoundOp],
 ) -> Result<Vec<u32>, AllocError>
-    ensures { IfOk result (λ uids. AddsUids (λ g. list_any (names_message (origin_at chart.now.versions.entries) folder.now g) ops.now) chart.now.entries.entries [] uids.items) }
+    ensures { IfOk result (λ uids. AddsUids
+        (λ g. list_any (names_message (origin_at chart.now.versions.entries) folder.now g) ops.now)
+        chart.now.entries.entries [] uids.items) }
 {
     let mut uids = Vec::new(alloc);
     for op in ops {
@@ -71,7 +79,9 @@ fn push_uids_named(
     folder: &Name,
     op: &Op,
 ) -> Result<(), AllocError>
-    ensures { OnOk result (AddsUids (λ g. names_message (origin_at chart.now.versions.entries) folder.now g op.now) chart.now.entries.entries uids.old.items uids.new.items) }
+    ensures { OnOk result (AddsUids
+        (λ g. names_message (origin_at chart.now.versions.entries) folder.now g op.now)
+        chart.now.entries.entries uids.old.items uids.new.items) }
 {
     if !is_about(&op.kind, folder) {
         return Ok(());
@@ -91,7 +101,12 @@ fn push_added(
     removed: &[OpId],
     origin: &OpId,
 ) -> Result<(), AllocError>
-    ensures { OnOk result ((before : List ℕ) → AddsUids (loses (origin_at chart.now.versions.entries) removed.now) chart.now.entries.entries before uids.old.items → AddsUids (λ g. loses (origin_at chart.now.versions.entries) removed.now g || is_some_id g (Some origin.now)) chart.now.entries.entries before uids.new.items) }
+    ensures { OnOk result ((before : List ℕ)
+        → AddsUids (loses (origin_at chart.now.versions.entries) removed.now)
+        chart.now.entries.entries before uids.old.items
+        → AddsUids
+        (λ g. loses (origin_at chart.now.versions.entries) removed.now g
+        || is_some_id g (Some origin.now)) chart.now.entries.entries before uids.new.items) }
 {
     if is_lost(chart, removed, origin) {
         return Ok(());
@@ -123,7 +138,8 @@ fn is_at(versions: &IndexMap<OpId, OpId>, id: &OpId, origin: &OpId) -> bool
 
 /// Appends the UIDs of the messages that have one of the versions `removed`.
 fn push_uids_of_lost(uids: &mut Vec<u32>, chart: &Chart, removed: &[OpId]) -> Result<(), AllocError>
-    ensures { OnOk result (AddsUids (loses (origin_at chart.now.versions.entries) removed.now) chart.now.entries.entries uids.old.items uids.new.items) }
+    ensures { OnOk result (AddsUids (loses (origin_at chart.now.versions.entries) removed.now)
+        chart.now.entries.entries uids.old.items uids.new.items) }
 {
     for id in removed {
         push_origin(uids, &chart.entries, origin_at(&chart.versions, id))?;
@@ -137,7 +153,8 @@ fn push_origin(
     entries: &EntryTable,
     origin: Option<OpId>,
 ) -> Result<(), AllocError>
-    ensures { OnOk result (AddsUids (λ g. is_some_id g origin) entries.now.entries uids.old.items uids.new.items) }
+    ensures { OnOk result
+        (AddsUids (λ g. is_some_id g origin) entries.now.entries uids.old.items uids.new.items) }
 {
     match origin {
         Some(origin) => push_entry(uids, entries, &origin),
@@ -147,7 +164,8 @@ fn push_origin(
 
 /// Appends the UID of the entry of this origin, if there is one.
 fn push_entry(uids: &mut Vec<u32>, entries: &EntryTable, origin: &OpId) -> Result<(), AllocError>
-    ensures { OnOk result (AddsUids (λ g. is_some_id g (Some origin.now)) entries.now.entries uids.old.items uids.new.items) }
+    ensures { OnOk result (AddsUids (λ g. is_some_id g (Some origin.now)) entries.now.entries
+        uids.old.items uids.new.items) }
 {
     match entries.place_of(origin) {
         Some(place) => push_at(uids, entries, place),
@@ -157,7 +175,9 @@ fn push_entry(uids: &mut Vec<u32>, entries: &EntryTable, origin: &OpId) -> Resul
 
 /// Appends the UID of the entry at this place.
 fn push_at(uids: &mut Vec<u32>, entries: &EntryTable, place: usize) -> Result<(), AllocError>
-    ensures { OnOk result (uids.new.items ≡ uids.old.items ++ map (λ e. e.uid) (option_to_list (slice_get entries.now.entries place))) }
+    ensures { OnOk result (uids.new.items
+        ≡ uids.old.items
+        ++ map (λ e. e.uid) (option_to_list (slice_get entries.now.entries place))) }
 {
     if let Some(entry) = entries.get(place) {
         uids.push(entry.uid)?;

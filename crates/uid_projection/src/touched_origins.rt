@@ -34,7 +34,8 @@ pub fn list(
     id: &OpId,
 ) -> Result<(), AllocError>
     ensures grows { Grows versions.old.entries versions.new.entries }
-    ensures listed { OnOk result (IsListed id.now (lookup (same_id origin.now) versions.new.entries)) }
+    ensures listed { OnOk result
+        (IsListed id.now (lookup (same_id origin.now) versions.new.entries)) }
 {
     touch(alloc, versions, origin)?;
     match versions.get_mut(origin) {

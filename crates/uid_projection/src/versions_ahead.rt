@@ -24,7 +24,9 @@ pub fn place(versions: &mut Vec<Version>, version: Version) -> Result<(), AllocE
 fn place_of(versions: &[Version], version: &Version) -> Result<usize, usize>
     ensures { MatchResult result
         (λ at. insert_ordered by_id version.now versions.now ≡ versions.now)
-        (λ at. (at ≤ length versions.now) × (insert_ordered by_id version.now versions.now ≡ insert versions.now at version.now)) }
+        (λ at. (at ≤ length versions.now)
+        × (insert_ordered by_id version.now versions.now
+        ≡ insert versions.now at version.now)) }
 {
     for (at, other) in versions.iter().enumerate() {
         if version.id == other.id {

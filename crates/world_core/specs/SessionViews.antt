@@ -30,37 +30,52 @@ session_view_at replicas name n = view_at_node (replicas name) n
 
 -- The UIDs in each session's view ascend strictly.
 abbrev pub SessionViewsAscend : Replicas → Type 0
-SessionViewsAscend replicas = (name n : ℕ) (seen : ViewState) → session_view_at replicas name n ≡ Some seen → AreRising 1 seen.entries
+SessionViewsAscend replicas =
+    (name n : ℕ) (seen : ViewState)
+    → session_view_at replicas name n ≡ Some seen
+    → AreRising 1 seen.entries
 
 -- ---- what events do to views
 
 -- A session's answers, replayed, give its view.
 abbrev pub AnswersReplayTo : Replicas → ℕ → ℕ → Input → Outcome → Replicas → Type 0
 AnswersReplayTo old name n input (Replied reply) new =
-    (node : NodeState) → IsAt new name node → session_view_at new name n ≡ view_after_input node.start node.applied (session_view_at old name n) input reply
+    (node : NodeState) → IsAt new name node
+    → session_view_at new name n
+    ≡ view_after_input node.start node.applied (session_view_at old name n) input reply
 AnswersReplayTo old name n input _ new = session_view_at new name n ≡ session_view_at old name n
 
 abbrev pub AnswersReplay : Replicas → Event → Outcome → Replicas → Type 0
-AnswersReplay old (events.Command at session moment tagged) outcome new = AnswersReplayTo old at session (inputs.Command moment tagged) outcome new
-AnswersReplay old (events.IdleLine at session line) outcome new = AnswersReplayTo old at session (inputs.Line line) outcome new
-AnswersReplay old (events.Poll at session) outcome new = AnswersReplayTo old at session inputs.Poll outcome new
+AnswersReplay old (events.Command at session moment tagged) outcome new =
+    AnswersReplayTo old at session (inputs.Command moment tagged) outcome new
+AnswersReplay old (events.IdleLine at session line) outcome new =
+    AnswersReplayTo old at session (inputs.Line line) outcome new
+AnswersReplay old (events.Poll at session) outcome new =
+    AnswersReplayTo old at session inputs.Poll outcome new
 AnswersReplay old _ outcome new = Unit {0}
 
 -- After a full sync, and after a SELECT or an EXAMINE, a session's view is its mailbox's listing,
 -- flags included.
 abbrev pub FullSyncShowsListingBy : ℕ → ℕ → Input → Reply → Replicas → Type 0
 FullSyncShowsListingBy name n input (Done answers silent issued) new =
-    tells_all input ≡ true → (node : NodeState) (view : ViewState) → IsAt new name node → view_at node.sessions n ≡ Some view → view.entries ≡ entries_of (rows_for node.start node.applied view)
+    tells_all input ≡ true
+    → (node : NodeState) (view : ViewState) → IsAt new name node
+    → view_at node.sessions n ≡ Some view
+    → view.entries ≡ entries_of (rows_for node.start node.applied view)
 FullSyncShowsListingBy name n input (Refused why closed) new = Unit {0}
 
 abbrev pub FullSyncShowsListingTo : ℕ → ℕ → Input → Outcome → Replicas → Type 0
-FullSyncShowsListingTo name n input (Replied reply) new = FullSyncShowsListingBy name n input reply new
+FullSyncShowsListingTo name n input (Replied reply) new =
+    FullSyncShowsListingBy name n input reply new
 FullSyncShowsListingTo name n input _ new = Unit {0}
 
 abbrev pub FullSyncShowsListing : Event → Outcome → Replicas → Type 0
-FullSyncShowsListing (events.Command at session moment tagged) outcome new = FullSyncShowsListingTo at session (inputs.Command moment tagged) outcome new
-FullSyncShowsListing (events.IdleLine at session line) outcome new = FullSyncShowsListingTo at session (inputs.Line line) outcome new
-FullSyncShowsListing (events.Poll at session) outcome new = FullSyncShowsListingTo at session inputs.Poll outcome new
+FullSyncShowsListing (events.Command at session moment tagged) outcome new =
+    FullSyncShowsListingTo at session (inputs.Command moment tagged) outcome new
+FullSyncShowsListing (events.IdleLine at session line) outcome new =
+    FullSyncShowsListingTo at session (inputs.Line line) outcome new
+FullSyncShowsListing (events.Poll at session) outcome new =
+    FullSyncShowsListingTo at session inputs.Poll outcome new
 FullSyncShowsListing _ outcome new = Unit {0}
 
 -- The event is this session's, or closes it.
@@ -73,13 +88,17 @@ IsOfSession _ name n = ⊥
 
 -- The view of the event's session is its view before with the answers replayed, and its mailbox's
 -- listing after a full sync; the view of every other session stays as it was.
-pub record Replays (old : Replicas) (event : Event) (outcome : Outcome) (new : Replicas) : Type 0 where
+pub record Replays (old : Replicas) (event : Event) (outcome : Outcome) (new : Replicas) :
+    Type 0 where
   pub told : AnswersReplay old event outcome new
   pub shown : FullSyncShowsListing event outcome new
-  pub others : (name n : ℕ) → ¬ IsOfSession event name n → session_view_at new name n ≡ session_view_at old name n
+  pub others : (name n : ℕ)
+      → ¬ IsOfSession event name n
+      → session_view_at new name n ≡ session_view_at old name n
 
 -- `Replays` holds of each event of a run.
 abbrev pub AllReplay : Replicas → List Event → List Outcome → List Replicas → Type 0
 AllReplay old [] [] [] = Unit {0}
-AllReplay old (event ∷ events) (outcome ∷ outcomes) (next ∷ moments) = Replays old event outcome next × AllReplay next events outcomes moments
+AllReplay old (event ∷ events) (outcome ∷ outcomes) (next ∷ moments) =
+    Replays old event outcome next × AllReplay next events outcomes moments
 AllReplay old _ _ _ = ⊥

@@ -19,17 +19,24 @@ pub record IsIssuedWorld (replicas : Replicas) : Type 0 where
   pub named : (name : ℕ) (node : NodeState) → IsAt replicas name node → node.start.replica ≡ name
   pub from_one : (name : ℕ) (node : NodeState) → IsAt replicas name node → 1 ≤ node.start.uid
   -- what it applied is a causal list, and ids determine what it received
-  pub consistent : (name : ℕ) (node : NodeState) → IsAt replicas name node → IsConsistent id_of clock_of (received_ops node)
+  pub consistent : (name : ℕ) (node : NodeState) → IsAt replicas name node
+      → IsConsistent id_of clock_of (received_ops node)
   -- what it received is sound, and some replica issued it
-  pub sound : (name : ℕ) (node : NodeState) → IsAt replicas name node → (op : Op) → IsReceived (received_ops node) op → IsSound op
-  pub issued : (name : ℕ) (node : NodeState) → IsAt replicas name node → (op : Op) → IsReceived (received_ops node) op → IsIssuedIn replicas op
+  pub sound : (name : ℕ) (node : NodeState) → IsAt replicas name node → (op : Op)
+      → IsReceived (received_ops node) op
+      → IsSound op
+  pub issued : (name : ℕ) (node : NodeState) → IsAt replicas name node → (op : Op)
+      → IsReceived (received_ops node) op
+      → IsIssuedIn replicas op
   -- the UIDs in a session's view ascend, and what the view lacks is later than what it has
   pub ascending : SessionViewsAscend replicas
-  pub back : (name : ℕ) (node : NodeState) → IsAt replicas name node → AreOlderViews node.start node.applied node.sessions
+  pub back : (name : ℕ) (node : NodeState) → IsAt replicas name node
+      → AreOlderViews node.start node.applied node.sessions
 
 -- Over everything that was issued, an id determines the operation.
 abbrev pub IssuedAreDetermined : Replicas → Type 0
-IssuedAreDetermined replicas = (a b : Op) → IsIssuedIn replicas a → IsIssuedIn replicas b → a.id ≡ b.id → a ≡ b
+IssuedAreDetermined replicas =
+    (a b : Op) → IsIssuedIn replicas a → IsIssuedIn replicas b → a.id ≡ b.id → a ≡ b
 
 -- Everything that was issued is sound.
 abbrev pub IssuedAreSound : Replicas → Type 0
@@ -46,4 +53,7 @@ Converges replicas =
 abbrev pub AllNodesGrow : Replicas → Replicas → Type 0
 AllNodesGrow old new =
     (name : ℕ) (before : NodeState) → IsAt old name before
-    → (after : NodeState) × IsAt new name after × HasGrown before.applied after.applied × (after.start ≡ before.start)
+    → (after : NodeState)
+    × IsAt new name after
+    × HasGrown before.applied after.applied
+    × (after.start ≡ before.start)

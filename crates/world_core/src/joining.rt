@@ -1,6 +1,7 @@
 //! Replicas that join a world.
 
-ghost use Rattle.std.specs.Prelude.{◌≡◌, ◌≢◌, ◌∷◌, ◌++◌, [], Err, IfErr, IsTrue, MatchResult, None, OnErr, OnOk, false};
+ghost use Rattle.std.specs.Prelude.{◌≡◌, ◌≢◌, ◌∷◌, ◌++◌, [], Err, IfErr, IsTrue, MatchResult, None};
+ghost use Rattle.std.specs.Prelude.{OnErr, OnOk, false};
 ghost use Rattle.crdt_ops.specs.declared.op.Op.{Op};
 ghost use Rattle.imap_node.specs.Nodes.{NodeState, joined_node, unused_node};
 ghost use Rattle.merge_laws.specs.Orders.{IsCausal, IsRipe};
@@ -45,9 +46,14 @@ pub fn join(
     name: ReplicaId,
     peer: ReplicaId,
 ) -> Result<(), WorldFault>
-    ensures ok { OnOk result ((from : NodeState) × IsAt (nodes_by_name (all_without_room nodes.old.items)) peer from × (nodes_by_name (all_without_room nodes.old.items) name ≡ None) × (¬ LacksNumbers name from.applied)
-        × (all_without_room nodes.new.items ≡ all_without_room nodes.old.items ++ joined_node name from.applied ∷ [])) }
-    ensures why { IfErr result (IsNotJoined (nodes_by_name (all_without_room nodes.old.items)) name peer) }
+    ensures ok { OnOk result ((from : NodeState)
+        × IsAt (nodes_by_name (all_without_room nodes.old.items)) peer from
+        × (nodes_by_name (all_without_room nodes.old.items) name ≡ None)
+        × (¬ LacksNumbers name from.applied)
+        × (all_without_room nodes.new.items
+        ≡ all_without_room nodes.old.items ++ joined_node name from.applied ∷ [])) }
+    ensures why { IfErr result
+        (IsNotJoined (nodes_by_name (all_without_room nodes.old.items)) name peer) }
     ensures err { OnErr result (nodes.new.items ≡ nodes.old.items) }
 {
     if is_taken(nodes, name) {
@@ -82,7 +88,8 @@ fn is_taken(nodes: &[Node], name: ReplicaId) -> bool
 
 /// Performs the event `Join`.
 pub fn join_step(alloc: Global, nodes: &mut Vec<Node>, name: ReplicaId, peer: ReplicaId) -> Outcome
-    ensures { Steps (nodes_by_name (all_without_room nodes.old.items)) (events.Join name peer) result (nodes_by_name (all_without_room nodes.new.items)) }
+    ensures { Steps (nodes_by_name (all_without_room nodes.old.items)) (events.Join name peer)
+        result (nodes_by_name (all_without_room nodes.new.items)) }
 {
     let answer = join(alloc, nodes, name, peer);
     outcome_of_join(&answer)
@@ -111,7 +118,10 @@ fn outcome_of_join(answer: &Result<(), WorldFault>) -> Outcome
 ///
 /// It costs as much as delivering these operations.
 pub fn with_operations_of(alloc: Global, name: ReplicaId, from: &Node) -> Result<Node, JoinRefusal>
-    ensures { MatchResult result (λ node. (node.state ≡ joined_node name from.now.state.applied) × (¬ LacksNumbers name from.now.state.applied)) (λ why. why ≡ UsedUp → LacksNumbers name from.now.state.applied) }
+    ensures { MatchResult result
+        (λ node. (node.state ≡ joined_node name from.now.state.applied)
+        × (¬ LacksNumbers name from.now.state.applied))
+        (λ why. why ≡ UsedUp → LacksNumbers name from.now.state.applied) }
 {
     let start = Counters {
         replica: name,
@@ -134,7 +144,8 @@ fn take_all(alloc: Global, node: &mut Node, ops: &[SoundOp]) -> Result<(), JoinR
     requires fresh { node.old.state ≡ unused_node node.old.state.start }
     ensures ok { OnOk result (node.new.state ≡ record node.old.state { applied = ops.now }) }
     ensures lasts { OnOk result (¬ Exhausts node.old.state.start [] ops.now) }
-    ensures used_up { IfErr result (λ why. why ≡ UsedUp → Exhausts node.old.state.start [] ops.now) }
+    ensures used_up { IfErr result
+        (λ why. why ≡ UsedUp → Exhausts node.old.state.start [] ops.now) }
 {
     for op in ops {
         take(alloc, node, op)?;
@@ -146,9 +157,12 @@ fn take_all(alloc: Global, node: &mut Node, ops: &[SoundOp]) -> Result<(), JoinR
 fn take(alloc: Global, node: &mut Node, op: &SoundOp) -> Result<(), JoinRefusal>
     requires ripe { IsRipe id_of clock_of node.old.state.applied op.now }
     requires nothing { node.old.state.held ≡ [] }
-    ensures ok { OnOk result (node.new.state ≡ record node.old.state { applied = node.old.state.applied ++ op.now ∷ [] }) }
-    ensures lasts { OnOk result (¬ Exhausts node.old.state.start node.old.state.applied (op.now ∷ [])) }
-    ensures used_up { IfErr result (λ why. why ≡ UsedUp → Exhausts node.old.state.start node.old.state.applied (op.now ∷ [])) }
+    ensures ok { OnOk result (node.new.state
+        ≡ record node.old.state { applied = node.old.state.applied ++ op.now ∷ [] }) }
+    ensures lasts { OnOk result
+        (¬ Exhausts node.old.state.start node.old.state.applied (op.now ∷ [])) }
+    ensures used_up { IfErr result
+        (λ why. why ≡ UsedUp → Exhausts node.old.state.start node.old.state.applied (op.now ∷ [])) }
 {
     let Ok(op) = op.copy(alloc) else {
         return Err(JoinRefusal::NoMemory);

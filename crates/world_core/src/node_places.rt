@@ -12,7 +12,8 @@ use tags_clocks::{OpId, ReplicaId};
 
 /// The place of the node with this name, if any.
 pub fn place_of(nodes: &[Node], name: ReplicaId) -> Option<usize>
-    ensures { MatchOption result (nodes_by_name (all_without_room nodes.now) name ≡ None) (λ place. IsPlace nodes.now name place) }
+    ensures { MatchOption result (nodes_by_name (all_without_room nodes.now) name ≡ None)
+        (λ place. IsPlace nodes.now name place) }
 {
     for (place, node) in nodes.iter().enumerate() {
         if is_named(node, name) {
@@ -32,7 +33,8 @@ fn is_named(node: &Node, name: ReplicaId) -> bool
 
 /// The operation with this id, if the replica that the id names issued it.
 pub fn find_issued(nodes: &[Node], id: OpId) -> Option<&SoundOp>
-    ensures { MatchOption result ((op : Op) → IsIssuedIn (nodes_by_name (all_without_room nodes.now)) op → op.id ≢ id)
+    ensures { MatchOption result
+        ((op : Op) → IsIssuedIn (nodes_by_name (all_without_room nodes.now)) op → op.id ≢ id)
         (λ op. IsIssuedIn (nodes_by_name (all_without_room nodes.now)) op.now × (op.now.id ≡ id)) }
 {
     match place_of(nodes, id.replica) {

@@ -1,6 +1,7 @@
 //! Runs: events of a world, one after another.
 
-ghost use Rattle.std.specs.Prelude.{◌≡◌, ◌+◌, ◌≤◌, [], IsTrue, false, length, take, vec_capacity, vec_len};
+ghost use Rattle.std.specs.Prelude.{◌≡◌, ◌+◌, ◌≤◌, [], IsTrue, false, length, take, vec_capacity};
+ghost use Rattle.std.specs.Prelude.{vec_len};
 ghost use Rattle.world_core.specs.Headline.{Headline, NumbersLast};
 ghost use Rattle.world_core.specs.WorldPromises.{Converges, IssuedAreDetermined, IssuedAreSound};
 ghost use Rattle.world_core.specs.Replicas.{nodes_by_name, all_without_room};
@@ -28,7 +29,8 @@ pub struct Outcomes {
 /// Takes the events one after another, and returns the outcome of each. Whatever they are, the
 /// world keeps its promise: the clause `headline` says so of all events that have an outcome.
 pub fn run(alloc: Global, world: World, events: Vec<Event>) -> Outcomes
-    ensures steps { Runs (nodes_by_name world) (take (length result.list.items) events.items) result.list.items (nodes_by_name result.world) }
+    ensures steps { Runs (nodes_by_name world) (take (length result.list.items) events.items)
+        result.list.items (nodes_by_name result.world) }
     ensures whole { IsTrue result.whole → length result.list.items ≡ length events.items }
     ensures none { result.whole ≡ false → result.list.items ≡ [] }
     ensures determined { IssuedAreDetermined (nodes_by_name result.world) }
@@ -36,7 +38,8 @@ pub fn run(alloc: Global, world: World, events: Vec<Event>) -> Outcomes
     ensures converges { Converges (nodes_by_name result.world) }
     ensures ascending { SessionViewsAscend (nodes_by_name result.world) }
     ensures for_good { NumbersLast (nodes_by_name world) (nodes_by_name result.world) }
-    ensures headline { Headline (nodes_by_name world) (take (length result.list.items) events.items) result.list.items (nodes_by_name result.world) }
+    ensures headline { Headline (nodes_by_name world) (take (length result.list.items) events.items)
+        result.list.items (nodes_by_name result.world) }
 {
     match Vec::with_capacity(alloc, events.len()) {
         Ok(list) => run_whole(alloc, world, events, list),
@@ -56,10 +59,12 @@ pub fn run(alloc: Global, world: World, events: Vec<Event>) -> Outcomes
 fn run_whole(alloc: Global, world: World, events: Vec<Event>, list: Vec<Outcome>) -> Outcomes
     requires empty { list.items ≡ [] }
     requires room { vec_len list + length events.items ≤ vec_capacity list }
-    ensures steps { Runs (nodes_by_name world) events.items result.list.items (nodes_by_name result.world) }
+    ensures steps { Runs (nodes_by_name world) events.items result.list.items
+        (nodes_by_name result.world) }
     ensures whole { IsTrue result.whole }
     ensures for_good { NumbersLast (nodes_by_name world) (nodes_by_name result.world) }
-    ensures headline { Headline (nodes_by_name world) events.items result.list.items (nodes_by_name result.world) }
+    ensures headline { Headline (nodes_by_name world) events.items result.list.items
+        (nodes_by_name result.world) }
 {
     let nodes = world.into_nodes();
     let mut list = list;
@@ -80,7 +85,8 @@ fn run_nodes(
 ) -> Vec<Node>
     requires empty { list.old.items ≡ [] }
     requires room { vec_len list.old + length events.items ≤ vec_capacity list.old }
-    ensures { Runs (nodes_by_name (all_without_room nodes.items)) events.items list.new.items (nodes_by_name (all_without_room result.items)) }
+    ensures { Runs (nodes_by_name (all_without_room nodes.items)) events.items list.new.items
+        (nodes_by_name (all_without_room result.items)) }
 {
     let mut nodes = nodes;
     run_all(alloc, &mut nodes, events, list);
@@ -91,7 +97,8 @@ fn run_nodes(
 fn run_all(alloc: Global, nodes: &mut Vec<Node>, events: Vec<Event>, list: &mut Vec<Outcome>)
     requires empty { list.old.items ≡ [] }
     requires room { vec_len list.old + length events.items ≤ vec_capacity list.old }
-    ensures { Runs (nodes_by_name (all_without_room nodes.old.items)) events.items list.new.items (nodes_by_name (all_without_room nodes.new.items)) }
+    ensures { Runs (nodes_by_name (all_without_room nodes.old.items)) events.items list.new.items
+        (nodes_by_name (all_without_room nodes.new.items)) }
 {
     for event in events {
         let outcome = step(alloc, nodes, event);

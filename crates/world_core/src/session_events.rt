@@ -2,7 +2,8 @@
 
 ghost use Rattle.std.specs.Prelude.{◌≡◌, ◌↔◌, IsTrue, false, true};
 ghost use Rattle.imap_node.specs.declared.input.Input.TheVariants as inputs;
-ghost use Rattle.world_core.specs.Steps.{AnswersBy, AwaitsInput, ClosesBy, DrainsBy, OpensBy, DeliversOne};
+ghost use Rattle.world_core.specs.Steps.{AnswersBy, AwaitsInput, ClosesBy, DrainsBy, OpensBy};
+ghost use Rattle.world_core.specs.Steps.{DeliversOne};
 
 use crate::event::Outcome;
 use crdt_ops::SoundOp;
@@ -44,7 +45,8 @@ pub fn command(
     moment: Moment,
     tagged: Tagged,
 ) -> Outcome
-    ensures { AnswersBy node.old.state session false (inputs.Command moment tagged) result node.new.state }
+    ensures { AnswersBy node.old.state session false (inputs.Command moment tagged) result
+        node.new.state }
 {
     if awaits(node, session, false) {
         Outcome::Replied {

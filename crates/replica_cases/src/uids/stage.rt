@@ -80,7 +80,8 @@ pub fn folders(inbox: &Node) -> &Folders
 
 /// The folder's listing after the operations that the inbox applied. `Err` if memory runs out.
 pub fn listing<'a>(alloc: Global, inbox: &'a Node, name: &Name) -> Result<Rows<'a>, AllocError>
-    ensures { IfOk result (λ rows. rows ≡ listing inbox.now.seen.start name.now inbox.now.seen.applied) }
+    ensures { IfOk result
+        (λ rows. rows ≡ listing inbox.now.seen.start name.now inbox.now.seen.applied) }
 {
     charts(inbox).rows(alloc, folders(inbox), name)
 }
