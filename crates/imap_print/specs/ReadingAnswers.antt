@@ -435,7 +435,7 @@ unfoldable pub tagged_at : List ℕ → List ℕ → Option (Answer × List ℕ)
 tagged_at tag bytes = do
   rest ← after (codes " ") bytes
   behind (after (codes "OK ") rest) (λ more. completed_at tag more)
-  (within (λ reason. answer.Refused tag reason) (word_at refusal_text refusals rest))
+      (within (λ reason. answer.Refused tag reason) (word_at refusal_text refusals rest))
 
 -- An answer without its line end.
 unfoldable pub answer_at : List ℕ → Option (Answer × List ℕ)
