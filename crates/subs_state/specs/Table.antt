@@ -26,7 +26,8 @@ pub prepared_first : (subs : Subs) (o : Op) (os : List Op) → IsPrepared subs (
     → IsPrepared subs (o ∷ [])
 prepared_first subs o os p =
     record {
-      room = λ n. at_first (subscribes n o) o (filter (subscribes n) os) (room_of n subs.tags.entries)
+      room = λ n. at_first (subscribes n o) o (filter (subscribes n) os)
+          (room_of n subs.tags.entries)
           (p.room n);
     }
   where
