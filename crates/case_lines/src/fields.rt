@@ -8,12 +8,12 @@ use tags_clocks::ReplicaId;
 
 /// The part of a line before its last ` =>`; the whole line if it has none or is a comment, which
 /// begins with `#`.
-pub fn asked(line: &str) -> &str {
+pub fn question(line: &str) -> &str {
     if line.starts_with('#') {
         return line;
     }
     match line.rsplit_once(" =>") {
-        Some((asked, _)) => asked,
+        Some((question, _)) => question,
         None => line,
     }
 }
@@ -25,8 +25,8 @@ pub fn cut(text: &str) -> Result<(&str, &str), Trouble> {
 
 /// The texts before and after the first occurrence of a mark; the whole text and nothing if it
 /// doesn't occur.
-pub fn parted<'a>(text: &'a str, mark: &str) -> (&'a str, &'a str) {
-    text.split_once(mark).unwrap_or((text, ""))
+pub fn parts_around<'a>(text: &'a str, separator: &str) -> (&'a str, &'a str) {
+    text.split_once(separator).unwrap_or((text, ""))
 }
 
 /// A number of up to 32 bits.
@@ -35,8 +35,8 @@ pub fn number(text: &str) -> Result<u32, Trouble> {
 }
 
 /// Two numbers of up to 32 bits with this mark between them.
-pub fn pair(mark: &str, text: &str) -> Result<(u32, u32), Trouble> {
-    let (first, second) = parted(text, mark);
+pub fn pair(separator: &str, text: &str) -> Result<(u32, u32), Trouble> {
+    let (first, second) = parts_around(text, separator);
     Ok((number(first)?, number(second)?))
 }
 
@@ -89,7 +89,7 @@ pub fn name(alloc: Global, text: &str) -> Result<Name, Trouble> {
 pub fn operation(alloc: Global, text: &str) -> Result<SoundOp, Trouble> {
     match read_op(alloc, text.as_bytes()) {
         Ok(op) => into_sound_op(op).ok_or(Trouble::NotACase),
-        Err(OpFault::NotTheForm) => Err(Trouble::NotACase),
+        Err(OpFault::NotInForm) => Err(Trouble::NotACase),
         Err(OpFault::NoMemory) => Err(Trouble::NoMemory),
     }
 }

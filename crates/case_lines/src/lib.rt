@@ -5,7 +5,7 @@
 //! is the expected answer. A case program reads the line's fields, computes the answer, and prints
 //! the line again with that answer; the gate compares the output with the stored one.
 //!
-//! `asked`, `cut` and their like read fields; each gives `Trouble::NotACase` for a field that isn't
+//! `question`, `cut` and others read fields; each gives `Trouble::NotACase` for a field that isn't
 //! written as a case is. `Words` collects an answer: once memory has run out, its text is
 //! incomplete and `finish` gives `Err`. `Trouble` says why a line has no answer.
 //!
@@ -17,8 +17,8 @@ mod trouble;
 mod words;
 
 pub use fields::{
-    asked, cut, long_number, meaning, name, number, octets, operation, pair, parted, replica,
-    with_octet,
+    cut, long_number, meaning, name, number, octets, operation, pair, parts_around, question,
+    replica, with_octet,
 };
 pub use trouble::Trouble;
 pub use words::Words;

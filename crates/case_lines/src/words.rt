@@ -51,7 +51,7 @@ impl Words {
         self.is_whole = false;
     }
 
-    fn keep(&mut self, done: Result<(), AllocError>) {
+    fn note_result(&mut self, done: Result<(), AllocError>) {
         if done.is_err() {
             self.give_up();
         }
@@ -65,7 +65,7 @@ impl Words {
     /// Appends octets.
     pub fn put_octets(&mut self, octets: &[u8]) {
         let done = self.octets.extend_from_slice(octets);
-        self.keep(done);
+        self.note_result(done);
     }
 
     /// Appends a word if a condition holds.
@@ -98,21 +98,21 @@ impl Words {
     pub fn put_escaped(&mut self, word: &str, octets: &[u8]) {
         self.put(word);
         let done = write_escaped(Escape::Text, octets, &mut self.octets);
-        self.keep(done);
+        self.note_result(done);
     }
 
     /// Appends a word, and octets escaped as in fields.
     pub fn put_field(&mut self, word: &str, octets: &[u8]) {
         self.put(word);
         let done = write_escaped(Escape::Field, octets, &mut self.octets);
-        self.keep(done);
+        self.note_result(done);
     }
 
     /// Appends a word, and a number in decimal.
     pub fn put_number(&mut self, word: &str, number: u64) {
         self.put(word);
         let done = push_number(number, &mut self.octets);
-        self.keep(done);
+        self.note_result(done);
     }
 
     /// Appends a word and a number, if there is one.
@@ -147,35 +147,35 @@ impl Words {
     pub fn put_flags(&mut self, word: &str, flags: &Flags) {
         self.put(word);
         let done = write_flags(flags, &mut self.octets);
-        self.keep(done);
+        self.note_result(done);
     }
 
     /// Appends a word, and the id of an operation.
     pub fn put_id(&mut self, word: &str, id: OpId) {
         self.put(word);
         let done = write_id(self.alloc, id, &mut self.octets);
-        self.keep(done);
+        self.note_result(done);
     }
 
     /// Appends a word, and ids of operations.
     pub fn put_ids(&mut self, word: &str, ids: &Ids) {
         self.put(word);
         let done = write_ids(self.alloc, ids, &mut self.octets);
-        self.keep(done);
+        self.note_result(done);
     }
 
     /// Appends a word, and a clock.
     pub fn put_clock(&mut self, word: &str, clock: &Clock) {
         self.put(word);
         let done = write_clock(self.alloc, clock, &mut self.octets);
-        self.keep(done);
+        self.note_result(done);
     }
 
     /// Appends a word, and an operation.
     pub fn put_op(&mut self, word: &str, op: &SoundOp) {
         self.put(word);
         let done = write_op(self.alloc, op, &mut self.octets);
-        self.keep(done);
+        self.note_result(done);
     }
 
     /// Appends octets, or marks the text as incomplete if memory ran out for them.

@@ -7,6 +7,7 @@ use Rattle.tags_clocks.specs.Clock.{count_of, IsAscendingFrom, IsClock, IsCause}
 use Rattle.merge_laws.specs.Orders.{IsIn, HasId}
 use Rattle.causal_inbox.specs.Inbox.{IsClockOf}
 use Rattle.causal_inbox.specs.CauseIndex.{IsAwaited, IsLeastMissing, first_beyond}
+use Rattle.causal_inbox.proofs.EntryOrder.{id_decided}
 
 -- no entry counts above the clock
 pub none_beyond : (now es : List (ℕ × ℕ)) → first_beyond now es ≡ None → (r : ℕ) → count_of es r ≤ count_of now r
@@ -64,24 +65,72 @@ some_beyond now (x ∷ es) low i a e =
           }
     ]
 
--- the cause that an operation waits for
-pub waits : {O : Type 0} (id : O → OpId) (clock : O → List (ℕ × ℕ)) (applied : List O) (o : O) (now : List (ℕ × ℕ)) (r : Option OpId) → IsClock (clock o) → IsClockOf id applied now → r ≡ first_beyond now (clock o) → MatchOption r ((i : OpId) → IsCause (clock o) i → HasId id applied i) (IsAwaited id clock applied o)
-waits id clock applied o now None c k e = λ i h. let w = none_beyond now (clock o) (sym e) i.replica in let n = h.1 in (k i).0 (h.0, omega (arith, n, w))
-waits id clock applied o now (Some i) c k e =
-    let b = some_beyond now (clock o) 1 i c (sym e) in
-    let more = b.more in
-    let last = b.last in
-    record {
-      cause = (omega (arith, more), omega (arith, last));
-      missing = λ h. let q = ((k i).1 h).1 in omega (arith, q, more);
-      last = last;
-      least = λ j h n. elim (cases_lt j.replica i.replica) [
-        | inl l ↦ let w = b.below j.replica l in let m = h.1 in absurd (n ((k j).0 (h.0, omega (arith, m, w))))
-        | inr m ↦ m
-      ];
-    }
+-- whether an id is in a list, and a replica's least missing number
+module _ {O : Type 0} (id : O → OpId) where
+  pub has_decided : (ops : List O) (i : OpId) → HasId id ops i ⊎ (HasId id ops i → ⊥)
+  has_decided [] i = inr (λ h. h)
+  has_decided (o ∷ ops) i = elim (id_decided (id o) i) [
+    | inl e ↦ inl (inl e)
+    | inr n ↦ elim (has_decided ops i) [ inl h ↦ inl (inr h) | inr m ↦ inr (λ h. elim h [ inl e ↦ n e | inr t ↦ m t ]) ]
+  ]
+
+  abbrev HasAllTo : List O → ℕ → ℕ → Type 0
+  HasAllTo ops r n = (m : ℕ) → 0 < m → m ≤ n → HasId id ops (record { replica = r; number = m })
+
+  record LacksFirst (ops : List O) (r n : ℕ) : Type 0 where
+    pub number : ℕ
+    pub positive : 0 < number
+    pub to : number ≤ n
+    pub missing : ¬ HasId id ops (record { replica = r; number = number })
+    pub first : (m : ℕ) → 0 < m → m < number → HasId id ops (record { replica = r; number = m })
+
+  all_or_first : (ops : List O) (r n : ℕ) → HasAllTo ops r n ⊎ LacksFirst ops r n
+  all_or_first ops r zero = inl (λ m p l. absurd (omega (arith, p, l)))
+  all_or_first ops r (suc n) = elim (all_or_first ops r n) [
+    | inr f ↦ let l = f.to in inr (record { number = f.number; positive = f.positive; to = omega (arith, l); missing = f.missing; first = f.first })
+    | inl all ↦ elim (has_decided ops (record { replica = r; number = suc n })) [
+      | inl h ↦ inl (λ m p l. elim (cases_lt m (suc n)) [
+        | inl s ↦ all m p (omega (arith, s))
+        | inr e ↦ subst (λ (k : ℕ). HasId id ops (record { replica = r; number = k })) (omega (arith, e, l)) h
+      ])
+      | inr lacks ↦ inr (record { number = suc n; positive = omega arith; to = omega arith; missing = lacks; first = λ m p s. all m p (omega (arith, s)) })
+    ]
+  ]
 
 module _ {O : Type 0} (id : O → OpId) (clock : O → List (ℕ × ℕ)) (applied : List O) (o : O) where
+  -- no replica before that of the awaited cause has a missing cause
+  pub awaited_least : (i : OpId) → IsAwaited id clock applied o i → (j : OpId) → IsCause (clock o) j → ¬ HasId id applied j → i.replica ≤ j.replica
+  awaited_least i w j c n =
+      let e : w.least.0.replica ≡ i.replica = w.least.1 in
+      elim (cases_lt j.replica i.replica) [
+        | inl l ↦ absurd (w.least.2.least j c n (inl (omega (arith, l, e))))
+        | inr m ↦ m
+      ]
+
+  -- a replica's last cause is awaited if it is missing and no replica before has a missing cause
+  pub awaited_by : (i : OpId) → IsCause (clock o) i → ¬ HasId id applied i → count_of (clock o) i.replica ≡ i.number → ((j : OpId) → IsCause (clock o) j → ¬ HasId id applied j → i.replica ≤ j.replica) → IsAwaited id clock applied o i
+  awaited_by i c n last far =
+      let least : (j : OpId) × (j.replica ≡ i.replica) × IsLeastMissing id clock applied o j =
+      elim (all_or_first id applied i.replica i.number) [
+        | inl all ↦ absurd (n (all i.number c.0 (omega arith)))
+        | inr f ↦
+            let to = f.to in (
+              record { replica = i.replica; number = f.number },
+              refl,
+              record {
+                cause = (f.positive, omega (arith, to, last));
+                missing = f.missing;
+                least = λ j h m l.
+                    let q : i.replica ≤ j.replica = far j h m in
+                    elim l [
+                      | inl a ↦ omega (arith, q, a)
+                      | inr b ↦ m (subst (λ (r : ℕ). HasId id applied (record { replica = r; number = j.number })) (sym b.0) (f.first j.number h.0 b.1))
+                    ];
+              },
+            )
+      ] in
+      record { cause = c; missing = n; last = last; least = least }
+
   -- the least missing cause is the operation after those applied, from the replica of the awaited
   -- cause
   pub least_missing : (now : List (ℕ × ℕ)) (i : OpId) → IsClockOf id applied now → IsAwaited id clock applied o i → IsLeastMissing id clock applied o (record { replica = i.replica; number = count_of now i.replica + 1 })
@@ -94,7 +143,7 @@ module _ {O : Type 0} (id : O → OpId) (clock : O → List (ℕ × ℕ)) (appli
         cause = (omega arith, omega (arith, more, last));
         missing = λ h. let q : count_of now i.replica + 1 ≤ count_of now i.replica = ((k first).1 h).1 in omega (arith, q);
         least = λ j c n l.
-            let far : i.replica ≤ j.replica = w.least j c n in
+            let far : i.replica ≤ j.replica = awaited_least i w j c n in
             elim l [
               | inl a ↦ omega (arith, far, a)
               | inr b ↦
@@ -107,8 +156,24 @@ module _ {O : Type 0} (id : O → OpId) (clock : O → List (ℕ × ℕ)) (appli
   -- both causes are of one replica
   pub one_replica : (i j : OpId) → IsAwaited id clock applied o i → IsLeastMissing id clock applied o j → i.replica ≡ j.replica
   one_replica i j w m =
-      let far : i.replica ≤ j.replica = w.least j m.cause m.missing in
+      let far : i.replica ≤ j.replica = awaited_least i w j m.cause m.missing in
       elim (cases_lt i.replica j.replica) [
         | inl l ↦ absurd (m.least i w.cause w.missing (inl l))
         | inr n ↦ omega (arith, far, n)
       ]
+
+-- the cause that an operation waits for
+pub waits : {O : Type 0} (id : O → OpId) (clock : O → List (ℕ × ℕ)) (applied : List O) (o : O) (now : List (ℕ × ℕ)) (r : Option OpId) → IsClock (clock o) → IsClockOf id applied now → r ≡ first_beyond now (clock o) → MatchOption r ((i : OpId) → IsCause (clock o) i → HasId id applied i) (IsAwaited id clock applied o)
+waits id clock applied o now None c k e = λ i h. let w = none_beyond now (clock o) (sym e) i.replica in let n = h.1 in (k i).0 (h.0, omega (arith, n, w))
+waits id clock applied o now (Some i) c k e =
+    let b = some_beyond now (clock o) 1 i c (sym e) in
+    let more = b.more in
+    let last = b.last in
+    awaited_by id clock applied o i
+    (omega (arith, more), omega (arith, last))
+    (λ h. let q = ((k i).1 h).1 in omega (arith, q, more))
+    last
+    (λ j h n. elim (cases_lt j.replica i.replica) [
+      | inl l ↦ let w = b.below j.replica l in let m = h.1 in absurd (n ((k j).0 (h.0, omega (arith, m, w))))
+      | inr m ↦ m
+    ])

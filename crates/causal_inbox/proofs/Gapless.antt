@@ -1,18 +1,19 @@
-use Rattle.std.proofs.Common.{◌≡◌, inl, inr, ℕ, ◌+◌, ◌-◌, ◌<◌, ◌≤◌, min, Bool, true, false, not, cond, List, [], ◌∷◌, ◌++◌, Some, get_or, length, map, position, take, drop, sym, refl, ap, ◌∙◌, subst, arith}
+use Rattle.std.proofs.Common.{◌≡◌, inl, inr, ℕ, ◌+◌, ◌-◌, ◌<◌, ◌≤◌, min, Bool, true, false, not, cond, List, [], ◌∷◌, ◌++◌, Some, get_or, length, map, position, slice_get, take, drop, sym, refl, ap, ◌∙◌, subst, arith}
 use Rattle.std.specs.List.{list_any}
 use Rattle.std.proofs.lemmas.Bool.{and_from, cases_lt, le-leb, lt-ltb}
 use Rattle.std.proofs.lemmas.Bool.Decides.{eqb_tells}
 use Rattle.std.proofs.lemmas.List.{take-append-drop, take-map, take-take, take_rest}
 use Rattle.std.proofs.lemmas.List.Elements.{filter-append}
 use Rattle.std.proofs.lemmas.List.Quantifiers.{position-Some}
+use Rattle.std.proofs.lemmas.Option.{get_or_from_slice_get}
 use Rattle.tags_clocks.specs.declared.id.OpId.{OpId}
 use Rattle.tags_clocks.specs.Clock.{IsCause, count_of}
 use Rattle.merge_laws.specs.Orders.{IsIn, HasId, AreSound, IsCausal}
 use Rattle.merge_laws.proofs.Causal.{causal_front}
 use Rattle.merge_laws.proofs.Lists.{id_in_front, id_of_element, in_front, split_at}
-use Rattle.causal_inbox.specs.InboxState.{LacksNext, id_numbers}
+use Rattle.causal_inbox.specs.InboxState.{IsNextOf, LacksNext, id_numbers}
 use Rattle.causal_inbox.specs.Inbox.{IsClockOf, is_cause, uncovered_ops}
-use Rattle.causal_inbox.proofs.Numbered.{any_in, is_pair, number_in, pair_is}
+use Rattle.causal_inbox.proofs.IdNumberLemmas.{any_in, is_pair, number_in, pair_is, pairs_equal}
 use Rattle.causal_inbox.proofs.Ordered.{in_take_at}
 use Rattle.causal_inbox.proofs.Places.{all_more}
 
@@ -32,14 +33,28 @@ not_in_keys n m keys e none h =
     absurd (cc (a, none))
 
 pub not_in_front : (n m : ℕ × ℕ) (keys : List (ℕ × ℕ)) (at : ℕ) → n ≡ m → position (is_pair n) keys ≡ Some at → IsIn m (take at keys) → ⊥
-not_in_front n m keys at e found h =
-    let p = position-Some (is_pair n) keys at m found in
+not_in_front n m keys at e member h =
+    let p = position-Some (is_pair n) keys at m member in
     let w = in_take_at keys at m h in
     let fails : is_pair n (get_or keys w.0 m) ≡ false = p.2 w.0 w.1 in
     let passes : is_pair n (get_or keys w.0 m) ≡ true = pair_is n (get_or keys w.0 m) (e ∙ w.3) in
     absurd (cc (fails, passes))
 
+-- the id at the place of a replica's next number
+pub next_of_position : (clock keys : List (ℕ × ℕ)) (at : ℕ) (n id : ℕ × ℕ) → position (is_pair n) keys ≡ Some at → slice_get keys at ≡ Some id → IsNextOf clock n → IsNextOf clock id
+next_of_position clock keys at n id e member next =
+    let p = position-Some (is_pair n) keys at id e in
+    let q : get_or keys at id ≡ id = get_or_from_slice_get keys at id id member in
+    let same : n ≡ id = pairs_equal n id (subst (λ k. is_pair n k ≡ true) q p.1) in
+    subst (IsNextOf clock) same next
+
 -- ---- the least of several places
+
+pub next_of_less : (clock keys : List (ℕ × ℕ)) (first next new : ℕ) → new ≡ min first next → ((id : ℕ × ℕ) → slice_get keys first ≡ Some id → IsNextOf clock id) → ((id : ℕ × ℕ) → slice_get keys next ≡ Some id → IsNextOf clock id) → (id : ℕ × ℕ) → slice_get keys new ≡ Some id → IsNextOf clock id
+next_of_less clock keys first next new least before here id member = elim (cases_lt first next) [
+  | inl l ↦ let e : new ≡ first = omega (arith, least, l) in before id (subst (λ (n : ℕ). slice_get keys n ≡ Some id) e member)
+  | inr m ↦ let e : new ≡ next = omega (arith, least, m) in here id (subst (λ (n : ℕ). slice_get keys n ≡ Some id) e member)
+]
 
 lacks_shorter : (clock keys : List (ℕ × ℕ)) (m n : ℕ) (e : ℕ × ℕ) → m ≤ n → LacksNext clock (take n keys) e → LacksNext clock (take m keys) e
 lacks_shorter clock keys m n e l h = elim h [
@@ -62,36 +77,27 @@ entry_of_count (x ∷ clock) r h =
     elim (eqb_tells x.0 r) [
       | inl t ↦ let here : count_of (x ∷ clock) r ≡ x.1 = rw t.0 refl in (x, inl refl, t.1, sym here)
       | inr n ↦
-          let there : count_of (x ∷ clock) r ≡ count_of clock r = rw n.0 refl in
-          let w = entry_of_count clock r (subst (λ (k : ℕ). 0 < k) there h) in
-          (w.0, inr w.1, w.2, w.3 ∙ sym there)
+          let is_same : count_of (x ∷ clock) r ≡ count_of clock r = rw n.0 refl in
+          let w = entry_of_count clock r (subst (λ (k : ℕ). 0 < k) is_same h) in
+          (w.0, inr w.1, w.2, w.3 ∙ sym is_same)
     ]
 
-cause_test : (clock : List (ℕ × ℕ)) (i : OpId) → IsCause clock i → is_cause clock i ≡ true
+pub cause_test : (clock : List (ℕ × ℕ)) (i : OpId) → IsCause clock i → is_cause clock i ≡ true
 cause_test clock i h = and_from _ _ (lt-ltb 0 i.number h.0) (le-leb i.number (count_of clock i.replica) h.1)
 
-same_ids : (i j : OpId) → i.replica ≡ j.replica → i.number ≡ j.number → i ≡ j
+pub same_ids : (i j : OpId) → i.replica ≡ j.replica → i.number ≡ j.number → i ≡ j
 same_ids i j p q = λ k. record { replica = p k; number = q k }
 
-left_out : {X : Type 0} (b : Bool) (x : X) (xs : List X) → b ≡ true → cond (not b) (x ∷ xs) xs ≡ xs
+pub left_out : {X : Type 0} (b : Bool) (x : X) (xs : List X) → b ≡ true → cond (not b) (x ∷ xs) xs ≡ xs
 left_out true x xs e = refl
 left_out false x xs e = absurd cc
 
 module _ {O : Type 0} (id : O → OpId) where
-  none_uncovered : (clock : List (ℕ × ℕ)) (os : List O) → ((o : O) → IsIn o os → IsCause clock (id o)) → uncovered_ops id clock os ≡ []
+  pub none_uncovered : (clock : List (ℕ × ℕ)) (os : List O) → ((o : O) → IsIn o os → IsCause clock (id o)) → uncovered_ops id clock os ≡ []
   none_uncovered clock [] h = refl
   none_uncovered clock (o ∷ os) h =
       left_out (is_cause clock (id o)) o (uncovered_ops id clock os) (cause_test clock (id o) (h o (inl refl)))
       ∙ none_uncovered clock os (λ p t. h p (inr t))
-
-  -- the operations after those first ones that the clock covers
-  pub rest_uncovered : (clock : List (ℕ × ℕ)) (os view : List O) (at : ℕ) → view ≡ os → uncovered_ops id clock (take at os) ≡ [] → uncovered_ops id clock (take (length view - at) (drop at view)) ≡ uncovered_ops id clock os
-  rest_uncovered clock os view at is none =
-      let test = λ (o : O). not (is_cause clock (id o)) in
-      let parts : uncovered_ops id clock os ≡ uncovered_ops id clock (take at os) ++ uncovered_ops id clock (drop at os) =
-      ap (λ (xs : List O). uncovered_ops id clock xs) (sym (take-append-drop at os)) ∙ filter-append test (take at os) (drop at os) in
-      let behind : uncovered_ops id clock os ≡ uncovered_ops id clock (drop at os) = parts ∙ ap (λ (xs : List O). xs ++ uncovered_ops id clock (drop at os)) none in
-      ap (λ (xs : List O). uncovered_ops id clock xs) (take_rest view at ∙ ap (drop at) is) ∙ sym behind
 
 module _ {O : Type 0} (id : O → OpId) (clock : O → List (ℕ × ℕ)) where
   -- a causal list has a replica's numbers without a gap: with an operation it has all earlier ones
@@ -129,8 +135,8 @@ module _ {O : Type 0} (id : O → OpId) (clock : O → List (ℕ × ℕ)) (is_so
                   let most : count_of other w.0.0 + 1 ≤ (id o).number = omega (arith, same, l) in
                   let front : IsCausal id clock (take first os) = causal_front id clock (take first os) (drop first os) (subst (IsCausal id clock) (sym (take-append-drop first os)) causal) in
                   let i : OpId = record { replica = w.0.0; number = count_of other w.0.0 + 1 } in
-                  let there : HasId id (take first os) i = has_up_to id clock (take first os) o i front number h w.2 one most in
-                  none (subst (IsIn (w.0.0, count_of other w.0.0 + 1)) (sym (ap (take first) is ∙ take-map (id_numbers id) first os)) (number_in id (take first os) i there))
+                  let is_same : HasId id (take first os) i = has_up_to id clock (take first os) o i front number h w.2 one most in
+                  none (subst (IsIn (w.0.0, count_of other w.0.0 + 1)) (sym (ap (take first) is ∙ take-map (id_numbers id) first os)) (number_in id (take first os) i is_same))
             ])
         | inr m ↦ (positive, m)
       ]

@@ -1,15 +1,16 @@
 pub mod Clocks
 mod Places
 mod Ascending
-mod Received
+mod ReceivedLemmas
 pub mod Union
 pub mod Closure
 mod Ordered
-mod FileOrder
+mod EntryOrder
 mod Beyond
-mod Shelves
-mod Waking
-mod Numbered
-mod Growing
+mod CauseIndexLemmas
+mod CauseCountLemmas
+mod IdNumberLemmas
+mod AppendLemmas
 mod OwnLemmas
 mod Gapless
+mod UncoveredLemmas

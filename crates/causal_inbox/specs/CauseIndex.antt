@@ -24,7 +24,7 @@ pub record IsAwaited {O : Type 0} (id : O → OpId) (clock : O → List (ℕ × 
   pub cause : IsCause (clock o) i
   pub missing : ¬ HasId id applied i
   pub last : count_of (clock o) i.replica ≡ i.number
-  pub least : (j : OpId) → IsCause (clock o) j → ¬ HasId id applied j → i.replica ≤ j.replica
+  pub least : (j : OpId) × (j.replica ≡ i.replica) × IsLeastMissing id clock applied o j
 
 -- The cause under which a held operation is indexed: the one that it waits for, or none if it is
 -- ripe.
@@ -55,19 +55,19 @@ AreOrdered less [] = Unit {0}
 AreOrdered {X} less (x ∷ xs) = ((y : X) → IsIn y xs → less x y) × AreOrdered less xs
 
 -- The index has one entry for each held operation and no others, and its entries are in order.
-pub record IsCauseIndex {O : Type 0} (id : O → OpId) (held : List O) (file : List CauseEntry) :
+pub record IsCauseIndex {O : Type 0} (id : O → OpId) (held : List O) (entries : List CauseEntry) :
     Type 0 where
-  pub each : (o : O) → IsIn o held → (f : CauseEntry) × IsIn f file × (f.id ≡ id o)
-  pub of : (f : CauseEntry) → IsIn f file → (o : O) × IsIn o held × (id o ≡ f.id)
-  pub once : (f g : CauseEntry) → IsIn f file → IsIn g file → f.id ≡ g.id → f ≡ g
-  pub ordered : AreOrdered IsIndexedBefore file
+  pub each : (o : O) → IsIn o held → (f : CauseEntry) × IsIn f entries × (f.id ≡ id o)
+  pub of : (f : CauseEntry) → IsIn f entries → (o : O) × IsIn o held × (id o ≡ f.id)
+  pub once : (f g : CauseEntry) → IsIn f entries → IsIn g entries → f.id ≡ g.id → f ≡ g
+  pub ordered : AreOrdered IsIndexedBefore entries
 
 -- Each held operation is indexed under the cause that it waits for, or under none if it is ripe.
 -- Those under a cause in `woken`, which was applied just now, are still to be indexed again.
 abbrev pub AreIndexed : {O : Type 0} → (O → OpId) → (O → List (ℕ × ℕ)) → List OpId → List O → List O
     → List CauseEntry → Type 0
-AreIndexed {O} id clock woken applied held file =
-    (f : CauseEntry) (o : O) → IsIn f file → IsIn o held → id o ≡ f.id
+AreIndexed {O} id clock woken applied held entries =
+    (f : CauseEntry) (o : O) → IsIn f entries → IsIn o held → id o ≡ f.id
     → IsIndexedUnder id clock applied o f.cause ⊎ IsUnderOneOf woken f.cause
 
 -- No id is in both lists.
@@ -77,7 +77,7 @@ AreApart id held applied = (i : OpId) → HasId id held i → ¬ HasId id applie
 -- The held operations, by ascending ids, and their cause index.
 pub record HeldState (O : Type 0) : Type 0 where
   pub list : List O
-  pub file : List CauseEntry
+  pub entries : List CauseEntry
 
 -- The entry at this place was taken out, and another entry of the same operation was put in, under
 -- the cause that the operation waits for by this clock.

@@ -77,7 +77,7 @@ pub record IsReleased {S O : Type 0} (id : O → OpId) (clock : O → List (ℕ 
   pub start : new.start ≡ old.start
   pub applied : new.applied ≡ old.applied ++ op ∷ []
   pub held : HaveSameElements old.held (op ∷ new.held)
-  pub let_go : ¬ IsIn op new.held
+  pub not_held : ¬ IsIn op new.held
 
 -- This number of held operations were applied, one after another.
 abbrev pub AreReleasedInTurn : {S O : Type 0} → (O → OpId) → (O → List (ℕ × ℕ))

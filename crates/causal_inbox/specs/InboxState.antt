@@ -1,7 +1,7 @@
 -- An inbox and its history as contracts see them: what was received, and the room that calls
 -- without memory rely on.
 
-use Rattle.std.specs.Prelude.{◌⊎◌, ℕ, ◌+◌, ◌≤◌, List, ◌++◌, length}
+use Rattle.std.specs.Prelude.{◌≡◌, ◌⊎◌, ℕ, ◌+◌, ◌≤◌, List, ◌++◌, length}
 use Rattle.tags_clocks.specs.declared.id.OpId.{OpId}
 use Rattle.tags_clocks.specs.Clock.{count_of}
 use Rattle.merge_laws.specs.Orders.{IsIn, IsCausal}
@@ -17,7 +17,7 @@ pub record InboxRoom (R F : Type 0) : Type 0 where
 
 -- An inbox: what it has received, and its room.
 pub record InboxState (S R F O : Type 0) : Type 0 where
-  pub seen : ReceivedOps S O
+  pub received : ReceivedOps S O
   pub room : InboxRoom R F
 
 -- The operations can be applied after the list, in this order, without further memory.
@@ -39,6 +39,10 @@ pub record HistoryState (S R F O : Type 0) : Type 0 where
 -- replica.
 abbrev pub id_numbers : {O : Type 0} → (O → OpId) → O → ℕ × ℕ
 id_numbers id o = ((id o).replica, (id o).number)
+
+-- The numbers are those of the id of a replica's next operation after those that the clock counts.
+abbrev pub IsNextOf : List (ℕ × ℕ) → ℕ × ℕ → Type 0
+IsNextOf clock id = id.1 ≡ count_of clock id.0 + 1
 
 -- The entry counts a replica's operations. Either the clock covers that many, or `keys` lacks the
 -- first number that it doesn't cover.

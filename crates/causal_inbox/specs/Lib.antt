@@ -4,6 +4,6 @@ pub mod Inbox
 pub mod InboxState
 pub mod Delivery
 pub mod Stalls
-pub mod Standing
+pub mod OpStatus
 pub mod ReceivedSets
 pub mod OwnIds

@@ -20,7 +20,7 @@ abbrev pub Precedes : ℕ → OpId → Option OpId → Type 0
 Precedes name id None = id.replica ≡ name
 Precedes name id (Some other) = (id.replica ≡ name) × IsLess id other
 
--- The new id is this id if it precedes the old one, and else the old one.
-abbrev pub IsKeptOwn : ℕ → OpId → Option OpId → Option OpId → Type 0
-IsKeptOwn name id old new =
+-- The new id is this id if it precedes the old one, otherwise the old one.
+abbrev pub IsLesserOwn : ℕ → OpId → Option OpId → Option OpId → Type 0
+IsLesserOwn name id old new =
     (Precedes name id old × (new ≡ Some id)) ⊎ ((¬ Precedes name id old) × (new ≡ old))

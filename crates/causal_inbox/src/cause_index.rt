@@ -60,7 +60,7 @@ fn is_same_cause(one: &Option<OpId>, other: &Option<OpId>) -> bool
 }
 
 /// Whether `one` comes before `other` in the index.
-fn is_filed_before(one: &CauseEntry, other: &CauseEntry) -> bool
+fn is_indexed_before(one: &CauseEntry, other: &CauseEntry) -> bool
     ensures { IsTrue result ↔ IsIndexedBefore one.now other.now }
 {
     if is_same_cause(&one.cause, &other.cause) {
@@ -71,25 +71,25 @@ fn is_filed_before(one: &CauseEntry, other: &CauseEntry) -> bool
 }
 
 /// The number of entries that come before `entry`.
-pub fn place_of(file: &TreeList<CauseEntry>, entry: &CauseEntry) -> usize
-    requires { AreOrdered IsIndexedBefore file.now }
-    ensures within { result ≤ length file.now }
-    ensures place { ¬ IsIn entry.now file.now
-        → AreOrdered IsIndexedBefore (insert file.now result entry.now) }
-    ensures found { IsIn entry.now file.now → slice_get file.now result ≡ Some entry.now }
+pub fn place_of(entries: &TreeList<CauseEntry>, entry: &CauseEntry) -> usize
+    requires { AreOrdered IsIndexedBefore entries.now }
+    ensures within { result ≤ length entries.now }
+    ensures place { ¬ IsIn entry.now entries.now
+        → AreOrdered IsIndexedBefore (insert entries.now result entry.now) }
+    ensures member { IsIn entry.now entries.now → slice_get entries.now result ≡ Some entry.now }
 {
-    file.partition_point(|_, one| is_filed_before(one, entry))
+    entries.partition_point(|_, one| is_indexed_before(one, entry))
 }
 
 /// The place of the first entry under `cause`, or `None` if there is none.
-pub fn first_waiting_for(file: &TreeList<CauseEntry>, cause: &Option<OpId>) -> Option<usize>
-    requires { AreOrdered IsIndexedBefore file.now }
-    ensures { MatchOption result ((f : CauseEntry) → IsIn f file.now → f.cause ≢ cause.now)
-        (λ at. (at < length file.now)
-        × ((f : CauseEntry) → slice_get file.now at ≡ Some f → f.cause ≡ cause.now)) }
+pub fn first_waiting_for(entries: &TreeList<CauseEntry>, cause: &Option<OpId>) -> Option<usize>
+    requires { AreOrdered IsIndexedBefore entries.now }
+    ensures { MatchOption result ((f : CauseEntry) → IsIn f entries.now → f.cause ≢ cause.now)
+        (λ at. (at < length entries.now)
+        × ((f : CauseEntry) → slice_get entries.now at ≡ Some f → f.cause ≡ cause.now)) }
 {
-    let at = file.partition_point(|_, one| is_lesser_cause(&one.cause, cause));
-    let one = file.get(at)?;
+    let at = entries.partition_point(|_, one| is_lesser_cause(&one.cause, cause));
+    let one = entries.get(at)?;
     if is_same_cause(&one.cause, cause) {
         Some(at)
     } else {

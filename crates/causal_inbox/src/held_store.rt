@@ -23,7 +23,7 @@ fn held_place<O: Caused + Drop>(list: &TreeList<OpCell<O>>, id: OpId) -> usize
     ensures within { result ≤ length list.now }
     ensures place { (o : O) → O.id o ≡ id → ¬ HasId O.id list.now id
         → AreAscending O.id (insert list.now result o) }
-    ensures found { (o : O) → IsIn o list.now → O.id o ≡ id → slice_get list.now result ≡ Some o }
+    ensures member { (o : O) → IsIn o list.now → O.id o ≡ id → slice_get list.now result ≡ Some o }
 {
     list.partition_point(|_, cell| cell.has_lesser_id(&id))
 }
@@ -44,7 +44,7 @@ pub fn place_of_id<O: Caused + Drop>(list: &TreeList<OpCell<O>>, id: OpId) -> Op
 pub fn find_held_op<O: Caused + Drop>(list: &TreeList<OpCell<O>>, id: OpId) -> Option<&O>
     requires { AreAscending O.id list.now }
     ensures { MatchOption result (¬ HasId O.id list.now id)
-        (λ found. IsIn found.now list.now × (O.id found.now ≡ id)) }
+        (λ member. IsIn member.now list.now × (O.id member.now ≡ id)) }
 {
     let at = held_place(list, id);
     let cell = list.get(at)?;
@@ -59,7 +59,7 @@ pub fn find_held_op<O: Caused + Drop>(list: &TreeList<OpCell<O>>, id: OpId) -> O
 #[derive(Drop)]
 pub struct HeldStore<O: Caused> {
     list: TreeList<OpCell<O>>,
-    file: TreeList<CauseEntry>,
+    entries: TreeList<CauseEntry>,
 }
 
 impl<O: Caused> Model for HeldStore<O> {
@@ -69,23 +69,23 @@ impl<O: Caused> Model for HeldStore<O> {
 
     ghost Value = { HeldState O };
 
-    ghost view = { λ h. record { list = h.list; file = h.file } };
+    ghost view = { λ h. record { list = h.list; entries = h.entries } };
 
     ghost invariant = { λ h. record {
       ascending : AreAscending O.id h.list;
-      count : length h.file ≡ length h.list;
-      file : IsCauseIndex O.id h.list h.file;
+      count : length h.entries ≡ length h.list;
+      entries : IsCauseIndex O.id h.list h.entries;
     } };
 }
 
 impl<O: Caused + Drop> HeldStore<O> {
     /// An empty store.
     pub fn new() -> HeldStore<O>
-        ensures { result ≡ record { list = []; file = [] } }
+        ensures { result ≡ record { list = []; entries = [] } }
     {
         HeldStore {
             list: TreeList::new(),
-            file: TreeList::new(),
+            entries: TreeList::new(),
         }
     }
 
@@ -111,7 +111,7 @@ impl<O: Caused + Drop> HeldStore<O> {
     /// The place of the ripe operation with the least id, or `None` if no held operation is ripe.
     pub fn next_ripe(&self) -> Option<usize>
         ensures { (applied : List O)
-            → AreIndexed O.id O.clock [] applied self.now.list self.now.file
+            → AreIndexed O.id O.clock [] applied self.now.list self.now.entries
             → MatchOption result
             ((o : O) → IsIn o self.now.list → ¬ IsRipe O.id O.clock applied o)
             (λ at. (at < length self.now.list)
@@ -119,7 +119,7 @@ impl<O: Caused + Drop> HeldStore<O> {
             × ((o p : O) → o ≡ slice_index_or self.now.list at o → IsIn p self.now.list
             → IsRipe O.id O.clock applied p → ¬ IsLess (O.id p) (O.id o))) }
     {
-        let first = self.file.get(0)?;
+        let first = self.entries.get(0)?;
         if first.cause.is_some() {
             return None;
         }
@@ -132,37 +132,37 @@ impl<O: Caused + Drop> HeldStore<O> {
         requires few { length self.old.list < held_limit }
         ensures elements { OnOk result (HaveSameElements self.new.list (op ∷ self.old.list)) }
         ensures count { OnOk result (length self.new.list ≡ length self.old.list + 1) }
-        ensures filed { OnOk result ((applied : List O) → IsClockOf O.id applied clock.now
+        ensures indexed { OnOk result ((applied : List O) → IsClockOf O.id applied clock.now
             → ¬ HasId O.id applied (O.id op)
-            → AreIndexed O.id O.clock [] applied self.old.list self.old.file
-            → AreIndexed O.id O.clock [] applied self.new.list self.new.file) }
+            → AreIndexed O.id O.clock [] applied self.old.list self.old.entries
+            → AreIndexed O.id O.clock [] applied self.new.list self.new.entries) }
         ensures err { OnErr result (self.new ≡ self.old) }
     {
         let entry = entry_of(clock, &op);
         let slot = Slot::new(alloc, entry)?;
         let at = held_place(&self.list, entry.id);
         self.list.insert(alloc, at, OpCell::new(alloc, op)?)?;
-        let to = place_of(&self.file, &entry);
-        self.file.put(to, slot);
+        let to = place_of(&self.entries, &entry);
+        self.entries.put(to, slot);
         Ok(())
     }
 
-    /// Takes out and returns the operation at place `at`, and removes its index entry.
+    /// Removes and returns the operation at place `at`, and removes its index entry.
     pub fn take_out(&mut self, clock: &Clock, at: usize) -> O
         requires within { at < length self.old.list }
-        requires filed { (applied : List O)
+        requires indexed { (applied : List O)
             × IsClockOf O.id applied clock.now
             × AreApart O.id self.old.list applied
-            × AreIndexed O.id O.clock [] applied self.old.list self.old.file }
+            × AreIndexed O.id O.clock [] applied self.old.list self.old.entries }
         ensures op { result ≡ slice_index_or self.old.list at result }
         ensures list { self.new.list ≡ remove self.old.list at }
-        ensures filed { (woken : List OpId) (applied : List O)
-            → AreIndexed O.id O.clock woken applied self.old.list self.old.file
-            → AreIndexed O.id O.clock woken applied self.new.list self.new.file }
+        ensures indexed { (woken : List OpId) (applied : List O)
+            → AreIndexed O.id O.clock woken applied self.old.list self.old.entries
+            → AreIndexed O.id O.clock woken applied self.new.list self.new.entries }
     {
         let op = self.list.take(at).into_item().into_op();
-        let there = place_of(&self.file, &entry_of(clock, &op));
-        let _ = self.file.take(there);
+        let from = place_of(&self.entries, &entry_of(clock, &op));
+        let _ = self.entries.take(from);
         op
     }
 
@@ -171,12 +171,12 @@ impl<O: Caused + Drop> HeldStore<O> {
         requires { (applied : List O)
             × IsClockOf O.id applied clock.now
             × AreApart O.id self.old.list applied
-            × AreIndexed O.id O.clock [] applied self.old.list self.old.file }
+            × AreIndexed O.id O.clock [] applied self.old.list self.old.entries }
         ensures others { (o : O) → IsIn o self.new.list ↔ (IsIn o self.old.list × (O.id o ≢ id)) }
         ensures count { length self.new.list ≤ length self.old.list }
-        ensures filed { (woken : List OpId) (applied : List O)
-            → AreIndexed O.id O.clock woken applied self.old.list self.old.file
-            → AreIndexed O.id O.clock woken applied self.new.list self.new.file }
+        ensures indexed { (woken : List OpId) (applied : List O)
+            → AreIndexed O.id O.clock woken applied self.old.list self.old.entries
+            → AreIndexed O.id O.clock woken applied self.new.list self.new.entries }
     {
         if let Some(at) = place_of_id(&self.list, id) {
             let _ = self.take_out(clock, at);
@@ -188,12 +188,12 @@ impl<O: Caused + Drop> HeldStore<O> {
         requires { (applied : List O)
             × IsClockOf O.id applied clock.now
             × AreApart O.id self.old.list applied
-            × AreIndexed O.id O.clock [] applied self.old.list self.old.file }
-        ensures kept { AreHeldStill O.id ops.now self.old.list self.new.list }
+            × AreIndexed O.id O.clock [] applied self.old.list self.old.entries }
+        ensures remaining { AreHeldStill O.id ops.now self.old.list self.new.list }
         ensures count { length self.new.list ≤ length self.old.list }
-        ensures filed { (woken : List OpId) (applied : List O)
-            → AreIndexed O.id O.clock woken applied self.old.list self.old.file
-            → AreIndexed O.id O.clock woken applied self.new.list self.new.file }
+        ensures indexed { (woken : List OpId) (applied : List O)
+            → AreIndexed O.id O.clock woken applied self.old.list self.old.entries
+            → AreIndexed O.id O.clock woken applied self.new.list self.new.entries }
     {
         for op in ops {
             self.discard(clock, op.id());
@@ -203,32 +203,32 @@ impl<O: Caused + Drop> HeldStore<O> {
     /// Moves the index entry at place `at` to where the operation's least missing cause puts it
     /// now. Takes no memory.
     fn reindex(&mut self, clock: &Clock, at: usize)
-        requires { at < length self.old.file }
+        requires { at < length self.old.entries }
         ensures list { self.new.list ≡ self.old.list }
-        ensures file { IsReindexed O.id O.clock clock.now self.old.list at self.old.file
-            self.new.file }
+        ensures entries { IsReindexed O.id O.clock clock.now self.old.list at self.old.entries
+            self.new.entries }
     {
-        let mut slot = self.file.take(at);
+        let mut slot = self.entries.take(at);
         match find_held_op(&self.list, slot.item().id) {
             None => unreachable!(),
             Some(op) => slot.replace(entry_of(clock, op)),
         }
-        let to = place_of(&self.file, slot.item());
-        self.file.put(to, slot);
+        let to = place_of(&self.entries, slot.item());
+        self.entries.put(to, slot);
     }
 
     /// Indexes again each operation that waits for `id`, an applied operation. Takes no memory.
     pub fn reindex_waiting(&mut self, clock: &Clock, id: OpId)
         ensures list { self.new.list ≡ self.old.list }
-        ensures filed { (woken : List OpId) (applied : List O)
+        ensures indexed { (woken : List OpId) (applied : List O)
             → IsClockOf O.id applied clock.now → HasId O.id applied id
             → AreApart O.id self.old.list applied
-            → AreIndexed O.id O.clock (id ∷ woken) applied self.old.list self.old.file
-            → AreIndexed O.id O.clock woken applied self.new.list self.new.file }
+            → AreIndexed O.id O.clock (id ∷ woken) applied self.old.list self.old.entries
+            → AreIndexed O.id O.clock woken applied self.new.list self.new.entries }
     {
         let cause = Some(id);
-        for _ in 0..self.file.len() {
-            match first_waiting_for(&self.file, &cause) {
+        for _ in 0..self.entries.len() {
+            match first_waiting_for(&self.entries, &cause) {
                 None => return,
                 Some(at) => self.reindex(clock, at),
             }
@@ -239,12 +239,12 @@ impl<O: Caused + Drop> HeldStore<O> {
     /// memory.
     pub fn reindex_all_waiting(&mut self, clock: &Clock, ops: &[O])
         ensures list { self.new.list ≡ self.old.list }
-        ensures filed { (applied : List O)
+        ensures indexed { (applied : List O)
             → IsClockOf O.id applied clock.now
             → ((o : O) → IsIn o ops.now → HasId O.id applied (O.id o))
             → AreApart O.id self.old.list applied
-            → AreIndexed O.id O.clock (map O.id ops.now) applied self.old.list self.old.file
-            → AreIndexed O.id O.clock [] applied self.new.list self.new.file }
+            → AreIndexed O.id O.clock (map O.id ops.now) applied self.old.list self.old.entries
+            → AreIndexed O.id O.clock [] applied self.new.list self.new.entries }
     {
         for op in ops {
             self.reindex_waiting(clock, op.id());

@@ -26,8 +26,10 @@
 //! - `Inbox::new` can run out of memory: the inbox owns a buffer with one free place. A delivered
 //!   operation is shown to the follower there, before anything else takes memory.
 //! - What `Inbox::issue` relies on (the prepared room and the next clock) is part of the inbox's
-//!   model, beside the received operations. "Unchanged" speaks only of the received operations.
-//! - `Inbox::ops_since` returns copies.
+//!   model, next to the received operations. "Unchanged" speaks only of the received operations.
+//! - `Inbox::ops_since` and `Inbox::ops_after` return copies. They go from one uncovered operation
+//!   to the next by the index of ids, so that their cost depends on what the clock lacks, and not
+//!   on what was applied meanwhile.
 //! - A stall that no counter causes is `Stall::Drainable`, not `NoMemory`: after an issue, the
 //!   inbox may hold a ripe operation that was never refused.
 //! - `Inbox::held` returns a type of its own with an iterator, which hides the tree of the held
@@ -45,11 +47,11 @@ mod op_cell;
 mod own_ids;
 mod search;
 
-pub use delivery::{Arrival, DeliverFault, Delivered, Drained, IssueFault, Stall};
+pub use delivery::{Arrival, DeliverFault, Delivered, Drained, IssueFault, Known, Stall};
 pub use held_ops::{HeldIter, HeldOps};
 pub use inbox::{HELD_LIMIT, Inbox};
 pub use laws::{
-    delivery_is_received, filed_by_least_missing_cause, issue_is_received, nothing_ripe_is_left,
+    delivery_is_received, indexed_by_least_missing_cause, issue_is_received, nothing_ripe_is_left,
     release_loses_nothing, what_is_received_is_consistent,
 };
 pub use own_ids::least_own;

@@ -8,7 +8,7 @@ use std::alloc::{AllocError, Global};
 use std::marker::Model;
 use tags_clocks::OpId;
 
-/// An operation with its id beside it. It can be borrowed as a slice, which `ready` needs.
+/// An operation and its id. It can be borrowed as a slice, which `ready` needs.
 #[derive(Drop)]
 pub struct OpCell<O: Caused> {
     id: OpId,

@@ -2,7 +2,7 @@
 
 ghost use Rattle.std.specs.Prelude.{◌≡◌, ◌↔◌, IsTrue};
 ghost use Rattle.causal_inbox.specs.Inbox.{IsLess};
-ghost use Rattle.causal_inbox.specs.OwnIds.{IsKeptOwn, IsLeastOwn, Precedes};
+ghost use Rattle.causal_inbox.specs.OwnIds.{IsLesserOwn, IsLeastOwn, Precedes};
 
 use merge_laws::Caused;
 use tags_clocks::{OpId, ReplicaId};
@@ -13,15 +13,15 @@ pub fn least_own<O: Caused>(name: ReplicaId, ops: &[O]) -> Option<OpId>
 {
     let mut least = None;
     for op in ops {
-        keep_own(&mut least, name, op.id());
+        take_lesser_own(&mut least, name, op.id());
     }
     least
 }
 
 /// Replaces `least` by `id` if `id` names the replica `name` and is less than `least`, or `least`
 /// is `None`.
-fn keep_own(least: &mut Option<OpId>, name: ReplicaId, id: OpId)
-    ensures { IsKeptOwn name id least.old least.new }
+fn take_lesser_own(least: &mut Option<OpId>, name: ReplicaId, id: OpId)
+    ensures { IsLesserOwn name id least.old least.new }
 {
     if precedes(name, &id, least) {
         *least = Some(id);

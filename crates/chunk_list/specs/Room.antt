@@ -2,7 +2,7 @@
 
 use Rattle.std.specs.Prelude.{◌≡◌, ℕ, ◌+◌, ◌-◌, ◌*◌, ◌/◌, ◌≤◌, List, [], Vec, length, All, vec_len}
 use Rattle.std.specs.Prelude.{vec_capacity}
-use Rattle.chunk_list.specs.declared.chunks.TheConstants.{CHUNK, MOST_CHUNKS}
+use Rattle.chunk_list.specs.declared.chunks.TheConstants.{CHUNK, MAX_CHUNKS}
 use Rattle.chunk_list.specs.declared.chunks.Chunk.{Chunk}
 use Rattle.chunk_list.specs.Chunks.{items_of, AreChunks, AreDense}
 
@@ -25,7 +25,7 @@ pub record IsChunkList {T X Y Z : Type 0} (held : Vec (Chunk T) X) (empty : Vec 
   pub spares : All IsSpare empty.items
   pub chunk_places : vec_len held + vec_len empty ≤ vec_capacity held
   pub spare_places : vec_len held + vec_len empty ≤ vec_capacity empty
-  pub few : vec_len held + vec_len empty ≤ MOST_CHUNKS
+  pub few : vec_len held + vec_len empty ≤ MAX_CHUNKS
   pub len : count ≡ length (items_of held.items)
 
 -- Reserved room: the most items that a list may have to adopt it, and how many further items the
@@ -47,4 +47,4 @@ pub record IsReady {T X Y Z : Type 0} (held : Vec (Chunk T) X) (empty : Vec (Vec
   pub spares : All IsSpare empty.items
   pub chunk_places : vec_len empty ≤ vec_capacity held
   pub spare_places : vec_capacity held ≤ vec_capacity empty
-  pub few : vec_capacity held ≤ MOST_CHUNKS
+  pub few : vec_capacity held ≤ MAX_CHUNKS

@@ -10,7 +10,7 @@ use std::marker::Model;
 #[derive(Drop)]
 pub struct ChunkIter<'a, T> {
     front: &'a [T],
-    behind: &'a [Chunk<T>],
+    tail: &'a [Chunk<T>],
 }
 
 impl<'a, T> Model for ChunkIter<'a, T> {
@@ -19,18 +19,18 @@ impl<'a, T> Model for ChunkIter<'a, T> {
 
     ghost Value = { List T };
 
-    ghost view = { λ i. i.front.now ++ items_of i.behind.now };
+    ghost view = { λ i. i.front.now ++ items_of i.tail.now };
 
-    ghost invariant = { λ i. AreSome i.behind.now };
+    ghost invariant = { λ i. AreSome i.tail.now };
 }
 
 impl<'a, T> ChunkIter<'a, T> {
     /// These items, and then those of these chunks.
-    pub(crate) fn new(front: &'a [T], behind: &'a [Chunk<T>]) -> ChunkIter<'a, T>
-        requires { AreSome behind.now }
-        ensures { result ≡ front.now ++ items_of behind.now }
+    pub(crate) fn new(front: &'a [T], tail: &'a [Chunk<T>]) -> ChunkIter<'a, T>
+        requires { AreSome tail.now }
+        ensures { result ≡ front.now ++ items_of tail.now }
     {
-        ChunkIter { front, behind }
+        ChunkIter { front, tail }
     }
 }
 
@@ -48,10 +48,10 @@ impl<'a, T> Iterator for ChunkIter<'a, T> {
             self.front = others;
             return Some(first);
         }
-        let (chunk, behind) = self.behind.split_first()?;
+        let (chunk, tail) = self.tail.split_first()?;
         let (first, others) = chunk.items.split_first()?;
         self.front = others;
-        self.behind = behind;
+        self.tail = tail;
         Some(first)
     }
 }

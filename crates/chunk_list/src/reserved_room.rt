@@ -3,7 +3,7 @@
 ghost use Rattle.std.specs.Prelude.{◌≡◌, ◌*◌, ◌≤◌, All, IfOk, vec_capacity, vec_len};
 ghost use Rattle.chunk_list.specs.Room.{IsReady, IsSpare, most_items};
 
-use crate::chunks::{CHUNK, Chunk, MOST_CHUNKS};
+use crate::chunks::{CHUNK, Chunk, MAX_CHUNKS};
 use std::alloc::{AllocError, Global};
 use std::marker::Model;
 
@@ -47,7 +47,7 @@ impl<T: Drop> ReservedRoom<T> {
     {
         let count = additional.div_ceil(CHUNK);
         let places = most.div_ceil(CHUNK / 2) + count + 1;
-        if places > MOST_CHUNKS {
+        if places > MAX_CHUNKS {
             return Err(AllocError);
         }
         let chunks = Vec::with_capacity(alloc, places)?;

@@ -1,2 +1,2 @@
-pub mod FoundLemmas
+pub mod MatchesLemmas
 pub mod WordLemmas

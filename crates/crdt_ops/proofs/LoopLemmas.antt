@@ -4,8 +4,8 @@ use Rattle.std.proofs.lemmas.Bool.{false≢true}
 use Rattle.std.proofs.lemmas.List.{append-nil, map-append}
 use Rattle.std.proofs.lemmas.List.Concat.{flat_map-append}
 use Rattle.tags_clocks.specs.declared.id.OpId.{OpId}
-use Rattle.crdt_ops.specs.SortedSets.{IsAscending, StandsBefore, id_order}
-use Rattle.crdt_ops.specs.Reading.{◌>>=◌, all_read, are_ascending, behind_all, comes_first}
+use Rattle.crdt_ops.specs.SortedSets.{IsAscending, IsBelowFirst, id_order}
+use Rattle.crdt_ops.specs.Reading.{◌>>=◌, all_read, are_ascending, prepend_all, is_word_below}
 use Rattle.crdt_ops.specs.Text.{join_by_commas}
 use Rattle.crdt_ops.proofs.PartLemmas.{all_taken}
 
@@ -38,16 +38,16 @@ listed_more text xs i x before old mid new l e o m n =
     )
 
 -- a further part that is read
-pub all_more : {X : Type 0} (read : List ℕ → Option X) (parts : List (List ℕ)) (i : ℕ) (item part : List ℕ) (x : X) (old new : List X) → i < length parts → item ≡ get_or parts i item → part ≡ item → read part ≡ Some x → new ≡ old ++ x ∷ [] → behind_all old (all_read read (drop i parts)) ≡ all_read read parts → behind_all new (all_read read (drop (i + 1) parts)) ≡ all_read read parts
+pub all_more : {X : Type 0} (read : List ℕ → Option X) (parts : List (List ℕ)) (i : ℕ) (item part : List ℕ) (x : X) (old new : List X) → i < length parts → item ≡ get_or parts i item → part ≡ item → read part ≡ Some x → new ≡ old ++ x ∷ [] → prepend_all old (all_read read (drop i parts)) ≡ all_read read parts → prepend_all new (all_read read (drop (i + 1) parts)) ≡ all_read read parts
 all_more read parts i item part x old new l e s r n h =
     let more = all_read read (drop (suc i) parts) in
-    let first : all_read read (drop i parts) ≡ behind_all (x ∷ []) more =
+    let first : all_read read (drop i parts) ≡ prepend_all (x ∷ []) more =
     ap (all_read read) (next_left parts i item l ∙ ap (λ p. p ∷ drop (suc i) parts) (sym (s ∙ e)))
-    ∙ ap (λ o. o >>= (λ y. behind_all (y ∷ []) more)) r in
-    ap (λ k. behind_all new (all_read read (drop k parts))) (add-one i)
-    ∙ ap (λ ys. behind_all ys more) n
-    ∙ sym (behind_twice old x more)
-    ∙ ap (behind_all old) (sym first)
+    ∙ ap (λ o. o >>= (λ y. prepend_all (y ∷ []) more)) r in
+    ap (λ k. prepend_all new (all_read read (drop k parts))) (add-one i)
+    ∙ ap (λ ys. prepend_all ys more) n
+    ∙ sym (prepend_all_twice old x more)
+    ∙ ap (prepend_all old) (sym first)
     ∙ h
   where
     next_left : {X : Type 0} (xs : List X) (i : ℕ) (d : X) → i < length xs → drop i xs ≡ get_or xs i d ∷ drop (suc i) xs
@@ -55,13 +55,13 @@ all_more read parts i item part x old new l e s r n h =
     next_left (x ∷ xs) zero d l = refl
     next_left (x ∷ xs) (suc i) d l = next_left xs i d (omega arith)
 
-    behind_twice : {X : Type 0} (old : List X) (x : X) (more : Option (List X)) → behind_all old (behind_all (x ∷ []) more) ≡ behind_all (old ++ x ∷ []) more
-    behind_twice old x None = refl
-    behind_twice old x (Some ys) = ap (λ zs. Some zs) (sym (append_assoc old (x ∷ []) ys))
+    prepend_all_twice : {X : Type 0} (old : List X) (x : X) (more : Option (List X)) → prepend_all old (prepend_all (x ∷ []) more) ≡ prepend_all (old ++ x ∷ []) more
+    prepend_all_twice old x None = refl
+    prepend_all_twice old x (Some ys) = ap (λ zs. Some zs) (sym (append_assoc old (x ∷ []) ys))
 
-pub all_ends : {X : Type 0} (read : List ℕ → Option X) (parts : List (List ℕ)) (i : ℕ) (items : List X) → length parts ≤ i → behind_all items (all_read read (drop i parts)) ≡ all_read read parts → all_read read parts ≡ Some items
+pub all_ends : {X : Type 0} (read : List ℕ → Option X) (parts : List (List ℕ)) (i : ℕ) (items : List X) → length parts ≤ i → prepend_all items (all_read read (drop i parts)) ≡ all_read read parts → all_read read parts ≡ Some items
 all_ends read parts i items l h =
-    sym h ∙ ap (λ ps. behind_all items (all_read read ps)) (none_left parts i l) ∙ ap (λ ys. Some ys) (append-nil items)
+    sym h ∙ ap (λ ps. prepend_all items (all_read read ps)) (none_left parts i l) ∙ ap (λ ys. Some ys) (append-nil items)
   where
     none_left : {X : Type 0} (xs : List X) (n : ℕ) → length xs ≤ n → drop n xs ≡ []
     none_left [] zero h = refl
@@ -73,19 +73,19 @@ all_ends read parts i items l h =
 tail_is : {X : Type 0} (x : X) (rest : List X) → take (length (x ∷ rest) - 1) (drop 1 (x ∷ rest)) ≡ rest
 tail_is x rest = all_taken rest (length (x ∷ rest) - 1) (omega arith)
 
-first_of : (rest : List OpId) (first : OpId) → 1 ≤ length rest → first ≡ get_or rest 0 first → IsAscending id_order rest ↔ (StandsBefore id_order first (take (length rest - 1) (drop 1 rest)) × IsAscending id_order (take (length rest - 1) (drop 1 rest)))
+first_of : (rest : List OpId) (first : OpId) → 1 ≤ length rest → first ≡ get_or rest 0 first → IsAscending id_order rest ↔ (IsBelowFirst id_order first (take (length rest - 1) (drop 1 rest)) × IsAscending id_order (take (length rest - 1) (drop 1 rest)))
 first_of [] first l e = absurd (omega arith)
 first_of (x ∷ rest) first l e =
     let t = tail_is x rest in (
-      λ h. subst (λ (xs : List OpId). StandsBefore id_order first xs × IsAscending id_order xs) (sym t) (subst (λ y. StandsBefore id_order y rest) (sym e) h.0, h.1),
-      λ h. let k = subst (λ (xs : List OpId). StandsBefore id_order first xs × IsAscending id_order xs) t h in (subst (λ y. StandsBefore id_order y rest) e k.0, k.1),
+      λ h. subst (λ (xs : List OpId). IsBelowFirst id_order first xs × IsAscending id_order xs) (sym t) (subst (λ y. IsBelowFirst id_order y rest) (sym e) h.0, h.1),
+      λ h. let k = subst (λ (xs : List OpId). IsBelowFirst id_order first xs × IsAscending id_order xs) t h in (subst (λ y. IsBelowFirst id_order y rest) e k.0, k.1),
     )
 
-pub ids_go_on : (rest ids : List OpId) (first : OpId) → 1 ≤ length rest → first ≡ get_or rest 0 first → StandsBefore id_order first (take (length rest - 1) (drop 1 rest)) → IsAscending id_order rest ↔ IsAscending id_order ids → IsAscending id_order (take (length rest - 1) (drop 1 rest)) ↔ IsAscending id_order ids
-ids_go_on rest ids first l e s a =
+pub ids_ascend_step : (rest ids : List OpId) (first : OpId) → 1 ≤ length rest → first ≡ get_or rest 0 first → IsBelowFirst id_order first (take (length rest - 1) (drop 1 rest)) → IsAscending id_order rest ↔ IsAscending id_order ids → IsAscending id_order (take (length rest - 1) (drop 1 rest)) ↔ IsAscending id_order ids
+ids_ascend_step rest ids first l e s a =
     let f = first_of rest first l e in (λ h. a.0 (f.1 (s, h)), λ h. (f.0 (a.1 h)).1)
 
-pub ids_stop : (rest ids : List OpId) (first : OpId) → 1 ≤ length rest → first ≡ get_or rest 0 first → (StandsBefore id_order first (take (length rest - 1) (drop 1 rest)) → false ≡ true) → IsAscending id_order rest ↔ IsAscending id_order ids → (false ≡ true) ↔ IsAscending id_order ids
+pub ids_stop : (rest ids : List OpId) (first : OpId) → 1 ≤ length rest → first ≡ get_or rest 0 first → (IsBelowFirst id_order first (take (length rest - 1) (drop 1 rest)) → false ≡ true) → IsAscending id_order rest ↔ IsAscending id_order ids → (false ≡ true) ↔ IsAscending id_order ids
 ids_stop rest ids first l e s a =
     let f = first_of rest first l e in (λ k. absurd (false≢true k), λ h. s (f.0 (a.1 h)).0)
 
@@ -93,12 +93,12 @@ pub ids_end : (rest ids : List OpId) → length rest < 1 → IsAscending id_orde
 ids_end [] ids l a = (λ k. a.0 tt, λ h. refl)
 ids_end (x ∷ rest) ids l a = absurd (omega arith)
 
-pub words_go_on : (rest words : List (List ℕ)) (first : List ℕ) (b : Bool) → 1 ≤ length rest → first ≡ get_or rest 0 first → b ≡ comes_first first (take (length rest - 1) (drop 1 rest)) → are_ascending rest ≡ are_ascending words → (b && are_ascending (take (length rest - 1) (drop 1 rest))) ≡ are_ascending words
-words_go_on [] words first b l e s a = absurd (omega arith)
-words_go_on (x ∷ rest) words first b l e s a =
+pub words_ascend_step : (rest words : List (List ℕ)) (first : List ℕ) (b : Bool) → 1 ≤ length rest → first ≡ get_or rest 0 first → b ≡ is_word_below first (take (length rest - 1) (drop 1 rest)) → are_ascending rest ≡ are_ascending words → (b && are_ascending (take (length rest - 1) (drop 1 rest))) ≡ are_ascending words
+words_ascend_step [] words first b l e s a = absurd (omega arith)
+words_ascend_step (x ∷ rest) words first b l e s a =
     let t = tail_is x rest in
     ap (λ (xs : List (List ℕ)). b && are_ascending xs) t
-    ∙ ap (λ b. b && are_ascending rest) (s ∙ (λ k. comes_first (e k) (t k)))
+    ∙ ap (λ b. b && are_ascending rest) (s ∙ (λ k. is_word_below (e k) (t k)))
     ∙ a
 
 pub words_end : (rest words : List (List ℕ)) → length rest < 1 → are_ascending rest ≡ are_ascending words → true ≡ are_ascending words

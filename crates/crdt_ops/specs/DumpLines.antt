@@ -14,12 +14,12 @@ abbrev pub op_line : Op → List ℕ
 op_line op = codes "op " ++ (op_text op ++ 10 ∷ [])
 
 -- A line of a word that ends with a space, a name, and ids.
-abbrev pub named_line : List ℕ → List ℕ → List OpId → List ℕ
-named_line word name ids = word ++ (name_text name ++ 32 ∷ (ids_text ids ++ 10 ∷ []))
+abbrev pub name_line : List ℕ → List ℕ → List OpId → List ℕ
+name_line word name ids = word ++ (name_text name ++ 32 ∷ (ids_text ids ++ 10 ∷ []))
 
 -- The line of a folder, with the ids of its present folder tags.
 abbrev pub folder_line : List Op → List ℕ → List ℕ
-folder_line ops folder = named_line (codes "folder ") folder (folder_tags_of ops folder)
+folder_line ops folder = name_line (codes "folder ") folder (folder_tags_of ops folder)
 
 -- A message's date and text, each after a space (32), and the end of their line.
 abbrev pub dated_text_fields : Message → List ℕ
@@ -41,7 +41,7 @@ folder_lines ops folder = folder_line ops folder ++ flat_map message_line (messa
 
 -- The line of a subscribed name, with the ids of its present subscription tags.
 abbrev pub subscription_line : List Op → List ℕ → List ℕ
-subscription_line ops name = named_line (codes "subscribed ") name (subscription_tags_of ops name)
+subscription_line ops name = name_line (codes "subscribed ") name (subscription_tags_of ops name)
 
 -- The state that these operations define: folders with their messages, and subscribed names.
 abbrev pub state_text : List Op → List ℕ

@@ -22,14 +22,14 @@ abbrev pub id_order : OpId → OpId → Ordering
 id_order a b = ordering_then (nat_cmp a.replica b.replica) (nat_cmp a.number b.number)
 
 -- The element is below the first of the list, if any.
-abbrev pub StandsBefore : {X : Type 0} → (X → X → Ordering) → X → List X → Type 0
-StandsBefore order x [] = Unit {0}
-StandsBefore order x (y ∷ rest) = order x y ≡ Less
+abbrev pub IsBelowFirst : {X : Type 0} → (X → X → Ordering) → X → List X → Type 0
+IsBelowFirst order x [] = Unit {0}
+IsBelowFirst order x (y ∷ rest) = order x y ≡ Less
 
 -- Each element is below the next, so that none occurs twice.
 abbrev pub IsAscending : {X : Type 0} → (X → X → Ordering) → List X → Type 0
 IsAscending order [] = Unit {0}
-IsAscending order (x ∷ rest) = StandsBefore order x rest × IsAscending order rest
+IsAscending order (x ∷ rest) = IsBelowFirst order x rest × IsAscending order rest
 
 -- An ascending list with another element in its place, if the list lacks it.
 abbrev pub insert_ordered : {X : Type 0} → (X → X → Ordering) → X → List X → List X
@@ -37,10 +37,10 @@ insert_ordered order x [] = x ∷ []
 insert_ordered order x (y ∷ rest) =
     match_ordering (order x y) (x ∷ y ∷ rest) (y ∷ rest) (y ∷ insert_ordered order x rest)
 
--- The elements in ascending order, none twice.
+-- The distinct elements, strictly ascending.
 abbrev pub sorted_set : {X : Type 0} → (X → X → Ordering) → List X → List X
 sorted_set order xs = fold (λ done x. insert_ordered order x done) [] xs
 
--- The list has exactly the elements with a property, ascending, none twice.
+-- The list has exactly the elements with a property, strictly ascending.
 abbrev pub IsListOf : {X : Type 0} → (X → X → Ordering) → (X → Type 0) → List X → Type 0
 IsListOf {X} order P xs = IsAscending order xs × ((x : X) → IsIn x xs ↔ P x)

@@ -4,7 +4,7 @@ ghost use Rattle.std.specs.Prelude.{◌≡◌, ◌++◌, ◌∷◌, [], OnOk};
 ghost use Rattle.std.specs.List.{flat_map};
 ghost use Rattle.crdt_ops.specs.Text.{text_field};
 ghost use Rattle.crdt_ops.specs.DumpLines.{message_fields, dated_text_fields, message_line};
-ghost use Rattle.crdt_ops.specs.DumpLines.{named_line};
+ghost use Rattle.crdt_ops.specs.DumpLines.{name_line};
 
 use crate::ids::Ids;
 use crate::message::Message;
@@ -22,7 +22,7 @@ pub fn push_name_line(
     text: &mut Vec<u8>,
 ) -> Result<(), AllocError>
     ensures { OnOk result
-        (text.new.items ≡ text.old.items ++ named_line word.now name.now ids.now) }
+        (text.new.items ≡ text.old.items ++ name_line word.now name.now ids.now) }
 {
     text.extend_from_slice(word)?;
     write_escaped(Escape::Field, name.as_bytes(), text)?;
@@ -76,12 +76,12 @@ fn push_date_and_text(message: &Message, text: &mut Vec<u8>) -> Result<(), Alloc
 }
 
 /// Appends a message's text, after a space, and the end of its line.
-fn push_text_field(letter: &Text, text: &mut Vec<u8>) -> Result<(), AllocError>
+fn push_text_field(content: &Text, text: &mut Vec<u8>) -> Result<(), AllocError>
     ensures { OnOk result
-        (text.new.items ≡ text.old.items ++ 32 ∷ (text_field letter.now ++ 10 ∷ [])) }
+        (text.new.items ≡ text.old.items ++ 32 ∷ (text_field content.now ++ 10 ∷ [])) }
 {
     text.extend_from_slice(b" =")?;
-    write_escaped(Escape::Text, letter.as_bytes(), text)?;
+    write_escaped(Escape::Text, content.as_bytes(), text)?;
     text.push(b'\n')?;
     Ok(())
 }

@@ -17,7 +17,7 @@
 //!   definition, so that the crates above can compute with the definition.
 //! - `expunge NAME -` and `store NAME FLAGS - ORIGIN` are texts of operations, though of unsound
 //!   ones: how many old ids an operation names is checked after everything else.
-//! - A Store may name another origin than that of the ids that it removes. It is then a version of
+//! - A Store may name an origin other than that of the ids that it removes. It is then a version of
 //!   the message of the origin it names; if that origin has no version in the folder, it begins a
 //!   message. No command issues such a Store.
 #![tactic(auto)]

@@ -105,10 +105,12 @@ fn covers_referenced(clock: &Clock, kind: &Kind) -> bool
         Kind::Create { .. } => true,
         Kind::Delete { seen, .. } => covers_all(clock, seen.as_slice()),
         Kind::Append { .. } => true,
-        Kind::Expunge { olds, .. } => covers_all(clock, olds.as_slice()),
-        Kind::Store { olds, origin, .. } => {
-            covers_all(clock, olds.as_slice()) && clock.covers(*origin)
-        }
+        Kind::Expunge { old_ids, .. } => covers_all(clock, old_ids.as_slice()),
+        Kind::Store {
+            old_ids,
+            origin,
+            ..
+        } => { covers_all(clock, old_ids.as_slice()) && clock.covers(*origin) }
         Kind::Subscribe { .. } => true,
         Kind::Unsubscribe { seen, .. } => covers_all(clock, seen.as_slice()),
     }
@@ -139,16 +141,16 @@ fn has_lawful_count(kind: &Kind) -> bool
     ensures { IsTrue result ↔ HasLawfulCount kind.now }
 {
     match kind {
-        Kind::Expunge { olds, .. } => is_count(olds),
-        Kind::Store { olds, .. } => is_count(olds),
+        Kind::Expunge { old_ids, .. } => is_count(old_ids),
+        Kind::Store { old_ids, .. } => is_count(old_ids),
         _ => true,
     }
 }
 
-fn is_count(olds: &Ids) -> bool
-    ensures { IsTrue result ↔ IsCount olds.now }
+fn is_count(old_ids: &Ids) -> bool
+    ensures { IsTrue result ↔ IsCount old_ids.now }
 {
-    let count = olds.as_slice().len();
+    let count = old_ids.as_slice().len();
     1 <= count && count <= MAX_OLD_IDS
 }
 

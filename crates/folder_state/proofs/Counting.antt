@@ -26,11 +26,11 @@ module _ (ops : List Op) (i : ℕ) (o : Op) (l : i < length ops) (e : o ≡ get_
   here : drop i ops ≡ o ∷ drop (i + 1) ops
   here = drop_more ops i o l ∙ ap (λ x. x ∷ drop (i + 1) ops) (sym e)
 
-  pub tags_behind : (name : List ℕ) → tags_added (drop i ops) name ≡ cond (is_named name (target o.kind)) 1 0 + tags_added (drop (i + 1) ops) name
-  tags_behind name = ap (λ os. tags_added os name) here
+  pub tags_added_step : (name : List ℕ) → tags_added (drop i ops) name ≡ cond (is_named name (target o.kind)) 1 0 + tags_added (drop (i + 1) ops) name
+  tags_added_step name = ap (λ os. tags_added os name) here
 
-  pub versions_behind : (origin : OpId) → versions_added (drop i ops) origin ≡ cond (is_some_id origin (origin_by o.id o.kind)) 1 0 + versions_added (drop (i + 1) ops) origin
-  versions_behind origin = ap (λ os. versions_added os origin) here
+  pub versions_added_step : (origin : OpId) → versions_added (drop i ops) origin ≡ cond (is_some_id origin (origin_by o.id o.kind)) 1 0 + versions_added (drop (i + 1) ops) origin
+  versions_added_step origin = ap (λ os. versions_added os origin) here
 
 pub tags_done : (ops : List Op) (i n : ℕ) (name : List ℕ) → length ops ≤ i → n + tags_added (drop i ops) name ≡ tags_added ops name → n ≡ tags_added ops name
 tags_done ops i n name l h = let none : tags_added (drop i ops) name ≡ 0 = ap (λ os. tags_added os name) (drop_all i ops l) in omega (arith, h, none)
@@ -40,14 +40,14 @@ versions_done ops i n origin l h = let none : versions_added (drop i ops) origin
 
 -- ---- a list for each operation
 
-pub fewer_behind : (ops : List Op) (i : ℕ) (origin : OpId) → versions_added (drop i ops) origin ≤ versions_added ops origin
-fewer_behind ops zero origin = omega arith
-fewer_behind [] (suc i) origin = omega arith
-fewer_behind (o ∷ ops) (suc i) origin = let rest = fewer_behind ops i origin in omega (arith, rest)
+pub versions_added_drop : (ops : List Op) (i : ℕ) (origin : OpId) → versions_added (drop i ops) origin ≤ versions_added ops origin
+versions_added_drop ops zero origin = omega arith
+versions_added_drop [] (suc i) origin = omega arith
+versions_added_drop (o ∷ ops) (suc i) origin = let rest = versions_added_drop ops i origin in omega (arith, rest)
 
-pub wanted_less : (few many : OpId → ℕ) → ((o : OpId) → few o ≤ many o) → (x : Option OpId) → counts_of few x ≤ counts_of many x
-wanted_less few many h None = omega arith
-wanted_less few many h (Some o) = h o
+pub counts_mono : (low high : OpId → ℕ) → ((o : OpId) → low o ≤ high o) → (x : Option OpId) → counts_of low x ≤ counts_of high x
+counts_mono low high h None = omega arith
+counts_mono low high h (Some o) = h o
 
 pub lists_one : (ops : List Op) (i : ℕ) (o : Op) (l : i < length ops) (e : o ≡ get_or ops i o) (lists new : List (Vec Version)) (list : Vec Version)
     → new ≡ lists ++ list ∷ [] → list.items ≡ [] → counts_of (versions_added ops) (origin_by o.id o.kind) ≤ vec_capacity list
@@ -55,7 +55,7 @@ pub lists_one : (ops : List Op) (i : ℕ) (o : Op) (l : i < length ops) (e : o �
     → (more : List (Vec Version)) → HaveLists (drop (i + 1) ops) more → HaveLists ops (new ++ more)
 lists_one ops i o l e lists new list n none room h more m =
     let cut = here ops i o l e in
-    let less = subst (λ os. counts_of (versions_added os) (origin_by o.id o.kind) ≤ counts_of (versions_added ops) (origin_by o.id o.kind)) cut (wanted_less (versions_added (drop i ops)) (versions_added ops) (fewer_behind ops i) (origin_by o.id o.kind)) in
+    let less = subst (λ os. counts_of (versions_added os) (origin_by o.id o.kind) ≤ counts_of (versions_added ops) (origin_by o.id o.kind)) cut (counts_mono (versions_added (drop i ops)) (versions_added ops) (versions_added_drop ops i) (origin_by o.id o.kind)) in
     subst (HaveLists ops) (sym (ap (λ ls. ls ++ more) n ∙ append_assoc lists (list ∷ []) more))
     (h (list ∷ more) (subst (λ os. HaveLists os (list ∷ more)) (sym cut) (none, omega (arith, less, room), m)))
 

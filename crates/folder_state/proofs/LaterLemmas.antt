@@ -16,10 +16,10 @@ use Rattle.crdt_ops.proofs.VersionLemmas.{some_id}
 use Rattle.imap_types.specs.declared.version.Version.{Version}
 use Rattle.imap_types.specs.Unions.{version_ids}
 use Rattle.folder_state.specs.Contents.{Contents, HasTag, HasVersion, IsMadeBy, effect_of, no_contents, origin_in}
-use Rattle.folder_state.specs.FolderTables.{HasTagIn, FolderTables, body_in_folder, has_tag_in, folder_tag_data}
-use Rattle.folder_state.specs.AfterOps.{after, alone, has_body, has_tag_after, is_added_and_left, is_some, is_version}
+use Rattle.folder_state.specs.FolderTables.{HasTagIn, FolderTables, tag_data_in, has_tag_in, folder_tag_data}
+use Rattle.folder_state.specs.AfterOps.{after, alone, has_tag_data, has_tag_after, is_added_and_left, is_some, is_version}
 use Rattle.folder_state.specs.OpRoom.{origin_by}
-use Rattle.folder_state.proofs.VersionLemmas.{body_source, cond_some, origin_some}
+use Rattle.folder_state.proofs.VersionLemmas.{data_source, cond_some, origin_some}
 use Rattle.crdt_ops.specs.Ops.{clock_of, id_of}
 
 fold_append : (v : Contents) (xs ys : List Op) → after v (xs ++ ys) ≡ after (after v xs) ys
@@ -34,21 +34,21 @@ some_is (Some x) = (λ h. refl, λ h. refl)
 pub has_by : (c : Contents) (ops : List Op) (n : List ℕ) (i : OpId) → HasTag (after c ops) n i ↔ (has_tag_after c ops n i ≡ true)
 has_by c ops n i =
     let a = (after c ops).tags n i in
-    let b = has_body (after c ops) n i in
-    let s = some_is ((after c ops).bodies n i) in (
+    let b = has_tag_data (after c ops) n i in
+    let s = some_is ((after c ops).tag_data n i) in (
       λ h. elim h [ inl t ↦ or_left a b t | inr t ↦ or_right a b (s.0 t) ],
       λ h. elim (or_cases a b h) [ inl t ↦ inl t | inr t ↦ inr (s.1 t) ],
     )
 
-kept_tag : (a r b : Bool) → (a || (not r && b)) ≡ true → a ≡ false → b ≡ true
-kept_tag true r b h k = absurd (false≢true (sym k))
-kept_tag false true b h k = absurd (false≢true h)
-kept_tag false false b h k = h
+remaining_tag : (a r b : Bool) → (a || (not r && b)) ≡ true → a ≡ false → b ≡ true
+remaining_tag true r b h k = absurd (false≢true (sym k))
+remaining_tag false true b h k = absurd (false≢true h)
+remaining_tag false false b h k = h
 
-kept_body : {X : Type 0} (a r : Bool) (x y : Option X) → IsSome (cond a x (cond r None y)) → a ≡ false → IsSome y
-kept_body {X} true r x y h k = absurd (false≢true (sym k))
-kept_body {X} false true x y h k = absurd (false≢true ((some_is {X = X} None).0 h))
-kept_body {X} false false x y h k = h
+remaining_data : {X : Type 0} (a r : Bool) (x y : Option X) → IsSome (cond a x (cond r None y)) → a ≡ false → IsSome y
+remaining_data {X} true r x y h k = absurd (false≢true (sym k))
+remaining_data {X} false true x y h k = absurd (false≢true ((some_is {X = X} None).0 h))
+remaining_data {X} false false x y h k = h
 
 own_id : (n : List ℕ) (i : OpId) (o : Op) → (adds (FolderTag n i) o ≡ true) ⊎ (adds (MessageTag n i) o ≡ true) → i ≡ o.id
 own_id n i o h = elim h [ inl t ↦ adds_own (FolderTag n i) o t | inr t ↦ adds_own (MessageTag n i) o t ]
@@ -65,8 +65,8 @@ after_from (o ∷ ops) c n i h =
         | inr f ↦ elim (cases_Bool (adds (MessageTag n i) o)) [
           | inl a ↦ inr (o, inl refl, own_id n i o (inr a))
           | inr g ↦ inl (elim t [
-            | inl k ↦ inl (kept_tag (adds (FolderTag n i) o) (removes (FolderTag n i) o) (c.tags n i) k f)
-            | inr k ↦ inr (kept_body (adds (MessageTag n i) o) (removes (MessageTag n i) o) (tag_data_by o.id o.kind) (c.bodies n i) k g)
+            | inl k ↦ inl (remaining_tag (adds (FolderTag n i) o) (removes (FolderTag n i) o) (c.tags n i) k f)
+            | inr k ↦ inr (remaining_data (adds (MessageTag n i) o) (removes (MessageTag n i) o) (tag_data_by o.id o.kind) (c.tag_data n i) k g)
           ])
         ]
       ]
@@ -79,65 +79,65 @@ tag_alike : (c d : Contents) (ops : List Op) (n : List ℕ) (i : OpId) → c.tag
 tag_alike c d [] n i e = e
 tag_alike c d (o ∷ ops) n i e = tag_alike (effect_of c o) (effect_of d o) ops n i (λ k. adds (FolderTag n i) o || (not (removes (FolderTag n i) o) && e k))
 
-body_alike : (c d : Contents) (ops : List Op) (n : List ℕ) (i : OpId) → c.bodies n i ≡ d.bodies n i → (after c ops).bodies n i ≡ (after d ops).bodies n i
-body_alike c d [] n i e = e
-body_alike c d (o ∷ ops) n i e = body_alike (effect_of c o) (effect_of d o) ops n i (λ k. cond (adds (MessageTag n i) o) (tag_data_by o.id o.kind) (cond (removes (MessageTag n i) o) None (e k)))
+data_alike : (c d : Contents) (ops : List Op) (n : List ℕ) (i : OpId) → c.tag_data n i ≡ d.tag_data n i → (after c ops).tag_data n i ≡ (after d ops).tag_data n i
+data_alike c d [] n i e = e
+data_alike c d (o ∷ ops) n i e = data_alike (effect_of c o) (effect_of d o) ops n i (λ k. cond (adds (MessageTag n i) o) (tag_data_by o.id o.kind) (cond (removes (MessageTag n i) o) None (e k)))
 
-module _ (c : Contents) (n : List ℕ) (held : Option FolderTables) (tags : (i : OpId) → c.tags n i ≡ has_tag_in held i) (bodies : (i : OpId) → c.bodies n i ≡ body_in_folder held i) (ops : List Op) where
-  alike : (i : OpId) → has_tag_after c ops n i ≡ has_tag_after (alone held) ops n i
-  alike i = λ k. tag_alike c (alone held) ops n i (tags i) k || is_some (body_alike c (alone held) ops n i (bodies i) k)
+module _ (c : Contents) (n : List ℕ) (table : Option FolderTables) (tags : (i : OpId) → c.tags n i ≡ has_tag_in table i) (tag_data : (i : OpId) → c.tag_data n i ≡ tag_data_in table i) (ops : List Op) where
+  alike : (i : OpId) → has_tag_after c ops n i ≡ has_tag_after (alone table) ops n i
+  alike i = λ k. tag_alike c (alone table) ops n i (tags i) k || is_some (data_alike c (alone table) ops n i (tag_data i) k)
 
   -- whether a tag remains
-  pub tag_left : (ids : List OpId) → ((i : OpId) → IsIn i ids ↔ HasTagIn (folder_tag_data held) i) → (r : Bool) → r ≡ (list_any (λ i. has_tag_after (alone held) ops n i) ids || list_any (λ o. has_tag_after (alone held) ops n o.id) ops) → (r ≡ true) ↔ ((i : OpId) × HasTag (after c ops) n i)
+  pub tag_left : (ids : List OpId) → ((i : OpId) → IsIn i ids ↔ HasTagIn (folder_tag_data table) i) → (r : Bool) → r ≡ (list_any (λ i. has_tag_after (alone table) ops n i) ids || list_any (λ o. has_tag_after (alone table) ops n o.id) ops) → (r ≡ true) ↔ ((i : OpId) × HasTag (after c ops) n i)
   tag_left ids listed r e =
-      let a = list_any (λ (i : OpId). has_tag_after (alone held) ops n i) ids in
-      let b = list_any (λ (o : Op). has_tag_after (alone held) ops n o.id) ops in
-      let there = λ (i : OpId) (t : has_tag_after (alone held) ops n i ≡ true). (has_by c ops n i).1 (alike i ∙ t) in (
+      let a = list_any (λ (i : OpId). has_tag_after (alone table) ops n i) ids in
+      let b = list_any (λ (o : Op). has_tag_after (alone table) ops n o.id) ops in
+      let present = λ (i : OpId) (t : has_tag_after (alone table) ops n i ≡ true). (has_by c ops n i).1 (alike i ∙ t) in (
         λ t. elim (or_cases a b (sym e ∙ t)) [
-          | inl k ↦ let w = (any_in (λ (i : OpId). has_tag_after (alone held) ops n i) ids).0 k in (w.0, there w.0 w.2)
-          | inr k ↦ let w = (any_in (λ (o : Op). has_tag_after (alone held) ops n o.id) ops).0 k in (w.0.id, there w.0.id w.2)
+          | inl k ↦ let w = (any_in (λ (i : OpId). has_tag_after (alone table) ops n i) ids).0 k in (w.0, present w.0 w.2)
+          | inr k ↦ let w = (any_in (λ (o : Op). has_tag_after (alone table) ops n o.id) ops).0 k in (w.0.id, present w.0.id w.2)
         ],
         λ w.
-            let here : has_tag_after (alone held) ops n w.0 ≡ true = sym (alike w.0) ∙ (has_by c ops n w.0).0 w.1 in
+            let here : has_tag_after (alone table) ops n w.0 ≡ true = sym (alike w.0) ∙ (has_by c ops n w.0).0 w.1 in
             e ∙ elim (after_from ops c n w.0 w.1) [
               | inl u ↦
-                  let own : HasTagIn (folder_tag_data held) w.0 = elim u [ inl t ↦ inl (sym (tags w.0) ∙ t) | inr t ↦ inr (subst IsSome (bodies w.0) t) ] in
-                  or_left a b ((any_in (λ (i : OpId). has_tag_after (alone held) ops n i) ids).1 (w.0, (listed w.0).1 own, here))
-              | inr u ↦ or_right a b ((any_in (λ (o : Op). has_tag_after (alone held) ops n o.id) ops).1 (u.0, u.1, subst (λ j. has_tag_after (alone held) ops n j ≡ true) u.2 here))
+                  let own : HasTagIn (folder_tag_data table) w.0 = elim u [ inl t ↦ inl (sym (tags w.0) ∙ t) | inr t ↦ inr (subst IsSome (tag_data w.0) t) ] in
+                  or_left a b ((any_in (λ (i : OpId). has_tag_after (alone table) ops n i) ids).1 (w.0, (listed w.0).1 own, here))
+              | inr u ↦ or_right a b ((any_in (λ (o : Op). has_tag_after (alone table) ops n o.id) ops).1 (u.0, u.1, subst (λ j. has_tag_after (alone table) ops n j ≡ true) u.2 here))
             ],
       )
 
   -- whether a version remains
-  pub version_left : (o : OpId) (vs : List Version) → ((i : OpId) → IsIn i (version_ids vs) ↔ (option_map (λ (b : MessageTagData). b.origin) (body_in_folder held i) ≡ Some o)) → (r : Bool) → r ≡ (list_any (λ v. is_version (after (alone held) ops) n o v.id) vs || list_any (is_added_and_left held ops n o) ops) → (r ≡ true) ↔ HasVersion (after c ops) n o
+  pub version_left : (o : OpId) (vs : List Version) → ((i : OpId) → IsIn i (version_ids vs) ↔ (option_map (λ (b : MessageTagData). b.origin) (tag_data_in table i) ≡ Some o)) → (r : Bool) → r ≡ (list_any (λ v. is_version (after (alone table) ops) n o v.id) vs || list_any (is_added_and_left table ops n o) ops) → (r ≡ true) ↔ HasVersion (after c ops) n o
   version_left o vs listed r e =
-      let a = list_any (λ (v : Version). is_version (after (alone held) ops) n o v.id) vs in
-      let b = list_any (is_added_and_left held ops n o) ops in
-      let same = λ (i : OpId). body_alike c (alone held) ops n i (bodies i) in
-      let there = λ (i : OpId) (t : is_version (after (alone held) ops) n o i ≡ true). ap (option_map (λ (b : MessageTagData). b.origin)) (same i) ∙ (some_id o (origin_in (after (alone held) ops) n i)).0 t in (
+      let a = list_any (λ (v : Version). is_version (after (alone table) ops) n o v.id) vs in
+      let b = list_any (is_added_and_left table ops n o) ops in
+      let same = λ (i : OpId). data_alike c (alone table) ops n i (tag_data i) in
+      let present = λ (i : OpId) (t : is_version (after (alone table) ops) n o i ≡ true). ap (option_map (λ (b : MessageTagData). b.origin)) (same i) ∙ (some_id o (origin_in (after (alone table) ops) n i)).0 t in (
         λ t. elim (or_cases a b (sym e ∙ t)) [
-          | inl k ↦ let w = (any_in (λ (v : Version). is_version (after (alone held) ops) n o v.id) vs).0 k in (w.0.id, there w.0.id w.2)
+          | inl k ↦ let w = (any_in (λ (v : Version). is_version (after (alone table) ops) n o v.id) vs).0 k in (w.0.id, present w.0.id w.2)
           | inr k ↦
-              let w = (any_in (is_added_and_left held ops n o) ops).0 k in
-              (w.0.id, there w.0.id (and_parts (is_some_id o (origin_by w.0.id w.0.kind)) (is_version (after (alone held) ops) n o w.0.id) w.2).1)
+              let w = (any_in (is_added_and_left table ops n o) ops).0 k in
+              (w.0.id, present w.0.id (and_parts (is_some_id o (origin_by w.0.id w.0.kind)) (is_version (after (alone table) ops) n o w.0.id) w.2).1)
         ],
         λ h.
-            let f = origin_some ((after c ops).bodies n h.0) o h.1 in
-            let here : is_version (after (alone held) ops) n o h.0 ≡ true = (some_id o (origin_in (after (alone held) ops) n h.0)).1 (ap (option_map (λ (b : MessageTagData). b.origin)) (sym (same h.0)) ∙ h.1) in
-            e ∙ elim (body_source ops c n h.0 f.0 f.1) [
+            let f = origin_some ((after c ops).tag_data n h.0) o h.1 in
+            let here : is_version (after (alone table) ops) n o h.0 ≡ true = (some_id o (origin_in (after (alone table) ops) n h.0)).1 (ap (option_map (λ (b : MessageTagData). b.origin)) (sym (same h.0)) ∙ h.1) in
+            e ∙ elim (data_source ops c n h.0 f.0 f.1) [
               | inl k ↦
-                  let own = (listed h.0).1 (ap (option_map (λ (b : MessageTagData). b.origin)) (sym (bodies h.0) ∙ k) ∙ ap (λ (j : OpId). Some j) f.2) in
+                  let own = (listed h.0).1 (ap (option_map (λ (b : MessageTagData). b.origin)) (sym (tag_data h.0) ∙ k) ∙ ap (λ (j : OpId). Some j) f.2) in
                   let v = (in_map (λ (v : Version). v.id) vs h.0).0 own in
-                  or_left a b ((any_in (λ (v : Version). is_version (after (alone held) ops) n o v.id) vs).1 (v.0, v.1, subst (λ j. is_version (after (alone held) ops) n o j ≡ true) (sym v.2) here))
+                  or_left a b ((any_in (λ (v : Version). is_version (after (alone table) ops) n o v.id) vs).1 (v.0, v.1, subst (λ j. is_version (after (alone table) ops) n o j ≡ true) (sym v.2) here))
               | inr k ↦
                   let adds_it = cond_some (adds (MessageTag n h.0) k.0) (tag_data_by k.0.id k.0.kind) f.0 k.2 in
                   let own : h.0 ≡ k.0.id = adds_own (MessageTag n h.0) k.0 adds_it in
                   let by : tag_data_by k.0.id k.0.kind ≡ Some f.0 = (λ j. cond (sym adds_it j) (tag_data_by k.0.id k.0.kind) None) ∙ k.2 in
                   let origin : origin_by k.0.id k.0.kind ≡ Some o = ap (option_map (λ (b : MessageTagData). b.origin)) by ∙ ap (λ (j : OpId). Some j) f.2 in
-                  or_right a b ((any_in (is_added_and_left held ops n o) ops).1 (
+                  or_right a b ((any_in (is_added_and_left table ops n o) ops).1 (
                     k.0,
                     k.1,
-                    and_from (is_some_id o (origin_by k.0.id k.0.kind)) (is_version (after (alone held) ops) n o k.0.id)
-                        ((some_id o (origin_by k.0.id k.0.kind)).1 origin) (subst (λ j. is_version (after (alone held) ops) n o j ≡ true) own here),
+                    and_from (is_some_id o (origin_by k.0.id k.0.kind)) (is_version (after (alone table) ops) n o k.0.id)
+                        ((some_id o (origin_by k.0.id k.0.kind)).1 origin) (subst (λ j. is_version (after (alone table) ops) n o j ≡ true) own here),
                   ))
             ],
       )

@@ -38,17 +38,17 @@ any_more P xs n x l e =
     or-false true = refl
     or-false false = refl
 
-pub key_gone : (a b s t : Bool) → t ≡ s → cond t false (not a && b) ≡ (not (a || s) && b)
-key_gone true b true t e = ap (λ (x : Bool). cond x false (false && b)) e
-key_gone true b false t e = ap (λ (x : Bool). cond x false (false && b)) e
-key_gone false b true t e = ap (λ (x : Bool). cond x false b) e
-key_gone false b false t e = ap (λ (x : Bool). cond x false b) e
+pub key_removed : (a b s t : Bool) → t ≡ s → cond t false (not a && b) ≡ (not (a || s) && b)
+key_removed true b true t e = ap (λ (x : Bool). cond x false (false && b)) e
+key_removed true b false t e = ap (λ (x : Bool). cond x false (false && b)) e
+key_removed false b true t e = ap (λ (x : Bool). cond x false b) e
+key_removed false b false t e = ap (λ (x : Bool). cond x false b) e
 
-pub body_gone : {X : Type 0} (a s : Bool) (x : Option X) → cond s None (cond a None x) ≡ cond (a || s) None x
-body_gone true true x = refl
-body_gone true false x = refl
-body_gone false true x = refl
-body_gone false false x = refl
+pub tag_data_removed : {X : Type 0} (a s : Bool) (x : Option X) → cond s None (cond a None x) ≡ cond (a || s) None x
+tag_data_removed true true x = refl
+tag_data_removed true false x = refl
+tag_data_removed false true x = refl
+tag_data_removed false false x = refl
 
 -- ---- a folder changed
 
@@ -64,9 +64,9 @@ named name entries = lookup (λ (key : Vec ℕ). bytes_eq name key.items) entrie
 
 module _ {X : Type 0} (name : List ℕ) (old new : List (Vec ℕ × X)) (keeps : KeepsOthers (λ (x y : Vec ℕ). bytes_eq x.items y.items) (λ (key : Vec ℕ). bytes_eq name key.items) old new) where
   -- another name stays
-  pub name_beside : (other : List ℕ) → bytes_eq other name ≡ false → named other new ≡ named other old
+  pub other_name : (other : List ℕ) → bytes_eq other name ≡ false → named other new ≡ named other old
   unfolding KeepsOthers
-  name_beside other d =
+  other_name other d =
       keeps (λ (key : Vec ℕ). bytes_eq other key.items)
       (λ x y t. ap (λ (n : List ℕ). bytes_eq n y.items) (same_name other x.items t))
       (λ k t. ap (bytes_eq other) (sym (same_name name k.items t)) ∙ d)
@@ -75,7 +75,7 @@ module _ {X : Type 0} (name : List ℕ) (old new : List (Vec ℕ × X)) (keeps :
   name_now a is f =
       elim (cases_Bool (bytes_eq f name)) [
         | inl t ↦ ap (λ g. named g new) (same_name f name t) ∙ is ∙ (λ k. cond (sym t k) a (named f old))
-        | inr d ↦ name_beside f d ∙ (λ k. cond (sym d k) a (named f old))
+        | inr d ↦ other_name f d ∙ (λ k. cond (sym d k) a (named f old))
       ]
 
 -- the same if the name was looked up by its octets
@@ -84,33 +84,33 @@ folder_changed name octets e old new keeps a is f = subst (λ n. named f new ≡
 
 module _ (name : List ℕ) (old new : List (Vec ℕ × FolderTables)) (a b : FolderTables) (was : find_folder name old ≡ Some a) (at : (f : List ℕ) → find_folder f new ≡ cond (bytes_eq f name) (Some b) (find_folder f old)) where
   -- the data of each folder, if one folder changes
-  pub told_now : {X : Type 0} (P : Option FolderTables → OpId → X) (F : Bool → OpId → X → X) → ((i : OpId) (x : X) → F false i x ≡ x) → ((i : OpId) → P (Some b) i ≡ F true i (P (Some a) i)) → (f : List ℕ) (i : OpId) → P (find_folder f new) i ≡ F (bytes_eq f name) i (P (find_folder f old) i)
-  told_now P F none here f i =
+  pub folder_data_changed : {X : Type 0} (P : Option FolderTables → OpId → X) (F : Bool → OpId → X → X) → ((i : OpId) (x : X) → F false i x ≡ x) → ((i : OpId) → P (Some b) i ≡ F true i (P (Some a) i)) → (f : List ℕ) (i : OpId) → P (find_folder f new) i ≡ F (bytes_eq f name) i (P (find_folder f old) i)
+  folder_data_changed P F none here f i =
       ap (λ o. P o i) (at f)
       ∙ elim (cases_Bool (bytes_eq f name)) [
         | inl t ↦
-            let there : find_folder f old ≡ Some a = ap (λ g. find_folder g old) (same_name f name t) ∙ was in
-            (λ k. P (cond (t k) (Some b) (find_folder f old)) i) ∙ here i ∙ (λ k. F (sym t k) i (P (sym there k) i))
+            let present : find_folder f old ≡ Some a = ap (λ g. find_folder g old) (same_name f name t) ∙ was in
+            (λ k. P (cond (t k) (Some b) (find_folder f old)) i) ∙ here i ∙ (λ k. F (sym t k) i (P (sym present k) i))
         | inr d ↦ (λ k. P (cond (d k) (Some b) (find_folder f old)) i) ∙ sym (none i (P (find_folder f old) i)) ∙ (λ k. F (sym d k) i (P (find_folder f old) i))
       ]
 
 -- nothing changes if the folder has no tables
-pub told_same : (name : List ℕ) (old : List (Vec ℕ × FolderTables)) → find_folder name old ≡ None → {X : Type 0} (P : Option FolderTables → OpId → X) (F : Bool → OpId → X → X) → ((i : OpId) (x : X) → F false i x ≡ x) → ((i : OpId) → P None i ≡ F true i (P None i)) → (f : List ℕ) (i : OpId) → P (find_folder f old) i ≡ F (bytes_eq f name) i (P (find_folder f old) i)
-told_same name old was P F none here f i =
+pub folder_data_same : (name : List ℕ) (old : List (Vec ℕ × FolderTables)) → find_folder name old ≡ None → {X : Type 0} (P : Option FolderTables → OpId → X) (F : Bool → OpId → X → X) → ((i : OpId) (x : X) → F false i x ≡ x) → ((i : OpId) → P None i ≡ F true i (P None i)) → (f : List ℕ) (i : OpId) → P (find_folder f old) i ≡ F (bytes_eq f name) i (P (find_folder f old) i)
+folder_data_same name old was P F none here f i =
     elim (cases_Bool (bytes_eq f name)) [
       | inl t ↦
-          let there : find_folder f old ≡ None = ap (λ g. find_folder g old) (same_name f name t) ∙ was in
-          (λ k. P (there k) i) ∙ here i ∙ (λ k. F (sym t k) i (P (sym there k) i))
+          let present : find_folder f old ≡ None = ap (λ g. find_folder g old) (same_name f name t) ∙ was in
+          (λ k. P (present k) i) ∙ here i ∙ (λ k. F (sym t k) i (P (sym present k) i))
       | inr d ↦ sym (none i (P (find_folder f old) i)) ∙ (λ k. F (sym d k) i (P (find_folder f old) i))
     ]
 
-pub and_nothing : (b : Bool) → false ≡ (not b && false)
-and_nothing true = refl
-and_nothing false = refl
+pub and_false : (b : Bool) → false ≡ (not b && false)
+and_false true = refl
+and_false false = refl
 
-pub cond_nothing : {X : Type 0} (b : Bool) → ◌≡◌ {A = Option X} None (cond b None None)
-cond_nothing true = refl
-cond_nothing false = refl
+pub cond_none : {X : Type 0} (b : Bool) → ◌≡◌ {A = Option X} None (cond b None None)
+cond_none true = refl
+cond_none false = refl
 
 pub on_ok : {A B : Type 0} {P : Type 0} (r : Result A B) → is_err r ≡ false → OnOk r P → P
 on_ok (Ok v) e h = h

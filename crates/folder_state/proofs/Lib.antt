@@ -1,11 +1,11 @@
 pub mod SetLemmas
 pub mod Versions
-pub mod Filed
+pub mod FolderTablesLemmas
 pub mod Lenses
-pub mod Fuller
+pub mod RoomLeftLemmas
 pub mod Counting
-pub mod Roomier
-pub mod ToldLemmas
+pub mod MoreRoomLemmas
+pub mod ContentsLemmas
 pub mod VersionLemmas
 pub mod LaterLemmas
 pub mod Listing

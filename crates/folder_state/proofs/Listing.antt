@@ -59,8 +59,8 @@ module _ {X : Type 0} where
         at false k m = k m
 
     -- the result of a test at a place
-    pub found_at : (xs : List X) (i : ℕ) (b : Bool) → MatchOption (slice_get xs i) (b ≡ false) (λ x. b ≡ P x) → b ≡ true → list_any P xs ≡ true
-    found_at xs i b h t = at (slice_get xs i) refl h
+    pub list_any_at : (xs : List X) (i : ℕ) (b : Bool) → MatchOption (slice_get xs i) (b ≡ false) (λ x. b ≡ P x) → b ≡ true → list_any P xs ≡ true
+    list_any_at xs i b h t = at (slice_get xs i) refl h
       where
         at : (o : Option X) → slice_get xs i ≡ o → MatchOption o (b ≡ false) (λ x. b ≡ P x) → list_any P xs ≡ true
         at None e m = absurd (false≢true (sym m ∙ t))
@@ -76,8 +76,8 @@ module _ {X : Type 0} where
     pub passed_all : (xs : List X) (i : ℕ) → length xs ≤ i → list_any P (take i xs) ≡ false → list_any P xs ≡ false
     passed_all xs i l n = ap (list_any P) (sym (take_all i xs l)) ∙ n
 
-pub given_more : {X : Type 0} (xs : List X) (i : ℕ) → take (i + 1) xs ≡ take i xs ++ cons_option (slice_get xs i) []
-given_more xs i = ap (λ j. take j xs) (add-one i) ∙ at xs i
+pub first_some_more : {X : Type 0} (xs : List X) (i : ℕ) → take (i + 1) xs ≡ take i xs ++ cons_option (slice_get xs i) []
+first_some_more xs i = ap (λ j. take j xs) (add-one i) ∙ at xs i
   where
     at : {X : Type 0} (xs : List X) (i : ℕ) → take (suc i) xs ≡ take i xs ++ cons_option (slice_get xs i) []
     at [] zero = refl

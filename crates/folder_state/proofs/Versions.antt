@@ -68,8 +68,8 @@ flags_some (w ∷ ws) i h =
       | inl t ↦ (w.flags, ap (λ b. option_or (cond b (Some w.flags) None) (flags_among ws i)) t)
       | inr f ↦
           let rest : IsIn i (version_ids ws) = elim h [ inl e ↦ absurd (not_id i w.id f (sym e)) | inr t ↦ t ] in
-          let found = flags_some ws i rest in
-          (found.0, ap (λ b. option_or (cond b (Some w.flags) None) (flags_among ws i)) f ∙ found.1)
+          let looked_up = flags_some ws i rest in
+          (looked_up.0, ap (λ b. option_or (cond b (Some w.flags) None) (flags_among ws i)) f ∙ looked_up.1)
     ]
 
 -- ---- one less

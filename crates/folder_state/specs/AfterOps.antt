@@ -6,7 +6,7 @@ use Rattle.merge_laws.specs.Orders.{fold_of}
 use Rattle.crdt_ops.specs.declared.op.Op.{Op}
 use Rattle.crdt_ops.specs.SortedSets.{is_some_id}
 use Rattle.folder_state.specs.Contents.{Contents, effect_of, origin_in}
-use Rattle.folder_state.specs.FolderTables.{FolderTables, body_in_folder, has_tag_in}
+use Rattle.folder_state.specs.FolderTables.{FolderTables, tag_data_in, has_tag_in}
 use Rattle.folder_state.specs.OpRoom.{origin_by}
 
 abbrev pub is_some : {X : Type 0} → Option X → Bool
@@ -14,8 +14,8 @@ is_some None = false
 is_some (Some x) = true
 
 -- Whether the message tag of this folder and id is present.
-abbrev pub has_body : Contents → List ℕ → OpId → Bool
-has_body c folder id = is_some (c.bodies folder id)
+abbrev pub has_tag_data : Contents → List ℕ → OpId → Bool
+has_tag_data c folder id = is_some (c.tag_data folder id)
 
 -- The contents after these operations.
 abbrev pub after : Contents → List Op → Contents
@@ -23,15 +23,15 @@ after c ops = fold_of effect_of c ops
 
 -- Whether the folder has a tag with this id after these operations, of either kind.
 abbrev pub has_tag_after : Contents → List Op → List ℕ → OpId → Bool
-has_tag_after c ops folder id = (after c ops).tags folder id || has_body (after c ops) folder id
+has_tag_after c ops folder id = (after c ops).tags folder id || has_tag_data (after c ops) folder id
 
 -- The contents of one folder, as if each folder had them, without dates and texts.
 abbrev pub alone : Option FolderTables → Contents
 alone folder =
     record {
       tags = λ name id. has_tag_in folder id;
-      bodies = λ name id. body_in_folder folder id;
-      letters = λ id. None;
+      tag_data = λ name id. tag_data_in folder id;
+      dated_texts = λ id. None;
     }
 
 -- Whether the id is that of a version of the origin in the folder.
@@ -40,6 +40,6 @@ is_version c folder origin id = is_some_id origin (origin_in c folder id)
 
 -- Whether an operation adds a version of the origin that the folder has after all these operations.
 abbrev pub is_added_and_left : Option FolderTables → List Op → List ℕ → OpId → Op → Bool
-is_added_and_left held ops folder origin op =
+is_added_and_left table ops folder origin op =
     is_some_id origin (origin_by op.id op.kind)
-    && is_version (after (alone held) ops) folder origin op.id
+    && is_version (after (alone table) ops) folder origin op.id

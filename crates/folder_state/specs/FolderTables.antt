@@ -23,9 +23,9 @@ pub record FolderTables : Type 0 where
   pub tags : List OpId
   pub messages : List (OpId × Vec Version)
   pub origins : List (OpId × OpId)
-  pub tag_room : ℕ
-  pub message_room : ℕ
-  pub origin_room : ℕ
+  pub spare_tags : ℕ
+  pub spare_messages : ℕ
+  pub spare_origins : ℕ
 
 -- The folder of this name, if it has tables.
 abbrev pub find_folder : List ℕ → List (Vec ℕ × FolderTables) → Option FolderTables
@@ -35,7 +35,7 @@ find_folder name folders = lookup (λ (key : Vec ℕ). bytes_eq name key.items) 
 -- tag of this id, if it is present.
 pub record FolderContents : Type 0 where
   pub tags : OpId → Bool
-  pub bodies : OpId → Option MessageTagData
+  pub tag_data : OpId → Option MessageTagData
 
 -- The versions of a list, if there is one.
 abbrev pub versions_or_none : Option (Vec Version) → List Version
@@ -52,9 +52,9 @@ flags_among versions id =
     first_some (λ version. if same_id id version.id then Some version.flags else None) versions
 
 -- The data of the version with this id and origin.
-abbrev pub body_at : List (OpId × Vec Version) → OpId → Option OpId → Option MessageTagData
-body_at messages id None = None
-body_at messages id (Some origin) =
+abbrev pub tag_data_at : List (OpId × Vec Version) → OpId → Option OpId → Option MessageTagData
+tag_data_at messages id None = None
+tag_data_at messages id (Some origin) =
     option_map (λ flags. record { flags = flags; origin = origin })
     (flags_among (versions_at messages origin) id)
 
@@ -62,7 +62,7 @@ body_at messages id (Some origin) =
 abbrev pub folder_contents : FolderTables → FolderContents
 folder_contents folder = record {
   tags = λ id. list_any (same_id id) folder.tags;
-  bodies = λ id. body_at folder.messages id (lookup (same_id id) folder.origins);
+  tag_data = λ id. tag_data_at folder.messages id (lookup (same_id id) folder.origins);
 }
 
 -- What a folder contains, if it has tables; else it has no tags.
@@ -70,12 +70,12 @@ abbrev pub has_tag_in : Option FolderTables → OpId → Bool
 has_tag_in None id = false
 has_tag_in (Some folder) id = (folder_contents folder).tags id
 
-abbrev pub body_in_folder : Option FolderTables → OpId → Option MessageTagData
-body_in_folder None id = None
-body_in_folder (Some folder) id = (folder_contents folder).bodies id
+abbrev pub tag_data_in : Option FolderTables → OpId → Option MessageTagData
+tag_data_in None id = None
+tag_data_in (Some folder) id = (folder_contents folder).tag_data id
 
 abbrev pub folder_tag_data : Option FolderTables → FolderContents
-folder_tag_data folder = record { tags = has_tag_in folder; bodies = body_in_folder folder }
+folder_tag_data folder = record { tags = has_tag_in folder; tag_data = tag_data_in folder }
 
 abbrev pub messages_in : Option FolderTables → List (OpId × Vec Version)
 messages_in None = []
@@ -83,7 +83,7 @@ messages_in (Some folder) = folder.messages
 
 -- The folder has a tag with this id, of either kind.
 abbrev pub HasTagIn : FolderContents → OpId → Type 0
-HasTagIn folder id = (folder.tags id ≡ true) ⊎ IsSome (folder.bodies id)
+HasTagIn folder id = (folder.tags id ≡ true) ⊎ IsSome (folder.tag_data id)
 
 -- The ids of all tags of a folder.
 abbrev pub folder_ids : FolderTables → List OpId
@@ -113,9 +113,9 @@ pub record AreVersionsOf (folder : FolderContents) (origin : OpId) (versions : L
   pub ascending : IsAscending id_order (version_ids versions)
   pub listed : (i : OpId)
       → IsIn i (version_ids versions)
-      ↔ (option_map (λ body. body.origin) (folder.bodies i) ≡ Some origin)
+      ↔ (option_map (λ content. content.origin) (folder.tag_data i) ≡ Some origin)
   pub carried : (v : Version) → IsIn v versions
-      → folder.bodies v.id ≡ Some (record { flags = v.flags; origin = origin })
+      → folder.tag_data v.id ≡ Some (record { flags = v.flags; origin = origin })
 
 -- Each message has a version, its versions ascend by id, and an id has an origin exactly if that
 -- origin has a version with this id.
@@ -146,7 +146,7 @@ without id versions = filter (λ version. not (same_id id version.id)) versions
 -- it had no other; other messages stay.
 pub record IsTakenOut (origin id : OpId) (old new : List (OpId × Vec Version)) : Type 0 where
   pub here : versions_at new origin ≡ without id (versions_at old origin)
-  pub beside : (o : OpId) → same_id o origin ≡ false
+  pub others : (o : OpId) → same_id o origin ≡ false
       → lookup (same_id o) new ≡ lookup (same_id o) old
   pub some : (vs : Vec Version) → lookup (same_id origin) new ≡ Some vs → 0 < length vs.items
   pub places : (vs : Vec Version)
@@ -160,7 +160,7 @@ pub record IsTakenOut (origin id : OpId) (old new : List (OpId × Vec Version)) 
 pub record IsPutIn (origin : OpId) (version : Version) (old new : List (OpId × Vec Version)) :
     Type 0 where
   pub here : versions_at new origin ≡ insert_ordered by_id version (versions_at old origin)
-  pub beside : (o : OpId) → same_id o origin ≡ false
+  pub others : (o : OpId) → same_id o origin ≡ false
       → lookup (same_id o) new ≡ lookup (same_id o) old
 
 -- The folder is found by its name, and its versions and origins agree.

@@ -22,14 +22,14 @@ abbrev pub target : Kind → Option (List ℕ)
 target (Create folder) = Some folder
 target (Delete folder seen) = None
 target (Append folder flags date text) = Some folder
-target (Expunge folder olds) = Some folder
-target (Store folder flags olds origin) = Some folder
+target (Expunge folder old_ids) = Some folder
+target (Store folder flags old_ids origin) = Some folder
 target (Subscribe name) = None
 target (Unsubscribe name seen) = None
 
 -- The origin of the version that an operation of this id and kind adds.
 abbrev pub origin_by : OpId → Kind → Option OpId
-origin_by id kind = option_map (λ body. body.origin) (tag_data_by id kind)
+origin_by id kind = option_map (λ content. content.origin) (tag_data_by id kind)
 
 abbrev pub is_named : List ℕ → Option (List ℕ) → Bool
 is_named name None = false
@@ -40,7 +40,7 @@ abbrev pub tags_added : List Op → List ℕ → ℕ
 tags_added [] name = 0
 tags_added (op ∷ ops) name = (if is_named name (target op.kind) then 1 else 0) + tags_added ops name
 
--- The number of operations that add a version of this origin, in whatever folder.
+-- The number of operations that add a version of this origin, in any folder.
 abbrev pub versions_added : List Op → OpId → ℕ
 versions_added [] origin = 0
 versions_added (op ∷ ops) origin =
@@ -68,9 +68,9 @@ count_at id counts = unwrap_or (lookup (same_id id) counts) 0
 -- There is room for `count` further tags in the folder; if there is an origin, also for as many
 -- message tags of new messages.
 pub record HasPlaces (folder : FolderTables) (origin : Option OpId) (count : ℕ) : Type 0 where
-  pub tags : count ≤ folder.tag_room
-  pub messages : (o : OpId) → origin ≡ Some o → count ≤ folder.message_room
-  pub origins : (o : OpId) → origin ≡ Some o → count ≤ folder.origin_room
+  pub tags : count ≤ folder.spare_tags
+  pub messages : (o : OpId) → origin ≡ Some o → count ≤ folder.spare_messages
+  pub origins : (o : OpId) → origin ≡ Some o → count ≤ folder.spare_origins
 
 -- There is room for this number of further versions in the message of the origin, if it exists.
 abbrev pub HasVersionRoom : List (OpId × Vec Version) → OpId → ℕ → Type 0
@@ -117,9 +117,9 @@ HaveLists (op ∷ ops) (list ∷ lists) =
 
 -- Nothing was put in, and no room was lost.
 pub record IsNoFuller (old new : FolderTables) : Type 0 where
-  pub tags : old.tag_room ≤ new.tag_room
-  pub messages : old.message_room ≤ new.message_room
-  pub origins : old.origin_room ≤ new.origin_room
+  pub tags : old.spare_tags ≤ new.spare_tags
+  pub messages : old.spare_messages ≤ new.spare_messages
+  pub origins : old.spare_origins ≤ new.spare_origins
   pub versions : (o : OpId) (n : ℕ)
       → HasVersionRoom old.messages o n
       → HasVersionRoom new.messages o n
@@ -149,9 +149,9 @@ pub record IsRoomier (old new : FolderTables) : Type 0 where
   pub tags : new.tags ≡ old.tags
   pub origins : new.origins ≡ old.origins
   pub versions : AreRoomierLists old.messages new.messages
-  pub tag_room : old.tag_room ≤ new.tag_room
-  pub message_room : old.message_room ≤ new.message_room
-  pub origin_room : old.origin_room ≤ new.origin_room
+  pub spare_tags : old.spare_tags ≤ new.spare_tags
+  pub spare_messages : old.spare_messages ≤ new.spare_messages
+  pub spare_origins : old.spare_origins ≤ new.spare_origins
 
 -- A folder has the same tags, and no less room; a new folder has no tags.
 abbrev pub IsRoomierIn : Option FolderTables → Option FolderTables → Type 0
@@ -176,9 +176,9 @@ LeavesRoom name origin places old new =
 
 -- The tag that an operation adds was put in, and the remaining room suffices for the operations
 -- after it.
-abbrev pub LeavesRoomBehind : Op → ℕ → (List ℕ → Option FolderTables)
+abbrev pub LeavesRoomAfter : Op → ℕ → (List ℕ → Option FolderTables)
     → (List ℕ → Option FolderTables) → Type 0
-LeavesRoomBehind op places old new =
+LeavesRoomAfter op places old new =
     (rest : List Op) (o : Op)
     → HasRoomFor (op ∷ rest) o old
     → counts_of (versions_added (op ∷ rest)) (origin_by op.id op.kind) ≤ places

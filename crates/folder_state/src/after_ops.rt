@@ -12,7 +12,7 @@ ghost use Rattle.crdt_ops.specs.SortedSets.{is_some_id, same_id};
 ghost use Rattle.crdt_ops.specs.Tags.{FolderTag, MessageTag, adds, removes};
 ghost use Rattle.folder_state.specs.Contents.{Contents, origin_in};
 ghost use Rattle.folder_state.specs.Keys.{is_among, is_at};
-ghost use Rattle.folder_state.specs.FolderTables.{HasTagIn, body_in_folder, has_tag_in};
+ghost use Rattle.folder_state.specs.FolderTables.{HasTagIn, tag_data_in, has_tag_in};
 ghost use Rattle.folder_state.specs.FolderTables.{folder_tag_data, ids_in, versions_in};
 ghost use Rattle.folder_state.specs.AfterOps.{after, alone, has_tag_after, is_added_and_left};
 ghost use Rattle.folder_state.specs.AfterOps.{is_version};
@@ -39,10 +39,10 @@ pub fn has_tags(folder: Option<&Folder>) -> bool
 pub fn has_versions(folder: Option<&Folder>, origin: &OpId) -> bool
     ensures { MatchBool result
         ((i : OpId)
-        × (option_map (λ body. body.origin) (body_in_folder (option_copied folder.entry) i)
+        × (option_map (λ content. content.origin) (tag_data_in (option_copied folder.entry) i)
         ≡ Some origin.now))
         ((i : OpId)
-        → option_map (λ body. body.origin) (body_in_folder (option_copied folder.entry) i)
+        → option_map (λ content. content.origin) (tag_data_in (option_copied folder.entry) i)
         ≡ Some origin.now → ⊥) }
 {
     match folder {
@@ -94,12 +94,15 @@ fn removes_message(op: &Op, folder: &Name, id: OpId) -> bool
 {
     match &op.kind {
         Kind::Delete { folder: own, seen } => is_among(folder, id, own, seen.as_slice()),
-        Kind::Expunge { folder: own, olds } => is_among(folder, id, own, olds.as_slice()),
+        Kind::Expunge {
+            folder: own,
+            old_ids,
+        } => is_among(folder, id, own, old_ids.as_slice()),
         Kind::Store {
             folder: own,
-            olds,
+            old_ids,
             ..
-        } => is_among(folder, id, own, olds.as_slice()),
+        } => is_among(folder, id, own, old_ids.as_slice()),
         Kind::Create { .. } => false,
         Kind::Append { .. } => false,
         Kind::Subscribe { .. } => false,
@@ -122,11 +125,11 @@ fn tag_after(ops: &[SoundOp], folder: &Name, id: &OpId, now: bool) -> bool
         → c.tags folder.now id.now ≡ now
         → result ≡ (after c ops.now).tags folder.now id.now }
 {
-    let mut there = now;
+    let mut present = now;
     for op in ops {
-        there = tag_after_op(op.op(), folder, id, there);
+        present = tag_after_op(op.op(), folder, id, present);
     }
-    there
+    present
 }
 
 /// The origin of the message tag after the operation, given its origin before; None if absent.
@@ -169,84 +172,84 @@ fn origin_after(ops: &[SoundOp], folder: &Name, id: &OpId, now: Option<OpId>) ->
 }
 
 /// Whether the folder tag with this id is present.
-fn has_tag_at(held: Option<&Folder>, id: &OpId) -> bool
-    ensures { result ≡ has_tag_in (option_copied held.entry) id.now }
+fn has_tag_at(table: Option<&Folder>, id: &OpId) -> bool
+    ensures { result ≡ has_tag_in (option_copied table.entry) id.now }
 {
-    match held {
+    match table {
         Some(folder) => folder.has_tag(id),
         None => false,
     }
 }
 
 /// The origin of the message tag with this id, if it is present.
-fn origin_at(held: Option<&Folder>, id: &OpId) -> Option<OpId>
+fn origin_at(table: Option<&Folder>, id: &OpId) -> Option<OpId>
     ensures { result
-        ≡ option_map (λ body. body.origin) (body_in_folder (option_copied held.entry) id.now) }
+        ≡ option_map (λ content. content.origin) (tag_data_in (option_copied table.entry) id.now) }
 {
-    match held {
+    match table {
         Some(folder) => folder.origin_of(id),
         None => None,
     }
 }
 
 /// The number of the folder's tags, of both kinds.
-fn count_in(held: Option<&Folder>) -> usize
-    ensures count { result ≡ length (ids_in (option_copied held.entry)) }
+fn count_in(table: Option<&Folder>) -> usize
+    ensures count { result ≡ length (ids_in (option_copied table.entry)) }
     ensures ids { (i : OpId)
-        → IsIn i (ids_in (option_copied held.entry))
-        ↔ HasTagIn (folder_tag_data (option_copied held.entry)) i }
+        → IsIn i (ids_in (option_copied table.entry))
+        ↔ HasTagIn (folder_tag_data (option_copied table.entry)) i }
 {
-    match held {
+    match table {
         Some(folder) => folder.count(),
         None => 0,
     }
 }
 
 /// The id of the folder's tag at `place`, if it has that many tags.
-fn id_in(held: Option<&Folder>, place: usize) -> Option<OpId>
-    ensures { result ≡ slice_get (ids_in (option_copied held.entry)) place }
+fn id_in(table: Option<&Folder>, place: usize) -> Option<OpId>
+    ensures { result ≡ slice_get (ids_in (option_copied table.entry)) place }
 {
-    match held {
+    match table {
         Some(folder) => folder.id_at(place),
         None => None,
     }
 }
 
 /// Whether the folder has a tag with this id after these operations.
-fn has_tag_after(held: Option<&Folder>, folder: &Name, id: &OpId, ops: &[SoundOp]) -> bool
-    ensures { result ≡ has_tag_after (alone (option_copied held.entry)) ops.now folder.now id.now }
+fn has_tag_after(table: Option<&Folder>, folder: &Name, id: &OpId, ops: &[SoundOp]) -> bool
+    ensures { result ≡ has_tag_after (alone (option_copied table.entry)) ops.now folder.now id.now }
 {
-    tag_after(ops, folder, id, has_tag_at(held, id))
-        || origin_after(ops, folder, id, origin_at(held, id)).is_some()
+    tag_after(ops, folder, id, has_tag_at(table, id))
+        || origin_after(ops, folder, id, origin_at(table, id)).is_some()
 }
 
-/// Whether the folder has any tag after these operations. Only its present tags and those that the
-/// operations add are looked at.
-pub fn has_tag_after_all(held: Option<&Folder>, folder: &Name, ops: &[SoundOp]) -> bool
+/// Whether the folder has any tag after these operations. Looks only at its present tags and those
+/// that the operations add.
+pub fn has_tag_after_all(table: Option<&Folder>, folder: &Name, ops: &[SoundOp]) -> bool
     ensures ids { (i : OpId)
-        → IsIn i (ids_in (option_copied held.entry))
-        ↔ HasTagIn (folder_tag_data (option_copied held.entry)) i }
+        → IsIn i (ids_in (option_copied table.entry))
+        ↔ HasTagIn (folder_tag_data (option_copied table.entry)) i }
     ensures left { result
-        ≡ (list_any (λ i. has_tag_after (alone (option_copied held.entry)) ops.now folder.now i)
-        (ids_in (option_copied held.entry))
-        || list_any (λ o. has_tag_after (alone (option_copied held.entry)) ops.now folder.now o.id)
+        ≡ (list_any (λ i. has_tag_after (alone (option_copied table.entry)) ops.now folder.now i)
+        (ids_in (option_copied table.entry))
+        || list_any (λ o. has_tag_after (alone (option_copied table.entry)) ops.now folder.now o.id)
         ops.now) }
 {
-    any_kept_left(held, folder, ops) || any_added_left(held, folder, ops)
+    any_stored_left(table, folder, ops) || any_added_left(table, folder, ops)
 }
 
 /// Whether a tag with the id of a present tag remains.
-fn any_kept_left(held: Option<&Folder>, folder: &Name, ops: &[SoundOp]) -> bool
+fn any_stored_left(table: Option<&Folder>, folder: &Name, ops: &[SoundOp]) -> bool
     ensures ids { (i : OpId)
-        → IsIn i (ids_in (option_copied held.entry))
-        ↔ HasTagIn (folder_tag_data (option_copied held.entry)) i }
+        → IsIn i (ids_in (option_copied table.entry))
+        ↔ HasTagIn (folder_tag_data (option_copied table.entry)) i }
     ensures left { result
-        ≡ list_any (λ i. has_tag_after (alone (option_copied held.entry)) ops.now folder.now i)
-        (ids_in (option_copied held.entry)) }
+        ≡ list_any (λ i. has_tag_after (alone (option_copied table.entry)) ops.now folder.now i)
+        (ids_in (option_copied table.entry)) }
 {
-    let count = count_in(held);
+    let count = count_in(table);
     for place in 0..count {
-        if is_left_at(held, folder, ops, place) {
+        if is_left_at(table, folder, ops, place) {
             return true;
         }
     }
@@ -254,24 +257,24 @@ fn any_kept_left(held: Option<&Folder>, folder: &Name, ops: &[SoundOp]) -> bool
 }
 
 /// Whether a tag with the id of the present tag at `place` remains.
-fn is_left_at(held: Option<&Folder>, folder: &Name, ops: &[SoundOp], place: usize) -> bool
-    ensures { MatchOption (slice_get (ids_in (option_copied held.entry)) place) (result ≡ false)
-        (λ i. result ≡ has_tag_after (alone (option_copied held.entry)) ops.now folder.now i) }
+fn is_left_at(table: Option<&Folder>, folder: &Name, ops: &[SoundOp], place: usize) -> bool
+    ensures { MatchOption (slice_get (ids_in (option_copied table.entry)) place) (result ≡ false)
+        (λ i. result ≡ has_tag_after (alone (option_copied table.entry)) ops.now folder.now i) }
 {
-    match id_in(held, place) {
-        Some(id) => has_tag_after(held, folder, &id, ops),
+    match id_in(table, place) {
+        Some(id) => has_tag_after(table, folder, &id, ops),
         None => false,
     }
 }
 
 /// Whether a tag of the folder with the id of one of these operations remains.
-fn any_added_left(held: Option<&Folder>, folder: &Name, ops: &[SoundOp]) -> bool
+fn any_added_left(table: Option<&Folder>, folder: &Name, ops: &[SoundOp]) -> bool
     ensures { result
-        ≡ list_any (λ o. has_tag_after (alone (option_copied held.entry)) ops.now folder.now o.id)
+        ≡ list_any (λ o. has_tag_after (alone (option_copied table.entry)) ops.now folder.now o.id)
         ops.now }
 {
     for op in ops {
-        if has_tag_after(held, folder, &op.op().id, ops) {
+        if has_tag_after(table, folder, &op.op().id, ops) {
             return true;
         }
     }
@@ -280,17 +283,17 @@ fn any_added_left(held: Option<&Folder>, folder: &Name, ops: &[SoundOp]) -> bool
 
 /// Whether the id is that of a version of the origin after the operations.
 fn is_version_after(
-    held: Option<&Folder>,
+    table: Option<&Folder>,
     folder: &Name,
     origin: &OpId,
     id: &OpId,
     ops: &[SoundOp],
 ) -> bool
     ensures { result
-        ≡ is_version (after (alone (option_copied held.entry)) ops.now) folder.now origin.now
+        ≡ is_version (after (alone (option_copied table.entry)) ops.now) folder.now origin.now
         id.now }
 {
-    is_id(origin, origin_after(ops, folder, id, origin_at(held, id)))
+    is_id(origin, origin_after(ops, folder, id, origin_at(table, id)))
 }
 
 /// Whether the two ids are equal, if there is a second.
@@ -303,48 +306,48 @@ fn is_id(id: &OpId, given: Option<OpId>) -> bool
     }
 }
 
-/// Whether the origin has a version in the folder after these operations. Only its present versions
-/// and those that the operations add are looked at.
+/// Whether the origin has a version in the folder after these operations. Looks only at its present
+/// versions and those that the operations add.
 pub fn has_version_after_all(
-    held: Option<&Folder>,
+    table: Option<&Folder>,
     folder: &Name,
     origin: &OpId,
     ops: &[SoundOp],
 ) -> bool
     ensures versions { (i : OpId)
-        → IsIn i (version_ids (versions_in (option_copied held.entry) origin.now))
-        ↔ (option_map (λ body. body.origin) (body_in_folder (option_copied held.entry) i)
+        → IsIn i (version_ids (versions_in (option_copied table.entry) origin.now))
+        ↔ (option_map (λ content. content.origin) (tag_data_in (option_copied table.entry) i)
         ≡ Some origin.now) }
     ensures left { result
         ≡ (list_any
-        (λ version. is_version (after (alone (option_copied held.entry)) ops.now) folder.now
-        origin.now version.id) (versions_in (option_copied held.entry) origin.now)
-        || list_any (is_added_and_left (option_copied held.entry) ops.now folder.now origin.now)
+        (λ version. is_version (after (alone (option_copied table.entry)) ops.now) folder.now
+        origin.now version.id) (versions_in (option_copied table.entry) origin.now)
+        || list_any (is_added_and_left (option_copied table.entry) ops.now folder.now origin.now)
         ops.now) }
 {
-    keeps_version(held, folder, origin, ops) || adds_lasting_version(held, folder, origin, ops)
+    has_version_left(table, folder, origin, ops) || adds_lasting_version(table, folder, origin, ops)
 }
 
 /// Whether one of the origin's present versions remains.
-fn keeps_version(held: Option<&Folder>, folder: &Name, origin: &OpId, ops: &[SoundOp]) -> bool
+fn has_version_left(table: Option<&Folder>, folder: &Name, origin: &OpId, ops: &[SoundOp]) -> bool
     ensures versions { (i : OpId)
-        → IsIn i (version_ids (versions_in (option_copied held.entry) origin.now))
-        ↔ (option_map (λ body. body.origin) (body_in_folder (option_copied held.entry) i)
+        → IsIn i (version_ids (versions_in (option_copied table.entry) origin.now))
+        ↔ (option_map (λ content. content.origin) (tag_data_in (option_copied table.entry) i)
         ≡ Some origin.now) }
     ensures left { result
         ≡ list_any
-        (λ version. is_version (after (alone (option_copied held.entry)) ops.now) folder.now
-        origin.now version.id) (versions_in (option_copied held.entry) origin.now) }
+        (λ version. is_version (after (alone (option_copied table.entry)) ops.now) folder.now
+        origin.now version.id) (versions_in (option_copied table.entry) origin.now) }
 {
-    match held {
-        Some(kept) => any_left(held, kept.versions_at(origin), folder, origin, ops),
+    match table {
+        Some(stored) => any_left(table, stored.versions_at(origin), folder, origin, ops),
         None => false,
     }
 }
 
 /// Whether one of these versions remains.
 fn any_left(
-    held: Option<&Folder>,
+    table: Option<&Folder>,
     versions: &[Version],
     folder: &Name,
     origin: &OpId,
@@ -352,11 +355,11 @@ fn any_left(
 ) -> bool
     ensures { result
         ≡ list_any
-        (λ version. is_version (after (alone (option_copied held.entry)) ops.now) folder.now
+        (λ version. is_version (after (alone (option_copied table.entry)) ops.now) folder.now
         origin.now version.id) versions.now }
 {
     for version in versions {
-        if is_version_after(held, folder, origin, &version.id, ops) {
+        if is_version_after(table, folder, origin, &version.id, ops) {
             return true;
         }
     }
@@ -365,17 +368,17 @@ fn any_left(
 
 /// Whether one of the operations adds a version that remains after all of them.
 fn adds_lasting_version(
-    held: Option<&Folder>,
+    table: Option<&Folder>,
     folder: &Name,
     origin: &OpId,
     ops: &[SoundOp],
 ) -> bool
     ensures { result
-        ≡ list_any (is_added_and_left (option_copied held.entry) ops.now folder.now origin.now)
+        ≡ list_any (is_added_and_left (option_copied table.entry) ops.now folder.now origin.now)
         ops.now }
 {
     for op in ops {
-        if is_added_and_left(held, folder, origin, op.op(), ops) {
+        if is_added_and_left(table, folder, origin, op.op(), ops) {
             return true;
         }
     }
@@ -384,16 +387,16 @@ fn adds_lasting_version(
 
 /// Whether this operation adds a version of the origin that remains after all operations.
 fn is_added_and_left(
-    held: Option<&Folder>,
+    table: Option<&Folder>,
     folder: &Name,
     origin: &OpId,
     op: &Op,
     ops: &[SoundOp],
 ) -> bool
     ensures { result
-        ≡ is_added_and_left (option_copied held.entry) ops.now folder.now origin.now op.now }
+        ≡ is_added_and_left (option_copied table.entry) ops.now folder.now origin.now op.now }
 {
-    is_id(origin, origin_by(op)) && is_version_after(held, folder, origin, &op.id, ops)
+    is_id(origin, origin_by(op)) && is_version_after(table, folder, origin, &op.id, ops)
 }
 
 /// Whether a tag's folder and id are these.
@@ -407,11 +410,11 @@ fn is_at(folder: &Name, id: OpId, other: &Name, other_id: OpId) -> bool
 fn is_among(folder: &Name, id: OpId, other: &Name, ids: &[OpId]) -> bool
     ensures { result ≡ is_among folder.now id other.now ids.now }
 {
-    folder.as_bytes() == other.as_bytes() && lists(ids, id)
+    folder.as_bytes() == other.as_bytes() && contains_id(ids, id)
 }
 
 /// Whether the id is one of these.
-fn lists(ids: &[OpId], id: OpId) -> bool
+fn contains_id(ids: &[OpId], id: OpId) -> bool
     ensures { result ≡ list_any (same_id id) ids.now }
 {
     ids.iter().any(|other| id == *other)

@@ -47,16 +47,16 @@ impl Model for Folder {
       tags = f.tags.keys;
       messages = f.messages.entries;
       origins = f.origins.entries;
-      tag_room = spare_keys f.tags;
-      message_room = spare f.messages;
-      origin_room = spare f.origins;
+      spare_tags = spare_keys f.tags;
+      spare_messages = spare f.messages;
+      spare_origins = spare f.origins;
     } };
 
     ghost invariant = { λ f. AreIndexed f.messages.entries f.origins.entries };
 }
 
 impl Folder {
-    /// A folder without tags, which takes no memory.
+    /// A folder without tags; doesn't allocate.
     pub(crate) fn new(alloc: Global) -> Folder
         ensures { (result.tags ≡ []) × (result.messages ≡ []) × (result.origins ≡ []) }
     {
@@ -77,17 +77,17 @@ impl Folder {
     /// The origin of the message tag with this id, if it is present. Cost: a look-up.
     pub fn origin_of(&self, id: &OpId) -> Option<OpId>
         ensures { result
-            ≡ option_map (λ body. body.origin) ((folder_contents self.now).bodies id.now) }
+            ≡ option_map (λ content. content.origin) ((folder_contents self.now).tag_data id.now) }
     {
         self.origins.get(id).copied()
     }
 
-    /// The versions of this origin, ascending by id, at least one; None if it has none. Cost: a
+    /// The versions of this origin, ascending by id, at least one; `None` if it has none. Cost: a
     /// look-up.
     pub fn versions_of(&self, origin: &OpId) -> Option<&[Version]>
         ensures { MatchOption result
             ((i : OpId)
-            → option_map (λ body. body.origin) ((folder_contents self.now).bodies i)
+            → option_map (λ content. content.origin) ((folder_contents self.now).tag_data i)
             ≡ Some origin.now → ⊥)
             (λ versions. AreVersionsOf (folder_contents self.now) origin.now versions.now) }
     {
@@ -101,10 +101,10 @@ impl Folder {
     pub(crate) fn has_versions(&self, origin: &OpId) -> bool
         ensures { MatchBool result
             ((i : OpId)
-            × (option_map (λ body. body.origin) ((folder_contents self.now).bodies i)
+            × (option_map (λ content. content.origin) ((folder_contents self.now).tag_data i)
             ≡ Some origin.now))
             ((i : OpId)
-            → option_map (λ body. body.origin) ((folder_contents self.now).bodies i)
+            → option_map (λ content. content.origin) ((folder_contents self.now).tag_data i)
             ≡ Some origin.now → ⊥) }
     {
         match self.versions_of(origin) {
@@ -116,7 +116,7 @@ impl Folder {
     /// The versions of this origin, ascending by id; empty if it has none.
     pub(crate) fn versions_at(&self, origin: &OpId) -> &[Version]
         ensures list { result.now ≡ versions_at self.now.messages origin.now }
-        ensures filed { AreIndexed self.now.messages self.now.origins }
+        ensures indexed { AreIndexed self.now.messages self.now.origins }
     {
         match self.messages.get(origin) {
             Some(versions) => versions,
@@ -133,7 +133,7 @@ impl Folder {
         self.tags.len() + self.origins.len()
     }
 
-    /// The id of the tag at `place`, from 0, in no promised order, tags of both kinds counted; None
+    /// The id of the tag at `place`, from 0, in no set order, tags of both kinds counted; `None`
     /// from [`Folder::count`] on.
     pub fn id_at(&self, place: usize) -> Option<OpId>
         ensures { result ≡ slice_get (folder_ids self.now) place }
@@ -157,7 +157,7 @@ impl Folder {
         self.tags.is_empty() && self.origins.is_empty()
     }
 
-    /// Its folder tags, in no promised order.
+    /// Its folder tags, in no particular order.
     pub(crate) fn tags(&self) -> &[OpId]
         ensures { result.now ≡ self.now.tags }
     {
@@ -167,7 +167,7 @@ impl Folder {
     /// The versions of its messages by origin.
     pub(crate) fn messages(&self) -> &IndexMap<OpId, Vec<Version>>
         ensures entries { result.now.entries ≡ self.now.messages }
-        ensures filed { AreIndexed self.now.messages self.now.origins }
+        ensures indexed { AreIndexed self.now.messages self.now.origins }
     {
         &self.messages
     }
@@ -181,7 +181,7 @@ impl Folder {
         let count = self.count();
         let mut ids = Vec::new(alloc);
         for place in 0..count {
-            push_given(&mut ids, self.id_at(place))?;
+            push_if_some(&mut ids, self.id_at(place))?;
         }
         Ok(ids)
     }
@@ -199,18 +199,18 @@ impl Folder {
     /// The origins of its messages; `Err` if memory runs out.
     pub(crate) fn origins(&self, alloc: Global) -> Result<Vec<OpId>, AllocError>
         ensures origins { IfOk result (λ ids. ids.items ≡ keys_of self.now.messages) }
-        ensures filed { AreIndexed self.now.messages self.now.origins }
+        ensures indexed { AreIndexed self.now.messages self.now.origins }
     {
         let mut ids = Vec::new(alloc);
         for place in 0..self.messages.len() {
-            push_given(&mut ids, self.origin_at(place))?;
+            push_if_some(&mut ids, self.origin_at(place))?;
         }
         Ok(ids)
     }
 }
 
 /// Appends the id, if there is one; `Err` if memory runs out.
-fn push_given(ids: &mut Vec<OpId>, given: Option<OpId>) -> Result<(), AllocError>
+fn push_if_some(ids: &mut Vec<OpId>, given: Option<OpId>) -> Result<(), AllocError>
     ensures { OnOk result (ids.new.items ≡ ids.old.items ++ cons_option given []) }
 {
     match given {

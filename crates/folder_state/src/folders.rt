@@ -4,9 +4,9 @@ ghost use Rattle.crdt_ops.specs.Ops.{clock_of, id_of};
 
 use crate::after_ops::{has_tag_after_all, has_tags, has_version_after_all, has_versions};
 use crate::folder::Folder;
-use crate::id_lists::{all_ids, folder_names, is_inbox, tag_ids, version_ids};
-use crate::lent_message::{LentMessage, lent_message, lent_messages};
+use crate::folder_lists::{all_ids, folder_names, is_inbox, tag_ids, version_ids};
 use crate::message_reader::folder_messages;
+use crate::message_ref::{MessageRef, message_ref, message_table};
 use crate::op_room::{empty_lists, reserve_folders, reserve_one};
 use crate::tag_changes::{add_tag_of, remove_tags_of};
 use crate::tag_counts::TagCounts;
@@ -22,7 +22,7 @@ use tags_clocks::OpId;
 /// Folders with their messages, changed by operations in any causal order.
 pub struct Folders {
     by_name: IndexMap<Vec<u8>, Folder>,
-    letters: IndexMap<OpId, DatedText>,
+    dated_texts: IndexMap<OpId, DatedText>,
     spare: VecDeque<SoundOp>,
     lists: VecDeque<Vec<Version>>,
 }
@@ -32,7 +32,7 @@ impl Drop for Folders {
     fn drop(self) {
         let Self {
             by_name: _,
-            letters: _,
+            dated_texts: _,
             spare: _,
             lists: _,
         } = self;
@@ -50,10 +50,10 @@ impl Folders {
     ghost use Rattle.merge_laws.specs.Orders.{AreSound, IsCausal, IsIn};
     ghost use Rattle.crdt_ops.specs.Sound.{IsSound};
     ghost use Rattle.folder_state.specs.AfterOps.{after};
-    ghost use Rattle.folder_state.specs.FolderTables.{body_in_folder, has_tag_in};
-    ghost use Rattle.folder_state.specs.LentMessages.{lent_message, kept_dated_text};
-    ghost use Rattle.folder_state.specs.LentMessages.{message_of_data};
-    ghost use Rattle.mailbox_rows.specs.MessageData.{kept_message_data};
+    ghost use Rattle.folder_state.specs.FolderTables.{tag_data_in, has_tag_in};
+    ghost use Rattle.folder_state.specs.MessageRefs.{message_ref, stored_dated_text};
+    ghost use Rattle.folder_state.specs.MessageRefs.{message_of_data};
+    ghost use Rattle.mailbox_rows.specs.MessageData.{stored_message_data};
     ghost use Rattle.crdt_ops.specs.declared.op.Op.{Op};
     ghost use Rattle.crdt_ops.specs.SortedSets.{IsListOf, id_order, same_id};
     ghost use Rattle.crdt_ops.specs.Sets.{delete_set_of, folder_tags_of, folders_of, message_of};
@@ -62,24 +62,24 @@ impl Folders {
     ghost use Rattle.folder_state.specs.Contents.{IsFolder, IsMadeBy, IsMessageOf, no_contents};
     ghost use Rattle.folder_state.specs.Tables.{contents_of};
 
-    /// Only INBOX, without messages; takes no memory.
+    /// Only INBOX, without messages; doesn't allocate.
     pub fn new(alloc: Global) -> Folders
         ensures { contents_of result ≡ no_contents }
     {
         Folders {
             by_name: IndexMap::new(alloc),
-            letters: IndexMap::new(alloc),
+            dated_texts: IndexMap::new(alloc),
             spare: VecDeque::new(alloc),
             lists: VecDeque::new(alloc),
         }
     }
 
-    /// The tables of this folder, if it has some. Cost: a look-up.
+    /// The tables of this folder, if any. Cost: a look-up.
     pub fn folder(&self, name: &Name) -> Option<&Folder>
         ensures tags { (i : OpId)
             → (contents_of self.now).tags name.now i ≡ has_tag_in (option_copied result) i }
-        ensures bodies { (i : OpId)
-            → (contents_of self.now).bodies name.now i ≡ body_in_folder (option_copied result) i }
+        ensures tag_data { (i : OpId)
+            → (contents_of self.now).tag_data name.now i ≡ tag_data_in (option_copied result) i }
     {
         self.by_name.get(name.as_bytes())
     }
@@ -89,21 +89,21 @@ impl Folders {
     pub fn mailbox(&self, name: &Name) -> FolderMessages<'_>
         ensures contents { (origin : OpId)
             → IsMessageOf (contents_of self.now) name.now origin
-            (option_map (message_of_data origin) (kept_message_data result origin)) }
+            (option_map (message_of_data origin) (stored_message_data result origin)) }
     {
         FolderMessages {
-            messages: lent_messages(self.folder(name)),
-            letters: &self.letters,
+            messages: message_table(self.folder(name)),
+            dated_texts: &self.dated_texts,
         }
     }
 
-    /// The date and text of the Append with this id, if one was applied, in whatever folder. Cost:
+    /// The date and text of the Append with this id, if one was applied, in any folder. Cost:
     /// a look-up.
     pub fn dated_text(&self, id: &OpId) -> Option<&DatedText>
-        ensures { option_map kept_dated_text (option_copied result)
-            ≡ (contents_of self.now).letters id.now }
+        ensures { option_map stored_dated_text (option_copied result)
+            ≡ (contents_of self.now).dated_texts id.now }
     {
-        self.letters.get(id)
+        self.dated_texts.get(id)
     }
 
     /// Whether this folder exists: it is INBOX, or has a present tag. Takes no memory. Cost: a
@@ -158,18 +158,18 @@ impl Folders {
 
     /// The folder's message of this origin, borrowed; None if the origin has no version in the
     /// folder. Takes no memory. Cost: at most three look-ups.
-    pub fn message<'a>(&'a self, folder: &Name, origin: &OpId) -> Option<LentMessage<'a>>
+    pub fn message<'a>(&'a self, folder: &Name, origin: &OpId) -> Option<MessageRef<'a>>
         ensures contents { IsMessageOf (contents_of self.now) folder.now origin.now
-            (option_map lent_message result) }
+            (option_map message_ref result) }
         ensures set { (list : List Op)
             → IsMadeBy (contents_of self.now) list
-            → option_map lent_message result
+            → option_map message_ref result
             ≡ (if list_any (same_id origin.now) (origins_of list folder.now)
             then Some (message_of list folder.now origin.now)
             else None) }
     {
         match self.folder(folder) {
-            Some(found) => lent_message(found, &self.letters, origin),
+            Some(tables) => message_ref(tables, &self.dated_texts, origin),
             None => None,
         }
     }
@@ -214,7 +214,7 @@ impl Folders {
 
     /// The folder's messages, ascending by origin: one for each origin with a version. Each has its
     /// versions, the union of their flags, and the date and text of the Append that is its origin,
-    /// whatever that one's folder. If no such Append was applied, the text is empty and the date is
+    /// in any folder. If no such Append was applied, the text is empty and the date is
     /// the first moment of 1970. `Err` if memory runs out.
     pub fn messages(&self, alloc: Global, folder: &Name) -> Result<Vec<Message>, AllocError>
         ensures contents { IfOk result
@@ -223,7 +223,7 @@ impl Folders {
             → IsMadeBy (contents_of self.now) ops
             → IfOk result (λ messages. messages.items ≡ messages_of ops folder.now) }
     {
-        let messages = folder_messages(alloc, self.folder(folder), &self.letters)?;
+        let messages = folder_messages(alloc, self.folder(folder), &self.dated_texts)?;
         Ok(messages)
     }
 
@@ -275,7 +275,7 @@ impl Replicated for Folders {
             Some(copy) => match self.lists.pop_front() {
                 Some(list) => add_tag_of(
                     &mut self.by_name,
-                    &mut self.letters,
+                    &mut self.dated_texts,
                     copy.into_op(),
                     list,
                 ),
@@ -298,7 +298,7 @@ impl Folders {
         let copy = op.copy(alloc)?;
         let list = Vec::with_capacity(alloc, 1)?;
         reserve_one(alloc, &mut self.by_name, op.op())?;
-        self.letters.reserve(1)?;
+        self.dated_texts.reserve(1)?;
         self.lists.clear();
         self.spare.clear();
         self.lists.push_back(list)?;
@@ -316,7 +316,7 @@ impl Folders {
         let tag_counts = TagCounts::of_ops(alloc, ops)?;
         let lists = empty_lists(alloc, ops, &tag_counts)?;
         reserve_folders(alloc, &mut self.by_name, ops, &tag_counts)?;
-        self.letters.reserve(ops.len())?;
+        self.dated_texts.reserve(ops.len())?;
         self.spare = copies;
         self.lists = lists;
         Ok(())

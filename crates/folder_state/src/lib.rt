@@ -2,8 +2,8 @@
 //!
 //! [`Folders`] has a table for each folder, found by its name: the present folder tags of the
 //! operations applied, each message with all its versions (its present message tags), found by its
-//! origin, and the origin of each version by its id. Beside these tables it has the dates and texts
-//! of all Appends.
+//! origin, and the origin of each version by its id. Besides these tables it has the dates and
+//! texts of all Appends.
 //!
 //! Its contents are functions of folder and id, whatever the tables; that the tables agree with one
 //! another is an invariant. Applying an operation is its effect on the contents, and takes no
@@ -16,20 +16,20 @@
 //!
 //! - A folder's versions and the dates and texts of Appends are separate tables: an origin's Append
 //!   may come after a Store that names it, and may be of another folder. Contracts see the contents
-//!   as functions of name and id; the tables are lent as they are (`FolderMessages`), and only
+//!   as functions of name and id; the tables are borrowed as they are (`FolderMessages`), and only
 //!   windows and the look ahead at one folder read them.
 //! - A folder that lost its last tag keeps its empty table and its place in the index: a name that
-//!   comes again finds it, and no removal takes room that was made for pending operations. `exists`
-//!   and `names` ask whether the folder has a tag.
+//!   is used again finds it, and no removal takes room that was made for pending operations.
+//!   `exists` and `names` ask whether the folder has a tag.
 #![tactic(auto)]
 
 mod after_ops;
 mod folder;
+mod folder_lists;
 mod folders;
-mod id_lists;
 mod laws;
-mod lent_message;
 mod message_reader;
+mod message_ref;
 mod op_room;
 mod tag_changes;
 mod tag_counts;
@@ -39,4 +39,4 @@ mod tag_removal;
 pub use folder::Folder;
 pub use folders::Folders;
 pub use laws::{contents_follow_the_set, folders_for_all_orders};
-pub use lent_message::LentMessage;
+pub use message_ref::MessageRef;

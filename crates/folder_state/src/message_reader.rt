@@ -7,11 +7,11 @@ ghost use Rattle.tags_clocks.specs.declared.id.OpId.{OpId};
 ghost use Rattle.crdt_ops.specs.SortedSets.{same_id};
 ghost use Rattle.crdt_ops.specs.Sets.{no_dated_text};
 ghost use Rattle.folder_state.specs.Contents.{AreMessages, Contents};
-ghost use Rattle.folder_state.specs.FolderTables.{body_in_folder, folder_contents};
-ghost use Rattle.folder_state.specs.LentMessages.{kept_dated_text, kept_message};
+ghost use Rattle.folder_state.specs.FolderTables.{tag_data_in, folder_contents};
+ghost use Rattle.folder_state.specs.MessageRefs.{stored_dated_text, stored_message};
 
 use crate::folder::Folder;
-use crate::id_lists::{ids_in_order, ids_of};
+use crate::folder_lists::{ids_in_order, ids_of};
 use crdt_ops::Message;
 use imap_types::{DateTime, Text, Versions};
 use indexmap::IndexMap;
@@ -23,16 +23,17 @@ use tags_clocks::OpId;
 pub fn folder_messages(
     alloc: Global,
     folder: Option<&Folder>,
-    letters: &IndexMap<OpId, DatedText>,
+    dated_texts: &IndexMap<OpId, DatedText>,
 ) -> Result<Vec<Message>, AllocError>
     ensures { (c : Contents) (name : List ℕ)
-        → ((i : OpId) → c.bodies name i ≡ body_in_folder (option_copied folder.entry) i)
+        → ((i : OpId) → c.tag_data name i ≡ tag_data_in (option_copied folder.entry) i)
         → ((i : OpId)
-        → c.letters i ≡ option_map kept_dated_text (lookup (same_id i) letters.now.entries))
+        → c.dated_texts i
+        ≡ option_map stored_dated_text (lookup (same_id i) dated_texts.now.entries))
         → IfOk result (λ messages. AreMessages c name messages.items) }
 {
     match folder {
-        Some(folder) => messages_in(alloc, folder, letters),
+        Some(folder) => messages_in(alloc, folder, dated_texts),
         None => Ok(Vec::new(alloc)),
     }
 }
@@ -40,17 +41,18 @@ pub fn folder_messages(
 fn messages_in(
     alloc: Global,
     folder: &Folder,
-    letters: &IndexMap<OpId, DatedText>,
+    dated_texts: &IndexMap<OpId, DatedText>,
 ) -> Result<Vec<Message>, AllocError>
     ensures { (c : Contents) (name : List ℕ)
-        → ((i : OpId) → c.bodies name i ≡ (folder_contents folder.now).bodies i)
+        → ((i : OpId) → c.tag_data name i ≡ (folder_contents folder.now).tag_data i)
         → ((i : OpId)
-        → c.letters i ≡ option_map kept_dated_text (lookup (same_id i) letters.now.entries))
+        → c.dated_texts i
+        ≡ option_map stored_dated_text (lookup (same_id i) dated_texts.now.entries))
         → IfOk result (λ messages. AreMessages c name messages.items) }
 {
     let list = folder.origins(alloc)?;
     let origins = ids_in_order(alloc, &list)?;
-    let messages = messages_of(alloc, folder, letters, origins.as_slice())?;
+    let messages = messages_of(alloc, folder, dated_texts, origins.as_slice())?;
     Ok(messages)
 }
 
@@ -58,15 +60,15 @@ fn messages_in(
 fn messages_of(
     alloc: Global,
     folder: &Folder,
-    letters: &IndexMap<OpId, DatedText>,
+    dated_texts: &IndexMap<OpId, DatedText>,
     origins: &[OpId],
 ) -> Result<Vec<Message>, AllocError>
     ensures { IfOk result (λ messages. messages.items
-        ≡ map (kept_message folder.now.messages letters.now.entries) origins.now) }
+        ≡ map (stored_message folder.now.messages dated_texts.now.entries) origins.now) }
 {
     let mut messages = Vec::with_capacity(alloc, origins.len())?;
     for origin in origins {
-        messages.push(message(alloc, folder, letters, origin)?)?;
+        messages.push(message(alloc, folder, dated_texts, origin)?)?;
     }
     Ok(messages)
 }
@@ -76,16 +78,17 @@ fn messages_of(
 fn message(
     alloc: Global,
     folder: &Folder,
-    letters: &IndexMap<OpId, DatedText>,
+    dated_texts: &IndexMap<OpId, DatedText>,
     origin: &OpId,
 ) -> Result<Message, AllocError>
     ensures { IfOk result
-        (λ message. message ≡ kept_message folder.now.messages letters.now.entries origin.now) }
+        (λ message. message
+        ≡ stored_message folder.now.messages dated_texts.now.entries origin.now) }
 {
     let list = folder.versions_at(origin);
     let versions = ids_of(alloc, list)?;
     let flags = Versions::new(list).flags(alloc)?;
-    let (date, text) = copy_dated_text(alloc, letters, origin)?;
+    let (date, text) = copy_dated_text(alloc, dated_texts, origin)?;
     Ok(Message {
         origin: *origin,
         versions,
@@ -99,18 +102,20 @@ fn message(
 /// `Err` if memory runs out.
 fn copy_dated_text(
     alloc: Global,
-    letters: &IndexMap<OpId, DatedText>,
+    dated_texts: &IndexMap<OpId, DatedText>,
     id: &OpId,
 ) -> Result<(DateTime, Text), AllocError>
     ensures date { IfOk result (λ copied. copied.0
-        ≡ (unwrap_or (option_map kept_dated_text (lookup (same_id id.now) letters.now.entries))
+        ≡ (unwrap_or
+        (option_map stored_dated_text (lookup (same_id id.now) dated_texts.now.entries))
         no_dated_text).date) }
     ensures text { IfOk result (λ copied. copied.1
-        ≡ (unwrap_or (option_map kept_dated_text (lookup (same_id id.now) letters.now.entries))
+        ≡ (unwrap_or
+        (option_map stored_dated_text (lookup (same_id id.now) dated_texts.now.entries))
         no_dated_text).text) }
 {
-    match letters.get(id) {
-        Some(letter) => Ok((letter.date.copy(), letter.text.copy()?)),
+    match dated_texts.get(id) {
+        Some(dated) => Ok((dated.date.copy(), dated.text.copy()?)),
         None => Ok((DateTime::epoch(), Text::new(Vec::new(alloc))?)),
     }
 }

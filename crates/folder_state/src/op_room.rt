@@ -198,9 +198,9 @@ impl Folder {
         ensures same { (self.new.tags ≡ self.old.tags)
             × (self.new.messages ≡ self.old.messages)
             × (self.new.origins ≡ self.old.origins) }
-        ensures grown { (self.old.tag_room ≤ self.new.tag_room)
-            × (self.old.message_room ≤ self.new.message_room)
-            × (self.old.origin_room ≤ self.new.origin_room) }
+        ensures grown { (self.old.spare_tags ≤ self.new.spare_tags)
+            × (self.old.spare_messages ≤ self.new.spare_messages)
+            × (self.old.spare_origins ≤ self.new.spare_origins) }
         ensures ok { OnOk result (HasPlaces self.new origin.now tags) }
     {
         self.tags.reserve(tags)?;
@@ -215,11 +215,11 @@ impl Folder {
         ensures same { (self.new.tags ≡ self.old.tags)
             × (self.new.messages ≡ self.old.messages)
             × (self.new.origins ≡ self.old.origins) }
-        ensures grown { (self.old.message_room ≤ self.new.message_room)
-            × (self.old.origin_room ≤ self.new.origin_room) }
-        ensures tag_room { self.new.tag_room ≡ self.old.tag_room }
+        ensures grown { (self.old.spare_messages ≤ self.new.spare_messages)
+            × (self.old.spare_origins ≤ self.new.spare_origins) }
+        ensures spare_tags { self.new.spare_tags ≡ self.old.spare_tags }
         ensures ok { OnOk result
-            ((count ≤ self.new.message_room) × (count ≤ self.new.origin_room)) }
+            ((count ≤ self.new.spare_messages) × (count ≤ self.new.spare_origins)) }
     {
         self.messages.reserve(count)?;
         self.origins.reserve(count)

@@ -11,12 +11,12 @@ ghost use Rattle.crdt_ops.specs.SortedSets.{same_id};
 ghost use Rattle.crdt_ops.specs.Tags.{FolderTag, MessageTag, adds, removes};
 ghost use Rattle.crdt_ops.specs.Sets.{tag_data_by, dated_text_from};
 ghost use Rattle.folder_state.specs.Keys.{is_among, is_at};
-ghost use Rattle.folder_state.specs.FolderTables.{FolderTables, body_in_folder, find_folder};
+ghost use Rattle.folder_state.specs.FolderTables.{FolderTables, tag_data_in, find_folder};
 ghost use Rattle.folder_state.specs.FolderTables.{has_tag_in};
 ghost use Rattle.folder_state.specs.OpRoom.{AreNoFuller, HasPlaces, HasRoomFor, HasVersionRoom};
-ghost use Rattle.folder_state.specs.OpRoom.{LeavesRoom, LeavesRoomBehind, origin_by};
+ghost use Rattle.folder_state.specs.OpRoom.{LeavesRoom, LeavesRoomAfter, origin_by};
 ghost use Rattle.folder_state.specs.OpRoom.{versions_added, counts_of};
-ghost use Rattle.folder_state.specs.LentMessages.{kept_dated_text};
+ghost use Rattle.folder_state.specs.MessageRefs.{stored_dated_text};
 
 use crate::folder::Folder;
 use crdt_ops::{Kind, Op};
@@ -25,22 +25,26 @@ use indexmap::IndexMap;
 use mailbox_rows::DatedText;
 use tags_clocks::OpId;
 
-/// Takes out the tags that the operation removes.
+/// Removes the tags that the operation removes.
 pub fn remove_tags_of(by_name: &mut IndexMap<Vec<u8>, Folder>, op: &Op)
     ensures tags { (f : List ℕ) (i : OpId)
         → has_tag_in (find_folder f by_name.new.entries) i
         ≡ (not (removes (FolderTag f i) op.now)
         && has_tag_in (find_folder f by_name.old.entries) i) }
-    ensures bodies { (f : List ℕ) (i : OpId)
-        → body_in_folder (find_folder f by_name.new.entries) i
+    ensures tag_data { (f : List ℕ) (i : OpId)
+        → tag_data_in (find_folder f by_name.new.entries) i
         ≡ (if removes (MessageTag f i) op.now then None
-        else body_in_folder (find_folder f by_name.old.entries) i) }
+        else tag_data_in (find_folder f by_name.old.entries) i) }
     ensures room { AreNoFuller by_name.old.entries by_name.new.entries }
 {
     match &op.kind {
         Kind::Delete { folder, seen } => forget_both(by_name, folder, seen.as_slice()),
-        Kind::Expunge { folder, olds } => forget_messages(by_name, folder, olds.as_slice()),
-        Kind::Store { folder, olds, .. } => forget_messages(by_name, folder, olds.as_slice()),
+        Kind::Expunge { folder, old_ids } => forget_messages(by_name, folder, old_ids.as_slice()),
+        Kind::Store {
+            folder,
+            old_ids,
+            ..
+        } => forget_messages(by_name, folder, old_ids.as_slice()),
         Kind::Create { .. } => {}
         Kind::Append { .. } => {}
         Kind::Subscribe { .. } => {}
@@ -48,16 +52,16 @@ pub fn remove_tags_of(by_name: &mut IndexMap<Vec<u8>, Folder>, op: &Op)
     }
 }
 
-/// Takes out the folder's tags of both kinds with these ids.
+/// Removes the folder's tags of both kinds with these ids.
 fn forget_both(by_name: &mut IndexMap<Vec<u8>, Folder>, name: &Name, ids: &[OpId])
     ensures tags { (f : List ℕ) (i : OpId)
         → has_tag_in (find_folder f by_name.new.entries) i
         ≡ (not (is_among f i name.now ids.now)
         && has_tag_in (find_folder f by_name.old.entries) i) }
-    ensures bodies { (f : List ℕ) (i : OpId)
-        → body_in_folder (find_folder f by_name.new.entries) i
+    ensures tag_data { (f : List ℕ) (i : OpId)
+        → tag_data_in (find_folder f by_name.new.entries) i
         ≡ (if is_among f i name.now ids.now then None
-        else body_in_folder (find_folder f by_name.old.entries) i) }
+        else tag_data_in (find_folder f by_name.old.entries) i) }
     ensures room { AreNoFuller by_name.old.entries by_name.new.entries }
 {
     match by_name.get_mut(name.as_bytes()) {
@@ -66,15 +70,15 @@ fn forget_both(by_name: &mut IndexMap<Vec<u8>, Folder>, name: &Name, ids: &[OpId
     }
 }
 
-/// Takes out the folder's message tags with these ids.
+/// Removes the folder's message tags with these ids.
 fn forget_messages(by_name: &mut IndexMap<Vec<u8>, Folder>, name: &Name, ids: &[OpId])
     ensures tags { (f : List ℕ) (i : OpId)
         → has_tag_in (find_folder f by_name.new.entries) i
         ≡ has_tag_in (find_folder f by_name.old.entries) i }
-    ensures bodies { (f : List ℕ) (i : OpId)
-        → body_in_folder (find_folder f by_name.new.entries) i
+    ensures tag_data { (f : List ℕ) (i : OpId)
+        → tag_data_in (find_folder f by_name.new.entries) i
         ≡ (if is_among f i name.now ids.now then None
-        else body_in_folder (find_folder f by_name.old.entries) i) }
+        else tag_data_in (find_folder f by_name.old.entries) i) }
     ensures room { AreNoFuller by_name.old.entries by_name.new.entries }
 {
     match by_name.get_mut(name.as_bytes()) {
@@ -83,31 +87,31 @@ fn forget_messages(by_name: &mut IndexMap<Vec<u8>, Folder>, name: &Name, ids: &[
     }
 }
 
-/// Puts in the tag that the operation adds, and an Append's date and text; there is room for them.
+/// Inserts the tag that the operation adds, and an Append's date and text; there is room for them.
 /// If the version's message doesn't exist yet, it begins in `list`, which is empty.
 pub fn add_tag_of(
     by_name: &mut IndexMap<Vec<u8>, Folder>,
-    letters: &mut IndexMap<OpId, DatedText>,
+    dated_texts: &mut IndexMap<OpId, DatedText>,
     op: Op,
     list: Vec<Version>,
 )
     requires room { HasRoomFor (op ∷ []) op (λ name. find_folder name by_name.old.entries) }
-    requires letters { 0 < spare letters.old }
+    requires dated_texts { 0 < spare dated_texts.old }
     requires list { (list.items ≡ [])
         × (counts_of (versions_added (op ∷ [])) (origin_by op.id op.kind) ≤ vec_capacity list) }
     ensures tags { (f : List ℕ) (i : OpId)
         → has_tag_in (find_folder f by_name.new.entries) i
         ≡ (adds (FolderTag f i) op || has_tag_in (find_folder f by_name.old.entries) i) }
-    ensures bodies { (f : List ℕ) (i : OpId)
-        → body_in_folder (find_folder f by_name.new.entries) i
+    ensures tag_data { (f : List ℕ) (i : OpId)
+        → tag_data_in (find_folder f by_name.new.entries) i
         ≡ (if adds (MessageTag f i) op then tag_data_by op.id op.kind
-        else body_in_folder (find_folder f by_name.old.entries) i) }
-    ensures letters { (i : OpId)
-        → option_map kept_dated_text (lookup (same_id i) letters.new.entries)
+        else tag_data_in (find_folder f by_name.old.entries) i) }
+    ensures dated_texts { (i : OpId)
+        → option_map stored_dated_text (lookup (same_id i) dated_texts.new.entries)
         ≡ option_or (dated_text_from i op)
-        (option_map kept_dated_text (lookup (same_id i) letters.old.entries)) }
-    ensures letters_room { spare letters.old ≤ spare letters.new + 1 }
-    ensures room { LeavesRoomBehind op (vec_capacity list)
+        (option_map stored_dated_text (lookup (same_id i) dated_texts.old.entries)) }
+    ensures dated_texts_room { spare dated_texts.old ≤ spare dated_texts.new + 1 }
+    ensures room { LeavesRoomAfter op (vec_capacity list)
         (λ name. find_folder name by_name.old.entries)
         (λ name. find_folder name by_name.new.entries) }
 {
@@ -122,7 +126,7 @@ pub fn add_tag_of(
             text,
         } => {
             put_first(by_name, &folder, &id, flags, list);
-            put_dated_text(letters, &id, DatedText { date, text });
+            put_dated_text(dated_texts, &id, DatedText { date, text });
         }
         Kind::Store {
             folder,
@@ -136,7 +140,7 @@ pub fn add_tag_of(
     }
 }
 
-/// Puts in a folder tag, for which there is room.
+/// Inserts a folder tag, for which there is room.
 fn put_tag(by_name: &mut IndexMap<Vec<u8>, Folder>, name: &Name, id: &OpId)
     requires { (folder : FolderTables)
         × (find_folder name.now by_name.old.entries ≡ Some folder)
@@ -144,9 +148,9 @@ fn put_tag(by_name: &mut IndexMap<Vec<u8>, Folder>, name: &Name, id: &OpId)
     ensures tags { (f : List ℕ) (i : OpId)
         → has_tag_in (find_folder f by_name.new.entries) i
         ≡ (is_at f i name.now id.now || has_tag_in (find_folder f by_name.old.entries) i) }
-    ensures bodies { (f : List ℕ) (i : OpId)
-        → body_in_folder (find_folder f by_name.new.entries) i
-        ≡ body_in_folder (find_folder f by_name.old.entries) i }
+    ensures tag_data { (f : List ℕ) (i : OpId)
+        → tag_data_in (find_folder f by_name.new.entries) i
+        ≡ tag_data_in (find_folder f by_name.old.entries) i }
     ensures room { LeavesRoom name.now None 0 (λ n. find_folder n by_name.old.entries)
         (λ n. find_folder n by_name.new.entries) }
 {
@@ -156,7 +160,7 @@ fn put_tag(by_name: &mut IndexMap<Vec<u8>, Folder>, name: &Name, id: &OpId)
     }
 }
 
-/// Puts in a message tag, for which there is room, in place of one with its folder and id.
+/// Inserts a message tag, for which there is room, in place of one with its folder and id.
 fn put_message(
     by_name: &mut IndexMap<Vec<u8>, Folder>,
     name: &Name,
@@ -172,11 +176,11 @@ fn put_message(
     ensures tags { (f : List ℕ) (i : OpId)
         → has_tag_in (find_folder f by_name.new.entries) i
         ≡ has_tag_in (find_folder f by_name.old.entries) i }
-    ensures bodies { (f : List ℕ) (i : OpId)
-        → body_in_folder (find_folder f by_name.new.entries) i
+    ensures tag_data { (f : List ℕ) (i : OpId)
+        → tag_data_in (find_folder f by_name.new.entries) i
         ≡ (if is_at f i name.now version.id
         then Some (record { flags = version.flags; origin = origin.now })
-        else body_in_folder (find_folder f by_name.old.entries) i) }
+        else tag_data_in (find_folder f by_name.old.entries) i) }
     ensures room { LeavesRoom name.now (Some origin.now) (vec_capacity list)
         (λ n. find_folder n by_name.old.entries) (λ n. find_folder n by_name.new.entries) }
 {
@@ -186,7 +190,7 @@ fn put_message(
     }
 }
 
-/// Puts in the message tag of an Append, which is its own origin.
+/// Inserts the message tag of an Append, which is its own origin.
 fn put_first(
     by_name: &mut IndexMap<Vec<u8>, Folder>,
     name: &Name,
@@ -202,26 +206,26 @@ fn put_first(
     ensures tags { (f : List ℕ) (i : OpId)
         → has_tag_in (find_folder f by_name.new.entries) i
         ≡ has_tag_in (find_folder f by_name.old.entries) i }
-    ensures bodies { (f : List ℕ) (i : OpId)
-        → body_in_folder (find_folder f by_name.new.entries) i
+    ensures tag_data { (f : List ℕ) (i : OpId)
+        → tag_data_in (find_folder f by_name.new.entries) i
         ≡ (if is_at f i name.now id.now then Some (record { flags = flags; origin = id.now })
-        else body_in_folder (find_folder f by_name.old.entries) i) }
+        else tag_data_in (find_folder f by_name.old.entries) i) }
     ensures room { LeavesRoom name.now (Some id.now) (vec_capacity list)
         (λ n. find_folder n by_name.old.entries) (λ n. find_folder n by_name.new.entries) }
 {
     put_message(by_name, name, id, Version { id: *id, flags }, list);
 }
 
-/// Puts in a date and text, for which there is room, in place of those with its id.
-fn put_dated_text(letters: &mut IndexMap<OpId, DatedText>, id: &OpId, letter: DatedText)
-    requires { 0 < spare letters.old }
-    ensures found { (i : OpId)
-        → option_map kept_dated_text (lookup (same_id i) letters.new.entries)
-        ≡ (if same_id i id.now then Some (record { date = letter.date; text = letter.text })
-        else option_map kept_dated_text (lookup (same_id i) letters.old.entries)) }
-    ensures room { spare letters.old ≤ spare letters.new + 1 }
+/// Inserts a date and text, for which there is room, in place of those with its id.
+fn put_dated_text(dated_texts: &mut IndexMap<OpId, DatedText>, id: &OpId, dated: DatedText)
+    requires { 0 < spare dated_texts.old }
+    ensures updated { (i : OpId)
+        → option_map stored_dated_text (lookup (same_id i) dated_texts.new.entries)
+        ≡ (if same_id i id.now then Some (record { date = dated.date; text = dated.text })
+        else option_map stored_dated_text (lookup (same_id i) dated_texts.old.entries)) }
+    ensures room { spare dated_texts.old ≤ spare dated_texts.new + 1 }
 {
-    if letters.insert(*id, letter).is_err() {
+    if dated_texts.insert(*id, dated).is_err() {
         unreachable!();
     }
 }

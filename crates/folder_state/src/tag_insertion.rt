@@ -18,7 +18,7 @@ use indexmap::IndexMap;
 use tags_clocks::OpId;
 
 impl Folder {
-    /// Puts in a folder tag, for which there is room. Cost: a look-up.
+    /// Inserts a folder tag, for which there is room. Cost: a look-up.
     pub(crate) fn put_tag(&mut self, id: &OpId)
         requires { HasPlaces self.old None 1 }
         ensures tags { (i : OpId)
@@ -35,18 +35,18 @@ impl Folder {
         }
     }
 
-    /// Puts in a message tag, for which there is room, in place of one with its id. If its message
+    /// Inserts a message tag, for which there is room, in place of one with its id. If its message
     /// doesn't exist yet, it begins in `list`, which is empty. Cost: some look-ups, and a pass over
     /// the versions of the message.
     pub(crate) fn put_message(&mut self, origin: &OpId, version: Version, list: Vec<Version>)
         requires places { HasPlaces self.old (Some origin.now) 1 }
         requires versions { HasVersionRoom self.old.messages origin.now 1 }
         requires list { (list.items ≡ []) × (1 ≤ vec_capacity list) }
-        ensures bodies { (i : OpId)
-            → (folder_contents self.new).bodies i
+        ensures tag_data { (i : OpId)
+            → (folder_contents self.new).tag_data i
             ≡ (if same_id i version.id
             then Some (record { flags = version.flags; origin = origin.now })
-            else (folder_contents self.old).bodies i) }
+            else (folder_contents self.old).tag_data i) }
         ensures tags { self.new.tags ≡ self.old.tags }
         ensures room { (o : Option OpId) (n : ℕ)
             → HasPlaces self.old o (n + 1)
@@ -57,20 +57,20 @@ impl Folder {
             → HasVersionRoom self.new.messages o n }
     {
         self.remove_message(&version.id);
-        self.put_version(origin, version, list);
+        self.insert_version(origin, version, list);
     }
 
-    /// Puts in a message tag, for which there is room; no other has its id.
-    fn put_version(&mut self, origin: &OpId, version: Version, list: Vec<Version>)
+    /// Inserts a message tag, for which there is room; no other has its id.
+    fn insert_version(&mut self, origin: &OpId, version: Version, list: Vec<Version>)
         requires apart { lookup (same_id version.id) self.old.origins ≡ None }
         requires places { HasPlaces self.old (Some origin.now) 1 }
         requires versions { HasVersionRoom self.old.messages origin.now 1 }
         requires list { (list.items ≡ []) × (1 ≤ vec_capacity list) }
-        ensures bodies { (i : OpId)
-            → (folder_contents self.new).bodies i
+        ensures tag_data { (i : OpId)
+            → (folder_contents self.new).tag_data i
             ≡ (if same_id i version.id
             then Some (record { flags = version.flags; origin = origin.now })
-            else (folder_contents self.old).bodies i) }
+            else (folder_contents self.old).tag_data i) }
         ensures tags { self.new.tags ≡ self.old.tags }
         ensures room { (o : Option OpId) (n : ℕ)
             → HasPlaces self.old o (n + 1)
@@ -88,7 +88,7 @@ impl Folder {
 /// Sets the origin of this id in the index, for which there is room.
 fn index_origin(origins: &mut IndexMap<OpId, OpId>, id: &OpId, origin: &OpId)
     requires { 0 < spare origins.old }
-    ensures told { (i : OpId)
+    ensures updated { (i : OpId)
         → lookup (same_id i) origins.new.entries
         ≡ (if same_id i id.now then Some origin.now else lookup (same_id i) origins.old.entries) }
     ensures room { spare origins.old ≤ spare origins.new + 1 }
@@ -121,7 +121,7 @@ fn put_in(
     }
 }
 
-/// Puts in a new message with this version.
+/// Inserts a new message with this version.
 fn put_first(
     messages: &mut IndexMap<OpId, Vec<Version>>,
     origin: &OpId,

@@ -21,7 +21,7 @@ use indexmap::{IndexMap, IndexSet};
 use tags_clocks::OpId;
 
 impl Folder {
-    /// Takes out the folder tags with these ids. Cost: a look-up for each id.
+    /// Removes the folder tags with these ids. Cost: a look-up for each id.
     pub(crate) fn remove_tags(&mut self, ids: &[OpId])
         ensures tags { (i : OpId)
             → (folder_contents self.new).tags i
@@ -33,27 +33,27 @@ impl Folder {
         forget_keys(&mut self.tags, ids);
     }
 
-    /// Takes out the tags of both kinds with these ids. Cost: some look-ups for each id.
+    /// Removes the tags of both kinds with these ids. Cost: some look-ups for each id.
     pub(crate) fn remove_ids(&mut self, ids: &[OpId])
         ensures tags { (i : OpId)
             → (folder_contents self.new).tags i
             ≡ (not (list_any (same_id i) ids.now) && (folder_contents self.old).tags i) }
-        ensures bodies { (i : OpId)
-            → (folder_contents self.new).bodies i
+        ensures tag_data { (i : OpId)
+            → (folder_contents self.new).tag_data i
             ≡ (if list_any (same_id i) ids.now then None
-            else (folder_contents self.old).bodies i) }
+            else (folder_contents self.old).tag_data i) }
         ensures room { IsNoFuller self.old self.new }
     {
         self.remove_tags(ids);
         self.remove_messages(ids);
     }
 
-    /// Takes out the message tags with these ids. Cost: some look-ups for each id.
+    /// Removes the message tags with these ids. Cost: some look-ups for each id.
     pub(crate) fn remove_messages(&mut self, ids: &[OpId])
-        ensures bodies { (i : OpId)
-            → (folder_contents self.new).bodies i
+        ensures tag_data { (i : OpId)
+            → (folder_contents self.new).tag_data i
             ≡ (if list_any (same_id i) ids.now then None
-            else (folder_contents self.old).bodies i) }
+            else (folder_contents self.old).tag_data i) }
         ensures tags { self.new.tags ≡ self.old.tags }
         ensures room { IsNoFuller self.old self.new }
     {
@@ -62,13 +62,13 @@ impl Folder {
         }
     }
 
-    /// Takes out the message tag with this id. Cost: some look-ups, and a pass over the versions of
+    /// Removes the message tag with this id. Cost: some look-ups, and a pass over the versions of
     /// its message.
     pub(crate) fn remove_message(&mut self, id: &OpId)
-        ensures bodies { (i : OpId)
-            → (folder_contents self.new).bodies i
-            ≡ (if same_id i id.now then None else (folder_contents self.old).bodies i) }
-        ensures gone { lookup (same_id id.now) self.new.origins ≡ None }
+        ensures tag_data { (i : OpId)
+            → (folder_contents self.new).tag_data i
+            ≡ (if same_id i id.now then None else (folder_contents self.old).tag_data i) }
+        ensures removed { lookup (same_id id.now) self.new.origins ≡ None }
         ensures tags { self.new.tags ≡ self.old.tags }
         ensures room { IsNoFuller self.old self.new }
     {
@@ -97,21 +97,21 @@ fn take_out(messages: &mut IndexMap<OpId, Vec<Version>>, origin: &OpId, id: &OpI
     ensures taken { IsTakenOut origin.now id.now messages.old.entries messages.new.entries }
     ensures room { spare messages.old ≤ spare messages.new }
 {
-    if take_version(messages, origin, id) {
+    if remove_version(messages, origin, id) {
         messages.swap_remove(origin);
     }
 }
 
 /// Takes the version with this id out of the message of this origin, and returns whether it has
 /// none left.
-fn take_version(messages: &mut IndexMap<OpId, Vec<Version>>, origin: &OpId, id: &OpId) -> bool
+fn remove_version(messages: &mut IndexMap<OpId, Vec<Version>>, origin: &OpId, id: &OpId) -> bool
     ensures none { result ≡ true → versions_at messages.new.entries origin.now ≡ [] }
     ensures some { result ≡ false → (vs : Places Version)
         → lookup (same_id origin.now) messages.new.entries ≡ Some vs
         → 0 < length vs.items }
     ensures here { versions_at messages.new.entries origin.now
         ≡ without id.now (versions_at messages.old.entries origin.now) }
-    ensures beside { (o : OpId)
+    ensures others { (o : OpId)
         → same_id o origin.now ≡ false
         → lookup (same_id o) messages.new.entries ≡ lookup (same_id o) messages.old.entries }
     ensures places { (vs : Places Version)
@@ -128,7 +128,7 @@ fn take_version(messages: &mut IndexMap<OpId, Vec<Version>>, origin: &OpId, id: 
     }
 }
 
-/// Takes out the version with this id, and returns whether none is left.
+/// Removes the version with this id, and returns whether none is left.
 fn forget_version(versions: &mut Vec<Version>, id: &OpId) -> bool
     ensures items { versions.new.items ≡ without id.now versions.old.items }
     ensures capacity { vec_capacity versions.new ≡ vec_capacity versions.old }

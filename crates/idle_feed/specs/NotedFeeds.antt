@@ -4,7 +4,7 @@
 use Rattle.std.specs.Prelude.{◌≡◌, ◌⊎◌, Bool, true, List, []}
 use Rattle.mailbox_rows.specs.ListedMessage.{ListedMessage}
 use Rattle.idle_feed.specs.declared.view_change.ViewChange.{ViewChange}
-use Rattle.idle_feed.specs.declared.view_change.ViewChange.TheVariants.{InPlace, Anew}
+use Rattle.idle_feed.specs.declared.view_change.ViewChange.TheVariants.{InPlace, Rebuilt}
 use Rattle.idle_feed.specs.Feeds.{Pending}
 use Rattle.idle_feed.specs.declared.feed.TakenNotes.{TakenNotes}
 use Rattle.idle_feed.specs.declared.feed.TakenNotes.TheVariants.{Changes, Resync}
@@ -31,22 +31,23 @@ IsLeftBy left whole rows entries = whole ≡ true → NoteAllChanges left rows e
 -- The view's messages after a change.
 abbrev pub entries_after_change : List ViewEntry → ViewChange → List ViewEntry
 entries_after_change view (InPlace first patch left whole) =
-    patched_entries (after_silent view first.items) patch.gone.items patch.came.items
+    patched_entries (after_silent view first.items) patch.gone.items patch.arrivals.items
     patch.flags.items
-entries_after_change view (Anew entries left whole) = entries.items
+entries_after_change view (Rebuilt entries left whole) = entries.items
 
 -- The notes that the change leaves, if they are all, name every row that differs then between the
 -- view and the listing.
 abbrev pub IsChangeTo : List ListedMessage → List ViewEntry → ViewChange → Type 0
 IsChangeTo rows view (InPlace first patch left whole) =
     IsLeftBy left.items whole rows (patched_entries (after_silent view first.items) patch.gone.items
-    patch.came.items patch.flags.items)
-IsChangeTo rows view (Anew entries left whole) = IsLeftBy left.items whole rows entries.items
+    patch.arrivals.items patch.flags.items)
+IsChangeTo rows view (Rebuilt entries left whole) = IsLeftBy left.items whole rows entries.items
 
 -- The change can be made without further memory, and the UIDs ascend after it.
 abbrev pub CanCommit : List ViewEntry → ViewChange → Type 0
 CanCommit view (InPlace first patch left whole) =
     HasRoomForArrivals (after_silent view first.items) patch
-    × AreRising 1 (patched_entries (after_silent view first.items) patch.gone.items patch.came.items
+    × AreRising 1
+    (patched_entries (after_silent view first.items) patch.gone.items patch.arrivals.items
     patch.flags.items)
-CanCommit view (Anew entries left whole) = AreRising 1 entries.items
+CanCommit view (Rebuilt entries left whole) = AreRising 1 entries.items

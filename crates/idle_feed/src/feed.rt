@@ -4,7 +4,7 @@ ghost use Rattle.std.specs.Prelude.{◌≡◌, ◌⊎◌, ◌≤◌, ◌+◌, �
 ghost use Rattle.std.specs.Prelude.{min, OnOk};
 ghost use Rattle.std.specs.Option.{option_copied};
 ghost use Rattle.idle_feed.specs.Feeds.{pending_after, input_of_restore, pending_notes, no_pending};
-ghost use Rattle.idle_feed.specs.Feeds.{one, missed_pending, taken_from};
+ghost use Rattle.idle_feed.specs.Feeds.{input_of_note, missed_pending, taken_from};
 
 use session_view::{Changes, Note};
 use std::alloc::{AllocError, Global};
@@ -84,7 +84,7 @@ impl Feed {
     /// 4,097th.
     pub fn note(&mut self, note: Note)
         ensures pending { self.new.pending
-            ≡ pending_after self.old.pending (one note (nat_lt 0 self.old.room)) }
+            ≡ pending_after self.old.pending (input_of_note note (nat_lt 0 self.old.room)) }
         ensures room { self.old.room ≤ self.new.room + 1 }
     {
         if self.missed {
@@ -134,11 +134,11 @@ impl Feed {
     fn push_front(&mut self, notes: Vec<Note>)
         ensures back { self.old.pending.notes ≡ []
             → self.new.pending
-            ≡ pending_after self.old.pending (record { notes = notes.items; found = true }) }
+            ≡ pending_after self.old.pending (record { notes = notes.items; has_memory = true }) }
         ensures anyhow { (self.new.pending
-            ≡ pending_after self.old.pending (record { notes = notes.items; found = true }))
+            ≡ pending_after self.old.pending (record { notes = notes.items; has_memory = true }))
             ⊎ (self.new.pending
-            ≡ pending_after self.old.pending (record { notes = notes.items; found = false })) }
+            ≡ pending_after self.old.pending (record { notes = notes.items; has_memory = false })) }
     {
         if self.missed {
             return;
@@ -168,7 +168,7 @@ impl Feed {
         if self.missed { None } else { Some(&self.notes) }
     }
 
-    /// Drops all notes and keeps their room. Takes no memory.
+    /// Drops all notes but not their room. Takes no memory.
     pub fn clear(&mut self)
         ensures pending { self.new.pending ≡ no_pending }
         ensures room { self.new.room ≡ self.old.room + length self.old.pending.notes }

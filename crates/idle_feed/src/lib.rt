@@ -19,6 +19,6 @@ mod view_change;
 
 pub use feed::{Feed, MAX_NOTES, TakenNotes};
 pub use feed_notes::note_all;
-pub use laws::takes_tell_all;
+pub use laws::takes_return_all;
 pub use sync_planning::{NotedChanges, PlannedSync, plan};
 pub use view_change::{ViewChange, commit};

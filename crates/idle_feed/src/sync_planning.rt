@@ -18,7 +18,7 @@ use imap_answers::Answer;
 use mailbox_rows::Rows;
 use session_view::{
     Note, SilentFlags, SyncForm, SyncKind, SyncOutcome, SyncPlan, SyncPlanAfterFlags, View,
-    counts_tell, notes_keep_up, replay_reply, sync_by_comparison,
+    equal_counts_suffice, notes_keep_up, replay_reply, sync_by_comparison,
 };
 use std::alloc::{AllocError, Global};
 
@@ -40,7 +40,7 @@ pub struct NotedChanges<'a> {
     pub notes: &'a [Note],
 }
 
-/// Plans a sync before which `first` are set: flags that the session set itself or that were
+/// Plans a sync that first sets `first`: flags that the session set itself or that were
 /// reported to it. `noted` names every row that differs between the view and the listing. View and
 /// feed stay unchanged, so a refused input has nothing to put back. `Err` if memory runs out.
 /// Cost: the number of notes. One pass over the view and the listing if the feed missed some, if
@@ -66,18 +66,18 @@ pub fn plan(
     ensures can { IfOk result (λ plan. CanCommit view.old.entries plan.change) }
 {
     let NotedChanges { feed, notes } = noted;
-    let Some(kept) = feed.notes() else {
+    let Some(feed_notes) = feed.notes() else {
         return plan_by_comparison(alloc, view, rows, first, form);
     };
-    let count = kept.len().saturating_add(notes.len());
-    if have_end(kept) || have_end(notes) || are_many(count, view.entries().len()) {
+    let count = feed_notes.len().saturating_add(notes.len());
+    if have_end(feed_notes) || have_end(notes) || are_many(count, view.entries().len()) {
         return plan_by_comparison(alloc, view, rows, first, form);
     }
-    let all = join_notes(alloc, kept, notes)?;
+    let all = join_notes(alloc, feed_notes, notes)?;
     plan_in_place(alloc, view, rows, all, first, form)
 }
 
-/// Whether this many notes of this many messages are too many to look each up.
+/// Whether `notes` notes are too many to look up each in a view of `messages` messages.
 fn are_many(notes: usize, messages: usize) -> bool
     ensures { result ≡ nat_lt (64 + messages / 16) notes }
 {
@@ -177,7 +177,7 @@ fn plan_in_place(
     ensures change { IfOk result (λ plan. IsChangeTo rows.now view.old.entries plan.change) }
     ensures can { IfOk result (λ plan. CanCommit view.old.entries plan.change) }
 {
-    let SyncPlanAfterFlags { first, told } = view.plan_sync_after_flags(
+    let SyncPlanAfterFlags { first, planned } = view.plan_sync_after_flags(
         alloc, rows, notes, first, form,
     )?;
     let SyncPlan {
@@ -185,7 +185,7 @@ fn plan_in_place(
         patch,
         left,
         whole,
-    } = told;
+    } = planned;
     Ok(PlannedSync {
         answers,
         change: ViewChange::InPlace {
@@ -212,20 +212,20 @@ fn plan_rebuilt_view(
     ensures change { IfOk result (λ plan. IsChangeTo rows.now view.now.entries plan.change) }
     ensures can { IfOk result (λ plan. CanCommit view.now.entries plan.change) }
 {
-    counts_tell();
+    equal_counts_suffice();
     let listed = rows.count();
-    let seen = replay_reply(alloc, rows, view.entries(), &first, &[])?;
+    let replayed = replay_reply(alloc, rows, view.entries(), &first, &[])?;
     let SyncOutcome { entries, answers } = sync_by_comparison(
         alloc,
         form.kind,
         form.modseq,
         rows,
-        &seen,
+        &replayed,
     )?;
     let whole = is_all(form.kind, entries.len(), listed);
     Ok(PlannedSync {
         answers,
-        change: ViewChange::Anew {
+        change: ViewChange::Rebuilt {
             entries,
             left: Vec::new(alloc),
             whole,
@@ -233,7 +233,7 @@ fn plan_rebuilt_view(
     })
 }
 
-/// Whether the sync is full and leaves as many messages as are listed.
+/// Whether the sync is full and leaves `listed` messages.
 fn is_all(kind: SyncKind, count: usize, listed: u32) -> bool
     ensures full { result ≡ true → kind ≡ Full }
     ensures count { result ≡ true → count ≡ listed }

@@ -23,7 +23,7 @@ pub enum ViewChange {
     },
     /// The view shows these messages. The notes `left` stay in the feed if `whole` says that they
     /// name all that differs then.
-    Anew {
+    Rebuilt {
         entries: ViewEntries,
         left: Vec<Note>,
         whole: bool,
@@ -66,7 +66,7 @@ fn change_view(view: &mut View, change: ViewChange) -> TakenNotes
             view.patch(patch);
             notes_if_all(left, whole)
         }
-        ViewChange::Anew {
+        ViewChange::Rebuilt {
             entries,
             left,
             whole,

@@ -1,4 +1,4 @@
 pub mod Printable
-pub mod Printed
+pub mod AnswerText
 pub mod Strings
 pub mod Words

@@ -28,9 +28,9 @@ Each P [] = Unit {0}
 Each P (x ∷ xs) = P x × Each P xs
 
 -- A property holds for the value of an option, if it has one.
-abbrev pub Where : {X : Type 0} → (X → Type 0) → Option X → Type 0
-Where P None = Unit {0}
-Where P (Some x) = P x
+abbrev pub IfPresent : {X : Type 0} → (X → Type 0) → Option X → Type 0
+IfPresent P None = Unit {0}
+IfPresent P (Some x) = P x
 
 -- A number of 32 bits, such as a message number or UID (RFC 9051, section 9, number).
 abbrev pub IsSmall : ℕ → Type 0
@@ -87,28 +87,28 @@ IsSection (section.FieldsNot names) = AreFieldNames names
 -- A section with its octets, and the offset of a partial range (RFC 9051, section 7.5.2).
 pub record IsPart (part : SectionData) : Type 0 where
   pub section : IsSection part.section
-  pub origin : Where IsSmall part.origin
+  pub origin : IfPresent IsSmall part.origin
   pub octets : IsWide (length part.octets)
 
 -- Whether there is at least one item of a message.
-abbrev pub tells_of_message : FetchItems → Bool
-tells_of_message items =
+abbrev pub has_message_item : FetchItems → Bool
+has_message_item items =
     is_some items.uid || is_some items.flags || is_some items.date || is_some items.size
     || is_some items.modseq || not (length items.sections == 0)
 
 -- The items of FETCH: at least one (RFC 9051, section 9, msg-att).
 pub record AreFetchItems (items : FetchItems) : Type 0 where
-  pub some : IsTrue (tells_of_message items)
-  pub uid : Where IsNonzero items.uid
-  pub flags : Where AreFlags items.flags
-  pub date : Where IsDateTime items.date
-  pub size : Where IsWide items.size
-  pub modseq : Where IsModSeq items.modseq
+  pub some : IsTrue (has_message_item items)
+  pub uid : IfPresent IsNonzero items.uid
+  pub flags : IfPresent AreFlags items.flags
+  pub date : IfPresent IsDateTime items.date
+  pub size : IfPresent IsWide items.size
+  pub modseq : IfPresent IsModSeq items.modseq
   pub sections : Each IsPart items.sections
 
 -- Whether there is at least one item of a mailbox.
-abbrev pub tells_of_mailbox : StatusItems → Bool
-tells_of_mailbox items =
+abbrev pub has_mailbox_item : StatusItems → Bool
+has_mailbox_item items =
     is_some items.messages || is_some items.uidnext || is_some items.uidvalidity
     || is_some items.unseen || is_some items.deleted || is_some items.size
     || is_some items.highest_modseq
@@ -116,14 +116,14 @@ tells_of_mailbox items =
 -- The items of STATUS: at least one, since each STATUS command asks for one (RFC 9051, section
 -- 6.3.11).
 pub record AreStatusItems (items : StatusItems) : Type 0 where
-  pub some : IsTrue (tells_of_mailbox items)
-  pub messages : Where IsSmall items.messages
-  pub uidnext : Where IsNonzero items.uidnext
-  pub uidvalidity : Where IsNonzero items.uidvalidity
-  pub unseen : Where IsSmall items.unseen
-  pub deleted : Where IsSmall items.deleted
-  pub size : Where IsWide items.size
-  pub highest_modseq : Where IsModSeq items.highest_modseq
+  pub some : IsTrue (has_mailbox_item items)
+  pub messages : IfPresent IsSmall items.messages
+  pub uidnext : IfPresent IsNonzero items.uidnext
+  pub uidvalidity : IfPresent IsNonzero items.uidvalidity
+  pub unseen : IfPresent IsSmall items.unseen
+  pub deleted : IfPresent IsSmall items.deleted
+  pub size : IfPresent IsWide items.size
+  pub highest_modseq : IfPresent IsModSeq items.highest_modseq
 
 -- All hits of a search: none, or a set.
 abbrev pub AreHits : List ℕ → Type 0
@@ -132,11 +132,11 @@ AreHits (hit ∷ hits) = IsSet (hit ∷ hits)
 
 -- The results of a search (RFC 9051, section 7.3.4; RFC 7162, section 3.1.10).
 pub record AreResults (results : SearchResults) : Type 0 where
-  pub min : Where IsNonzero results.min
-  pub max : Where IsNonzero results.max
+  pub min : IfPresent IsNonzero results.min
+  pub max : IfPresent IsNonzero results.max
   pub all : AreHits results.all
-  pub count : Where IsSmall results.count
-  pub modseq : Where IsModSeq results.modseq
+  pub count : IfPresent IsSmall results.count
+  pub modseq : IfPresent IsModSeq results.modseq
 
 -- A UIDVALIDITY, the UIDs of the copied messages, and as many UIDs of the copies (RFC 9051, section
 -- 7.1, COPYUID).
@@ -151,7 +151,7 @@ abbrev pub IsNotice : Notice → Type 0
 IsNotice notice.Closed = Unit {0}
 IsNotice (notice.UidValidity value) = IsNonzero value
 IsNotice (notice.UidNext uid) = IsNonzero uid
-IsNotice (notice.PermanentFlags flags) = Where AreFlags flags
+IsNotice (notice.PermanentFlags flags) = IfPresent AreFlags flags
 IsNotice (notice.HighestModSeq modseq) = IsModSeq modseq
 IsNotice (notice.CopyUid uidvalidity source copies) = IsCopied uidvalidity source copies
 
@@ -179,12 +179,12 @@ IsPrintable (answer.Flags flags) = AreFlags flags
 IsPrintable (answer.Exists count) = IsSmall count
 IsPrintable (answer.Expunge number) = IsNonzero number
 IsPrintable (answer.List name state subscribed) = IsFolded name
-IsPrintable (answer.Tell notice) = IsNotice notice
+IsPrintable (answer.UntaggedOk notice) = IsNotice notice
 IsPrintable (answer.Status name items) = IsFolded name × AreStatusItems items
 IsPrintable (answer.Search tag by_uid results) = IsTag tag × AreResults results
 IsPrintable (answer.Fetch number items) = IsNonzero number × AreFetchItems items
 IsPrintable (answer.Bye reason) = Unit {0}
 IsPrintable answer.NoTag = Unit {0}
 IsPrintable answer.LiteralTooLong = Unit {0}
-IsPrintable (answer.Completed tag code command) = IsTag tag × Where IsCode code
+IsPrintable (answer.Completed tag code command) = IsTag tag × IfPresent IsCode code
 IsPrintable (answer.Refused tag reason) = IsTag tag

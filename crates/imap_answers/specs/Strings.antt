@@ -13,7 +13,7 @@ use Rattle.imap_types.specs.declared.number_set.Run.{Run}
 abbrev pub crlf : List ℕ
 crlf = codes "\r\n"
 
--- Texts with an octet between each two.
+-- Texts joined by an octet.
 abbrev pub separated_by : ℕ → List (List ℕ) → List ℕ
 separated_by between [] = []
 separated_by between (text ∷ texts) = text ++ flat_map (λ next. between ∷ next) texts

@@ -19,8 +19,8 @@ use Rattle.imap_answers.specs.declared.mailbox.MailboxState.TheVariants as state
 
 -- The greetings, without their line ends (RFC 9051, sections 7.1.1 and 7.1.4).
 abbrev pub greeting_text : Login → List ℕ
-greeting_text login.Wanted = codes "* OK [CAPABILITY IMAP4rev2 IDLE CONDSTORE] ready"
-greeting_text login.Given = codes "* PREAUTH [CAPABILITY IMAP4rev2 IDLE CONDSTORE] ready"
+greeting_text login.Required = codes "* OK [CAPABILITY IMAP4rev2 IDLE CONDSTORE] ready"
+greeting_text login.PreAuthenticated = codes "* PREAUTH [CAPABILITY IMAP4rev2 IDLE CONDSTORE] ready"
 
 -- The continuation requests (RFC 9051, section 7.6; RFC 2177).
 abbrev pub continuation_text : Continuation → List ℕ
@@ -102,8 +102,8 @@ command_text command.UidExpunge = codes "UID EXPUNGE"
 
 -- The attributes of a name in LIST (RFC 9051, section 7.3.1).
 abbrev pub attributes_text : MailboxState → Bool → List ℕ
-attributes_text state.There false = codes "()"
-attributes_text state.There true = codes "(\\Subscribed)"
+attributes_text state.Selectable false = codes "()"
+attributes_text state.Selectable true = codes "(\\Subscribed)"
 attributes_text state.NoSelect false = codes "(\\Noselect)"
 attributes_text state.NoSelect true = codes "(\\Noselect \\Subscribed)"
 attributes_text state.NonExistent false = codes "(\\NonExistent)"

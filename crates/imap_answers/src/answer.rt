@@ -49,7 +49,7 @@ pub enum Answer {
         subscribed: bool,
     },
     /// An untagged OK with a code.
-    Tell {
+    UntaggedOk {
         notice: Notice,
     },
     /// The counts and numbers that STATUS asked for.
@@ -106,7 +106,7 @@ impl Drop for Answer {
                 state: _,
                 subscribed: _,
             } => {}
-            Self::Tell { notice: _ } => {}
+            Self::UntaggedOk { notice: _ } => {}
             Self::Status { name: _, items: _ } => {}
             Self::Search {
                 tag: _,
@@ -158,7 +158,9 @@ impl Answer {
                     subscribed: other_subscribed,
                 },
             ) => name.same(other) && state == other_state && subscribed == other_subscribed,
-            (Answer::Tell { notice }, Answer::Tell { notice: other }) => notice.same(other),
+            (Answer::UntaggedOk { notice }, Answer::UntaggedOk { notice: other }) => notice.same(
+                other,
+            ),
             (
                 Answer::Status { name, items },
                 Answer::Status {
@@ -233,7 +235,7 @@ impl Answer {
                 state: *state,
                 subscribed: *subscribed,
             },
-            Answer::Tell { notice } => Answer::Tell {
+            Answer::UntaggedOk { notice } => Answer::UntaggedOk {
                 notice: notice.copy(alloc)?,
             },
             Answer::Status { name, items } => Answer::Status {

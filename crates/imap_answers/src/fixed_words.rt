@@ -6,9 +6,9 @@ use std::alloc::{AllocError, AllocFailed};
 #[derive(Clone, Copy, Debug, PartialEq, Eq)]
 pub enum Login {
     /// `OK`: the user must log in.
-    Wanted,
+    Required,
     /// `PREAUTH`: the user is logged in already.
-    Given,
+    PreAuthenticated,
 }
 
 impl Login {
@@ -20,8 +20,8 @@ impl Login {
         ensures { result.now ≡ greeting_text self }
     {
         match self {
-            Login::Wanted => b"* OK [CAPABILITY IMAP4rev2 IDLE CONDSTORE] ready",
-            Login::Given => b"* PREAUTH [CAPABILITY IMAP4rev2 IDLE CONDSTORE] ready",
+            Login::Required => b"* OK [CAPABILITY IMAP4rev2 IDLE CONDSTORE] ready",
+            Login::PreAuthenticated => b"* PREAUTH [CAPABILITY IMAP4rev2 IDLE CONDSTORE] ready",
         }
     }
 }

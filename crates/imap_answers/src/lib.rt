@@ -3,7 +3,7 @@
 //! [`Answer`] has one variant for each kind of line that the server sends: greetings, untagged
 //! answers, continuation requests and tagged lines. Parts that are one fixed text each give that
 //! text by `text` or `attributes`, and their contracts say that it is the one of `specs/Words`.
-//! `specs/Printed` defines the one text of each answer (`text_of_answer`), and `specs/Printable`
+//! `specs/AnswerText` defines the one text of each answer (`text_of_answer`), and `specs/Printable`
 //! says which answers may be sent (`IsPrintable`). Printing and reading are in `imap_print`.
 //!
 //! Contracts promise that `same` is true exactly for equal values, and that `copy` gives an equal

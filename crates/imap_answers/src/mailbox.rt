@@ -9,7 +9,7 @@ use std::alloc::{AllocError, Global};
 #[derive(Clone, Copy, Debug, PartialEq, Eq)]
 pub enum MailboxState {
     /// A mailbox, which can be selected.
-    There,
+    Selectable,
     /// Only a level of the hierarchy above other mailboxes.
     NoSelect,
     /// No mailbox has this name.
@@ -25,8 +25,8 @@ impl MailboxState {
         ensures { result.now ≡ attributes_text self subscribed }
     {
         match (self, subscribed) {
-            (MailboxState::There, false) => b"()",
-            (MailboxState::There, true) => b"(\\Subscribed)",
+            (MailboxState::Selectable, false) => b"()",
+            (MailboxState::Selectable, true) => b"(\\Subscribed)",
             (MailboxState::NoSelect, false) => b"(\\Noselect)",
             (MailboxState::NoSelect, true) => b"(\\Noselect \\Subscribed)",
             (MailboxState::NonExistent, false) => b"(\\NonExistent)",

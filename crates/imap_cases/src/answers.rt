@@ -34,7 +34,7 @@ fn put_longer(words: &mut Words, answer: &Answer) {
             words.put_name(" ", state);
             words.put_if(*subscribed, " subscribed");
         }
-        Answer::Tell { notice } => put_notice(words, notice),
+        Answer::UntaggedOk { notice } => put_notice(words, notice),
         Answer::Status { name, items } => {
             words.put_text("status ", name.as_bytes());
             put_status(words, items);

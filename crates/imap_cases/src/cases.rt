@@ -1,8 +1,8 @@
 //! Reads the lines of cases, and prints each with its answer.
 
-use crate::queries::{Stage, is_setting, put_query, put_view};
+use crate::queries::{Setup, is_setting, put_query, put_view};
 use crate::texts::answer_to;
-use case_lines::{Words, parted};
+use case_lines::{Words, parts_around};
 use std::alloc::{AllocError, Global};
 
 /// The kind of cases that a text has.
@@ -35,46 +35,46 @@ pub fn play_views(alloc: Global, text: &str) -> Result<Vec<u8>, AllocError> {
 }
 
 fn played(alloc: Global, subject: Subject, text: &str) -> Result<Vec<u8>, AllocError> {
-    let mut stage = Stage::new(alloc);
+    let mut setup = Setup::new(alloc);
     let mut page = Words::new(alloc);
     for line in text.split_terminator('\n') {
-        put_line(alloc, &mut page, &mut stage, subject, line);
+        put_line(alloc, &mut page, &mut setup, subject, line);
     }
-    drop(stage);
+    drop(setup);
     page.finish()
 }
 
 /// Puts the line with its LF. In a case, `KIND INPUT => ANSWER`, the answer is replaced by what the
 /// code answers now. Comments, which begin with `#`, empty lines and lines that set what is asked
 /// about are put unchanged.
-fn put_line(alloc: Global, page: &mut Words, stage: &mut Stage, subject: Subject, line: &str) {
+fn put_line(alloc: Global, page: &mut Words, setup: &mut Setup, subject: Subject, line: &str) {
     if line.is_empty() || line.starts_with('#') {
         page.put(line);
     } else {
-        put_told(alloc, page, stage, subject, line);
+        put_outcome(alloc, page, setup, subject, line);
     }
     page.put("\n");
 }
 
-fn put_told(alloc: Global, page: &mut Words, stage: &mut Stage, subject: Subject, line: &str) {
-    let (kind, rest) = parted(line, " ");
+fn put_outcome(alloc: Global, page: &mut Words, setup: &mut Setup, subject: Subject, line: &str) {
+    let (kind, rest) = parts_around(line, " ");
     if matches!(subject, Subject::Queries) && is_setting(kind) {
         page.put(line);
-        if let Err(trouble) = stage.set(alloc, kind, rest) {
+        if let Err(trouble) = setup.set(alloc, kind, rest) {
             page.put_trouble(" => ", trouble);
         }
     } else {
-        put_case(alloc, page, stage, subject, line);
+        put_case(alloc, page, setup, subject, line);
     }
 }
 
-fn put_case(alloc: Global, page: &mut Words, stage: &Stage, subject: Subject, line: &str) {
-    let (case, _) = parted(line, " => ");
+fn put_case(alloc: Global, page: &mut Words, setup: &Setup, subject: Subject, line: &str) {
+    let (case, _) = parts_around(line, " => ");
     page.put_after(case, b" => ");
-    let (kind, input) = parted(case, " ");
+    let (kind, input) = parts_around(case, " ");
     match subject {
         Subject::Texts => page.put_result(answer_to(alloc, kind, input)),
-        Subject::Queries => put_query(alloc, page, stage, kind, input),
+        Subject::Queries => put_query(alloc, page, setup, kind, input),
         Subject::Views => put_view(alloc, page, kind, input),
     }
 }

@@ -40,7 +40,7 @@ fn put_all(alloc: Global, words: &mut Words, names: &str) {
 fn answer(alloc: Global, shown: Shown, flags: Flags) -> Answer {
     match shown {
         Shown::All => Answer::Flags { flags },
-        Shown::Permanent => Answer::Tell {
+        Shown::Permanent => Answer::UntaggedOk {
             notice: Notice::PermanentFlags { flags: Some(flags) },
         },
         Shown::Fetched => fetched(alloc, flags),

@@ -1,4 +1,4 @@
-//! What the grammar says of frames.
+//! The grammar's results for frames.
 
 use crate::commands::put_tagged;
 use crate::damage::{Demand, first_failing, put_failing};

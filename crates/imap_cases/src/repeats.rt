@@ -2,18 +2,18 @@
 
 ghost use Rattle.std.specs.Prelude.{◌<◌};
 
-use case_lines::{Words, parted};
+use case_lines::{Words, parts_around};
 use std::alloc::{AllocError, Global};
 
 /// A text repeated at least this often is written in the short form.
-const MANY: usize = 50;
+const MIN_REPEATS: usize = 50;
 /// The longest repeated text, in octets, that is looked for.
 const LONGEST: usize = 16;
 
 /// The text with each short form expanded.
 pub fn written_out(alloc: Global, text: &str) -> Result<Vec<u8>, AllocError> {
     let mut words = Words::new(alloc);
-    let (front, pieces) = parted(text, "~<");
+    let (front, pieces) = parts_around(text, "~<");
     words.put(front);
     for piece in pieces.split("~<") {
         put_piece(&mut words, piece);
@@ -23,13 +23,13 @@ pub fn written_out(alloc: Global, text: &str) -> Result<Vec<u8>, AllocError> {
 
 /// Puts what follows `~<`: for `COUNT TEXT~>REST` the text COUNT times, then the rest.
 fn put_piece(words: &mut Words, piece: &str) {
-    let (group, rest) = parted(piece, "~>");
+    let (group, rest) = parts_around(piece, "~>");
     put_group(words, group);
     words.put(rest);
 }
 
 fn put_group(words: &mut Words, group: &str) {
-    let (count, text) = parted(group, " ");
+    let (count, text) = parts_around(group, " ");
     put_times(words, count.parse::<u32>().unwrap_or(0), text);
 }
 
@@ -40,7 +40,7 @@ fn put_times(words: &mut Words, count: u32, text: &str) {
 }
 
 /// The text, with repeated texts in the short form. The first place from which a text is repeated
-/// counts, and there the shortest such text.
+/// counts, with the shortest such text.
 pub fn written_short(alloc: Global, text: &[u8]) -> Result<Vec<u8>, AllocError> {
     let mut words = Words::new(alloc);
     let mut rest = text;
@@ -57,7 +57,7 @@ fn put_front(words: &mut Words, rest: &[u8]) -> usize {
     for length in 1..=LONGEST {
         let (text, _) = rest.split_at(length.min(rest.len()));
         let count = times(rest, text, length);
-        if count >= MANY {
+        if count >= MIN_REPEATS {
             put_short(words, text, count);
             return length.saturating_mul(count);
         }

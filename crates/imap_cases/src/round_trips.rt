@@ -23,7 +23,14 @@ pub fn put_read(alloc: Global, words: &mut Words, text: &[u8]) {
         Err(AllocError) => words.give_up(),
     }
     let word = ", misread where damaged at ";
-    put_failing(alloc, words, Demand::ReadAsPrinted, FRONTS, text, word);
+    put_failing(
+        alloc,
+        words,
+        Demand::ReadAsPrinted,
+        MAX_PREFIXES,
+        text,
+        word,
+    );
 }
 
 /// Whether a text is read as no answer, or as one that is printed as the beginning of the text.
@@ -60,7 +67,7 @@ fn amiss(
         ", copied otherwise"
     } else if !is_read_before_all(alloc, words, answer, text) {
         ", read otherwise where more follows"
-    } else if is_front_read(alloc, words, text) {
+    } else if is_prefix_read(alloc, words, text) {
         ", and a front is read"
     } else {
         ""
@@ -69,7 +76,7 @@ fn amiss(
 
 /// Whether printing the answer after other octets appends this text.
 fn is_printed(alloc: Global, words: &mut Words, answer: &Answer, text: Option<&[u8]>) -> bool {
-    match printed_behind(alloc, b"+ idling\r\n", answer) {
+    match printed_after(alloc, b"+ idling\r\n", answer) {
         Ok(out) => out.strip_prefix(b"+ idling\r\n") == text,
         Err(AllocError) => {
             words.give_up();
@@ -126,9 +133,9 @@ fn is_read_of(
     input: &[u8],
 ) -> bool {
     match read(alloc, input) {
-        Ok(Some((found, length))) => {
-            let is_same = found.same(answer) && length == count;
-            drop(found);
+        Ok(Some((parsed, length))) => {
+            let is_same = parsed.same(answer) && length == count;
+            drop(parsed);
             is_same
         }
         Ok(None) => false,
@@ -140,10 +147,10 @@ fn is_read_of(
 }
 
 /// How many beginnings of a text are read at most: the longest ones.
-const FRONTS: usize = 500;
+const MAX_PREFIXES: usize = 500;
 
-fn is_front_read(alloc: Global, words: &mut Words, text: &[u8]) -> bool {
-    for length in text.len().saturating_sub(FRONTS)..text.len() {
+fn is_prefix_read(alloc: Global, words: &mut Words, text: &[u8]) -> bool {
+    for length in text.len().saturating_sub(MAX_PREFIXES)..text.len() {
         let (front, _) = text.split_at(length);
         if is_read(alloc, words, front) {
             return true;
@@ -170,7 +177,7 @@ fn is_read(alloc: Global, words: &mut Words, text: &[u8]) -> bool {
 pub fn put_mailbox(alloc: Global, words: &mut Words, name: &[u8]) {
     match Name::from_slice(alloc, name) {
         Ok(name) => {
-            let state = MailboxState::There;
+            let state = MailboxState::Selectable;
             let subscribed = false;
             put_printed(
                 alloc,
@@ -188,12 +195,12 @@ pub fn put_mailbox(alloc: Global, words: &mut Words, name: &[u8]) {
 
 /// Puts an answer as it is printed.
 pub fn put_printed(alloc: Global, words: &mut Words, answer: Answer) {
-    words.put_result(printed_behind(alloc, b"", &answer));
+    words.put_result(printed_after(alloc, b"", &answer));
     drop(answer);
 }
 
 /// The octets `front`, and after them the answer as it is printed.
-pub fn printed_behind(alloc: Global, front: &[u8], answer: &Answer) -> Result<Vec<u8>, AllocError> {
+pub fn printed_after(alloc: Global, front: &[u8], answer: &Answer) -> Result<Vec<u8>, AllocError> {
     let mut text = front.to_vec(alloc)?;
     print(answer, &mut text)?;
     Ok(text)

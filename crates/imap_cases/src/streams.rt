@@ -43,7 +43,7 @@ fn put_other_cuts(alloc: Global, words: &mut Words, limits: Limits, stream: &[u8
     let size = other_size(alloc, words, limits, stream, given);
     words.put_optional(", otherwise in pieces of ", size);
     let first = other_cut(alloc, words, limits, stream, given);
-    words.put_optional(", otherwise when cut behind ", first);
+    words.put_optional(", otherwise when cut after ", first);
 }
 
 /// Whether a stream gives the same in one piece and octet by octet.

@@ -15,8 +15,8 @@ use Rattle.imap_types.specs.declared.flags.Flags.{Flags}
 use Rattle.imap_types.proofs.KeywordLemmas.{keywords_from_test, keywords_with}
 use Rattle.merge_laws.specs.Orders.{IsIn}
 use Rattle.imap_commands.specs.FlagChange.{changed_flags, remaining}
-use Rattle.imap_commands.proofs.BorneLemmas.{text_has, text_keeps, text_new, united}
-use Rattle.imap_commands.proofs.ChangingLemmas.{remaining_are_keywords}
+use Rattle.imap_commands.proofs.ListedKeywordLemmas.{text_has, text_old, text_new, united}
+use Rattle.imap_commands.proofs.FlagChangeLemmas.{remaining_are_keywords}
 
 -- ---- system flags
 
@@ -55,15 +55,15 @@ united_has x (word ∷ given) keywords h =
       | inr t ↦ inr (inr t)
     ]
 
-united_keeps : (x : List ℕ) (given keywords : List (List ℕ)) → IsIn x keywords → IsIn x (united given keywords)
-united_keeps x [] keywords h = h
-united_keeps x (word ∷ given) keywords h = united_keeps x given (with_word word keywords) (text_keeps x word keywords h)
+united_old : (x : List ℕ) (given keywords : List (List ℕ)) → IsIn x keywords → IsIn x (united given keywords)
+united_old x [] keywords h = h
+united_old x (word ∷ given) keywords h = united_old x given (with_word word keywords) (text_old x word keywords h)
 
 united_new : (x : List ℕ) (given keywords : List (List ℕ)) → IsIn x given → IsIn x (united given keywords)
 united_new x [] keywords h = absurd h
 united_new x (word ∷ given) keywords h =
     elim h [
-      | inl e ↦ united_keeps x given (with_word word keywords) (subst (λ (y : List ℕ). IsIn y (with_word word keywords)) e (text_new word keywords))
+      | inl e ↦ united_old x given (with_word word keywords) (subst (λ (y : List ℕ). IsIn y (with_word word keywords)) e (text_new word keywords))
       | inr t ↦ united_new x given (with_word word keywords) t
     ]
 
@@ -71,7 +71,7 @@ pub added_keyword : (word : List ℕ) (old given : Flags) → IsIn word (changed
 unfolding changed_flags
 added_keyword word old given = (
   united_has word given.keywords old.keywords,
-  λ h. elim h [ inl t ↦ united_keeps word given.keywords old.keywords t | inr t ↦ united_new word given.keywords old.keywords t ],
+  λ h. elim h [ inl t ↦ united_old word given.keywords old.keywords t | inr t ↦ united_new word given.keywords old.keywords t ],
 )
 
 lowered_in : (words : List (List ℕ)) (word : List ℕ) → list_all is_lower_case words ≡ true → IsIn word words → to_lower_case word ≡ word
@@ -84,8 +84,8 @@ lowered_in (first ∷ words) word h i =
     ]
 
 -- among keywords in lower case a word is found exactly if it is one of them
-found_is : (word : List ℕ) (given : List (List ℕ)) → to_lower_case word ≡ word → list_all is_lower_case given ≡ true → (has_keyword word given ≡ true) ↔ IsIn word given
-found_is word given l all =
+has_keyword_is : (word : List ℕ) (given : List (List ℕ)) → to_lower_case word ≡ word → list_all is_lower_case given ≡ true → (has_keyword word given ≡ true) ↔ IsIn word given
+has_keyword_is word given l all =
     let same = λ (other : List ℕ). bytes_eq (to_lower_case other) (to_lower_case word) in (
       λ h.
           let w = (any_in same given).0 h in
@@ -104,8 +104,8 @@ left_is word given keywords k g =
     let filtered = in_filter test keywords word in (
       λ h.
           let t = filtered.0 h in
-          (t.0, λ i. (not_is (has_keyword word given)).0 t.1 ((found_is word given (lowered_in keywords word k.0 t.0) g.0).1 i)),
-      λ h. filtered.1 (h.0, (not_is (has_keyword word given)).1 (λ e. h.1 ((found_is word given (lowered_in keywords word k.0 h.0) g.0).0 e))),
+          (t.0, λ i. (not_is (has_keyword word given)).0 t.1 ((has_keyword_is word given (lowered_in keywords word k.0 t.0) g.0).1 i)),
+      λ h. filtered.1 (h.0, (not_is (has_keyword word given)).1 (λ e. h.1 ((has_keyword_is word given (lowered_in keywords word k.0 h.0) g.0).0 e))),
     )
 
 pub removed_keyword : (word : List ℕ) (old given : Flags) → AreKeywords old.keywords → AreKeywords given.keywords → IsIn word (changed_flags Remove old given).keywords ↔ (IsIn word old.keywords × (IsIn word given.keywords → ⊥))

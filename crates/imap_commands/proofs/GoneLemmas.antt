@@ -4,13 +4,13 @@ use Rattle.std.proofs.lemmas.Bool.{cases_Bool}
 use Rattle.std.proofs.lemmas.Grind.{flat_map-append}
 use Rattle.imap_syntax.specs.declared.fetch.FetchItem.{FetchItem}
 use Rattle.imap_answers.specs.declared.answer.Answer.{Answer}
-use Rattle.imap_query.specs.Fetching.{answer_of, fetch_answers, is_above_changed_since}
-use Rattle.imap_query.specs.declared.fetching.FetchMode.{FetchMode}
+use Rattle.imap_query.specs.FetchCommand.{answer_of, fetch_answers, is_above_changed_since}
+use Rattle.imap_query.specs.declared.fetch_command.FetchMode.{FetchMode}
 use Rattle.imap_query.specs.declared.viewed_message.ViewedMessage.{ViewedMessage}
 use Rattle.mailbox_rows.specs.ListedMessage.{ListedMessage}
 use Rattle.mailbox_rows.specs.RowViews.{row_of}
 use Rattle.session_view.specs.declared.view_entry.ViewEntry.{ViewEntry}
-use Rattle.imap_commands.specs.Fetching.{shown_at, shown_of}
+use Rattle.imap_commands.specs.FetchCommand.{shown_at, shown_of}
 use Rattle.imap_commands.specs.Report.{are_some_gone, entry_at, is_gone, message_at, row_for}
 
 -- 1 for true, 0 for false.
@@ -46,17 +46,17 @@ fewer items mode before after view [] = omega arith
 fewer items mode before after view (n ∷ numbers) =
     let answers : ViewedMessage → List Answer = λ shown. answer_of items mode shown (row_of shown.uid before) (row_of shown.uid after) in
     let first = shown_at n (entry_at view n) in
-    let parted = ap length (flat_map-append answers first (shown_of view numbers)) in
+    let parts_around = ap length (flat_map-append answers first (shown_of view numbers)) in
     let both = length-append (fetch_answers items mode before after first) (fetch_answers items mode before after (shown_of view numbers)) in
     let one = numbered items mode before after n (entry_at view n) in
     let rest = fewer items mode before after view numbers in
     let some = one_or (is_gone (message_at before view n)) (are_some_gone before view numbers) in
-    omega (arith, parted, both, one, rest, some)
+    omega (arith, parts_around, both, one, rest, some)
 
-none_so : (b : Bool) (told all : ℕ) → told + one_if b ≤ all → told ≡ all → b ≡ false
-none_so true told all h e = absurd (omega (arith, h, e))
-none_so false told all h e = refl
+none_so : (b : Bool) (count all : ℕ) → count + one_if b ≤ all → count ≡ all → b ≡ false
+none_so true count all h e = absurd (omega (arith, h, e))
+none_so false count all h e = refl
 
 -- If there are as many answers as numbers, no message is gone.
-pub all_told : (items : List FetchItem) (mode : FetchMode) (before after : List ListedMessage) (view : List ViewEntry) (numbers : List ℕ) → length (fetch_answers items mode before after (shown_of view numbers)) ≡ length numbers → are_some_gone before view numbers ≡ false
-all_told items mode before after view numbers e = none_so _ _ _ (fewer items mode before after view numbers) e
+pub none_gone : (items : List FetchItem) (mode : FetchMode) (before after : List ListedMessage) (view : List ViewEntry) (numbers : List ℕ) → length (fetch_answers items mode before after (shown_of view numbers)) ≡ length numbers → are_some_gone before view numbers ≡ false
+none_gone items mode before after view numbers e = none_so _ _ _ (fewer items mode before after view numbers) e

@@ -12,8 +12,8 @@ use Rattle.imap_answers.specs.declared.fixed_words.Refusal.{Refusal}
 use Rattle.imap_syntax.specs.declared.fetch.FetchItem.{FetchItem}
 use Rattle.imap_syntax.specs.declared.store.StoreMode.{StoreMode}
 use Rattle.imap_syntax.specs.declared.store.StoreMode.TheVariants.{Replace, Add, Remove}
-use Rattle.imap_query.specs.Fetching.{is_above_changed_since, is_seen_set}
-use Rattle.imap_query.specs.declared.fetching.FetchMode.{FetchMode}
+use Rattle.imap_query.specs.FetchCommand.{is_above_changed_since, is_seen_set}
+use Rattle.imap_query.specs.declared.fetch_command.FetchMode.{FetchMode}
 use Rattle.imap_types.specs.Ascending.{octet_order}
 use Rattle.imap_types.specs.Keywords.{has_keyword, is_lawful_keyword, with_word}
 use Rattle.imap_types.specs.declared.flags.Flags.{Flags}
@@ -26,15 +26,15 @@ use Rattle.session_view.specs.Views.{same_flags}
 use Rattle.session_view.specs.declared.view_entry.ViewEntry.{ViewEntry}
 use Rattle.imap_commands.specs.Arguments.{CopyArgs, FetchArgs, OpenMailbox, StoreArgs}
 use Rattle.imap_commands.specs.FlagChange.{changed_flags}
-use Rattle.imap_commands.proofs.BorneLemmas.{united}
-use Rattle.imap_commands.specs.Copying.{append_of, appends_of, copy_intent, move_intent, expunge_of_moved, expunges_of_moved}
-use Rattle.imap_commands.specs.Expunging.{close_intent, expunge_at, expunge_of, expunge_intent, expunges_at, expunges_of, uid_expunge_intent}
-use Rattle.imap_commands.specs.Fetching.{fetch_intent, mode_of, seen_flags, seen_store, seen_stores}
+use Rattle.imap_commands.proofs.ListedKeywordLemmas.{united}
+use Rattle.imap_commands.specs.CopyCommand.{append_of, appends_of, copy_intent, move_intent, expunge_of_moved, expunges_of_moved}
+use Rattle.imap_commands.specs.ExpungeCommand.{close_intent, expunge_at, expunge_of, expunge_intent, expunges_at, expunges_of, uid_expunge_intent}
+use Rattle.imap_commands.specs.FetchCommand.{fetch_intent, mode_of, seen_flags, seen_store, seen_stores}
 use Rattle.imap_commands.specs.Issuable.{AreIssuable, AreListedIds, AreListedWithOrigin, HaveLawfulKeywords, IsIssuable}
 use Rattle.imap_commands.specs.Limits.{has_many_keywords, has_many_versions, within_limits}
-use Rattle.imap_commands.specs.Storing.{has_unlawful_keyword, store_of, store_intent, stores_of, taken_messages}
+use Rattle.imap_commands.specs.StoreCommand.{has_unlawful_keyword, store_of, store_intent, stores_of, taken_messages}
 use Rattle.imap_commands.specs.Report.{entry_at, message_at, row_for}
-use Rattle.imap_commands.proofs.ChangingLemmas.{all_filtered}
+use Rattle.imap_commands.proofs.FlagChangeLemmas.{all_filtered}
 
 -- ---- lists of operations
 
@@ -57,9 +57,9 @@ one_unless : (P : Kind → Type 0) (b : Bool) (x : Kind) → P x → (kind : Kin
 one_unless P true x p kind i = absurd i
 one_unless P false x p kind i = only_one P x p kind i
 
-one_where : (P : Kind → Type 0) (b : Bool) (x : Kind) → P x → (kind : Kind) → IsIn kind (if b then x ∷ [] else []) → P kind
-one_where P true x p kind i = only_one P x p kind i
-one_where P false x p kind i = absurd i
+at_most_one : (P : Kind → Type 0) (b : Bool) (x : Kind) → P x → (kind : Kind) → IsIn kind (if b then x ∷ [] else []) → P kind
+at_most_one P true x p kind i = only_one P x p kind i
+at_most_one P false x p kind i = absurd i
 
 -- ---- results
 
@@ -67,8 +67,8 @@ unless_refused : (b : Bool) (why : Refusal) (rest : Result (List Kind) Refusal) 
 unless_refused true why rest kinds h = cc
 unless_refused false why rest kinds h = (refl, h)
 
-ok_is : (P : List Kind → Type 0) (found kinds : List Kind) → (the : Result (List Kind) Refusal) → the ≡ Ok found → the ≡ Ok kinds → P found → P kinds
-ok_is P found kinds the e h p = let k : found ≡ kinds = cc in subst P k p
+ok_is : (P : List Kind → Type 0) (issued kinds : List Kind) → (the : Result (List Kind) Refusal) → the ≡ Ok issued → the ≡ Ok kinds → P issued → P kinds
+ok_is P issued kinds the e h p = let k : issued ≡ kinds = cc in subst P k p
 
 -- ---- messages of a listing
 
@@ -112,21 +112,21 @@ lawful_change Remove old given h i = all_filtered is_lawful_keyword (λ (keyword
 -- ---- limits
 
 -- an operation that is issuable, apart from its numbers of keywords and ids
-abbrev IsWanted : List ℕ → List ℕ → List ListedMessage → Kind → Type 0
-IsWanted folder destination rows (Store f flags olds origin) = (f ≡ folder) × (list_all is_lawful_keyword flags.keywords ≡ true) × AreListedWithOrigin rows olds origin
-IsWanted folder destination rows (Expunge f olds) = (f ≡ folder) × AreListedIds rows olds
-IsWanted folder destination rows (Append f flags date text) = (f ≡ destination) × (list_all is_lawful_keyword flags.keywords ≡ true)
-IsWanted folder destination rows (Create f) = ⊥
-IsWanted folder destination rows (Delete f seen) = ⊥
-IsWanted folder destination rows (Subscribe name) = ⊥
-IsWanted folder destination rows (Unsubscribe name seen) = ⊥
+abbrev IsCandidate : List ℕ → List ℕ → List ListedMessage → Kind → Type 0
+IsCandidate folder destination rows (Store f flags old_ids origin) = (f ≡ folder) × (list_all is_lawful_keyword flags.keywords ≡ true) × AreListedWithOrigin rows old_ids origin
+IsCandidate folder destination rows (Expunge f old_ids) = (f ≡ folder) × AreListedIds rows old_ids
+IsCandidate folder destination rows (Append f flags date text) = (f ≡ destination) × (list_all is_lawful_keyword flags.keywords ≡ true)
+IsCandidate folder destination rows (Create f) = ⊥
+IsCandidate folder destination rows (Delete f seen) = ⊥
+IsCandidate folder destination rows (Subscribe name) = ⊥
+IsCandidate folder destination rows (Unsubscribe name seen) = ⊥
 
 few_enough : (n most : ℕ) → nat_lt most n ≡ false → n ≤ most
 few_enough n most h = grind (arith, nat_tests)
 
-few_issuable : (folder destination : List ℕ) (rows : List ListedMessage) (kind : Kind) → IsWanted folder destination rows kind → has_many_keywords kind ≡ false → has_many_versions kind ≡ false → IsIssuable folder destination rows kind
-few_issuable folder destination rows (Store f flags olds origin) w k v = (w.0, (few_enough (length flags.keywords) 32 k, w.1), few_enough (length olds) 64 v, w.2)
-few_issuable folder destination rows (Expunge f olds) w k v = (w.0, few_enough (length olds) 64 v, w.1)
+few_issuable : (folder destination : List ℕ) (rows : List ListedMessage) (kind : Kind) → IsCandidate folder destination rows kind → has_many_keywords kind ≡ false → has_many_versions kind ≡ false → IsIssuable folder destination rows kind
+few_issuable folder destination rows (Store f flags old_ids origin) w k v = (w.0, (few_enough (length flags.keywords) 32 k, w.1), few_enough (length old_ids) 64 v, w.2)
+few_issuable folder destination rows (Expunge f old_ids) w k v = (w.0, few_enough (length old_ids) 64 v, w.1)
 few_issuable folder destination rows (Append f flags date text) w k v = (w.0, (few_enough (length flags.keywords) 32 k, w.1))
 few_issuable folder destination rows (Create f) w k v = absurd w
 few_issuable folder destination rows (Delete f seen) w k v = absurd w
@@ -144,30 +144,30 @@ none_of_them test (y ∷ xs) x h i =
     elim i [ inl e ↦ subst (λ z. test z ≡ false) e parts.0 | inr n ↦ none_of_them test xs x parts.1 n ]
 
 -- within the limits all operations of the intent are issued
-pub within_is : (wanted kinds : List Kind) → within_limits wanted ≡ Ok kinds → kinds ≡ wanted
-within_is wanted kinds h =
-    let keywords = unless_refused (list_any has_many_keywords wanted) _ _ kinds h in
-    let versions = unless_refused (list_any has_many_versions wanted) _ _ kinds keywords.1 in
-    ok_is (λ found. found ≡ wanted) wanted kinds _ refl versions.1 refl
+pub within_is : (intended kinds : List Kind) → within_limits intended ≡ Ok kinds → kinds ≡ intended
+within_is intended kinds h =
+    let keywords = unless_refused (list_any has_many_keywords intended) _ _ kinds h in
+    let versions = unless_refused (list_any has_many_versions intended) _ _ kinds keywords.1 in
+    ok_is (λ issued. issued ≡ intended) intended kinds _ refl versions.1 refl
 
 -- operations within the limits are issuable
-within_issuable : (folder destination : List ℕ) (rows : List ListedMessage) (wanted kinds : List Kind) → within_limits wanted ≡ Ok kinds → ((kind : Kind) → IsIn kind wanted → IsWanted folder destination rows kind) → AreIssuable folder destination rows kinds
-within_issuable folder destination rows wanted kinds h w =
-    let keywords = unless_refused (list_any has_many_keywords wanted) _ _ kinds h in
-    let versions = unless_refused (list_any has_many_versions wanted) _ _ kinds keywords.1 in
-    ok_is (AreIssuable folder destination rows) wanted kinds _ refl versions.1
-    (λ kind i. few_issuable folder destination rows kind (w kind i) (none_of_them has_many_keywords wanted kind keywords.0 i) (none_of_them has_many_versions wanted kind versions.0 i))
+within_issuable : (folder destination : List ℕ) (rows : List ListedMessage) (intended kinds : List Kind) → within_limits intended ≡ Ok kinds → ((kind : Kind) → IsIn kind intended → IsCandidate folder destination rows kind) → AreIssuable folder destination rows kinds
+within_issuable folder destination rows intended kinds h w =
+    let keywords = unless_refused (list_any has_many_keywords intended) _ _ kinds h in
+    let versions = unless_refused (list_any has_many_versions intended) _ _ kinds keywords.1 in
+    ok_is (AreIssuable folder destination rows) intended kinds _ refl versions.1
+    (λ kind i. few_issuable folder destination rows kind (w kind i) (none_of_them has_many_keywords intended kind keywords.0 i) (none_of_them has_many_versions intended kind versions.0 i))
 
 -- ---- STORE
 
-store_wanted : (folder destination : List ℕ) (rows : List ListedMessage) (mode : StoreMode) (given : Flags) (message : Option ListedMessage) → ((row : ListedMessage) → message ≡ Some row → IsIn row rows) → HaveLawfulKeywords rows
-    → list_all is_lawful_keyword given.keywords ≡ true → (kind : Kind) → IsIn kind (store_of folder mode given message) → IsWanted folder destination rows kind
-store_wanted folder destination rows mode given None m l k kind i = absurd i
-store_wanted folder destination rows mode given (Some row) m l k kind i =
+store_candidate : (folder destination : List ℕ) (rows : List ListedMessage) (mode : StoreMode) (given : Flags) (message : Option ListedMessage) → ((row : ListedMessage) → message ≡ Some row → IsIn row rows) → HaveLawfulKeywords rows
+    → list_all is_lawful_keyword given.keywords ≡ true → (kind : Kind) → IsIn kind (store_of folder mode given message) → IsCandidate folder destination rows kind
+store_candidate folder destination rows mode given None m l k kind i = absurd i
+store_candidate folder destination rows mode given (Some row) m l k kind i =
     let is_in : IsIn row rows = m row refl in
     let flags = changed_flags mode row.flags given in
     let lawful : list_all is_lawful_keyword flags.keywords ≡ true = lawful_change mode row.flags given (l row is_in) k in
-    one_unless (IsWanted folder destination rows) (same_flags flags row.flags) (Store folder flags row.versions row.origin) (refl, lawful, (row, is_in, refl, refl)) kind i
+    one_unless (IsCandidate folder destination rows) (same_flags flags row.flags) (Store folder flags row.versions row.origin) (refl, lawful, (row, is_in, refl, refl)) kind i
 
 not_false : (b : Bool) → not b ≡ false → b ≡ true
 not_false true h = refl
@@ -176,133 +176,133 @@ not_false false h = cc
 lawful_given : (flags : Flags) → has_unlawful_keyword flags ≡ false → list_all is_lawful_keyword flags.keywords ≡ true
 lawful_given flags h = not_false (list_all is_lawful_keyword flags.keywords) h
 
-stores_wanted : (mailbox : OpenMailbox) (destination : List ℕ) (asked : StoreArgs) (numbers : List ℕ) → HaveLawfulKeywords mailbox.rows → has_unlawful_keyword asked.flags ≡ false
-    → (kind : Kind) → IsIn kind (stores_of mailbox asked numbers) → IsWanted mailbox.name destination mailbox.rows kind
-stores_wanted mailbox destination asked numbers l u =
+store_candidates : (mailbox : OpenMailbox) (destination : List ℕ) (request : StoreArgs) (numbers : List ℕ) → HaveLawfulKeywords mailbox.rows → has_unlawful_keyword request.flags ≡ false
+    → (kind : Kind) → IsIn kind (stores_of mailbox request numbers) → IsCandidate mailbox.name destination mailbox.rows kind
+store_candidates mailbox destination request numbers l u =
     let rows = mailbox.rows in
     let view = mailbox.view in
-    each_flat (IsWanted mailbox.name destination rows) (λ n. store_of mailbox.name asked.action.mode asked.flags (message_at rows view n)) numbers
-    (λ n i. store_wanted mailbox.name destination rows asked.action.mode asked.flags (message_at rows view n) (λ row e. message_is_in rows (entry_at view n) row e) l (lawful_given asked.flags u))
+    each_flat (IsCandidate mailbox.name destination rows) (λ n. store_of mailbox.name request.action.mode request.flags (message_at rows view n)) numbers
+    (λ n i. store_candidate mailbox.name destination rows request.action.mode request.flags (message_at rows view n) (λ row e. message_is_in rows (entry_at view n) row e) l (lawful_given request.flags u))
 
 -- STORE issues Stores of listed messages, with lawful flags.
-pub store_wants_issuable : (mailbox : OpenMailbox) (destination : List ℕ) (asked : StoreArgs) (kinds : List Kind) → HaveLawfulKeywords mailbox.rows → store_intent mailbox asked ≡ Ok kinds
+pub store_intent_issuable : (mailbox : OpenMailbox) (destination : List ℕ) (request : StoreArgs) (kinds : List Kind) → HaveLawfulKeywords mailbox.rows → store_intent mailbox request ≡ Ok kinds
     → AreIssuable mailbox.name destination mailbox.rows kinds
-store_wants_issuable mailbox destination asked kinds l h =
-    let in_range = unless_refused (not (is_in_range asked.by_uid asked.messages mailbox.view)) _ _ kinds h in
+store_intent_issuable mailbox destination request kinds l h =
+    let in_range = unless_refused (not (is_in_range request.by_uid request.messages mailbox.view)) _ _ kinds h in
     let writable = unless_refused mailbox.read_only _ _ kinds in_range.1 in
-    let lawful = unless_refused (has_unlawful_keyword asked.flags) _ _ kinds writable.1 in
-    let taken = taken_messages mailbox.rows mailbox.view asked.unchanged_since (numbers_in_set asked.by_uid asked.messages mailbox.view) in
-    within_issuable mailbox.name destination mailbox.rows (stores_of mailbox asked taken) kinds lawful.1 (stores_wanted mailbox destination asked taken l lawful.0)
+    let lawful = unless_refused (has_unlawful_keyword request.flags) _ _ kinds writable.1 in
+    let taken = taken_messages mailbox.rows mailbox.view request.unchanged_since (numbers_in_set request.by_uid request.messages mailbox.view) in
+    within_issuable mailbox.name destination mailbox.rows (stores_of mailbox request taken) kinds lawful.1 (store_candidates mailbox destination request taken l lawful.0)
 
 -- ---- EXPUNGE
 
-expunge_wanted : (folder destination : List ℕ) (rows : List ListedMessage) (row : ListedMessage) → IsIn row rows → (kind : Kind) → IsIn kind (expunge_of folder row) → IsWanted folder destination rows kind
-expunge_wanted folder destination rows row m kind i =
-    one_where (IsWanted folder destination rows) row.flags.deleted (Expunge folder row.versions) (refl, (row, m, refl)) kind i
+expunge_candidate : (folder destination : List ℕ) (rows : List ListedMessage) (row : ListedMessage) → IsIn row rows → (kind : Kind) → IsIn kind (expunge_of folder row) → IsCandidate folder destination rows kind
+expunge_candidate folder destination rows row m kind i =
+    at_most_one (IsCandidate folder destination rows) row.flags.deleted (Expunge folder row.versions) (refl, (row, m, refl)) kind i
 
-expunges_wanted : (folder destination : List ℕ) (rows : List ListedMessage) (kind : Kind) → IsIn kind (expunges_of folder rows) → IsWanted folder destination rows kind
-expunges_wanted folder destination rows = each_flat (IsWanted folder destination rows) (expunge_of folder) rows (λ row m. expunge_wanted folder destination rows row m)
+expunge_candidates : (folder destination : List ℕ) (rows : List ListedMessage) (kind : Kind) → IsIn kind (expunges_of folder rows) → IsCandidate folder destination rows kind
+expunge_candidates folder destination rows = each_flat (IsCandidate folder destination rows) (expunge_of folder) rows (λ row m. expunge_candidate folder destination rows row m)
 
 -- EXPUNGE issues Expunges of listed messages.
-pub expunge_wants_issuable : (mailbox : OpenMailbox) (destination : List ℕ) (kinds : List Kind) → expunge_intent mailbox ≡ Ok kinds → AreIssuable mailbox.name destination mailbox.rows kinds
-expunge_wants_issuable mailbox destination kinds h =
+pub expunge_intent_issuable : (mailbox : OpenMailbox) (destination : List ℕ) (kinds : List Kind) → expunge_intent mailbox ≡ Ok kinds → AreIssuable mailbox.name destination mailbox.rows kinds
+expunge_intent_issuable mailbox destination kinds h =
     let writable = unless_refused mailbox.read_only _ _ kinds h in
-    within_issuable mailbox.name destination mailbox.rows (expunges_of mailbox.name mailbox.rows) kinds writable.1 (expunges_wanted mailbox.name destination mailbox.rows)
+    within_issuable mailbox.name destination mailbox.rows (expunges_of mailbox.name mailbox.rows) kinds writable.1 (expunge_candidates mailbox.name destination mailbox.rows)
 
 -- CLOSE issues Expunges of listed messages, or nothing.
 close_by : (read_only : Bool) (folder destination : List ℕ) (rows : List ListedMessage) (kinds : List Kind) → (if read_only then Ok [] else within_limits (expunges_of folder rows)) ≡ Ok kinds → AreIssuable folder destination rows kinds
 close_by true folder destination rows kinds h = ok_is (AreIssuable folder destination rows) [] kinds _ refl h (λ kind i. absurd i)
-close_by false folder destination rows kinds h = within_issuable folder destination rows (expunges_of folder rows) kinds h (expunges_wanted folder destination rows)
+close_by false folder destination rows kinds h = within_issuable folder destination rows (expunges_of folder rows) kinds h (expunge_candidates folder destination rows)
 
-pub close_wants_issuable : (mailbox : OpenMailbox) (destination : List ℕ) (kinds : List Kind) → close_intent mailbox ≡ Ok kinds → AreIssuable mailbox.name destination mailbox.rows kinds
-close_wants_issuable mailbox destination kinds h = close_by mailbox.read_only mailbox.name destination mailbox.rows kinds h
+pub close_intent_issuable : (mailbox : OpenMailbox) (destination : List ℕ) (kinds : List Kind) → close_intent mailbox ≡ Ok kinds → AreIssuable mailbox.name destination mailbox.rows kinds
+close_intent_issuable mailbox destination kinds h = close_by mailbox.read_only mailbox.name destination mailbox.rows kinds h
 
-expunge_at_wanted : (folder destination : List ℕ) (rows : List ListedMessage) (message : Option ListedMessage) → ((row : ListedMessage) → message ≡ Some row → IsIn row rows) → (kind : Kind) → IsIn kind (expunge_at folder message) → IsWanted folder destination rows kind
-expunge_at_wanted folder destination rows None m kind i = absurd i
-expunge_at_wanted folder destination rows (Some row) m kind i = expunge_wanted folder destination rows row (m row refl) kind i
+expunge_at_candidate : (folder destination : List ℕ) (rows : List ListedMessage) (message : Option ListedMessage) → ((row : ListedMessage) → message ≡ Some row → IsIn row rows) → (kind : Kind) → IsIn kind (expunge_at folder message) → IsCandidate folder destination rows kind
+expunge_at_candidate folder destination rows None m kind i = absurd i
+expunge_at_candidate folder destination rows (Some row) m kind i = expunge_candidate folder destination rows row (m row refl) kind i
 
 -- UID EXPUNGE issues Expunges of listed messages.
-pub uid_expunge_wants_issuable : (mailbox : OpenMailbox) (destination : List ℕ) (uids : List SequenceRange) (kinds : List Kind) → uid_expunge_intent mailbox uids ≡ Ok kinds → AreIssuable mailbox.name destination mailbox.rows kinds
-uid_expunge_wants_issuable mailbox destination uids kinds h =
+pub uid_expunge_intent_issuable : (mailbox : OpenMailbox) (destination : List ℕ) (uids : List SequenceRange) (kinds : List Kind) → uid_expunge_intent mailbox uids ≡ Ok kinds → AreIssuable mailbox.name destination mailbox.rows kinds
+uid_expunge_intent_issuable mailbox destination uids kinds h =
     let writable = unless_refused mailbox.read_only _ _ kinds h in
     let folder = mailbox.name in
     let before = mailbox.rows in
     let view = mailbox.view in
     let numbers = numbers_in_set true uids view in
     within_issuable folder destination before (expunges_at folder before view numbers) kinds writable.1
-    (each_flat (IsWanted folder destination before) (λ n. expunge_at folder (message_at before view n)) numbers
-    (λ n i. expunge_at_wanted folder destination before (message_at before view n) (λ row e. message_is_in before (entry_at view n) row e)))
+    (each_flat (IsCandidate folder destination before) (λ n. expunge_at folder (message_at before view n)) numbers
+    (λ n i. expunge_at_candidate folder destination before (message_at before view n) (λ row e. message_is_in before (entry_at view n) row e)))
 
 -- ---- FETCH
 
-seen_wanted : (folder destination : List ℕ) (rows : List ListedMessage) (items : List FetchItem) (mode : FetchMode) (message : Option ListedMessage) → ((row : ListedMessage) → message ≡ Some row → IsIn row rows) → HaveLawfulKeywords rows
-    → (kind : Kind) → IsIn kind (seen_store folder items mode message) → IsWanted folder destination rows kind
-seen_wanted folder destination rows items mode None m l kind i = absurd i
-seen_wanted folder destination rows items mode (Some row) m l kind i =
+seen_candidate : (folder destination : List ℕ) (rows : List ListedMessage) (items : List FetchItem) (mode : FetchMode) (message : Option ListedMessage) → ((row : ListedMessage) → message ≡ Some row → IsIn row rows) → HaveLawfulKeywords rows
+    → (kind : Kind) → IsIn kind (seen_store folder items mode message) → IsCandidate folder destination rows kind
+seen_candidate folder destination rows items mode None m l kind i = absurd i
+seen_candidate folder destination rows items mode (Some row) m l kind i =
     let is_in : IsIn row rows = m row refl in
-    one_where (IsWanted folder destination rows) (is_above_changed_since mode.changed_since row && is_seen_set items mode row) (Store folder (seen_flags row.flags) row.versions row.origin) (refl, l row is_in, (row, is_in, refl, refl)) kind i
+    at_most_one (IsCandidate folder destination rows) (is_above_changed_since mode.changed_since row && is_seen_set items mode row) (Store folder (seen_flags row.flags) row.versions row.origin) (refl, l row is_in, (row, is_in, refl, refl)) kind i
 
 -- FETCH issues Stores of listed messages, with lawful flags.
-pub fetch_wants_issuable : (mailbox : OpenMailbox) (destination : List ℕ) (asked : FetchArgs) (kinds : List Kind) → HaveLawfulKeywords mailbox.rows → fetch_intent mailbox asked ≡ Ok kinds
+pub fetch_intent_issuable : (mailbox : OpenMailbox) (destination : List ℕ) (request : FetchArgs) (kinds : List Kind) → HaveLawfulKeywords mailbox.rows → fetch_intent mailbox request ≡ Ok kinds
     → AreIssuable mailbox.name destination mailbox.rows kinds
-fetch_wants_issuable mailbox destination asked kinds l h =
-    let in_range = unless_refused (not (is_in_range asked.by_uid asked.messages mailbox.view)) _ _ kinds h in
+fetch_intent_issuable mailbox destination request kinds l h =
+    let in_range = unless_refused (not (is_in_range request.by_uid request.messages mailbox.view)) _ _ kinds h in
     let folder = mailbox.name in
     let before = mailbox.rows in
     let view = mailbox.view in
-    let items = asked.items in
-    let mode = mode_of mailbox false asked in
-    let numbers = numbers_in_set asked.by_uid asked.messages view in
-    within_issuable folder destination before (seen_stores mailbox asked numbers) kinds in_range.1
-    (each_flat (IsWanted folder destination before) (λ n. seen_store folder items mode (message_at before view n)) numbers
-    (λ n i. seen_wanted folder destination before items mode (message_at before view n) (λ row e. message_is_in before (entry_at view n) row e) l))
+    let items = request.items in
+    let mode = mode_of mailbox false request in
+    let numbers = numbers_in_set request.by_uid request.messages view in
+    within_issuable folder destination before (seen_stores mailbox request numbers) kinds in_range.1
+    (each_flat (IsCandidate folder destination before) (λ n. seen_store folder items mode (message_at before view n)) numbers
+    (λ n i. seen_candidate folder destination before items mode (message_at before view n) (λ row e. message_is_in before (entry_at view n) row e) l))
 
 -- ---- COPY and MOVE
 
-append_wanted : (folder destination : List ℕ) (rows : List ListedMessage) (message : Option ListedMessage) → ((row : ListedMessage) → message ≡ Some row → IsIn row rows) → HaveLawfulKeywords rows
-    → (kind : Kind) → IsIn kind (append_of destination message) → IsWanted folder destination rows kind
-append_wanted folder destination rows None m l kind i = absurd i
-append_wanted folder destination rows (Some row) m l kind i = only_one (IsWanted folder destination rows) (Append destination row.flags row.date row.text) (refl, l row (m row refl)) kind i
+append_candidate : (folder destination : List ℕ) (rows : List ListedMessage) (message : Option ListedMessage) → ((row : ListedMessage) → message ≡ Some row → IsIn row rows) → HaveLawfulKeywords rows
+    → (kind : Kind) → IsIn kind (append_of destination message) → IsCandidate folder destination rows kind
+append_candidate folder destination rows None m l kind i = absurd i
+append_candidate folder destination rows (Some row) m l kind i = only_one (IsCandidate folder destination rows) (Append destination row.flags row.date row.text) (refl, l row (m row refl)) kind i
 
-appends_wanted : (folder destination : List ℕ) (rows : List ListedMessage) (view : List ViewEntry) (numbers : List ℕ) → HaveLawfulKeywords rows → (kind : Kind) → IsIn kind (appends_of destination rows view numbers) → IsWanted folder destination rows kind
-appends_wanted folder destination rows view numbers l =
-    each_flat (IsWanted folder destination rows) (λ n. append_of destination (message_at rows view n)) numbers
-    (λ n i. append_wanted folder destination rows (message_at rows view n) (λ row e. message_is_in rows (entry_at view n) row e) l)
+append_candidates : (folder destination : List ℕ) (rows : List ListedMessage) (view : List ViewEntry) (numbers : List ℕ) → HaveLawfulKeywords rows → (kind : Kind) → IsIn kind (appends_of destination rows view numbers) → IsCandidate folder destination rows kind
+append_candidates folder destination rows view numbers l =
+    each_flat (IsCandidate folder destination rows) (λ n. append_of destination (message_at rows view n)) numbers
+    (λ n i. append_candidate folder destination rows (message_at rows view n) (λ row e. message_is_in rows (entry_at view n) row e) l)
 
-removal_wanted : (folder destination : List ℕ) (rows : List ListedMessage) (message : Option ListedMessage) → ((row : ListedMessage) → message ≡ Some row → IsIn row rows) → (kind : Kind) → IsIn kind (expunge_of_moved folder message) → IsWanted folder destination rows kind
-removal_wanted folder destination rows None m kind i = absurd i
-removal_wanted folder destination rows (Some row) m kind i = only_one (IsWanted folder destination rows) (Expunge folder row.versions) (refl, (row, m row refl, refl)) kind i
+removal_candidate : (folder destination : List ℕ) (rows : List ListedMessage) (message : Option ListedMessage) → ((row : ListedMessage) → message ≡ Some row → IsIn row rows) → (kind : Kind) → IsIn kind (expunge_of_moved folder message) → IsCandidate folder destination rows kind
+removal_candidate folder destination rows None m kind i = absurd i
+removal_candidate folder destination rows (Some row) m kind i = only_one (IsCandidate folder destination rows) (Expunge folder row.versions) (refl, (row, m row refl, refl)) kind i
 
-removals_wanted : (folder destination : List ℕ) (rows : List ListedMessage) (view : List ViewEntry) (numbers : List ℕ) (kind : Kind) → IsIn kind (expunges_of_moved folder rows view numbers) → IsWanted folder destination rows kind
-removals_wanted folder destination rows view numbers =
-    each_flat (IsWanted folder destination rows) (λ n. expunge_of_moved folder (message_at rows view n)) numbers
-    (λ n i. removal_wanted folder destination rows (message_at rows view n) (λ row e. message_is_in rows (entry_at view n) row e))
+removal_candidates : (folder destination : List ℕ) (rows : List ListedMessage) (view : List ViewEntry) (numbers : List ℕ) (kind : Kind) → IsIn kind (expunges_of_moved folder rows view numbers) → IsCandidate folder destination rows kind
+removal_candidates folder destination rows view numbers =
+    each_flat (IsCandidate folder destination rows) (λ n. expunge_of_moved folder (message_at rows view n)) numbers
+    (λ n i. removal_candidate folder destination rows (message_at rows view n) (λ row e. message_is_in rows (entry_at view n) row e))
 
 -- COPY issues Appends in the destination, with lawful flags.
-pub copy_wants_issuable : (mailbox : OpenMailbox) (asked : CopyArgs) (is_there : Bool) (kinds : List Kind) → HaveLawfulKeywords mailbox.rows → copy_intent mailbox asked is_there ≡ Ok kinds
-    → AreIssuable mailbox.name asked.destination mailbox.rows kinds
-copy_wants_issuable mailbox asked is_there kinds l h =
-    let in_range = unless_refused (not (is_in_range asked.by_uid asked.messages mailbox.view)) _ _ kinds h in
-    let found = unless_refused (not is_there) _ _ kinds in_range.1 in
+pub copy_intent_issuable : (mailbox : OpenMailbox) (request : CopyArgs) (exists : Bool) (kinds : List Kind) → HaveLawfulKeywords mailbox.rows → copy_intent mailbox request exists ≡ Ok kinds
+    → AreIssuable mailbox.name request.destination mailbox.rows kinds
+copy_intent_issuable mailbox request exists kinds l h =
+    let in_range = unless_refused (not (is_in_range request.by_uid request.messages mailbox.view)) _ _ kinds h in
+    let issued = unless_refused (not exists) _ _ kinds in_range.1 in
     let folder = mailbox.name in
-    let destination = asked.destination in
+    let destination = request.destination in
     let before = mailbox.rows in
     let view = mailbox.view in
-    let numbers = numbers_in_set asked.by_uid asked.messages view in
-    within_issuable folder destination before (appends_of destination before view numbers) kinds found.1 (appends_wanted folder destination before view numbers l)
+    let numbers = numbers_in_set request.by_uid request.messages view in
+    within_issuable folder destination before (appends_of destination before view numbers) kinds issued.1 (append_candidates folder destination before view numbers l)
 
 -- MOVE issues Appends in the destination, with lawful flags, and Expunges of listed messages.
-pub move_wants_issuable : (mailbox : OpenMailbox) (asked : CopyArgs) (is_there : Bool) (kinds : List Kind) → HaveLawfulKeywords mailbox.rows → move_intent mailbox asked is_there ≡ Ok kinds
-    → AreIssuable mailbox.name asked.destination mailbox.rows kinds
-move_wants_issuable mailbox asked is_there kinds l h =
-    let in_range = unless_refused (not (is_in_range asked.by_uid asked.messages mailbox.view)) _ _ kinds h in
+pub move_intent_issuable : (mailbox : OpenMailbox) (request : CopyArgs) (exists : Bool) (kinds : List Kind) → HaveLawfulKeywords mailbox.rows → move_intent mailbox request exists ≡ Ok kinds
+    → AreIssuable mailbox.name request.destination mailbox.rows kinds
+move_intent_issuable mailbox request exists kinds l h =
+    let in_range = unless_refused (not (is_in_range request.by_uid request.messages mailbox.view)) _ _ kinds h in
     let writable = unless_refused mailbox.read_only _ _ kinds in_range.1 in
-    let found = unless_refused (not is_there) _ _ kinds writable.1 in
+    let issued = unless_refused (not exists) _ _ kinds writable.1 in
     let folder = mailbox.name in
-    let destination = asked.destination in
+    let destination = request.destination in
     let before = mailbox.rows in
     let view = mailbox.view in
-    let numbers = numbers_in_set asked.by_uid asked.messages view in
-    within_issuable folder destination before (appends_of destination before view numbers ++ expunges_of_moved folder before view numbers) kinds found.1
-    (each_append (IsWanted folder destination before) (appends_of destination before view numbers) (expunges_of_moved folder before view numbers)
-    (appends_wanted folder destination before view numbers l) (removals_wanted folder destination before view numbers))
+    let numbers = numbers_in_set request.by_uid request.messages view in
+    within_issuable folder destination before (appends_of destination before view numbers ++ expunges_of_moved folder before view numbers) kinds issued.1
+    (each_append (IsCandidate folder destination before) (appends_of destination before view numbers) (expunges_of_moved folder before view numbers)
+    (append_candidates folder destination before view numbers l) (removal_candidates folder destination before view numbers))

@@ -5,21 +5,21 @@ use Rattle.std.specs.List.{slice_get}
 use Rattle.std.specs.Option.{option_to_list}
 use Rattle.imap_query.proofs.CountLemmas.{from_place}
 use Rattle.mailbox_rows.specs.ListedMessage.{ListedMessage}
-use Rattle.imap_commands.specs.Selecting.{AreListedKeywords}
-use Rattle.imap_commands.proofs.BorneLemmas.{borne, with_keywords, with_rows}
+use Rattle.imap_commands.specs.SelectCommand.{AreListedKeywords}
+use Rattle.imap_commands.proofs.ListedKeywordLemmas.{borne, with_keywords, with_rows}
 use Rattle.imap_commands.proofs.PlaceLemmas.{drop_past}
 
 -- the keywords of the message at a place, and of those after it
 pub row_read : (rows : List ListedMessage) (place : ℕ) (row : ListedMessage) (keywords : List (List ℕ)) → Some row ≡ slice_get rows place
     → with_rows (drop (place + 1) rows) (with_keywords row.flags.keywords keywords) ≡ with_rows (drop place rows) keywords
 row_read rows place row keywords e =
-    let from : drop place rows ≡ row ∷ drop (place + 1) rows = from_place rows place ∙ ap (λ (found : Option ListedMessage). option_to_list found ++ drop (place + 1) rows) (sym e) in
+    let from : drop place rows ≡ row ∷ drop (place + 1) rows = from_place rows place ∙ ap (λ (message : Option ListedMessage). option_to_list message ++ drop (place + 1) rows) (sym e) in
     sym (ap (λ (some : List ListedMessage). with_rows some keywords) from)
 
 pub row_passed : (rows : List ListedMessage) (place : ℕ) (keywords : List (List ℕ)) → ◌≡◌ {A = Option ListedMessage} None (slice_get rows place)
     → with_rows (drop (place + 1) rows) keywords ≡ with_rows (drop place rows) keywords
 row_passed rows place keywords e =
-    let from : drop place rows ≡ drop (place + 1) rows = from_place rows place ∙ ap (λ (found : Option ListedMessage). option_to_list found ++ drop (place + 1) rows) (sym e) in
+    let from : drop place rows ≡ drop (place + 1) rows = from_place rows place ∙ ap (λ (message : Option ListedMessage). option_to_list message ++ drop (place + 1) rows) (sym e) in
     sym (ap (λ (some : List ListedMessage). with_rows some keywords) from)
 
 -- the keywords of the message at a place and of those after it, if memory didn't run out

@@ -13,18 +13,18 @@ use Rattle.imap_types.specs.Keywords.{is_lawful_keyword}
 use Rattle.imap_types.specs.Names.{IsLawfulName, inbox}
 use Rattle.tags_clocks.specs.declared.id.OpId.{OpId}
 use Rattle.imap_commands.specs.declared.session.Credentials.{Credentials}
-use Rattle.imap_commands.specs.Appending.{append_intent, given_date}
+use Rattle.imap_commands.specs.AppendCommand.{append_intent, given_date}
 use Rattle.imap_commands.specs.Arguments.{AppendArgs}
 use Rattle.imap_commands.specs.SimpleCommands.{status_intent}
 use Rattle.imap_commands.specs.Login.{are_credentials, login_intent}
 use Rattle.imap_commands.specs.Lawful.{AreLawfulKinds, IsLawfulKind}
 use Rattle.imap_commands.specs.Mailboxes.{create_intent, created_name, delete_intent, is_lawful_name, subscribe_intent, unsubscribe_intent, unsubscribes}
-use Rattle.imap_commands.specs.Selecting.{select_intent}
+use Rattle.imap_commands.specs.SelectCommand.{select_intent}
 use Rattle.imap_commands.proofs.NameLemmas.{lawful_from_test}
 
 -- the value of an Ok
-given : (wanted kinds : List Kind) → ◌≡◌ {A = Result (List Kind) Refusal} (Ok wanted) (Ok kinds) → wanted ≡ kinds
-given wanted kinds e = cc
+given : (intended kinds : List Kind) → ◌≡◌ {A = Result (List Kind) Refusal} (Ok intended) (Ok kinds) → intended ≡ kinds
+given intended kinds e = cc
 
 one : (kind : Kind) (kinds : List Kind) → IsLawfulKind kind → ◌≡◌ {A = Result (List Kind) Refusal} (Ok (kind ∷ [])) (Ok kinds) → AreLawfulKinds kinds
 one kind kinds h e = subst AreLawfulKinds (given (kind ∷ []) kinds e) (h, tt)
@@ -40,28 +40,28 @@ nothing_by true why kinds e = none kinds e
 nothing_by false why kinds e = never why kinds e
 
 -- SELECT, EXAMINE, STATUS and LOGIN issue nothing
-pub select_lawful : (is_there : Bool) (kinds : List Kind) → select_intent is_there ≡ Ok kinds → AreLawfulKinds kinds
-select_lawful is_there kinds e = nothing_by is_there NoSuchMailbox kinds e
+pub select_lawful : (exists : Bool) (kinds : List Kind) → select_intent exists ≡ Ok kinds → AreLawfulKinds kinds
+select_lawful exists kinds e = nothing_by exists NoSuchMailbox kinds e
 
-pub status_lawful : (is_there : Bool) (kinds : List Kind) → status_intent is_there ≡ Ok kinds → AreLawfulKinds kinds
-status_lawful is_there kinds e = nothing_by is_there NoSuchMailbox kinds e
+pub status_lawful : (exists : Bool) (kinds : List Kind) → status_intent exists ≡ Ok kinds → AreLawfulKinds kinds
+status_lawful exists kinds e = nothing_by exists NoSuchMailbox kinds e
 
 pub login_lawful : (credentials : Credentials) (user password : List ℕ) (kinds : List Kind) → login_intent credentials user password ≡ Ok kinds → AreLawfulKinds kinds
 login_lawful credentials user password kinds e = nothing_by (are_credentials credentials user password) LoginFailed kinds e
 
 -- CREATE
-create_by : (lawful is_there : Bool) (folder : List ℕ) (kinds : List Kind) → (lawful ≡ true → IsLawfulName folder)
-    → (if lawful then (if is_there then Err MailboxExists else Ok (Create folder ∷ [])) else Err NameNotAllowed) ≡ Ok kinds → AreLawfulKinds kinds
+create_by : (lawful exists : Bool) (folder : List ℕ) (kinds : List Kind) → (lawful ≡ true → IsLawfulName folder)
+    → (if lawful then (if exists then Err MailboxExists else Ok (Create folder ∷ [])) else Err NameNotAllowed) ≡ Ok kinds → AreLawfulKinds kinds
 create_by true true folder kinds n e = never MailboxExists kinds e
 create_by true false folder kinds n e = one (Create folder) kinds (record { name = n refl; flags = tt; inbox_stays = λ k. k; count = tt }) e
-create_by false is_there folder kinds n e = never NameNotAllowed kinds e
+create_by false exists folder kinds n e = never NameNotAllowed kinds e
 
-pub create_lawful : (is_there : Bool) (name : List ℕ) (kinds : List Kind) → create_intent is_there name ≡ Ok kinds → AreLawfulKinds kinds
-create_lawful is_there name kinds e = create_by (is_lawful_name (created_name name)) is_there (created_name name) kinds (lawful_from_test (created_name name)) e
+pub create_lawful : (exists : Bool) (name : List ℕ) (kinds : List Kind) → create_intent exists name ≡ Ok kinds → AreLawfulKinds kinds
+create_lawful exists name kinds e = create_by (is_lawful_name (created_name name)) exists (created_name name) kinds (lawful_from_test (created_name name)) e
 
 -- DELETE
-delete_by : (is_there is_inbox : Bool) (seen : List OpId) (name : List ℕ) (kinds : List Kind) → IsLawfulName name → (is_inbox ≡ false → name ≡ inbox → ⊥)
-    → (if is_there then (if is_inbox then Err InboxStays else Ok (Delete name seen ∷ [])) else Err NoSuchMailbox) ≡ Ok kinds → AreLawfulKinds kinds
+delete_by : (exists is_inbox : Bool) (seen : List OpId) (name : List ℕ) (kinds : List Kind) → IsLawfulName name → (is_inbox ≡ false → name ≡ inbox → ⊥)
+    → (if exists then (if is_inbox then Err InboxStays else Ok (Delete name seen ∷ [])) else Err NoSuchMailbox) ≡ Ok kinds → AreLawfulKinds kinds
 delete_by true true seen name kinds n i e = never InboxStays kinds e
 delete_by true false seen name kinds n i e = one (Delete name seen) kinds (record { name = n; flags = tt; inbox_stays = i refl; count = tt }) e
 delete_by false is_inbox seen name kinds n i e = never NoSuchMailbox kinds e
@@ -69,8 +69,8 @@ delete_by false is_inbox seen name kinds n i e = never NoSuchMailbox kinds e
 not_inbox : (name : List ℕ) → bytes_eq name inbox ≡ false → name ≡ inbox → ⊥
 not_inbox name f e = let t : bytes_eq name inbox ≡ true = (bytes_eq-Decides name inbox).1 e in cc
 
-pub delete_lawful : (is_there : Bool) (seen : List OpId) (name : List ℕ) (kinds : List Kind) → IsLawfulName name → delete_intent is_there seen name ≡ Ok kinds → AreLawfulKinds kinds
-delete_lawful is_there seen name kinds n e = delete_by is_there (bytes_eq name inbox) seen name kinds n (not_inbox name) e
+pub delete_lawful : (exists : Bool) (seen : List OpId) (name : List ℕ) (kinds : List Kind) → IsLawfulName name → delete_intent exists seen name ≡ Ok kinds → AreLawfulKinds kinds
+delete_lawful exists seen name kinds n e = delete_by exists (bytes_eq name inbox) seen name kinds n (not_inbox name) e
 
 -- SUBSCRIBE
 subscribe_by : (lawful is_subscribed : Bool) (name : List ℕ) (kinds : List Kind) → (lawful ≡ true → IsLawfulName name)
@@ -93,9 +93,9 @@ pub unsubscribe_lawful : (seen : List OpId) (name : List ℕ) (kinds : List Kind
 unsubscribe_lawful seen name kinds e = unsubscribe_by (is_lawful_name name) seen name kinds (lawful_from_test name) e
 
 -- APPEND
-append_by : (is_there lawful many : Bool) (name : List ℕ) (flags : Flags) (date text : List ℕ) (kinds : List Kind) → IsLawfulName name
+append_by : (exists lawful many : Bool) (name : List ℕ) (flags : Flags) (date text : List ℕ) (kinds : List Kind) → IsLawfulName name
     → lawful ≡ list_all is_lawful_keyword flags.keywords → many ≡ nat_lt 32 (length flags.keywords)
-    → (if is_there then (if lawful then (if many then Err TooManyKeywords else Ok (Append name flags date text ∷ [])) else Err KeywordTooLong) else Err NoDestination) ≡ Ok kinds → AreLawfulKinds kinds
+    → (if exists then (if lawful then (if many then Err TooManyKeywords else Ok (Append name flags date text ∷ [])) else Err KeywordTooLong) else Err NoDestination) ≡ Ok kinds → AreLawfulKinds kinds
 append_by true true true name flags date text kinds n l m e = never TooManyKeywords kinds e
 append_by true true false name flags date text kinds n l m e =
     let few : length flags.keywords ≤ 32 = grind (arith, nat_tests) in
@@ -103,6 +103,6 @@ append_by true true false name flags date text kinds n l m e =
 append_by true false many name flags date text kinds n l m e = never KeywordTooLong kinds e
 append_by false lawful many name flags date text kinds n l m e = never NoDestination kinds e
 
-pub append_lawful : (is_there : Bool) (stamp : List ℕ) (asked : AppendArgs) (kinds : List Kind) → IsLawfulName asked.name → append_intent is_there stamp asked ≡ Ok kinds → AreLawfulKinds kinds
-append_lawful is_there stamp asked kinds n e =
-    append_by is_there (list_all is_lawful_keyword asked.flags.keywords) (nat_lt 32 (length asked.flags.keywords)) asked.name asked.flags (given_date asked.date stamp) asked.text kinds n refl refl e
+pub append_lawful : (exists : Bool) (stamp : List ℕ) (request : AppendArgs) (kinds : List Kind) → IsLawfulName request.name → append_intent exists stamp request ≡ Ok kinds → AreLawfulKinds kinds
+append_lawful exists stamp request kinds n e =
+    append_by exists (list_all is_lawful_keyword request.flags.keywords) (nat_lt 32 (length request.flags.keywords)) request.name request.flags (given_date request.date stamp) request.text kinds n refl refl e

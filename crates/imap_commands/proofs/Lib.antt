@@ -1,23 +1,23 @@
-pub mod BorneLemmas
+pub mod ListedKeywordLemmas
 mod Examples
 pub mod KeywordSteps
 pub mod LawfulLemmas
 pub mod NameLemmas
-pub mod ChangingLemmas
+pub mod FlagChangeLemmas
 pub mod FlagSetLemmas
 pub mod IssuedLemmas
 pub mod NamedLemmas
 pub mod PlaceLemmas
 pub mod RangeLemmas
-pub mod PrintSelected
+pub mod PrintSelectLemmas
 pub mod PrintViews
-pub mod PrintFetched
-pub mod PrintStored
-pub mod PrintSynced
-pub mod PrintAsked
-pub mod PrintSearched
-pub mod PrintCopied
-pub mod PrintSpelled
+pub mod PrintFetchLemmas
+pub mod PrintStoreLemmas
+pub mod PrintSyncLemmas
+pub mod PrintReportLemmas
+pub mod PrintSearchLemmas
+pub mod PrintCopyLemmas
+pub mod PrintTaggedLemmas
 mod StoreExamples
 pub mod SeenLemmas
 pub mod GoneLemmas

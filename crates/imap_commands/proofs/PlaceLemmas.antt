@@ -3,7 +3,7 @@ use Rattle.std.specs.List.{flat_map, slice_get}
 use Rattle.std.specs.Option.{option_to_list}
 use Rattle.crdt_ops.specs.declared.kind.Kind.{Kind}
 use Rattle.mailbox_rows.specs.ListedMessage.{ListedMessage}
-use Rattle.imap_commands.specs.Expunging.{expunge_at, expunge_of}
+use Rattle.imap_commands.specs.ExpungeCommand.{expunge_at, expunge_of}
 
 abbrev uids_of : List ListedMessage → List ℕ
 uids_of rows = map (λ (row : ListedMessage). row.uid) rows
@@ -31,9 +31,9 @@ expunges_more folder rows k old new total n t =
     ∙ t
 
 -- after the last message
-pub expunges_end : (folder : List ℕ) (rows : List ListedMessage) (k : ℕ) (found total : List Kind) → length rows ≤ k → found ++ flat_map (expunge_of folder) (drop k rows) ≡ total → found ≡ total
-expunges_end folder rows k found total l t =
-    sym (append-nil found) ∙ ap (λ rs. found ++ flat_map (expunge_of folder) rs) (sym (drop_past rows k l)) ∙ t
+pub expunges_end : (folder : List ℕ) (rows : List ListedMessage) (k : ℕ) (so_far total : List Kind) → length rows ≤ k → so_far ++ flat_map (expunge_of folder) (drop k rows) ≡ total → so_far ≡ total
+expunges_end folder rows k so_far total l t =
+    sym (append-nil so_far) ∙ ap (λ rs. so_far ++ flat_map (expunge_of folder) rs) (sym (drop_past rows k l)) ∙ t
 
 uids_from : (rows : List ListedMessage) (k : ℕ) → uids_of (drop k rows) ≡ uids_of (option_to_list (slice_get rows k)) ++ uids_of (drop (k + 1) rows)
 uids_from [] zero = refl
@@ -48,5 +48,5 @@ uids_more rows k old new total n t =
     ∙ ap (λ us. old ++ us) (sym (uids_from rows k))
     ∙ t
 
-pub uids_end : (rows : List ListedMessage) (k : ℕ) (found total : List ℕ) → length rows ≤ k → found ++ uids_of (drop k rows) ≡ total → found ≡ total
-uids_end rows k found total l t = sym (append-nil found) ∙ ap (λ rs. found ++ uids_of rs) (sym (drop_past rows k l)) ∙ t
+pub uids_end : (rows : List ListedMessage) (k : ℕ) (so_far total : List ℕ) → length rows ≤ k → so_far ++ uids_of (drop k rows) ≡ total → so_far ≡ total
+uids_end rows k so_far total l t = sym (append-nil so_far) ∙ ap (λ rs. so_far ++ uids_of rs) (sym (drop_past rows k l)) ∙ t

@@ -3,7 +3,7 @@ use Rattle.std.specs.List.{slice_get}
 use Rattle.std.proofs.lemmas.Bool.{cases_Bool}
 use Rattle.imap_answers.specs.declared.answer.Answer.{Answer}
 use Rattle.imap_answers.specs.declared.answer.Answer.TheVariants.{Exists, Expunge, Fetch}
-use Rattle.imap_answers.specs.Printable.{Each, IsNonzero, IsSmall, Where}
+use Rattle.imap_answers.specs.Printable.{Each, IsNonzero, IsSmall, IfPresent}
 use Rattle.imap_types.specs.declared.flags.Flags.{Flags}
 use Rattle.imap_types.specs.declared.sequence_set.SequenceRange.{SequenceRange}
 use Rattle.imap_types.specs.Numbers.{greatest}
@@ -21,7 +21,7 @@ use Rattle.session_view.proofs.ReplayLemmas.{replay_rising}
 use Rattle.session_view.proofs.SyncLemmas.{rising_count, syncs_replay}
 use Rattle.imap_commands.specs.MessageNames.{name_at, names_of, uid_in}
 use Rattle.imap_commands.specs.Printing.{AreShowable, IsNumbered, IsShowable}
-use Rattle.imap_commands.proofs.PrintSelected.{each_append, each_filtered}
+use Rattle.imap_commands.proofs.PrintSelectLemmas.{each_append, each_filtered}
 
 abbrev pub AreSmall : List ViewEntry → Type 0
 AreSmall view = Each (λ (e : ViewEntry). IsSmall e.uid) view
@@ -75,7 +75,7 @@ greatest_small (n ∷ numbers) h = let g : greatest numbers < 4294967296 = great
 
 -- ---- the listing's row for a message
 
-pub row_showable : (uid : ℕ) (rows : List ListedMessage) → Each IsShowable rows → Where IsShowable (row_of uid rows)
+pub row_showable : (uid : ℕ) (rows : List ListedMessage) → Each IsShowable rows → IfPresent IsShowable (row_of uid rows)
 row_showable uid [] h = tt
 row_showable uid (row ∷ rows) h =
     elim (cases_Bool (nat_eq row.uid uid)) [

@@ -4,7 +4,7 @@ use Rattle.std.specs.List.{list_all}
 use Rattle.imap_answers.specs.declared.fixed_words.Refusal.TheVariants.{NoSuchMessage}
 use Rattle.imap_syntax.specs.declared.search.SearchStep.TheVariants.{Not, Or, And}
 use Rattle.imap_query.specs.KeyHits.{Asks, Both, Either, Key, Lacks, steps_of}
-use Rattle.imap_commands.specs.Searching.{key_is_in_range, search_intent_by_key, search_intent, step_is_in_range}
+use Rattle.imap_commands.specs.SearchCommand.{key_is_in_range, search_intent_by_key, search_intent, step_is_in_range}
 use Rattle.session_view.specs.declared.view_entry.ViewEntry.{ViewEntry}
 
 and_all : (a : Bool) → (a && true) ≡ a
@@ -23,5 +23,5 @@ key_in_range view (Both this that) =
     list_all-append (step_is_in_range view) (steps_of this ++ steps_of that) (And ∷ []) ∙ and_all (list_all (step_is_in_range view) (steps_of this ++ steps_of that))
     ∙ list_all-append (step_is_in_range view) (steps_of this) (steps_of that) ∙ (λ i. key_in_range view this i && key_in_range view that i)
 
-pub key_wanted : (view : List ViewEntry) (key : Key) → search_intent view (steps_of key) ≡ search_intent_by_key view key
-key_wanted view key = ap (λ (is : Bool). cond is (Ok []) (Err NoSuchMessage)) (key_in_range view key)
+pub intent_by_key : (view : List ViewEntry) (key : Key) → search_intent view (steps_of key) ≡ search_intent_by_key view key
+intent_by_key view key = ap (λ (is : Bool). cond is (Ok []) (Err NoSuchMessage)) (key_in_range view key)

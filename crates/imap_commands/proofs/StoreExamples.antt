@@ -17,9 +17,9 @@ use Rattle.session_view.specs.declared.view_entry.ViewEntry.{ViewEntry}
 use Rattle.tags_clocks.specs.declared.id.OpId.{OpId}
 use Rattle.imap_commands.specs.Arguments.{OpenMailbox, StoreArgs}
 use Rattle.imap_commands.specs.FlagChange.{changed_flags}
-use Rattle.imap_commands.specs.Copying.{copy_report}
-use Rattle.imap_commands.specs.Expunging.{close_intent, expunge_intent, uid_expunge_report}
-use Rattle.imap_commands.specs.Storing.{store_report, store_intent}
+use Rattle.imap_commands.specs.CopyCommand.{copy_report}
+use Rattle.imap_commands.specs.ExpungeCommand.{close_intent, expunge_intent, uid_expunge_report}
+use Rattle.imap_commands.specs.StoreCommand.{store_report, store_intent}
 
 abbrev bare : Flags
 bare = record { answered = false; flagged = false; deleted = false; seen = false; draft = false; keywords = [] }
@@ -56,7 +56,7 @@ module _ (a b c d e : OpId) (folder : List ℕ) where
   abbrev selected : List ListedMessage → List ViewEntry → Bool → OpenMailbox
   selected rows view read_only = record { name = folder; rows = rows; view = view; read_only = read_only }
 
-  -- Three messages, of which the second changed after mod-sequence 4.
+  -- Three messages; the second changed after mod-sequence 4.
   abbrev before : List ListedMessage
   before = message 1 2 a bare ∷ message 2 5 b seen ∷ message 3 4 c bare ∷ []
 
@@ -71,13 +71,13 @@ module _ (a b c d e : OpId) (folder : List ℕ) where
   unfolding changed_flags same_flags
   stores_two = refl
 
-  tells_modseqs : store_report (selected before view false) after true (store false (from_to 1 3) (Some 4) Add true flagged) ≡ record {
+  reports_modseqs : store_report (selected before view false) after true (store false (from_to 1 3) (Some 4) Add true flagged) ≡ record {
     own = modseq_alone 1 6 ∷ modseq_alone 3 7 ∷ [];
     silent = record { number = 1; flags = flagged } ∷ record { number = 3; flags = flagged } ∷ [];
     code = Some (Modified (2 ∷ []));
   }
   unfolding changed_flags
-  tells_modseqs = refl
+  reports_modseqs = refl
 
   -- -FLAGS (\Flagged) of messages that lack it issues nothing.
   stores_none : store_intent (selected before view false) (store true (from_to 1 9) None Remove false flagged) ≡ Ok []
@@ -92,12 +92,12 @@ module _ (a b c d e : OpId) (folder : List ℕ) where
   read_only_next = refl
 
   -- The view has a message with UID 4, which is gone.
-  gone_is_told : uid_expunge_report (selected before (shown 3 ∷ shown 4 ∷ []) false) (from_to 4 4) ≡ record { own = []; silent = []; code = Some ExpungeIssued }
-  gone_is_told = refl
+  gone_is_reported : uid_expunge_report (selected before (shown 3 ∷ shown 4 ∷ []) false) (from_to 4 4) ≡ record { own = []; silent = []; code = Some ExpungeIssued }
+  gone_is_reported = refl
 
   -- COPY 1:2 into a mailbox whose UIDNEXT was 7, and which then has UIDs 7 and 8.
-  copies_are_told : copy_report (selected before view false) (record { by_uid = false; messages = from_to 1 2; destination = folder }) (record { uidvalidity = 65537; uidnext = 7; rows = message 5 2 a bare ∷ message 7 3 d bare ∷ message 8 4 e bare ∷ [] }) ≡ record { own = []; silent = []; code = Some (CopyUid 65537 (1 ∷ 2 ∷ []) (7 ∷ 8 ∷ [])) }
-  copies_are_told = refl
+  copies_are_reported : copy_report (selected before view false) (record { by_uid = false; messages = from_to 1 2; destination = folder }) (record { uidvalidity = 65537; uidnext = 7; rows = message 5 2 a bare ∷ message 7 3 d bare ∷ message 8 4 e bare ∷ [] }) ≡ record { own = []; silent = []; code = Some (CopyUid 65537 (1 ∷ 2 ∷ []) (7 ∷ 8 ∷ [])) }
+  copies_are_reported = refl
 
   -- A message with two versions, shown as one: STORE 1 -FLAGS (\Seen) names both, and so does
   -- EXPUNGE.

@@ -19,20 +19,23 @@ HaveLawfulKeywords rows =
 
 -- The ids are those of all versions of a listed message.
 abbrev pub AreListedIds : List ListedMessage → List OpId → Type 0
-AreListedIds rows olds = (row : ListedMessage) × IsIn row rows × (olds ≡ row.versions)
+AreListedIds rows old_ids = (row : ListedMessage) × IsIn row rows × (old_ids ≡ row.versions)
 
 -- The ids are those of all versions of a listed message, and the other id is that of its Append.
 abbrev pub AreListedWithOrigin : List ListedMessage → List OpId → OpId → Type 0
-AreListedWithOrigin rows olds origin =
-    (row : ListedMessage) × IsIn row rows × (olds ≡ row.versions) × (origin ≡ row.origin)
+AreListedWithOrigin rows old_ids origin =
+    (row : ListedMessage) × IsIn row rows × (old_ids ≡ row.versions) × (origin ≡ row.origin)
 
 -- A lawful change of a message of the folder's listing, which names no more ids than one operation
 -- may, or a copy with lawful flags in the destination.
 abbrev pub IsIssuable : List ℕ → List ℕ → List ListedMessage → Kind → Type 0
-IsIssuable folder destination rows (Store f flags olds origin) =
-    (f ≡ folder) × IsLawfulFlags flags × (length olds ≤ 64) × AreListedWithOrigin rows olds origin
-IsIssuable folder destination rows (Expunge f olds) =
-    (f ≡ folder) × (length olds ≤ 64) × AreListedIds rows olds
+IsIssuable folder destination rows (Store f flags old_ids origin) =
+    (f ≡ folder)
+    × IsLawfulFlags flags
+    × (length old_ids ≤ 64)
+    × AreListedWithOrigin rows old_ids origin
+IsIssuable folder destination rows (Expunge f old_ids) =
+    (f ≡ folder) × (length old_ids ≤ 64) × AreListedIds rows old_ids
 IsIssuable folder destination rows (Append f flags date text) =
     (f ≡ destination) × IsLawfulFlags flags
 IsIssuable folder destination rows (Create f) = ⊥

@@ -15,8 +15,8 @@ abbrev pub has_many_keywords : Kind → Bool
 has_many_keywords (Create folder) = false
 has_many_keywords (Delete folder seen) = false
 has_many_keywords (Append folder flags date text) = nat_lt 32 (length flags.keywords)
-has_many_keywords (Expunge folder olds) = false
-has_many_keywords (Store folder flags olds origin) = nat_lt 32 (length flags.keywords)
+has_many_keywords (Expunge folder old_ids) = false
+has_many_keywords (Store folder flags old_ids origin) = nat_lt 32 (length flags.keywords)
 has_many_keywords (Subscribe name) = false
 has_many_keywords (Unsubscribe name seen) = false
 
@@ -26,8 +26,8 @@ abbrev pub has_many_versions : Kind → Bool
 has_many_versions (Create folder) = false
 has_many_versions (Delete folder seen) = false
 has_many_versions (Append folder flags date text) = false
-has_many_versions (Expunge folder olds) = nat_lt 64 (length olds)
-has_many_versions (Store folder flags olds origin) = nat_lt 64 (length olds)
+has_many_versions (Expunge folder old_ids) = nat_lt 64 (length old_ids)
+has_many_versions (Store folder flags old_ids origin) = nat_lt 64 (length old_ids)
 has_many_versions (Subscribe name) = false
 has_many_versions (Unsubscribe name seen) = false
 

@@ -35,19 +35,19 @@ created_name name = fold_inbox (without_last_separator name)
 
 -- ---- intents
 
--- The intent of CREATE (RFC 9051, section 6.3.4). `is_there` says whether a mailbox of the created
+-- The intent of CREATE (RFC 9051, section 6.3.4). `exists` says whether a mailbox of the created
 -- name exists. No superior levels are created.
 abbrev pub create_intent : Bool → List ℕ → Result (List Kind) Refusal
-create_intent is_there name =
+create_intent exists name =
     if is_lawful_name (created_name name)
-    then (if is_there then Err MailboxExists else Ok (Create (created_name name) ∷ []))
+    then (if exists then Err MailboxExists else Ok (Create (created_name name) ∷ []))
     else Err NameNotAllowed
 
 -- The intent of DELETE (RFC 9051, section 6.3.5): its operation lists the ids `seen` of all the
 -- folder's present tags.
 abbrev pub delete_intent : Bool → List OpId → List ℕ → Result (List Kind) Refusal
-delete_intent is_there seen name =
-    if is_there
+delete_intent exists seen name =
+    if exists
     then (if bytes_eq name inbox then Err InboxStays else Ok (Delete name seen ∷ []))
     else Err NoSuchMailbox
 

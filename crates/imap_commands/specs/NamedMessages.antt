@@ -5,7 +5,7 @@ use Rattle.imap_types.specs.declared.sequence_set.SequenceRange.{SequenceRange}
 use Rattle.session_view.specs.Sets.{numbers_in_set}
 use Rattle.session_view.specs.declared.view_entry.ViewEntry.{ViewEntry}
 use Rattle.imap_commands.specs.Arguments.{OpenMailbox, StoreArgs}
-use Rattle.imap_commands.specs.Storing.{taken_messages}
+use Rattle.imap_commands.specs.StoreCommand.{taken_messages}
 
 -- The messages that a command names before it is carried out: their numbers, and those of the
 -- messages among them that STORE may change.
@@ -23,14 +23,14 @@ messages_named_by by_uid set view = record { numbers = numbers_in_set by_uid set
 
 -- These are the messages that some set names in the view.
 abbrev pub AreNamedBySome : List ViewEntry → NamedMessages → Type 0
-AreNamedBySome view found =
-    (by_uid : Bool) × (set : List SequenceRange) × (found ≡ messages_named_by by_uid set view)
+AreNamedBySome view named =
+    (by_uid : Bool) × (set : List SequenceRange) × (named ≡ messages_named_by by_uid set view)
 
 -- The messages of the view that a STORE names, and those that it may change.
 abbrev pub messages_stored_by : OpenMailbox → StoreArgs → NamedMessages
-messages_stored_by mailbox asked =
-    let numbers = numbers_in_set asked.by_uid asked.messages mailbox.view in
+messages_stored_by mailbox request =
+    let numbers = numbers_in_set request.by_uid request.messages mailbox.view in
     record {
       numbers = numbers;
-      taken = taken_messages mailbox.rows mailbox.view asked.unchanged_since numbers;
+      taken = taken_messages mailbox.rows mailbox.view request.unchanged_since numbers;
     }

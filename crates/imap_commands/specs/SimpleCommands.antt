@@ -20,19 +20,19 @@ use Rattle.imap_commands.specs.Report.{CommandReport, report_of_answers}
 -- The report of LIST: the answers for the folders and the subscriptions, and nothing else
 -- (RFC 9051, section 6.3.9).
 pub record IsListReport (mode : ListMode) (reference pattern : List ℕ)
-    (folders subscriptions : List (List ℕ)) (told : CommandReport) : Type 0 where
-  pub names : ListsNames mode reference pattern folders subscriptions told.own
-  pub only : told ≡ report_of_answers told.own
+    (folders subscriptions : List (List ℕ)) (report : CommandReport) : Type 0 where
+  pub names : ListsNames mode reference pattern folders subscriptions report.own
+  pub only : report ≡ report_of_answers report.own
 
 -- The intent of STATUS, which issues nothing, if the mailbox exists (RFC 9051, section 6.3.11).
 abbrev pub status_intent : Bool → Result (List Kind) Refusal
-status_intent is_there = if is_there then Ok [] else Err NoSuchMailbox
+status_intent exists = if exists then Ok [] else Err NoSuchMailbox
 
 -- The report of STATUS, from the mailbox's listing and counters.
 abbrev pub status_report : List ℕ → List StatusItem → MailboxCounters → List ListedMessage
     → CommandReport
-status_report name items marks rows =
-    report_of_answers (Status name (status_of items marks rows) ∷ [])
+status_report name items counters rows =
+    report_of_answers (Status name (status_of items counters rows) ∷ [])
 
 -- The report of CAPABILITY (RFC 9051, section 6.1.1).
 abbrev pub capability_report : CommandReport

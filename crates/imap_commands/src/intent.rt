@@ -42,7 +42,7 @@ impl NamedMessages {
         NamedMessages { numbers, taken }
     }
 
-    /// No messages; takes no memory.
+    /// No messages; doesn't allocate.
     pub fn none(alloc: Global) -> NamedMessages
         ensures { result ≡ no_messages_named }
     {
@@ -70,5 +70,5 @@ pub struct Intent {
     /// The kinds of the operations.
     pub kinds: Vec<Kind>,
     /// The messages that the command names.
-    pub found: NamedMessages,
+    pub named: NamedMessages,
 }

@@ -5,17 +5,19 @@ ghost use Rattle.std.specs.Prelude.{◌≡◌, ℕ, Bool, List, Ok};
 ghost use Rattle.crdt_ops.specs.declared.kind.Kind.{Kind};
 ghost use Rattle.imap_types.specs.declared.sequence_set.SequenceRange.{SequenceRange};
 ghost use Rattle.imap_commands.specs.Arguments.{CopyArgs, FetchArgs, OpenMailbox, StoreArgs};
-ghost use Rattle.imap_commands.specs.Copying.{copy_intent, move_intent};
-ghost use Rattle.imap_commands.specs.Expunging.{close_intent, expunge_intent, uid_expunge_intent};
-ghost use Rattle.imap_commands.specs.Fetching.{fetch_intent};
+ghost use Rattle.imap_commands.specs.CopyCommand.{copy_intent, move_intent};
+ghost use Rattle.imap_commands.specs.ExpungeCommand.{close_intent, expunge_intent};
+ghost use Rattle.imap_commands.specs.ExpungeCommand.{uid_expunge_intent};
+ghost use Rattle.imap_commands.specs.FetchCommand.{fetch_intent};
 ghost use Rattle.imap_commands.specs.Issuable.{AreIssuable, HaveLawfulKeywords};
-ghost use Rattle.imap_commands.specs.Storing.{store_intent};
+ghost use Rattle.imap_commands.specs.StoreCommand.{store_intent};
 
 /// STORE issues Stores of listed messages, with lawful flags.
 pub fn stores_are_issuable()
-    ensures { (mailbox : OpenMailbox) (destination : List ℕ) (asked : StoreArgs) (kinds : List Kind)
+    ensures { (mailbox : OpenMailbox) (destination : List ℕ) (request : StoreArgs)
+        (kinds : List Kind)
         → HaveLawfulKeywords mailbox.rows
-        → store_intent mailbox asked ≡ Ok kinds
+        → store_intent mailbox request ≡ Ok kinds
         → AreIssuable mailbox.name destination mailbox.rows kinds }
 {}
 
@@ -36,24 +38,25 @@ pub fn expunges_are_issuable()
 
 /// FETCH issues Stores of listed messages, with lawful flags.
 pub fn seen_stores_are_issuable()
-    ensures { (mailbox : OpenMailbox) (destination : List ℕ) (asked : FetchArgs) (kinds : List Kind)
+    ensures { (mailbox : OpenMailbox) (destination : List ℕ) (request : FetchArgs)
+        (kinds : List Kind)
         → HaveLawfulKeywords mailbox.rows
-        → fetch_intent mailbox asked ≡ Ok kinds
+        → fetch_intent mailbox request ≡ Ok kinds
         → AreIssuable mailbox.name destination mailbox.rows kinds }
 {}
 
 /// COPY issues Appends in the destination, with lawful flags.
 pub fn copies_are_issuable()
-    ensures { (mailbox : OpenMailbox) (asked : CopyArgs) (is_there : Bool) (kinds : List Kind)
+    ensures { (mailbox : OpenMailbox) (request : CopyArgs) (exists : Bool) (kinds : List Kind)
         → HaveLawfulKeywords mailbox.rows
-        → copy_intent mailbox asked is_there ≡ Ok kinds
-        → AreIssuable mailbox.name asked.destination mailbox.rows kinds }
+        → copy_intent mailbox request exists ≡ Ok kinds
+        → AreIssuable mailbox.name request.destination mailbox.rows kinds }
 {}
 
 /// MOVE issues Appends in the destination, with lawful flags, and Expunges of listed messages.
 pub fn moves_are_issuable()
-    ensures { (mailbox : OpenMailbox) (asked : CopyArgs) (is_there : Bool) (kinds : List Kind)
+    ensures { (mailbox : OpenMailbox) (request : CopyArgs) (exists : Bool) (kinds : List Kind)
         → HaveLawfulKeywords mailbox.rows
-        → move_intent mailbox asked is_there ≡ Ok kinds
-        → AreIssuable mailbox.name asked.destination mailbox.rows kinds }
+        → move_intent mailbox request exists ≡ Ok kinds
+        → AreIssuable mailbox.name request.destination mailbox.rows kinds }
 {}

@@ -1,10 +1,10 @@
 //! Laws that say what the definitions of commands mean.
 
 ghost use Rattle.std.specs.Prelude.{◌≡◌, ◌↔◌, ℕ, List, IsTrue};
-ghost use Rattle.imap_commands.specs.Enabling.{search_asks_modseq};
+ghost use Rattle.imap_commands.specs.EnableCommand.{search_asks_modseq};
 ghost use Rattle.imap_commands.specs.Mailboxes.{is_lawful_name};
-ghost use Rattle.imap_commands.specs.Searching.{search_intent_by_key, search_intent};
-ghost use Rattle.imap_commands.specs.Selecting.{AreListedKeywords};
+ghost use Rattle.imap_commands.specs.SearchCommand.{search_intent_by_key, search_intent};
+ghost use Rattle.imap_commands.specs.SelectCommand.{AreListedKeywords};
 ghost use Rattle.imap_query.specs.KeyHits.{Key, steps_of};
 ghost use Rattle.imap_query.specs.Search.{asks_modseq};
 ghost use Rattle.imap_types.specs.Names.{IsLawfulName};
@@ -35,6 +35,6 @@ pub fn one_set_of_keywords()
 /// section 6.4.4).
 pub fn searches_are_by_keys()
     ensures modseq { (key : Key) → search_asks_modseq (steps_of key) ≡ asks_modseq key }
-    ensures wants { (view : List ViewEntry) (key : Key)
+    ensures intent { (view : List ViewEntry) (key : Key)
         → search_intent view (steps_of key) ≡ search_intent_by_key view key }
 {}

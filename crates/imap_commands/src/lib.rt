@@ -26,12 +26,12 @@
 //!   all the operations that a command would issue, whichever message they change.
 #![tactic(auto)]
 
-mod appending;
+mod append_command;
 mod command_args;
-mod copying;
-mod enabling;
-mod expunging;
-mod fetching;
+mod copy_command;
+mod enable_command;
+mod expunge_command;
+mod fetch_command;
 mod flag_change;
 mod flag_sets;
 mod intent;
@@ -43,23 +43,23 @@ mod mailboxes;
 mod named_messages;
 mod printable;
 mod report;
-mod searching;
-mod selecting;
+mod search_command;
+mod select_command;
 mod session;
 mod simple_commands;
-mod storing;
+mod store_command;
 mod versions;
 
-pub use appending::{append_intent, append_report};
+pub use append_command::{append_intent, append_report};
 pub use command_args::{
     AppendArgs, CopyArgs, CopyTarget, FetchArgs, OpenMailbox, SearchArgs, StoreArgs,
 };
-pub use copying::{copy_intent, copy_report, move_intent, move_report};
-pub use enabling::{
+pub use copy_command::{copy_intent, copy_report, move_intent, move_report};
+pub use enable_command::{
     asks_condstore, enable_report, fetch_asks_modseq, search_asks_modseq, status_asks_modseq,
 };
-pub use expunging::{close_intent, expunge_intent, uid_expunge_intent, uid_expunge_report};
-pub use fetching::{fetch_intent, fetch_report};
+pub use expunge_command::{close_intent, expunge_intent, uid_expunge_intent, uid_expunge_report};
+pub use fetch_command::{fetch_intent, fetch_report};
 pub use flag_change::changed_flags;
 pub use flag_sets::{
     added_flags_are_the_union, changed_flags_are_spelled, removed_flags_are_the_difference,
@@ -85,11 +85,11 @@ pub use printable::{
     views_stay_numbered,
 };
 pub use report::{CommandReport, entry_at, gone_code, message_at};
-pub use searching::{search_intent, search_report};
-pub use selecting::{select_intent, select_report};
+pub use search_command::{search_intent, search_report};
+pub use select_command::{select_intent, select_report};
 pub use session::{Credentials, Session, State};
 pub use simple_commands::{
     capability_report, idle_report, list_report, logout_report, namespace_report, status_intent,
     status_report,
 };
-pub use storing::{store_intent, store_report};
+pub use store_command::{store_intent, store_report};

@@ -2,7 +2,7 @@
 
 ghost use Rattle.std.specs.Prelude.{◌≡◌, IfOk};
 ghost use Rattle.std.specs.List.{list_any};
-ghost use Rattle.imap_commands.specs.Gives.{GivesOrLacksMemory};
+ghost use Rattle.imap_commands.specs.MemoryFaults.{EqualsOrLacksMemory};
 ghost use Rattle.imap_commands.specs.Limits.{has_many_keywords, has_many_versions, within_limits};
 
 use crate::intent::{Intent, NamedMessages};
@@ -13,7 +13,7 @@ use imap_types::MAX_KEYWORDS;
 /// These operations, if all are within the limits. `TooManyKeywords` if one gives a message more
 /// than 32 keywords; otherwise `TooManyVersions` if one names more than 64 versions of a message.
 pub fn within_limits(kinds: Vec<Kind>) -> Result<Vec<Kind>, Refusal>
-    ensures { GivesOrLacksMemory (λ kinds. kinds.items) result (within_limits kinds.items) }
+    ensures { EqualsOrLacksMemory (λ kinds. kinds.items) result (within_limits kinds.items) }
 {
     if have_many_keywords(&kinds) {
         drop(kinds);
@@ -28,13 +28,13 @@ pub fn within_limits(kinds: Vec<Kind>) -> Result<Vec<Kind>, Refusal>
 
 /// The intent with these operations and named messages, if all operations are within the limits;
 /// otherwise the error of [`within_limits`].
-pub fn intent_within_limits(kinds: Vec<Kind>, found: NamedMessages) -> Result<Intent, Refusal>
-    ensures gives { GivesOrLacksMemory (λ intent. intent.kinds.items) result
+pub fn intent_within_limits(kinds: Vec<Kind>, named: NamedMessages) -> Result<Intent, Refusal>
+    ensures gives { EqualsOrLacksMemory (λ intent. intent.kinds.items) result
         (within_limits kinds.items) }
-    ensures found { IfOk result (λ intent. intent.found ≡ found) }
+    ensures named { IfOk result (λ intent. intent.named ≡ named) }
 {
     match within_limits(kinds) {
-        Ok(kinds) => Ok(Intent { kinds, found }),
+        Ok(kinds) => Ok(Intent { kinds, named }),
         Err(why) => Err(why),
     }
 }
@@ -81,8 +81,8 @@ fn has_many_versions(kind: &Kind) -> bool
     ensures { result ≡ has_many_versions kind.now }
 {
     match kind {
-        Kind::Expunge { olds, .. } => olds.as_slice().len() > MAX_OLD_IDS,
-        Kind::Store { olds, .. } => olds.as_slice().len() > MAX_OLD_IDS,
+        Kind::Expunge { old_ids, .. } => old_ids.as_slice().len() > MAX_OLD_IDS,
+        Kind::Store { old_ids, .. } => old_ids.as_slice().len() > MAX_OLD_IDS,
         Kind::Create { .. } => false,
         Kind::Delete { .. } => false,
         Kind::Append { .. } => false,

@@ -2,7 +2,7 @@
 
 ghost use Rattle.std.specs.Prelude.{◌≡◌};
 ghost use Rattle.imap_commands.specs.Login.{are_credentials, login_intent};
-ghost use Rattle.imap_commands.specs.Gives.{GivesOrLacksMemory};
+ghost use Rattle.imap_commands.specs.MemoryFaults.{EqualsOrLacksMemory};
 
 use crate::session::Credentials;
 use crdt_ops::Kind;
@@ -18,7 +18,7 @@ pub fn login_intent(
     user: &Octets,
     password: &Octets,
 ) -> Result<Vec<Kind>, Refusal>
-    ensures { GivesOrLacksMemory (λ kinds. kinds.items) result
+    ensures { EqualsOrLacksMemory (λ kinds. kinds.items) result
         (login_intent credentials.now user.now password.now) }
 {
     if !are_credentials(credentials, user, password) {

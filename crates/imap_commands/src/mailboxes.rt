@@ -5,7 +5,7 @@ ghost use Rattle.std.specs.Str.{bytes_eq};
 ghost use Rattle.crdt_ops.specs.declared.kind.Kind.TheVariants.{Create as CreateKind};
 ghost use Rattle.crdt_ops.specs.declared.kind.Kind.TheVariants.{Delete as DeleteKind};
 ghost use Rattle.crdt_ops.specs.declared.kind.Kind.TheVariants.{Subscribe as SubscribeKind};
-ghost use Rattle.imap_commands.specs.Gives.{GivesOrLacksMemory};
+ghost use Rattle.imap_commands.specs.MemoryFaults.{EqualsOrLacksMemory};
 ghost use Rattle.imap_commands.specs.Mailboxes.{create_intent, created_name, delete_intent};
 ghost use Rattle.imap_commands.specs.Mailboxes.{is_lawful_name, subscribe_intent};
 ghost use Rattle.imap_commands.specs.Mailboxes.{unsubscribe_intent, unsubscribes};
@@ -43,16 +43,16 @@ fn drop_last_separator(octets: &mut Vec<u8>)
 }
 
 /// The intent of CREATE (RFC 9051, section 6.3.4). `NameNotAllowed` if no mailbox may bear the
-/// created name; otherwise `MailboxExists` if `is_there` says that one does. No superior levels are
+/// created name; otherwise `MailboxExists` if `exists` says that one does. No superior levels are
 /// created.
-pub fn create_intent(alloc: Global, is_there: bool, name: &Name) -> Result<Vec<Kind>, Refusal>
-    ensures { GivesOrLacksMemory (λ kinds. kinds.items) result (create_intent is_there name.now) }
+pub fn create_intent(alloc: Global, exists: bool, name: &Name) -> Result<Vec<Kind>, Refusal>
+    ensures { EqualsOrLacksMemory (λ kinds. kinds.items) result (create_intent exists name.now) }
 {
     let folder = created_name(alloc, name)?;
     if !is_lawful_name(&folder) {
         return Err(Refusal::NameNotAllowed);
     }
-    if is_there {
+    if exists {
         return Err(Refusal::MailboxExists);
     }
     Ok(one_kind(alloc, Kind::Create { folder })?)
@@ -63,14 +63,14 @@ pub fn create_intent(alloc: Global, is_there: bool, name: &Name) -> Result<Vec<K
 /// those of its messages.
 pub fn delete_intent(
     alloc: Global,
-    is_there: bool,
+    exists: bool,
     seen: Ids,
     name: &Name,
 ) -> Result<Vec<Kind>, Refusal>
-    ensures { GivesOrLacksMemory (λ kinds. kinds.items) result
-        (delete_intent is_there seen name.now) }
+    ensures { EqualsOrLacksMemory (λ kinds. kinds.items) result
+        (delete_intent exists seen name.now) }
 {
-    if !is_there {
+    if !exists {
         return Err(Refusal::NoSuchMailbox);
     }
     if is_inbox(name) {
@@ -99,7 +99,7 @@ pub fn subscribe_intent(
     is_subscribed: bool,
     name: &Name,
 ) -> Result<Vec<Kind>, Refusal>
-    ensures { GivesOrLacksMemory (λ kinds. kinds.items) result
+    ensures { EqualsOrLacksMemory (λ kinds. kinds.items) result
         (subscribe_intent is_subscribed name.now) }
 {
     if !is_lawful_name(name) {
@@ -122,7 +122,7 @@ fn subscribe(alloc: Global, name: &Name) -> Result<Vec<Kind>, AllocError>
 /// name. `seen` has the ids of the name's present subscription tags; if it has none, nothing is
 /// issued.
 pub fn unsubscribe_intent(alloc: Global, seen: Ids, name: &Name) -> Result<Vec<Kind>, Refusal>
-    ensures { GivesOrLacksMemory (λ kinds. kinds.items) result (unsubscribe_intent seen name.now) }
+    ensures { EqualsOrLacksMemory (λ kinds. kinds.items) result (unsubscribe_intent seen name.now) }
 {
     if !is_lawful_name(name) {
         return Err(Refusal::NameNotAllowed);

@@ -43,15 +43,15 @@ pub fn existing_messages(
     numbers: &[u32],
 ) -> Result<Vec<u32>, AllocError>
     ensures { IfOk result
-        (λ there. there.items ≡ existing_messages rows.now view.now.items numbers.now) }
+        (λ existing. existing.items ≡ existing_messages rows.now view.now.items numbers.now) }
 {
-    let mut there = Vec::new(alloc);
+    let mut existing = Vec::new(alloc);
     for number in numbers {
         if message_at(rows, view, *number).is_some() {
-            there.push(*number)?;
+            existing.push(*number)?;
         }
     }
-    Ok(there)
+    Ok(existing)
 }
 
 /// The names of the messages with these numbers: their UIDs or the numbers. `Err` if memory runs

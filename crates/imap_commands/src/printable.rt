@@ -5,26 +5,26 @@ ghost use Rattle.imap_answers.specs.Printable.{Each, IsFolded, IsNonzero, IsPrin
 ghost use Rattle.imap_answers.specs.Printable.{IsWide};
 ghost use Rattle.imap_commands.specs.Arguments.{CopyArgs, FetchArgs, CopyTarget, OpenMailbox};
 ghost use Rattle.imap_commands.specs.Arguments.{SearchArgs, StoreArgs};
-ghost use Rattle.imap_commands.specs.Appending.{append_report};
+ghost use Rattle.imap_commands.specs.AppendCommand.{append_report};
 ghost use Rattle.imap_commands.specs.SimpleCommands.{IsListReport, capability_report, idle_report};
 ghost use Rattle.imap_commands.specs.SimpleCommands.{logout_report, namespace_report};
 ghost use Rattle.imap_commands.specs.SimpleCommands.{status_report};
-ghost use Rattle.imap_commands.specs.Copying.{copy_report, move_report};
-ghost use Rattle.imap_commands.specs.Enabling.{enable_report};
+ghost use Rattle.imap_commands.specs.CopyCommand.{copy_report, move_report};
+ghost use Rattle.imap_commands.specs.EnableCommand.{enable_report};
 ghost use Rattle.imap_commands.specs.Report.{CommandReport};
 ghost use Rattle.imap_syntax.specs.declared.status.StatusItem.{StatusItem};
 ghost use Rattle.imap_query.specs.declared.list_answers.ListMode.{ListMode};
-ghost use Rattle.imap_commands.specs.Expunging.{uid_expunge_report};
-ghost use Rattle.imap_commands.specs.Fetching.{fetch_report};
-ghost use Rattle.imap_commands.specs.Searching.{IsSearchReport};
-ghost use Rattle.imap_commands.specs.Storing.{store_report};
+ghost use Rattle.imap_commands.specs.ExpungeCommand.{uid_expunge_report};
+ghost use Rattle.imap_commands.specs.FetchCommand.{fetch_report};
+ghost use Rattle.imap_commands.specs.SearchCommand.{IsSearchReport};
+ghost use Rattle.imap_commands.specs.StoreCommand.{store_report};
 ghost use Rattle.imap_syntax.specs.Commands.{IsSpelled};
 ghost use Rattle.imap_syntax.specs.declared.command.Tagged.{Tagged};
 ghost use Rattle.imap_types.specs.declared.sequence_set.SequenceRange.{SequenceRange};
-ghost use Rattle.imap_commands.specs.Printing.{AreAsMany, AreNonzeroMarks, AreShowable};
-ghost use Rattle.imap_commands.specs.Printing.{AreTellable, IsNumbered, IsAnswerable};
-ghost use Rattle.imap_commands.specs.Printing.{IsPrintableTelling};
-ghost use Rattle.imap_commands.specs.Selecting.{IsSelectReport};
+ghost use Rattle.imap_commands.specs.Printing.{HasAllCopies, AreNonzeroCounters, AreShowable};
+ghost use Rattle.imap_commands.specs.Printing.{AreAnswerableItems, IsNumbered, IsAnswerable};
+ghost use Rattle.imap_commands.specs.Printing.{IsPrintableReport};
+ghost use Rattle.imap_commands.specs.SelectCommand.{IsSelectReport};
 ghost use Rattle.imap_query.specs.declared.mailbox_status.MailboxCounters.{MailboxCounters};
 ghost use Rattle.mailbox_rows.specs.ListedMessage.{ListedMessage};
 ghost use Rattle.session_view.specs.Replay.{view_after_reply};
@@ -36,10 +36,12 @@ ghost use Rattle.imap_answers.specs.declared.answer.Answer.{Answer};
 
 /// The reports of SELECT and EXAMINE can be printed.
 pub fn select_is_printable()
-    ensures { (was_selected read_only : Bool) (name : List ℕ) (marks : MailboxCounters)
-        (rows : List ListedMessage) (told : CommandReport) → IsFolded name → AreNonzeroMarks marks
+    ensures { (was_selected read_only : Bool) (name : List ℕ) (counters : MailboxCounters)
+        (rows : List ListedMessage) (report : CommandReport) → IsFolded name
+        → AreNonzeroCounters counters
         → AreShowable rows
-        → IsSelectReport was_selected read_only name marks rows told → IsPrintableTelling told }
+        → IsSelectReport was_selected read_only name counters rows report
+        → IsPrintableReport report }
 {}
 
 /// After any replay and any sync a view's UIDs ascend and have 32 bits.
@@ -55,22 +57,22 @@ pub fn views_stay_numbered()
 /// The report of FETCH can be printed, if the listing after it can be shown.
 pub fn fetch_is_printable()
     ensures { (mailbox : OpenMailbox) (after : List ListedMessage) (condstore : Bool)
-        (asked : FetchArgs)
-        → AreShowable after → IsNumbered mailbox.view → AreTellable asked.items
-        → IsPrintableTelling (fetch_report mailbox after condstore asked) }
+        (request : FetchArgs)
+        → AreShowable after → IsNumbered mailbox.view → AreAnswerableItems request.items
+        → IsPrintableReport (fetch_report mailbox after condstore request) }
 {}
 
 /// The report of STORE can be printed, if the listing after it can be shown.
 pub fn store_is_printable()
     ensures { (mailbox : OpenMailbox) (after : List ListedMessage) (condstore : Bool)
-        (asked : StoreArgs) → AreShowable after → IsNumbered mailbox.view
-        → IsPrintableTelling (store_report mailbox after condstore asked) }
+        (request : StoreArgs) → AreShowable after → IsNumbered mailbox.view
+        → IsPrintableReport (store_report mailbox after condstore request) }
 {}
 
 /// The report of UID EXPUNGE can be printed.
 pub fn uid_expunge_is_printable()
     ensures { (mailbox : OpenMailbox) (uids : List SequenceRange)
-        → IsPrintableTelling (uid_expunge_report mailbox uids) }
+        → IsPrintableReport (uid_expunge_report mailbox uids) }
 {}
 
 /// The answers of a sync can be printed: the expunged messages, the number of messages then, and
@@ -85,50 +87,53 @@ pub fn sync_is_printable()
 /// capitals.
 pub fn list_is_printable()
     ensures { (mode : ListMode) (reference pattern : List ℕ) (folders subscriptions : List (List ℕ))
-        (told : CommandReport) → Each IsFolded folders
+        (report : CommandReport) → Each IsFolded folders
         → Each IsFolded subscriptions
-        → IsListReport mode reference pattern folders subscriptions told → IsPrintableTelling told }
+        → IsListReport mode reference pattern folders subscriptions report
+        → IsPrintableReport report }
 {}
 
 /// The report of STATUS can be printed, if at least one item is requested.
 pub fn status_is_printable()
-    ensures { (name : List ℕ) (items : List StatusItem) (marks : MailboxCounters)
-        (rows : List ListedMessage) → IsFolded name → 0 < length items → AreNonzeroMarks marks
+    ensures { (name : List ℕ) (items : List StatusItem) (counters : MailboxCounters)
+        (rows : List ListedMessage) → IsFolded name → 0 < length items → AreNonzeroCounters counters
         → AreShowable rows
-        → IsPrintableTelling (status_report name items marks rows) }
+        → IsPrintableReport (status_report name items counters rows) }
 {}
 
 /// The reports of ENABLE, CAPABILITY, NAMESPACE, LOGOUT and the start of an IDLE can be printed.
 pub fn constant_answers_are_printable()
-    ensures enable { (names : List (List ℕ)) → IsPrintableTelling (enable_report names) }
-    ensures capability { IsPrintableTelling capability_report }
-    ensures namespace { IsPrintableTelling namespace_report }
-    ensures logout { IsPrintableTelling logout_report }
-    ensures idle { IsPrintableTelling idle_report }
+    ensures enable { (names : List (List ℕ)) → IsPrintableReport (enable_report names) }
+    ensures capability { IsPrintableReport capability_report }
+    ensures namespace { IsPrintableReport namespace_report }
+    ensures logout { IsPrintableReport logout_report }
+    ensures idle { IsPrintableReport idle_report }
 {}
 
 /// The report of SEARCH can be printed.
 pub fn search_is_printable()
-    ensures { (mailbox : OpenMailbox) (tag : List ℕ) (asked : SearchArgs) (told : CommandReport)
+    ensures { (mailbox : OpenMailbox) (tag : List ℕ) (request : SearchArgs) (report : CommandReport)
         → IsTag tag → AreShowable mailbox.rows → IsNumbered mailbox.view
-        → IsSearchReport mailbox tag asked told → IsPrintableTelling told }
+        → IsSearchReport mailbox tag request report → IsPrintableReport report }
 {}
 
 /// The reports of COPY and MOVE can be printed, if the destination got as many messages as were
 /// copied.
 pub fn copies_are_printable()
-    ensures copied { (mailbox : OpenMailbox) (asked : CopyArgs) (landing : CopyTarget)
-        → IsNumbered mailbox.view → IsNonzero landing.uidvalidity → AreShowable landing.rows
-        → AreAsMany mailbox asked landing → IsPrintableTelling (copy_report mailbox asked landing) }
-    ensures moved { (mailbox : OpenMailbox) (asked : CopyArgs) (landing : CopyTarget)
-        → IsNumbered mailbox.view → IsNonzero landing.uidvalidity → AreShowable landing.rows
-        → AreAsMany mailbox asked landing → IsPrintableTelling (move_report mailbox asked landing) }
+    ensures copied { (mailbox : OpenMailbox) (request : CopyArgs) (target : CopyTarget)
+        → IsNumbered mailbox.view → IsNonzero target.uidvalidity → AreShowable target.rows
+        → HasAllCopies mailbox request target
+        → IsPrintableReport (copy_report mailbox request target) }
+    ensures moved { (mailbox : OpenMailbox) (request : CopyArgs) (target : CopyTarget)
+        → IsNumbered mailbox.view → IsNonzero target.uidvalidity → AreShowable target.rows
+        → HasAllCopies mailbox request target
+        → IsPrintableReport (move_report mailbox request target) }
 {}
 
 /// The report of APPEND can be printed.
 pub fn append_is_printable()
     ensures { (uidvalidity uid : ℕ) → IsNonzero uidvalidity → IsNonzero uid
-        → IsPrintableTelling (append_report uidvalidity uid) }
+        → IsPrintableReport (append_report uidvalidity uid) }
 {}
 
 /// A frame that spells a command spells a tag and arguments that can be printed in answers.

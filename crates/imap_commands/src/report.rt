@@ -38,7 +38,7 @@ impl CommandReport {
         CommandReport { own, silent, code }
     }
 
-    /// A report without answers, silent flags and code; takes no memory.
+    /// A report without answers, silent flags and code; doesn't allocate.
     pub fn empty(alloc: Global) -> CommandReport
         ensures { result ≡ empty_report }
     {

@@ -5,7 +5,7 @@ ghost use Rattle.std.specs.Prelude.{◌≡◌, ◌∷◌, [], IfOk};
 ghost use Rattle.imap_commands.specs.SimpleCommands.{IsListReport, capability_report, idle_report};
 ghost use Rattle.imap_commands.specs.SimpleCommands.{logout_report, namespace_report};
 ghost use Rattle.imap_commands.specs.SimpleCommands.{status_report, status_intent};
-ghost use Rattle.imap_commands.specs.Gives.{GivesOrLacksMemory};
+ghost use Rattle.imap_commands.specs.MemoryFaults.{EqualsOrLacksMemory};
 ghost use Rattle.imap_commands.specs.Report.{report_of_answers};
 
 use crate::report::CommandReport;
@@ -28,7 +28,7 @@ pub fn list_report(
     subscriptions: &[Name],
 ) -> Result<CommandReport, AllocError>
     ensures { IfOk result
-        (λ told. IsListReport mode reference.now pattern.now folders.now subscriptions.now told) }
+        (λ sent. IsListReport mode reference.now pattern.now folders.now subscriptions.now sent) }
 {
     let own = list_names(
         alloc,
@@ -43,10 +43,10 @@ pub fn list_report(
 
 /// The intent of STATUS, which issues nothing (RFC 9051, section 6.3.11). `NoSuchMailbox` if the
 /// mailbox doesn't exist.
-pub fn status_intent(alloc: Global, is_there: bool) -> Result<Vec<Kind>, Refusal>
-    ensures { GivesOrLacksMemory (λ kinds. kinds.items) result (status_intent is_there) }
+pub fn status_intent(alloc: Global, exists: bool) -> Result<Vec<Kind>, Refusal>
+    ensures { EqualsOrLacksMemory (λ kinds. kinds.items) result (status_intent exists) }
 {
-    if !is_there {
+    if !exists {
         return Err(Refusal::NoSuchMailbox);
     }
     Ok(Vec::new(alloc))
@@ -58,33 +58,33 @@ pub fn status_report(
     alloc: Global,
     name: &Name,
     items: &[StatusItem],
-    marks: MailboxCounters,
+    counters: MailboxCounters,
     rows: &Rows<'_>,
 ) -> Result<CommandReport, AllocError>
-    ensures { IfOk result (λ told. told ≡ status_report name.now items.now marks rows.now) }
+    ensures { IfOk result (λ sent. sent ≡ status_report name.now items.now counters rows.now) }
 {
     let name = name.copy(alloc)?;
-    let items = status(rows, items, marks);
+    let items = status(rows, items, counters);
     one_answer(alloc, Answer::Status { name, items })
 }
 
 /// The report of CAPABILITY (RFC 9051, section 6.1.1). `Err` if memory runs out.
 pub fn capability_report(alloc: Global) -> Result<CommandReport, AllocError>
-    ensures { IfOk result (λ told. told ≡ capability_report) }
+    ensures { IfOk result (λ sent. sent ≡ capability_report) }
 {
     one_answer(alloc, Answer::Capability)
 }
 
 /// The report of NAMESPACE (RFC 9051, section 6.3.10). `Err` if memory runs out.
 pub fn namespace_report(alloc: Global) -> Result<CommandReport, AllocError>
-    ensures { IfOk result (λ told. told ≡ namespace_report) }
+    ensures { IfOk result (λ sent. sent ≡ namespace_report) }
 {
     one_answer(alloc, Answer::Namespace)
 }
 
 /// The report of LOGOUT (RFC 9051, section 6.1.3). `Err` if memory runs out.
 pub fn logout_report(alloc: Global) -> Result<CommandReport, AllocError>
-    ensures { IfOk result (λ told. told ≡ logout_report) }
+    ensures { IfOk result (λ sent. sent ≡ logout_report) }
 {
     one_answer(
         alloc,
@@ -96,7 +96,7 @@ pub fn logout_report(alloc: Global) -> Result<CommandReport, AllocError>
 
 /// The report when an IDLE begins (RFC 2177, section 3). `Err` if memory runs out.
 pub fn idle_report(alloc: Global) -> Result<CommandReport, AllocError>
-    ensures { IfOk result (λ told. told ≡ idle_report) }
+    ensures { IfOk result (λ sent. sent ≡ idle_report) }
 {
     one_answer(
         alloc,
@@ -108,7 +108,7 @@ pub fn idle_report(alloc: Global) -> Result<CommandReport, AllocError>
 
 /// A report of only this answer. `Err` if memory runs out.
 pub(crate) fn one_answer(alloc: Global, answer: Answer) -> Result<CommandReport, AllocError>
-    ensures { IfOk result (λ told. told ≡ report_of_answers (answer ∷ [])) }
+    ensures { IfOk result (λ sent. sent ≡ report_of_answers (answer ∷ [])) }
 {
     let mut own = Vec::new(alloc);
     own.push(answer)?;

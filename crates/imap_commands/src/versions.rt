@@ -10,11 +10,11 @@ use tags_clocks::OpId;
 
 /// The ids of all versions of a message, as operations name them. A listing's versions have
 /// ascending ids; for other versions the result may be `Err`. `Err` also if memory runs out.
-pub fn old_ids(alloc: Global, versions: &Versions<'_>) -> Result<Ids, AllocError>
-    ensures { IfOk result (λ olds. olds ≡ version_ids versions.now.list.now) }
+pub fn ids_of_versions(alloc: Global, versions: &Versions<'_>) -> Result<Ids, AllocError>
+    ensures { IfOk result (λ old_ids. old_ids ≡ version_ids versions.now.list.now) }
 {
     match Ids::new(ids_of(alloc, versions.as_slice())?) {
-        Ok(olds) => Ok(olds),
+        Ok(old_ids) => Ok(old_ids),
         Err(_) => Err(AllocError),
     }
 }

@@ -97,7 +97,7 @@ listed_from ops low (e ∷ es) o a h =
     let first : low ≤ e.0 = a.0 in
     elim (in_parts o (own_ops e.0 ops) (listed_by ops es) h) [
       | inl t ↦ let same : o.id.replica ≡ e.0 = (own_in e.0 ops o t).1 in omega arith
-      | inr t ↦ let behind : e.0 + 1 ≤ o.id.replica = listed_from ops (e.0 + 1) es o a.2 t in omega arith
+      | inr t ↦ let is_above : e.0 + 1 ≤ o.id.replica = listed_from ops (e.0 + 1) es o a.2 t in omega arith
     ]
 
 -- of one replica's operations in a causal list, the later one has the greater number
@@ -145,7 +145,7 @@ listed_ascending ops low [] a own = tt
 listed_ascending ops low (e ∷ es) a own =
     ascending_append (own_ops e.0 ops) (listed_by ops es) (own e.0) (listed_ascending ops (e.0 + 1) es a.2 own) (λ x y h k.
     let first : x.id.replica ≡ e.0 = (own_in e.0 ops x h).1 in
-    let behind : e.0 + 1 ≤ y.id.replica = listed_from ops (e.0 + 1) es y a.2 k in
+    let is_above : e.0 + 1 ≤ y.id.replica = listed_from ops (e.0 + 1) es y a.2 k in
     inl (omega arith))
 
 -- the operations of the clock's replicas ascend, and are those applied

@@ -1,11 +1,11 @@
-mod AmidLemmas
+mod BetweenOthersLemmas
 mod BatchLemmas
 pub mod CarryLemmas
-pub mod ConversingLemmas
+pub mod ConversationsLemmas
 mod DumpLemmas
 mod EndLemmas
 pub mod FaultLemmas
-pub mod MeanwhileLemmas
+pub mod OtherStepsLemmas
 pub mod NodeEndLemmas
 pub mod NodeTalkLemmas
 mod PlaceLemmas

@@ -2,16 +2,16 @@ use Rattle.std.proofs.Common.{◌≡◌, ◌⊎◌, inl, inr, ℕ, ◌-◌, zero
 use Rattle.imap_commands.specs.declared.session.Session.{Session}
 use Rattle.imap_commands.specs.declared.session.State.{State}
 use Rattle.imap_commands.specs.declared.session.State.TheVariants.{NotAuthenticated, Authenticated, Selected, LoggedOut}
-use Rattle.imap_node.specs.Nodes.{HasLoggedOut, IsGoing, NodeState, with_session_closed}
+use Rattle.imap_node.specs.Nodes.{HasLoggedOut, IsActive, NodeState, with_session_closed}
 use Rattle.imap_node.specs.Sessions.{Places, session_at, with_session}
 
 -- ---- places
 
 -- a place that exists holds what is put in it
-put_there : (places : Places) (i : ℕ) (place : Option Session) (s : Session) → get_or places i None ≡ Some s → get_or (set places i place) i None ≡ place
-put_there [] i place s h = let e : ◌≡◌ {A = Option Session} None (Some s) = h in cc
-put_there (p ∷ places) zero place s h = refl
-put_there (p ∷ places) (suc i) place s h = put_there places i place s h
+get_set_place : (places : Places) (i : ℕ) (place : Option Session) (s : Session) → get_or places i None ≡ Some s → get_or (set places i place) i None ≡ place
+get_set_place [] i place s h = let e : ◌≡◌ {A = Option Session} None (Some s) = h in cc
+get_set_place (p ∷ places) zero place s h = refl
+get_set_place (p ∷ places) (suc i) place s h = get_set_place places i place s h
 
 -- putting back what a place holds changes nothing
 put_again : (places : Places) (i : ℕ) (s : Session) → get_or places i None ≡ Some s → set places i (Some s) ≡ places
@@ -26,16 +26,16 @@ put_twice (p ∷ places) zero first second = refl
 put_twice (p ∷ places) (suc i) first second = ap (λ (qs : Places). p ∷ qs) (put_twice places i first second)
 
 -- the open session with a number
-there : (zeroed : Bool) (places : Places) (i : ℕ) (place : Option Session) (s : Session) → cond zeroed None (get_or places i None) ≡ Some s → cond zeroed None (get_or (set places i place) i None) ≡ place
-there true places i place s h = let e : ◌≡◌ {A = Option Session} None (Some s) = h in cc
-there false places i place s h = put_there places i place s h
+cond_set_place : (zeroed : Bool) (places : Places) (i : ℕ) (place : Option Session) (s : Session) → cond zeroed None (get_or places i None) ≡ Some s → cond zeroed None (get_or (set places i place) i None) ≡ place
+cond_set_place true places i place s h = let e : ◌≡◌ {A = Option Session} None (Some s) = h in cc
+cond_set_place false places i place s h = get_set_place places i place s h
 
 again : (zeroed : Bool) (places : Places) (i : ℕ) (s : Session) → cond zeroed None (get_or places i None) ≡ Some s → set places i (Some s) ≡ places
 again true places i s h = let e : ◌≡◌ {A = Option Session} None (Some s) = h in cc
 again false places i s h = put_again places i s h
 
 pub session_put : (places : Places) (n : ℕ) (place : Option Session) (s : Session) → session_at places n ≡ Some s → session_at (with_session places n place) n ≡ place
-session_put places n place s h = there (eqb n 0) places (n - 1) place s h
+session_put places n place s h = cond_set_place (eqb n 0) places (n - 1) place s h
 
 pub session_again : (places : Places) (n : ℕ) (s : Session) → session_at places n ≡ Some s → with_session places n (Some s) ≡ places
 session_again places n s h = again (eqb n 0) places (n - 1) s h
@@ -59,27 +59,27 @@ state_in None = LoggedOut
 state_in (Some s) = s.state
 
 -- an open session has logged out or not
-pub open_going : (node : NodeState) (n : ℕ) (s : Session) → session_at node.sessions n ≡ Some s → IsGoing node n ⊎ HasLoggedOut node n
-open_going node n s h = elim (out_or_not s.state) [ inl out ↦ inr (s, h, out) | inr on ↦ inl (s, h, on) ]
+pub open_active : (node : NodeState) (n : ℕ) (s : Session) → session_at node.sessions n ≡ Some s → IsActive node n ⊎ HasLoggedOut node n
+open_active node n s h = elim (out_or_not s.state) [ inl out ↦ inr (s, h, out) | inr on ↦ inl (s, h, on) ]
 
 -- a session that logged out doesn't continue
-pub out_stops : (node : NodeState) (n : ℕ) (s : Session) → session_at node.sessions n ≡ Some s → s.state ≡ LoggedOut → IsGoing node n → ⊥
+pub out_stops : (node : NodeState) (n : ℕ) (s : Session) → session_at node.sessions n ≡ Some s → s.state ≡ LoggedOut → IsActive node n → ⊥
 out_stops node n s h out g = g.2 (sym (ap state_in (sym h ∙ g.1)) ∙ out)
 
 -- a session that isn't open doesn't continue
-pub vacant_stops : (node : NodeState) (n : ℕ) → session_at node.sessions n ≡ None → IsGoing node n → ⊥
+pub vacant_stops : (node : NodeState) (n : ℕ) → session_at node.sessions n ≡ None → IsActive node n → ⊥
 vacant_stops node n h g = let e : ◌≡◌ {A = Option Session} None (Some g.0) = sym h ∙ g.1 in cc
 
 -- a session continues, or it doesn't
-going_or_not : (node : NodeState) (n : ℕ) (place : Option Session) → session_at node.sessions n ≡ place → IsGoing node n ⊎ (IsGoing node n → ⊥)
-going_or_not node n None h = inr (vacant_stops node n h)
-going_or_not node n (Some s) h = elim (out_or_not s.state) [ inl out ↦ inr (out_stops node n s h out) | inr on ↦ inl (s, h, on) ]
+active_or_not_at : (node : NodeState) (n : ℕ) (place : Option Session) → session_at node.sessions n ≡ place → IsActive node n ⊎ (IsActive node n → ⊥)
+active_or_not_at node n None h = inr (vacant_stops node n h)
+active_or_not_at node n (Some s) h = elim (out_or_not s.state) [ inl out ↦ inr (out_stops node n s h out) | inr on ↦ inl (s, h, on) ]
 
-pub goes_or_not : (node : NodeState) (n : ℕ) → IsGoing node n ⊎ (IsGoing node n → ⊥)
-goes_or_not node n = going_or_not node n (session_at node.sessions n) refl
+pub active_or_not : (node : NodeState) (n : ℕ) → IsActive node n ⊎ (IsActive node n → ⊥)
+active_or_not node n = active_or_not_at node n (session_at node.sessions n) refl
 
 -- a closed session doesn't continue
-pub closed_stops : (node : NodeState) (n : ℕ) → IsGoing (with_session_closed node n) n → ⊥
+pub closed_stops : (node : NodeState) (n : ℕ) → IsActive (with_session_closed node n) n → ⊥
 closed_stops node n = vacant_stops (with_session_closed node n) n (either (eqb n 0) (vacated node.sessions (n - 1)))
   where
     either : (b : Bool) → {o : Option Session} → o ≡ None → cond b None o ≡ None

@@ -13,28 +13,28 @@ use Rattle.imap_connection.specs.RequestSteps.{Fails, Handles, IsOfLine, IsReque
 use Rattle.imap_connection.specs.Replies.{answers_of, idling_at}
 use Rattle.imap_connection.specs.Talks.{EndsAtRefusedLine}
 use Rattle.imap_connection.specs.declared.request.Request.{Request}
-use Rattle.imap_connection.specs.declared.request.Request.TheVariants.{Told, Command, Line}
+use Rattle.imap_connection.specs.declared.request.Request.TheVariants.{Immediate, Command, Line}
 use Rattle.imap_connection.specs.declared.turn.TalkFaultKind.{TalkFaultKind}
 use Rattle.imap_connection.specs.declared.turn.TalkFaultKind.TheVariants as kinds
 use Rattle.imap_connection.specs.declared.turn.Turn.{Turn}
-use Rattle.imap_connection.proofs.TurnLemmas.{front_behind}
+use Rattle.imap_connection.proofs.TurnLemmas.{prefix_append}
 
 -- a request of an item that is carried out is what the node does with the item
 pub handled : (idling : Option (List ℕ)) (old new : NodeState) (session moment : ℕ) (item : Item) (request : Request) (given : List Answer)
     → IsRequest idling item request → Handles old session moment request given new → TakesItem idling old session moment item given new
-handled idling old new session moment Ready (Told answer) given i h = (h.0 ∙ ap (λ (a : Answer). a ∷ []) i, h.1)
+handled idling old new session moment Ready (Immediate answer) given i h = (h.0 ∙ ap (λ (a : Answer). a ∷ []) i, h.1)
 handled idling old new session moment Ready (Command tagged) given i h = absurd i
 handled idling old new session moment Ready (Line tag line) given i h = absurd i
-handled None old new session moment (Frame octets) (Told answer) given i h = inr (answer, i, h.0, h.1)
+handled None old new session moment (Frame octets) (Immediate answer) given i h = inr (answer, i, h.0, h.1)
 handled None old new session moment (Frame octets) (Command tagged) given i h = inl (tagged, h.0, i, h.1, h.2)
 handled None old new session moment (Frame octets) (Line tag line) given i h = absurd i
-handled None old new session moment (Refused octets) (Told answer) given i h = (answer, i, h.0, h.1)
+handled None old new session moment (Refused octets) (Immediate answer) given i h = (answer, i, h.0, h.1)
 handled None old new session moment (Refused octets) (Command tagged) given i h = absurd i
 handled None old new session moment (Refused octets) (Line tag line) given i h = absurd i
-handled (Some tag) old new session moment (Frame octets) (Told answer) given i h = absurd i
+handled (Some tag) old new session moment (Frame octets) (Immediate answer) given i h = absurd i
 handled (Some tag) old new session moment (Frame octets) (Command tagged) given i h = absurd i
 handled (Some tag) old new session moment (Frame octets) (Line own line) given i h = (line, h.0, i.1, h.1, h.2, h.3 ∙ ap (λ t. answers_of t h.0) i.0)
-handled (Some tag) old new session moment (Refused octets) (Told answer) given i h = absurd i
+handled (Some tag) old new session moment (Refused octets) (Immediate answer) given i h = absurd i
 handled (Some tag) old new session moment (Refused octets) (Command tagged) given i h = absurd i
 handled (Some tag) old new session moment (Refused octets) (Line own line) given i h = (line, h.0, i.1, h.1, h.2, h.3 ∙ ap (λ t. answers_of t h.0) i.0)
 
@@ -48,7 +48,7 @@ of_command (Some tag) (Refused octets) tagged i = absurd i
 -- a line is one of a session that idles
 pub of_line : (idling : Option (List ℕ)) (item : Item) (request : Request) → IsRequest idling item request → IsOfLine request
     → (tag : List ℕ) × (line : IdleLine) × (idling ≡ Some tag) × IsLine item line
-of_line idling item (Told answer) i l = absurd l
+of_line idling item (Immediate answer) i l = absurd l
 of_line idling item (Command tagged) i l = absurd l
 of_line None Ready (Line own line) i l = absurd i
 of_line None (Frame octets) (Line own line) i l = absurd i
@@ -61,17 +61,17 @@ module _ (session moment : ℕ) (item : Item) (before mid after : List Turn) (sh
   took : (given : List Answer) → Handles old session moment request given new → TakesItemAt old session (item_at moment item) given new
   took given h = handled (idling_at old session) old new session moment item request given is h
 
-  behind : (more : List Turn) → after ≡ mid ++ more → after ≡ before ++ (turns_of_item item ++ more)
-  behind more e = e ∙ ap (λ turns. turns ++ more) shown ∙ append_assoc before (turns_of_item item) more
+  after_item : (more : List Turn) → after ≡ mid ++ more → after ≡ before ++ (turns_of_item item ++ more)
+  after_item more e = e ∙ ap (λ turns. turns ++ more) shown ∙ append_assoc before (turns_of_item item) more
 
   -- all answers after what the item shows
   pub item_answered : {T E : Type 0} (r : Result T E) → OnOk r ((given : List Answer) × Handles old session moment request given new × (after ≡ mid ++ turns_of_answers given))
       → OnOk r ((given : List Answer) × TakesItemAt old session (item_at moment item) given new × (after ≡ before ++ turns_of item given))
   item_answered (Err e) o = tt
-  item_answered (Ok x) o = (o.0, took o.0 o.1, behind (turns_of_answers o.0) o.2)
+  item_answered (Ok x) o = (o.0, took o.0 o.1, after_item (turns_of_answers o.0) o.2)
 
-  none_behind : (front : List Turn) → front ≡ [] → IsPrefixOf (turns_of_item item ++ front) (turns_of_item item)
-  none_behind front e = ([], sym (append-nil (turns_of_item item ++ front) ∙ ap (λ f. turns_of_item item ++ f) e ∙ append-nil (turns_of_item item)))
+  prefix_none : (front : List Turn) → front ≡ [] → IsPrefixOf (turns_of_item item ++ front) (turns_of_item item)
+  prefix_none front e = ([], sym (append-nil (turns_of_item item ++ front) ∙ ap (λ f. turns_of_item item ++ f) e ∙ append-nil (turns_of_item item)))
 
   -- memory ran out during the answers
   pub item_broken : {T : Type 0} (r : Result T TalkFaultKind) → IfErr r (λ why. (front : List Turn) × (after ≡ mid ++ front) × Fails why old session moment request front new)
@@ -79,36 +79,36 @@ module _ (session moment : ℕ) (item : Item) (before mid after : List Turn) (sh
   item_broken (Ok x) o = tt
   item_broken (Err kinds.NoMemory) o = (
     turns_of_item item ++ o.0,
-    behind o.0 o.1,
+    after_item o.0 o.1,
     elim o.2 [
-      | inl none ↦ inl (none_behind o.0 none.0, none.1)
-      | inr some ↦ inr (some.0, took some.0 some.1, front_behind (turns_of_item item) o.0 (turns_of_answers some.0) some.2)
+      | inl none ↦ inl (prefix_none o.0 none.0, none.1)
+      | inr some ↦ inr (some.0, took some.0 some.1, prefix_append (turns_of_item item) o.0 (turns_of_answers some.0) some.2)
     ],
   )
   item_broken (Err kinds.LineRefused) o =
-      (turns_of_item item ++ o.0, behind o.0 o.1, (of_line (idling_at old session) item request is o.2.0, ap (λ ts. turns_of_item item ++ ts) o.2.1, o.2.2))
+      (turns_of_item item ++ o.0, after_item o.0 o.1, (of_line (idling_at old session) item request is o.2.0, ap (λ ts. turns_of_item item ++ ts) o.2.1, o.2.2))
   item_broken (Err (kinds.Framing why)) o = absurd o.2
 
--- nothing but what shows the item
+-- only the turns that show the item
 module _ (session moment : ℕ) (item : Item) (before : List Turn) (node : NodeState) where
-  pub item_unheard : (after : List Turn) → after ≡ before → (more : List Turn) × (after ≡ before ++ more) × StopsAt kinds.NoMemory node session (item_at moment item) more node
-  item_unheard after e = ([], e ∙ sym (append-nil before), inl ((turns_of_item item, refl), refl))
+  pub item_not_shown : (after : List Turn) → after ≡ before → (more : List Turn) × (after ≡ before ++ more) × StopsAt kinds.NoMemory node session (item_at moment item) more node
+  item_not_shown after e = ([], e ∙ sym (append-nil before), inl ((turns_of_item item, refl), refl))
 
   pub item_shown : (after : List Turn) → after ≡ before ++ turns_of_item item → (more : List Turn) × (after ≡ before ++ more) × StopsAt kinds.NoMemory node session (item_at moment item) more node
   item_shown after e = (turns_of_item item, e, inl (([], sym (append-nil (turns_of_item item))), refl))
 
 -- an answer that is sent at once
 module _ (session moment : ℕ) (node : NodeState) (answer : Answer) (before after : List Turn) where
-  pub told_sent : {T E : Type 0} (r : Result T E) → OnOk r (after ≡ before ++ turns_of_answers (answer ∷ []))
-      → OnOk r ((given : List Answer) × Handles node session moment (Told answer) given node × (after ≡ before ++ turns_of_answers given))
-  told_sent (Err e) o = tt
-  told_sent (Ok x) o = (answer ∷ [], (refl, refl), o)
+  pub sent_ok : {T E : Type 0} (r : Result T E) → OnOk r (after ≡ before ++ turns_of_answers (answer ∷ []))
+      → OnOk r ((given : List Answer) × Handles node session moment (Immediate answer) given node × (after ≡ before ++ turns_of_answers given))
+  sent_ok (Err e) o = tt
+  sent_ok (Ok x) o = (answer ∷ [], (refl, refl), o)
 
-  pub told_unsent : {T : Type 0} (r : Result T TalkFaultKind) → IfErr r (λ why. (why ≡ kinds.NoMemory) × (after ≡ before))
-      → IfErr r (λ why. (front : List Turn) × (after ≡ before ++ front) × Fails why node session moment (Told answer) front node)
-  told_unsent (Ok x) o = tt
-  told_unsent (Err why) o =
-      subst (λ (k : TalkFaultKind). (front : List Turn) × (after ≡ before ++ front) × Fails k node session moment (Told answer) front node) (sym o.0) ([], o.1 ∙ sym (append-nil before), inl (refl, refl))
+  pub sent_err : {T : Type 0} (r : Result T TalkFaultKind) → IfErr r (λ why. (why ≡ kinds.NoMemory) × (after ≡ before))
+      → IfErr r (λ why. (front : List Turn) × (after ≡ before ++ front) × Fails why node session moment (Immediate answer) front node)
+  sent_err (Ok x) o = tt
+  sent_err (Err why) o =
+      subst (λ (k : TalkFaultKind). (front : List Turn) × (after ≡ before ++ front) × Fails k node session moment (Immediate answer) front node) (sym o.0) ([], o.1 ∙ sym (append-nil before), inl (refl, refl))
 
 -- a line does the same at any moment
 pub line_fails : {T : Type 0} (r : Result T TalkFaultKind) (old new : NodeState) (session moment : ℕ) (tag : List ℕ) (line : IdleLine) (before after : List Turn)

@@ -13,11 +13,11 @@ use Rattle.imap_syntax.specs.declared.command.Tagged.{Tagged}
 use Rattle.imap_connection.specs.PortCalls.{PortCall}
 use Rattle.imap_connection.specs.PortCalls as asked
 use Rattle.imap_connection.specs.Conversation.{IsPrefixOf}
-use Rattle.imap_connection.specs.Endings.{ended_by}
+use Rattle.imap_connection.specs.EndReasons.{ended_by}
 use Rattle.imap_connection.specs.RequestSteps.{IsRequest}
 use Rattle.imap_connection.specs.Replies.{answers_of}
-use Rattle.imap_connection.specs.declared.end_of_conversation.Ended.{Ended}
-use Rattle.imap_connection.specs.declared.end_of_conversation.Ended.TheVariants.{NoMemory}
+use Rattle.imap_connection.specs.declared.end_reason.Ended.{Ended}
+use Rattle.imap_connection.specs.declared.end_reason.Ended.TheVariants.{NoMemory}
 use Rattle.imap_connection.specs.declared.fault.PortFault.{PortFault}
 use Rattle.imap_connection.specs.declared.request.Request.TheVariants as requests
 
@@ -51,23 +51,25 @@ AreAsked items all = ⊥
 module _ {S : Type 0} (steps : S → PortCall → Result Reply PortFault → S → Type 0) where
   -- The port was given these commands, one after another, with these replies. A fault belongs to
   -- the first command without a reply; no command after that one was given.
-  abbrev pub Carries : S → List Tagged → List Reply → Result (Unit {0}) PortFault → S → Type 0
-  Carries old [] [] (Ok all) new = new ≡ old
-  Carries old (tagged ∷ rest) [] (Err fault) new = steps old (asked.Command tagged) (Err fault) new
-  Carries old (tagged ∷ rest) (reply ∷ replies) given new =
+  abbrev pub CarriesCommands : S → List Tagged → List Reply → Result (Unit {0}) PortFault → S
+      → Type 0
+  CarriesCommands old [] [] (Ok all) new = new ≡ old
+  CarriesCommands old (tagged ∷ rest) [] (Err fault) new =
+      steps old (asked.Command tagged) (Err fault) new
+  CarriesCommands old (tagged ∷ rest) (reply ∷ replies) given new =
       (mid : S)
       × steps old (asked.Command tagged) (Ok reply) mid
-      × Carries mid rest replies given new
-  Carries old all replies given new = ⊥
+      × CarriesCommands mid rest replies given new
+  CarriesCommands old all replies given new = ⊥
 
-  -- Commands that were given at once end the conversation, after these answers: memory ran out
+  -- A batch ends the conversation, after these answers: memory ran out
   -- before any was given; the port gave no reply to one of them; or memory ran out for one of the
   -- answers after all were given.
-  abbrev pub Falters : S → List Tagged → Ended → List Answer → S → Type 0
-  Falters old all ended told new =
-      ((ended ≡ NoMemory) × (told ≡ []) × (new ≡ old))
+  abbrev pub EndsInBatch : S → List Tagged → Ended → List Answer → S → Type 0
+  EndsInBatch old all ended answers new =
+      ((ended ≡ NoMemory) × (answers ≡ []) × (new ≡ old))
       ⊎ ((replies : List Reply) × (given : Result (Unit {0}) PortFault)
-      × Carries old all replies given new
+      × CarriesCommands old all replies given new
       × (((fault : PortFault) × (given ≡ Err fault) × (ended ≡ ended_by fault)
-      × (told ≡ answers_by (tags_of all) replies))
-      ⊎ ((ended ≡ NoMemory) × IsPrefixOf told (answers_by (tags_of all) replies))))
+      × (answers ≡ answers_by (tags_of all) replies))
+      ⊎ ((ended ≡ NoMemory) × IsPrefixOf answers (answers_by (tags_of all) replies))))

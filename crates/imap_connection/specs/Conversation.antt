@@ -8,17 +8,17 @@ use Rattle.imap_syntax.specs.declared.idle.IdleLine.{IdleLine}
 use Rattle.imap_syntax.specs.declared.idle.IdleLine.TheVariants.{Done, Other}
 use Rattle.imap_lex.specs.declared.item.Item.{Item}
 use Rattle.imap_lex.specs.declared.item.Item.TheVariants.{Ready, Frame, Refused}
-use Rattle.imap_answers.specs.Printed.{text_of_answer}
+use Rattle.imap_answers.specs.AnswerText.{text_of_answer}
 use Rattle.imap_answers.specs.declared.answer.Answer.{Answer}
 use Rattle.imap_answers.specs.declared.answer.Answer.TheVariants.{Bye, Continue}
 use Rattle.imap_answers.specs.declared.fixed_words.ByeReason.TheVariants as reasons
 use Rattle.imap_answers.specs.declared.fixed_words.Continuation.TheVariants as continuations
-use Rattle.imap_node.specs.Nodes.{HasLoggedOut, IsGoing, NodeState, with_session_closed}
+use Rattle.imap_node.specs.Nodes.{HasLoggedOut, IsActive, NodeState, with_session_closed}
 use Rattle.imap_node.specs.Responses.{Responds}
 use Rattle.imap_node.specs.declared.input.Input.TheVariants.{Command, Line}
 use Rattle.imap_node.specs.declared.reply.Reply.{Reply}
 use Rattle.imap_connection.specs.FaultAnswers.{IsFaultAnswer, IsLiteralAnswer}
-use Rattle.imap_connection.specs.Replies.{answers_of, idling_at, is_without_memory}
+use Rattle.imap_connection.specs.Replies.{answers_of, idling_at, is_out_of_memory}
 use Rattle.imap_connection.specs.declared.turn.TalkFaultKind.{TalkFaultKind}
 use Rattle.imap_connection.specs.declared.turn.TalkFaultKind.TheVariants as kinds
 use Rattle.imap_connection.specs.declared.turn.Turn.{Turn}
@@ -82,7 +82,7 @@ TakesLine old session tag item given new =
     × (reply : Reply)
     × IsLine item line
     × Responds old session (Line line) reply new
-    × (is_without_memory reply ≡ false)
+    × (is_out_of_memory reply ≡ false)
     × (given ≡ answers_of tag reply)
 
 -- The node takes an item of the framer and gives these answers, if the session idles with this tag,
@@ -101,8 +101,8 @@ TakesItem (Some tag) old session moment (Refused octets) given new =
 
 -- The node takes an item at the moment at which it came, and gives these answers.
 abbrev pub TakesItemAt : NodeState → ℕ → TimedItem → List Answer → NodeState → Type 0
-TakesItemAt old session came given new =
-    TakesItem (idling_at old session) old session came.moment came.item given new
+TakesItemAt old session timed given new =
+    TakesItem (idling_at old session) old session timed.moment timed.item given new
 
 -- ---- many items
 
@@ -110,12 +110,12 @@ TakesItemAt old session came given new =
 -- answered OK, after which the session is closed and the rest is dropped.
 abbrev pub Converses : NodeState → ℕ → List TimedItem → List Turn → NodeState → Type 0
 Converses old session [] turns new = (turns ≡ []) × (new ≡ old)
-Converses old session (came ∷ items) turns new =
-    (given : List Answer) × (mid : NodeState) × TakesItemAt old session came given mid
-    × ((IsGoing mid session
-    × ((rest : List Turn) × (turns ≡ turns_of came.item given ++ rest)
+Converses old session (timed ∷ items) turns new =
+    (given : List Answer) × (mid : NodeState) × TakesItemAt old session timed given mid
+    × ((IsActive mid session
+    × ((rest : List Turn) × (turns ≡ turns_of timed.item given ++ rest)
     × Converses mid session items rest new))
-    ⊎ (HasLoggedOut mid session × (turns ≡ turns_of came.item given)
+    ⊎ (HasLoggedOut mid session × (turns ≡ turns_of timed.item given)
     × (new ≡ with_session_closed mid session)))
 
 -- The first list is an initial part of the second.
@@ -131,16 +131,16 @@ IsIdleLine node session item =
 abbrev pub StopsAt : TalkFaultKind → NodeState → ℕ → TimedItem → List Turn → NodeState → Type 0
 -- Memory ran out during its answers: it was not carried out; or it was, and some of its turns were
 -- added.
-StopsAt kinds.NoMemory old session came turns new =
-    (IsPrefixOf turns (turns_of_item came.item) × (new ≡ old))
-    ⊎ ((given : List Answer) × TakesItemAt old session came given new
-    × IsPrefixOf turns (turns_of came.item given))
+StopsAt kinds.NoMemory old session timed turns new =
+    (IsPrefixOf turns (turns_of_item timed.item) × (new ≡ old))
+    ⊎ ((given : List Answer) × TakesItemAt old session timed given new
+    × IsPrefixOf turns (turns_of timed.item given))
 -- A line of IDLE was refused because memory ran out: nothing changed, and a BYE says so.
-StopsAt kinds.LineRefused old session came turns new =
-    IsIdleLine old session came.item
-    × (turns ≡ turns_of came.item (Bye reasons.NoMemory ∷ []))
+StopsAt kinds.LineRefused old session timed turns new =
+    IsIdleLine old session timed.item
+    × (turns ≡ turns_of timed.item (Bye reasons.NoMemory ∷ []))
     × (new ≡ old)
-StopsAt (kinds.Framing why) old session came turns new = ⊥
+StopsAt (kinds.Framing why) old session timed turns new = ⊥
 
 -- The turns of a conversation over these items that was broken off: those of some items in full,
 -- then what the item at which it stops shows; or, if memory ran out, those of all items in full.
@@ -149,10 +149,10 @@ abbrev pub BreaksOff : TalkFaultKind → NodeState → ℕ → List TimedItem �
     → Type 0
 BreaksOff why old session [] turns new =
     (why ≡ kinds.NoMemory) × (turns ≡ []) × (new ≡ with_session_closed old session)
-BreaksOff why old session (came ∷ items) turns new =
-    ((mid : NodeState) × StopsAt why old session came turns mid
+BreaksOff why old session (timed ∷ items) turns new =
+    ((mid : NodeState) × StopsAt why old session timed turns mid
     × (new ≡ with_session_closed mid session))
-    ⊎ ((given : List Answer) × (mid : NodeState) × TakesItemAt old session came given mid
-    × IsGoing mid session
-    × ((rest : List Turn) × (turns ≡ turns_of came.item given ++ rest)
+    ⊎ ((given : List Answer) × (mid : NodeState) × TakesItemAt old session timed given mid
+    × IsActive mid session
+    × ((rest : List Turn) × (turns ≡ turns_of timed.item given ++ rest)
     × BreaksOff why mid session items rest new))

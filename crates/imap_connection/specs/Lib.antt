@@ -1,10 +1,10 @@
 pub mod PortCalls
 pub mod Batches
 pub mod Conversation
-pub mod Conversing
+pub mod Conversations
 pub mod Devices
 pub mod Dumps
-pub mod Endings
+pub mod EndReasons
 pub mod FaultAnswers
 pub mod RequestSteps
 pub mod NodePorts

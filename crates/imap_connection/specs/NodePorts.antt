@@ -5,7 +5,7 @@ use Rattle.causal_inbox.specs.declared.delivery.Arrival.{Arrival}
 use Rattle.causal_inbox.specs.declared.delivery.DeliverFault.{DeliverFault}
 use Rattle.crdt_ops.specs.declared.op.Op.{Op}
 use Rattle.imap_answers.specs.declared.fixed_words.Login.{Login}
-use Rattle.imap_answers.specs.declared.fixed_words.Login.TheVariants.{Given, Wanted}
+use Rattle.imap_answers.specs.declared.fixed_words.Login.TheVariants.{PreAuthenticated, Required}
 use Rattle.imap_node.specs.Deliveries.{Delivers, IsRefusedAt}
 use Rattle.imap_node.specs.Nodes.{NodeState, with_session_closed}
 use Rattle.imap_node.specs.Responses.{Responds}
@@ -32,13 +32,13 @@ pub record NodeSession (O : Type 0) : Type 0 where
   pub others : O
 
 -- No session is open.
-abbrev pub IsAway : {O : Type 0} → NodeSession O → Type 0
-IsAway {O} s = (n : ℕ) → s.session ≡ Some n → IsOpen s.node.sessions n → ⊥
+abbrev pub HasNoSession : {O : Type 0} → NodeSession O → Type 0
+HasNoSession {O} s = (n : ℕ) → s.session ≡ Some n → IsOpen s.node.sessions n → ⊥
 
--- What a greeting says of a user who becomes known so (RFC 9051, section 7.1.4).
+-- The login that a greeting reports, by authentication (RFC 9051, section 7.1.4).
 abbrev pub login_by : Auth → Login
-login_by Preauth = Given
-login_by (Password credentials) = Wanted
+login_by Preauth = PreAuthenticated
+login_by (Password credentials) = Required
 
 -- Why no session was opened: all numbers are open; memory ran out; or it isn't the first attempt.
 abbrev pub IsUnopened : {O : Type 0} → NodeSession O → PortFault → Type 0
@@ -68,16 +68,16 @@ NodeOpens {O} old (Ok login) new =
     × (old.auth ≡ Some auth)
     × (new.auth ≡ None)
 
--- `comes` is a turn of the others: their state before it, the session's number, the node before it,
+-- `takes_turn` is a turn of the others: their state before it, the session, the node before it,
 -- the moment at which the session's next command comes, the node after it, and their state after
 -- it.
-module _ {O : Type 0} (comes : O → ℕ → NodeState → ℕ → NodeState → O → Type 0) where
+module _ {O : Type 0} (takes_turn : O → ℕ → NodeState → ℕ → NodeState → O → Type 0) where
   -- Others took a turn at the node of a port, during its session: what came to the node is exactly
   -- what they do, and consists of deliveries and what other sessions do.
   pub record TakesTurn (old : NodeSession O) (n : ℕ) (moment : ℕ) (mid : NodeState) (others : O) :
       Type 0 where
-    pub beside : SomeOtherSteps n old.node mid
-    pub just : comes old.others n old.node moment mid others
+    pub other_steps : SomeOtherSteps n old.node mid
+    pub exact : takes_turn old.others n old.node moment mid others
 
   -- Others took a turn, and then the node responded to the port's input as defined.
   pub record RespondsTo (old : NodeSession O) (input : ℕ → Input) (reply : Reply)
@@ -93,19 +93,19 @@ module _ {O : Type 0} (comes : O → ℕ → NodeState → ℕ → NodeState →
 
   -- The node before and after a call, and its reply. Nothing changes if no session is open.
   abbrev pub NodeSteps : NodeSession O → PortCall → Result Reply PortFault → NodeSession O → Type 0
-  NodeSteps old call (Err fault) new = (fault ≡ PassedOver) × (new ≡ old) × IsAway old
+  NodeSteps old call (Err fault) new = (fault ≡ PassedOver) × (new ≡ old) × HasNoSession old
   NodeSteps old (asked.Command tagged) (Ok reply) new =
       RespondsTo old (λ moment. inputs.Command moment tagged) reply new
   NodeSteps old (asked.Line line) (Ok reply) new =
       RespondsTo old (λ moment. inputs.Line line) reply new
 
   -- Others took a turn, and then the session was closed.
-  pub record Shuts (old : NodeSession O) (new : NodeSession O) : Type 0 where
+  pub record ClosesSession (old : NodeSession O) (new : NodeSession O) : Type 0 where
     pub number : ℕ
     pub moment : ℕ
     pub mid : NodeState
     pub opened : old.session ≡ Some number
-    pub there : IsOpen old.node.sessions number
+    pub is_open : IsOpen old.node.sessions number
     pub turn : TakesTurn old number moment mid new.others
     pub closes : new.node ≡ with_session_closed mid number
     pub session : new.session ≡ None
@@ -113,23 +113,23 @@ module _ {O : Type 0} (comes : O → ℕ → NodeState → ℕ → NodeState →
 
   -- The node before and after the close: the session is closed, if one is open.
   abbrev pub NodeCloses : NodeSession O → NodeSession O → Type 0
-  NodeCloses old new = (IsAway old × (new ≡ old)) ⊎ Shuts old new
+  NodeCloses old new = (HasNoSession old × (new ≡ old)) ⊎ ClosesSession old new
 
 -- ---- others
 
 -- Nobody else comes, and commands come at this moment.
-abbrev pub NobodyComes : ℕ → ℕ → NodeState → ℕ → NodeState → ℕ → Type 0
-NobodyComes old n node moment mid new = (moment ≡ old) × (mid ≡ node) × (new ≡ old)
+abbrev pub IsEmptyTurn : ℕ → ℕ → NodeState → ℕ → NodeState → ℕ → Type 0
+IsEmptyTurn old n node moment mid new = (moment ≡ old) × (mid ≡ node) × (new ≡ old)
 
 -- An operation was delivered to a node, which received or refused it.
-abbrev pub IsHanded : NodeState → Op → NodeState → Type 0
-IsHanded node op mid =
+abbrev pub IsDeliveredOrRefused : NodeState → Op → NodeState → Type 0
+IsDeliveredOrRefused node op mid =
     ((arrival : Arrival) × Delivers node op arrival mid)
     ⊎ ((why : DeliverFault) × IsRefusedAt node op why × (mid ≡ node))
 
 -- The last of these operations was delivered to the node, and those before it are left; or there
 -- are none.
-abbrev pub LastIsHanded : List Op → NodeState → NodeState → List Op → Type 0
-LastIsHanded ops node mid left =
+abbrev pub LastIsDelivered : List Op → NodeState → NodeState → List Op → Type 0
+LastIsDelivered ops node mid left =
     ((ops ≡ []) × (left ≡ []) × (mid ≡ node))
-    ⊎ ((op : Op) × (ops ≡ left ++ op ∷ []) × IsHanded node op mid)
+    ⊎ ((op : Op) × (ops ≡ left ++ op ∷ []) × IsDeliveredOrRefused node op mid)

@@ -2,14 +2,14 @@
 
 use Rattle.std.specs.Prelude.{◌≡◌, ℕ, Option, Some, List, [], ◌∷◌, ◌++◌, map, Ok}
 use Rattle.std.specs.List.{flat_map}
-use Rattle.imap_answers.specs.Printed.{text_of_answer}
+use Rattle.imap_answers.specs.AnswerText.{text_of_answer}
 use Rattle.imap_answers.specs.declared.answer.Answer.TheVariants.{Greeting}
-use Rattle.imap_lex.specs.Framing.{cut_onward, start}
+use Rattle.imap_lex.specs.Framing.{cut_from, start}
 use Rattle.imap_lex.specs.declared.fault.FrameFaultKind.TheVariants.{LineTooLong, LiteralTooLong}
 use Rattle.imap_lex.specs.declared.fault.FrameFaultKind.TheVariants.{NulByte}
 use Rattle.imap_lex.specs.declared.item.Item.{Item}
 use Rattle.imap_lex.specs.declared.limits.Limits.{Limits}
-use Rattle.imap_node.specs.Nodes.{HasLoggedOut, IsGoing, NodeState, with_session_closed}
+use Rattle.imap_node.specs.Nodes.{HasLoggedOut, IsActive, NodeState, with_session_closed}
 use Rattle.imap_node.specs.Sessions.{Opens}
 use Rattle.imap_node.specs.declared.sessions.Auth.{Auth}
 use Rattle.imap_connection.specs.Conversation.{item_at}
@@ -17,12 +17,12 @@ use Rattle.imap_connection.specs.Replies.{idling_at}
 use Rattle.imap_connection.specs.Streams.{ConversesBetweenOthers, SomeOtherSteps, ItemsAt}
 use Rattle.imap_connection.specs.declared.turn.Turn.{Turn}
 use Rattle.imap_connection.specs.declared.turn.Turn.TheVariants.{Got, Sent}
-use Rattle.imap_connection.specs.Endings.{bye_text_of}
+use Rattle.imap_connection.specs.EndReasons.{bye_text_of}
 use Rattle.imap_connection.specs.NodePorts.{NodeSession, login_by}
-use Rattle.imap_connection.specs.declared.end_of_conversation.Ended.{Ended}
-use Rattle.imap_connection.specs.declared.end_of_conversation.Ended.TheVariants.{Logout, PeerClosed}
-use Rattle.imap_connection.specs.declared.end_of_conversation.Ended.TheVariants.{Framing}
-use Rattle.imap_connection.specs.declared.end_of_conversation.Ended.TheVariants.{ReadFailed}
+use Rattle.imap_connection.specs.declared.end_reason.Ended.{Ended}
+use Rattle.imap_connection.specs.declared.end_reason.Ended.TheVariants.{Logout, PeerClosed}
+use Rattle.imap_connection.specs.declared.end_reason.Ended.TheVariants.{Framing}
+use Rattle.imap_connection.specs.declared.end_reason.Ended.TheVariants.{ReadFailed}
 
 -- The octets that a conversation's turns send, one after another.
 abbrev pub text_of_turn : Turn → List ℕ
@@ -37,7 +37,7 @@ text_sent turns = flat_map text_of_turn turns
 pub record IsOpenSession {O : Type 0} (port : NodeSession O) (n : ℕ) (idling : Option (List ℕ)) :
     Type 0 where
   pub session : port.session ≡ Some n
-  pub going : IsGoing port.node n
+  pub active : IsActive port.node n
   pub idles : idling_at port.node n ≡ idling
 
 -- An end after all that the client sent, or after a LOGOUT: memory didn't run out, and no write
@@ -59,30 +59,30 @@ pub record ItemAt : Type 0 where
 
 -- Each item on its own: others may come to the node between any two.
 abbrev pub items_at_one : ItemAt → ItemsAt
-items_at_one came = record { node = came.node; items = item_at came.moment came.item ∷ [] }
+items_at_one placed = record { node = placed.node; items = item_at placed.moment placed.item ∷ [] }
 
 abbrev pub items_at_each_one : List ItemAt → List ItemsAt
 items_at_each_one all = map items_at_one all
 
 -- The items without their nodes and moments.
 abbrev pub items_of : List ItemAt → List Item
-items_of all = map (λ (came : ItemAt). came.item) all
+items_of all = map (λ (placed : ItemAt). placed.item) all
 
 -- The node has had the conversation over these items, with these turns, while others came between
 -- any two, and closed the session, before which others may have come too: after a LOGOUT, or at the
 -- end of the items.
-abbrev pub Closes : Ended → NodeState → ℕ → List ItemsAt → List Turn → NodeState → Type 0
-Closes Logout first n given turns new =
+abbrev pub ClosesAfter : Ended → NodeState → ℕ → List ItemsAt → List Turn → NodeState → Type 0
+ClosesAfter Logout first n given turns new =
     (out : NodeState)
     × (last : NodeState)
     × HasLoggedOut out n
     × ConversesBetweenOthers first n given turns (with_session_closed out n)
     × SomeOtherSteps n out last
     × (new ≡ with_session_closed last n)
-Closes ended first n given turns new =
+ClosesAfter ended first n given turns new =
     (last : NodeState)
     × ConversesBetweenOthers first n given turns last
-    × IsGoing last n
+    × IsActive last n
     × (new ≡ with_session_closed last n)
 
 -- A session is opened at a node for a user who becomes known by `auth`, and has the node's
@@ -90,14 +90,14 @@ Closes ended first n given turns new =
 -- it came; it is closed; and the text written is the greeting, what the turns send, and the BYE of
 -- the end.
 pub record TalksAtNode (old : NodeState) (auth : Auth) (limits : Limits) (octets : List ℕ)
-    (ended : Ended) (said : List ℕ) (new : NodeState) : Type 0 where
+    (ended : Ended) (output : List ℕ) (new : NodeState) : Type 0 where
   pub session : ℕ
   pub first : NodeState
   pub opens : Opens old.sessions auth session first.sessions
   pub first_is : first ≡ record old { sessions = first.sessions }
-  pub came : List ItemAt
-  pub items : items_of came ≡ (cut_onward limits (Ok start) octets).0
+  pub placed : List ItemAt
+  pub items : items_of placed ≡ (cut_from limits (Ok start) octets).0
   pub turns : List Turn
-  pub closes : Closes ended first session (items_at_each_one came) turns new
-  pub said_is : said
+  pub closes : ClosesAfter ended first session (items_at_each_one placed) turns new
+  pub output_is : output
       ≡ text_of_answer (Greeting (login_by auth)) ++ text_sent turns ++ bye_text_of ended

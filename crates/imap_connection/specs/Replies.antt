@@ -17,7 +17,7 @@ use Rattle.imap_node.specs.declared.reply.Reply.TheVariants.{Done, Refused}
 -- the tagged line.
 abbrev pub refused_answers : List ℕ → Refusal → Bool → List Answer
 refused_answers tag why closed =
-    if closed then answers.Tell Closed ∷ answers.Refused tag why ∷ []
+    if closed then answers.UntaggedOk Closed ∷ answers.Refused tag why ∷ []
     else answers.Refused tag why ∷ []
 
 -- The answers of a reply to the command or the IDLE with this tag, in the order in which they are
@@ -32,10 +32,10 @@ polled_answers (Done given silent issued) = given
 polled_answers (Refused why closed) = []
 
 -- The input was refused because memory ran out.
-abbrev pub is_without_memory : Reply → Bool
-is_without_memory (Done given silent issued) = false
-is_without_memory (Refused NoMemory closed) = true
-is_without_memory (Refused why closed) = false
+abbrev pub is_out_of_memory : Reply → Bool
+is_out_of_memory (Done given silent issued) = false
+is_out_of_memory (Refused NoMemory closed) = true
+is_out_of_memory (Refused why closed) = false
 
 -- The tag of the IDLE that the session is in, if it idles.
 abbrev pub tag_of_idling : Option Session → Option (List ℕ)

@@ -19,28 +19,28 @@ use Rattle.imap_node.specs.declared.input.Input.TheVariants as inputs
 use Rattle.imap_node.specs.declared.reply.Reply.{Reply}
 use Rattle.imap_connection.specs.Conversation.{IsPrefixOf, IsLine, turns_of_answers}
 use Rattle.imap_connection.specs.FaultAnswers.{IsFaultAnswer, IsLiteralAnswer}
-use Rattle.imap_connection.specs.Replies.{answers_of, is_without_memory}
+use Rattle.imap_connection.specs.Replies.{answers_of, is_out_of_memory}
 use Rattle.imap_connection.specs.declared.request.Request.{Request}
-use Rattle.imap_connection.specs.declared.request.Request.TheVariants.{Told, Command, Line}
+use Rattle.imap_connection.specs.declared.request.Request.TheVariants.{Immediate, Command, Line}
 use Rattle.imap_connection.specs.declared.turn.TalkFaultKind.{TalkFaultKind}
 use Rattle.imap_connection.specs.declared.turn.TalkFaultKind.TheVariants as kinds
 use Rattle.imap_connection.specs.declared.turn.Turn.{Turn}
 
--- What an item is to a session that idles with this tag, or doesn't idle: the leave to continue
--- with a literal, the answer to a fault or to a command beginning that is refused for its literal;
+-- What an item is to a session that idles with this tag, or doesn't idle: a continuation request
+-- for a literal, the answer to a fault or to a command beginning that is refused for its literal;
 -- the command that it spells; or a line (RFC 2177, section 3).
 abbrev pub IsRequest : Option (List ℕ) → Item → Request → Type 0
-IsRequest idling Ready (Told answer) = answer ≡ answers.Continue continuations.Ready
-IsRequest None (Frame octets) (Told answer) = IsFaultAnswer octets answer
+IsRequest idling Ready (Immediate answer) = answer ≡ answers.Continue continuations.Ready
+IsRequest None (Frame octets) (Immediate answer) = IsFaultAnswer octets answer
 IsRequest None (Frame octets) (Command tagged) = IsSpelled tagged octets
-IsRequest None (Refused octets) (Told answer) = IsLiteralAnswer octets answer
+IsRequest None (Refused octets) (Immediate answer) = IsLiteralAnswer octets answer
 IsRequest (Some tag) (Frame octets) (Line own line) = (own ≡ tag) × IsLine (Frame octets) line
 IsRequest (Some tag) (Refused octets) (Line own line) = (own ≡ tag) × IsLine (Refused octets) line
 IsRequest idling item request = ⊥
 
 -- The node carries out a request, and gives these answers.
 abbrev pub Handles : NodeState → ℕ → ℕ → Request → List Answer → NodeState → Type 0
-Handles old session moment (Told answer) given new = (given ≡ answer ∷ []) × (new ≡ old)
+Handles old session moment (Immediate answer) given new = (given ≡ answer ∷ []) × (new ≡ old)
 Handles old session moment (Command tagged) given new =
     (reply : Reply)
     × Responds old session (inputs.Command moment tagged) reply new
@@ -48,7 +48,7 @@ Handles old session moment (Command tagged) given new =
 Handles old session moment (Line tag line) given new =
     (reply : Reply)
     × Responds old session (inputs.Line line) reply new
-    × (is_without_memory reply ≡ false)
+    × (is_out_of_memory reply ≡ false)
     × (given ≡ answers_of tag reply)
 
 -- The request is a line of IDLE.

@@ -4,7 +4,7 @@
 use Rattle.std.specs.Prelude.{◌≡◌, ◌⊎◌, ℕ, Bool, true, false, ◌&&◌, Option, Some, None, List, []}
 use Rattle.std.specs.Prelude.{◌∷◌, Result, Ok, Err, if◌then◌else◌}
 use Rattle.std.specs.List.{flat_map}
-use Rattle.imap_answers.specs.Printed.{text_of_answer}
+use Rattle.imap_answers.specs.AnswerText.{text_of_answer}
 use Rattle.imap_answers.specs.declared.answer.Answer.{Answer}
 use Rattle.imap_syntax.specs.declared.command.Command.{Command}
 use Rattle.imap_syntax.specs.declared.command.Command.TheVariants as commands
@@ -16,7 +16,7 @@ pub use Rattle.imap_node.specs.Replies.{is_done}
 use Rattle.imap_node.specs.declared.reply.Reply.{Reply}
 use Rattle.imap_connection.specs.Conversation.{IsPrefixOf}
 use Rattle.imap_connection.specs.RequestSteps.{IsRequest}
-use Rattle.imap_connection.specs.Replies.{answers_of, is_without_memory}
+use Rattle.imap_connection.specs.Replies.{answers_of, is_out_of_memory}
 use Rattle.imap_connection.specs.declared.request.Request.{Request}
 use Rattle.imap_connection.specs.declared.request.Request.TheVariants as requests
 use Rattle.imap_connection.specs.declared.request_steps.Asking.{Asking}
@@ -24,9 +24,9 @@ use Rattle.imap_connection.specs.declared.request_steps.Asking.TheVariants.{Late
 use Rattle.imap_connection.specs.Batches.{is_brief}
 use Rattle.imap_connection.specs.PortCalls.{PortCall}
 use Rattle.imap_connection.specs.PortCalls as asked
-use Rattle.imap_connection.specs.Endings.{ended_by}
-use Rattle.imap_connection.specs.declared.end_of_conversation.Ended.{Ended}
-use Rattle.imap_connection.specs.declared.end_of_conversation.Ended.TheVariants.{Logout, NoMemory}
+use Rattle.imap_connection.specs.EndReasons.{ended_by}
+use Rattle.imap_connection.specs.declared.end_reason.Ended.{Ended}
+use Rattle.imap_connection.specs.declared.end_reason.Ended.TheVariants.{Logout, NoMemory}
 use Rattle.imap_connection.specs.declared.fault.PortFault.{PortFault}
 
 -- The text of answers, one after another; and whether a command is LOGOUT.
@@ -48,7 +48,7 @@ logs_out tagged reply = is_logout tagged.command && is_done reply
 
 -- The call that a request makes of the port.
 abbrev pub call_of : Request → Option PortCall
-call_of (requests.Told answer) = None
+call_of (requests.Immediate answer) = None
 call_of (requests.Command tagged) = Some (asked.Command tagged)
 call_of (requests.Line tag line) = Some (asked.Line line)
 
@@ -69,7 +69,7 @@ module _ {S : Type 0} (steps : S → PortCall → Result Reply PortFault → S �
   -- out.
   abbrev pub Handles : S → Option (List ℕ) → Request → List Answer → S → Option (List ℕ) → Bool
       → Type 0
-  Handles old idling (requests.Told answer) given new after out =
+  Handles old idling (requests.Immediate answer) given new after out =
       (given ≡ answer ∷ []) × (new ≡ old) × (after ≡ idling) × (out ≡ false)
   Handles old idling (requests.Command tagged) given new after out =
       (reply : Reply)
@@ -80,7 +80,7 @@ module _ {S : Type 0} (steps : S → PortCall → Result Reply PortFault → S �
   Handles old idling (requests.Line tag line) given new after out =
       (reply : Reply)
       × steps old (asked.Line line) (Ok reply) new
-      × (is_without_memory reply ≡ false)
+      × (is_out_of_memory reply ≡ false)
       × (given ≡ answers_of tag reply)
       × (after ≡ None)
       × (out ≡ false)
@@ -102,14 +102,14 @@ module _ {S : Type 0} (steps : S → PortCall → Result Reply PortFault → S �
       × (reply : Reply)
       × (call_of request ≡ Some (asked.Line line))
       × steps old (asked.Line line) (Ok reply) new
-      × (is_without_memory reply ≡ true)
+      × (is_out_of_memory reply ≡ true)
       × (ended ≡ NoMemory) × (given ≡ [])
 
   -- A request ends the conversation, after these answers: a LOGOUT was answered OK; memory ran out
   -- for one of the answers; a line of IDLE was refused because memory ran out; or the port gave no
   -- reply.
-  abbrev pub Stops : S → Option (List ℕ) → Request → Ended → List Answer → S → Type 0
-  Stops old idling request ended given new =
+  abbrev pub EndsAtRequest : S → Option (List ℕ) → Request → Ended → List Answer → S → Type 0
+  EndsAtRequest old idling request ended given new =
       ((ended ≡ Logout)
       × ((after : Option (List ℕ)) × Handles old idling request given new after true))
       ⊎ (((ended ≡ NoMemory)
@@ -122,7 +122,7 @@ module _ {S : Type 0} (steps : S → PortCall → Result Reply PortFault → S �
   -- conversation.
   abbrev pub Fails : S → Option (List ℕ) → Request → Ended → List Answer → S → Type 0
   Fails old idling request ended given new =
-      IsUnasked old ended given new ⊎ Stops old idling request ended given new
+      IsUnasked old ended given new ⊎ EndsAtRequest old idling request ended given new
 
   -- An item is answered.
   abbrev pub Takes : S → Option (List ℕ) → Item → List Answer → S → Option (List ℕ) → Bool → Type 0
@@ -137,4 +137,4 @@ module _ {S : Type 0} (steps : S → PortCall → Result Reply PortFault → S �
   StopsAt old idling item ended given new =
       IsUnasked old ended given new
       ⊎ ((request : Request) × IsRequest idling item request
-      × Stops old idling request ended given new)
+      × EndsAtRequest old idling request ended given new)

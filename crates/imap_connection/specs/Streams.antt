@@ -5,12 +5,12 @@ use Rattle.std.specs.Prelude.{◌≡◌, ◌≢◌, ◌⊎◌, ℕ, zero, suc, L
 use Rattle.std.specs.List.{flat_map}
 use Rattle.causal_inbox.specs.declared.delivery.Arrival.{Arrival}
 use Rattle.crdt_ops.specs.declared.op.Op.{Op}
-use Rattle.imap_lex.specs.Framing.{FrameProgress, cut_onward}
+use Rattle.imap_lex.specs.Framing.{FrameProgress, cut_from}
 use Rattle.imap_lex.specs.declared.fault.FrameFaultKind.{FrameFaultKind}
 use Rattle.imap_lex.specs.declared.item.Item.{Item}
 use Rattle.imap_lex.specs.declared.limits.Limits.{Limits}
 use Rattle.imap_node.specs.Deliveries.{Delivers, Drains}
-use Rattle.imap_node.specs.Nodes.{IsGoing, NodeState, with_session_closed}
+use Rattle.imap_node.specs.Nodes.{IsActive, NodeState, with_session_closed}
 use Rattle.imap_node.specs.Responses.{Responds}
 use Rattle.imap_node.specs.Sessions.{IsOpen, Opens}
 use Rattle.imap_node.specs.declared.input.Input.{Input}
@@ -34,7 +34,7 @@ octets_in pieces = flat_map (λ (piece : Piece). piece.octets) pieces
 
 -- What the octets of a piece give.
 abbrev pub cut_by : Limits → Result FrameProgress FrameFaultKind → Piece → TimedCut
-cut_by limits state piece = cut_at piece.moment (cut_onward limits state piece.octets)
+cut_by limits state piece = cut_at piece.moment (cut_from limits state piece.octets)
 
 -- The items that these pieces complete, each at the moment of the piece that completes it.
 abbrev pub items_of : Limits → Result FrameProgress FrameFaultKind → List Piece → List TimedItem
@@ -43,26 +43,26 @@ items_of limits state (piece ∷ pieces) =
     (cut_by limits state piece).0 ++ items_of limits (cut_by limits state piece).1 pieces
 
 -- What the octets of all pieces give.
-abbrev pub cut_of : Limits → Result FrameProgress FrameFaultKind → List Piece → TimedCut
-cut_of limits state pieces =
-    (items_of limits state pieces, (cut_onward limits state (octets_in pieces)).1)
+abbrev pub cut_of_pieces : Limits → Result FrameProgress FrameFaultKind → List Piece → TimedCut
+cut_of_pieces limits state pieces =
+    (items_of limits state pieces, (cut_from limits state (octets_in pieces)).1)
 
 -- The items without their moments.
 abbrev pub items_without_moments : List TimedItem → List Item
-items_without_moments items = map (λ (came : TimedItem). came.item) items
+items_without_moments items = map (λ (timed : TimedItem). timed.item) items
 
 -- ---- only one session
 
 -- The calls of `talk` for a session, one for each of these pieces of input; the session continued
 -- after each.
-abbrev pub TalksOn : NodeState → ℕ → Limits → Result FrameProgress FrameFaultKind → List Piece
+abbrev pub AreTalks : NodeState → ℕ → Limits → Result FrameProgress FrameFaultKind → List Piece
     → List Turn → NodeState → Result FrameProgress FrameFaultKind → Type 0
-TalksOn old session limits state [] turns new end = (turns ≡ []) × (new ≡ old) × (end ≡ state)
-TalksOn old session limits state (piece ∷ pieces) turns new end =
+AreTalks old session limits state [] turns new end = (turns ≡ []) × (new ≡ old) × (end ≡ state)
+AreTalks old session limits state (piece ∷ pieces) turns new end =
     (first : List Turn) × (mid : NodeState) × (between : Result FrameProgress FrameFaultKind)
-    × Talks old session (cut_by limits state piece) first mid between × IsGoing mid session
+    × Talks old session (cut_by limits state piece) first mid between × IsActive mid session
     × ((rest : List Turn) × (turns ≡ first ++ rest)
-    × TalksOn mid session limits between pieces rest new end)
+    × AreTalks mid session limits between pieces rest new end)
 
 -- The calls of `talk` for a session, one for each of these pieces of input: the node and the framer
 -- before the first, all their turns together, and the node and the framer after the last.
@@ -78,7 +78,8 @@ pub record Run (P : Type 0) : Type 0 where
 
 -- The session continued after each of the calls.
 abbrev pub IsRun : Run Piece → Type 0
-IsRun run = TalksOn run.old run.session run.limits run.before run.pieces run.turns run.new run.after
+IsRun run =
+    AreTalks run.old run.session run.limits run.before run.pieces run.turns run.new run.after
 
 -- A further call of `talk`: its piece of input, its turns, and the node and the framer afterwards.
 pub record Call : Type 0 where
@@ -90,23 +91,23 @@ pub record Call : Type 0 where
 -- The call after a run, which may end the session by a LOGOUT.
 abbrev pub IsCallAfter : {P : Type 0} → Run P → Call → Type 0
 IsCallAfter run call =
-    IsGoing run.new run.session
+    IsActive run.new run.session
     × Talks run.new run.session (cut_by run.limits run.after call.piece) call.turns call.new
     call.after
 
 -- The call after a run, which ends the connection for this reason.
 abbrev pub EndsAfter : {P : Type 0} → TalkFaultKind → Run P → Call → Type 0
 EndsAfter why run call =
-    IsGoing run.new run.session
+    IsActive run.new run.session
     × EndsTalk why run.new run.session run.after (cut_by run.limits run.after call.piece) call.turns
     call.new
 
 -- What all pieces of a run give, and what they give with the piece of a further call.
 abbrev pub cut_in : Run Piece → TimedCut
-cut_in run = cut_of run.limits run.before run.pieces
+cut_in run = cut_of_pieces run.limits run.before run.pieces
 
 abbrev pub cut_with : Run Piece → Call → TimedCut
-cut_with run call = cut_of run.limits run.before (run.pieces ++ call.piece ∷ [])
+cut_with run call = cut_of_pieces run.limits run.before (run.pieces ++ call.piece ∷ [])
 
 -- The octets of all pieces of a run, and with the piece of a further call.
 abbrev pub octets_with : Run Piece → Call → List ℕ
@@ -149,7 +150,7 @@ pub record PieceAt : Type 0 where
 
 -- The octets of all pieces.
 abbrev pub octets_of_pieces : List PieceAt → List ℕ
-octets_of_pieces visits = flat_map (λ (visit : PieceAt). visit.piece.octets) visits
+octets_of_pieces pieces_at = flat_map (λ (piece_at : PieceAt). piece_at.piece.octets) pieces_at
 
 -- The calls of `talk` for a session, one for each of these pieces of input; operations of other
 -- replicas and other sessions came to the node before each, and the session continued after each.
@@ -157,13 +158,13 @@ abbrev pub TalksBetweenOthers : NodeState → ℕ → Limits → Result FramePro
     → List PieceAt → List Turn → NodeState → Result FrameProgress FrameFaultKind → Type 0
 TalksBetweenOthers old session limits state [] turns new end =
     (turns ≡ []) × SomeOtherSteps session old new × (end ≡ state)
-TalksBetweenOthers old session limits state (visit ∷ visits) turns new end =
+TalksBetweenOthers old session limits state (piece_at ∷ pieces_at) turns new end =
     (first : List Turn) × (mid : NodeState) × (between : Result FrameProgress FrameFaultKind)
-    × SomeOtherSteps session old visit.node
-    × Talks visit.node session (cut_by limits state visit.piece) first mid between
-    × IsGoing mid session
+    × SomeOtherSteps session old piece_at.node
+    × Talks piece_at.node session (cut_by limits state piece_at.piece) first mid between
+    × IsActive mid session
     × ((rest : List Turn) × (turns ≡ first ++ rest)
-    × TalksBetweenOthers mid session limits between visits rest new end)
+    × TalksBetweenOthers mid session limits between pieces_at rest new end)
 
 -- A run of such calls.
 abbrev pub IsRunBetweenOthers : Run PieceAt → Type 0
@@ -184,9 +185,9 @@ pub record ItemsAt : Type 0 where
 abbrev pub items_at_each : Limits → Result FrameProgress FrameFaultKind → List PieceAt
     → List ItemsAt
 items_at_each limits state [] = []
-items_at_each limits state (visit ∷ visits) =
-    record { node = visit.node; items = (cut_by limits state visit.piece).0 }
-    ∷ items_at_each limits (cut_by limits state visit.piece).1 visits
+items_at_each limits state (piece_at ∷ pieces_at) =
+    record { node = piece_at.node; items = (cut_by limits state piece_at.piece).0 }
+    ∷ items_at_each limits (cut_by limits state piece_at.piece).1 pieces_at
 
 -- All the items.
 abbrev pub items_in : List ItemsAt → List Item
@@ -203,7 +204,7 @@ ConversesBetweenOthers old session (stretch ∷ given) turns new =
     × (mid : NodeState)
     × SomeOtherSteps session old stretch.node
     × Converses stretch.node session stretch.items first mid
-    × ((IsGoing mid session
+    × ((IsActive mid session
     × ((rest : List Turn) × (turns ≡ first ++ rest)
     × ConversesBetweenOthers mid session given rest new))
-    ⊎ ((¬ IsGoing mid session) × (turns ≡ first) × (new ≡ mid)))
+    ⊎ ((¬ IsActive mid session) × (turns ≡ first) × (new ≡ mid)))

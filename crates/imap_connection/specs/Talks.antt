@@ -10,7 +10,7 @@ use Rattle.imap_lex.specs.declared.fault.FrameFaultKind.TheVariants.{NulByte, No
 use Rattle.imap_answers.specs.declared.answer.Answer.{Answer}
 use Rattle.imap_answers.specs.declared.answer.Answer.TheVariants.{Bye}
 use Rattle.imap_answers.specs.declared.fixed_words.ByeReason.TheVariants as reasons
-use Rattle.imap_node.specs.Nodes.{IsGoing, NodeState, with_session_closed}
+use Rattle.imap_node.specs.Nodes.{IsActive, NodeState, with_session_closed}
 use Rattle.imap_node.specs.Responses.{Responds}
 use Rattle.imap_node.specs.declared.input.Input.TheVariants.{Poll}
 use Rattle.imap_node.specs.declared.reply.Reply.{Reply}
@@ -62,7 +62,7 @@ EndsAtRefusedLine (kinds.Framing why) old new = ⊥
 abbrev pub Talks : NodeState → ℕ → TimedCut → List Turn → NodeState
     → Result FrameProgress FrameFaultKind → Type 0
 Talks old session cut turns new state =
-    Converses old session cut.0 turns new × (IsGoing new session → (state ≡ cut.1) × IsOk state)
+    Converses old session cut.0 turns new × (IsActive new session → (state ≡ cut.1) × IsOk state)
 
 -- How a piece of input ends a conversation.
 abbrev pub EndsTalk : TalkFaultKind → NodeState → ℕ → Result FrameProgress FrameFaultKind → TimedCut
@@ -83,7 +83,7 @@ EndsTalk (kinds.Framing NoMemory) old session state cut turns new =
     × (mid : NodeState)
     × IsPrefixOf items cut.0
     × Converses old session items turns mid
-    × IsGoing mid session
+    × IsActive mid session
     × (new ≡ with_session_closed mid session)
 EndsTalk (kinds.Framing Failed) old session state cut turns new =
     IsErr state × (turns ≡ []) × (new ≡ with_session_closed old session)
@@ -92,14 +92,14 @@ EndsTalk (kinds.Framing why) old session state cut turns new =
     × (mid : NodeState)
     × (before : List Turn)
     × Converses old session cut.0 before mid
-    × IsGoing mid session
+    × IsActive mid session
     × (turns ≡ before ++ bye_turns why) × (new ≡ with_session_closed mid session)
 
 -- ---- polls
 
 -- A session is polled: the turns are the answers that it is sent; none if the poll is refused.
-abbrev pub Polls : NodeState → ℕ → List Turn → NodeState → Type 0
-Polls old session turns new =
+abbrev pub IsPoll : NodeState → ℕ → List Turn → NodeState → Type 0
+IsPoll old session turns new =
     (reply : Reply)
     × Responds old session Poll reply new
     × (turns ≡ turns_of_answers (polled_answers reply))

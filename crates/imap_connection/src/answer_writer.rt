@@ -4,7 +4,7 @@ ghost use Rattle.std.specs.Prelude.{◌≡◌, ◌++◌, ◌<◌, ◌+◌, [], f
 ghost use Rattle.imap_answers.specs.declared.answer.Answer.{Answer};
 ghost use Rattle.imap_connection.specs.Conversation.{IsPrefixOf};
 ghost use Rattle.imap_connection.specs.Replies.{answers_of, refused_answers};
-ghost use Rattle.imap_connection.specs.Devices.{Said, TookSome};
+ghost use Rattle.imap_connection.specs.Devices.{IsOutput, TookAllOrPart};
 ghost use Rattle.imap_connection.specs.Requests.{texts};
 
 use crate::io_traits::Sink;
@@ -15,10 +15,10 @@ use imap_types::Octets;
 use std::alloc::{AllocError, Global};
 
 /// The most octets that are held back after all answers to an item, before they are written.
-const MUCH: usize = 65_536;
+const MAX_BUFFERED: usize = 65_536;
 
 /// Adds answers to the text. `Err` if memory runs out; then some of the first answers were added.
-pub fn tell_all(text: &mut Vec<u8>, answers: &[Answer]) -> Result<(), AllocError>
+pub fn print_all(text: &mut Vec<u8>, answers: &[Answer]) -> Result<(), AllocError>
     ensures ok { OnOk result (text.new.items ≡ text.old.items ++ texts answers.now) }
     ensures err { OnErr result ((front : List Answer)
         × (text.new.items ≡ text.old.items ++ texts front) × IsPrefixOf front answers.now) }
@@ -31,7 +31,7 @@ pub fn tell_all(text: &mut Vec<u8>, answers: &[Answer]) -> Result<(), AllocError
 
 /// Adds the answers of a reply to the command or the IDLE with this tag. `Err` if memory runs out;
 /// then some of the first answers were added.
-pub fn tell_reply(
+pub fn print_reply(
     alloc: Global,
     text: &mut Vec<u8>,
     tag: &Octets,
@@ -44,14 +44,14 @@ pub fn tell_reply(
         × IsPrefixOf front (answers_of tag.now reply.now)) }
 {
     match reply {
-        Reply::Done { answers, .. } => tell_all(text, answers.as_slice()),
-        Reply::Refused { why, closed } => tell_refusal(alloc, text, tag, *why, *closed),
+        Reply::Done { answers, .. } => print_all(text, answers.as_slice()),
+        Reply::Refused { why, closed } => print_refusal(alloc, text, tag, *why, *closed),
     }
 }
 
 /// Adds the answers to a refused input. `Err` if memory runs out; then some of the first answers
 /// were added.
-fn tell_refusal(
+fn print_refusal(
     alloc: Global,
     text: &mut Vec<u8>,
     tag: &Octets,
@@ -69,12 +69,12 @@ fn tell_refusal(
     };
     let refused = Answer::Refused { tag, reason };
     if !closed {
-        return tell_all(text, &[refused]);
+        return print_all(text, &[refused]);
     }
-    tell_all(
+    print_all(
         text,
         &[
-            Answer::Tell {
+            Answer::UntaggedOk {
                 notice: Notice::Closed,
             },
             refused,
@@ -83,11 +83,11 @@ fn tell_refusal(
 }
 
 /// Writes the text that is held back; `false` if the device failed.
-pub fn write_held<K: Sink>(sink: &mut K, text: &mut Vec<u8>) -> bool
+pub fn write_pending<K: Sink>(sink: &mut K, text: &mut Vec<u8>) -> bool
     requires { K.failures sink.old < 18446744073709551615 }
-    ensures said { MatchBool result
-        (Said (K.taken sink.old) text.old.items [] (K.taken sink.new) text.new.items)
-        (TookSome false (K.taken sink.old) text.old.items (K.taken sink.new)) }
+    ensures output { MatchBool result
+        (IsOutput (K.taken sink.old) text.old.items [] (K.taken sink.new) text.new.items)
+        (TookAllOrPart false (K.taken sink.old) text.old.items (K.taken sink.new)) }
     ensures none { MatchBool result (text.new.items ≡ []) (text.new.items ≡ text.old.items) }
     ensures failed { MatchBool result (K.failures sink.new ≡ K.failures sink.old)
         (K.failures sink.new ≡ K.failures sink.old + 1) }
@@ -102,17 +102,17 @@ pub fn write_held<K: Sink>(sink: &mut K, text: &mut Vec<u8>) -> bool
     true
 }
 
-/// Writes the text that is held back if there is much of it; `false` if the device failed.
-pub fn write_much<K: Sink>(sink: &mut K, text: &mut Vec<u8>) -> bool
+/// Writes the buffered text once it has `MAX_BUFFERED` octets; `false` if the device failed.
+pub fn write_if_full<K: Sink>(sink: &mut K, text: &mut Vec<u8>) -> bool
     requires { K.failures sink.old < 18446744073709551615 }
-    ensures said { MatchBool result
-        (Said (K.taken sink.old) text.old.items [] (K.taken sink.new) text.new.items)
-        (TookSome false (K.taken sink.old) text.old.items (K.taken sink.new)) }
+    ensures output { MatchBool result
+        (IsOutput (K.taken sink.old) text.old.items [] (K.taken sink.new) text.new.items)
+        (TookAllOrPart false (K.taken sink.old) text.old.items (K.taken sink.new)) }
     ensures failed { MatchBool result (K.failures sink.new ≡ K.failures sink.old)
         (K.failures sink.new ≡ K.failures sink.old + 1) }
 {
-    if text.len() < MUCH {
+    if text.len() < MAX_BUFFERED {
         return true;
     }
-    write_held(sink, text)
+    write_pending(sink, text)
 }

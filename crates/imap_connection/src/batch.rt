@@ -5,13 +5,14 @@ ghost use Rattle.std.specs.Prelude.{◌≡◌, ◌≤◌, ◌++◌, ◌∷◌, [
 ghost use Rattle.std.specs.Prelude.{IfErr};
 ghost use Rattle.imap_answers.specs.declared.answer.Answer.{Answer};
 ghost use Rattle.imap_node.specs.declared.reply.Reply.{Reply};
-ghost use Rattle.imap_connection.specs.Batches.{Carries, Falters, answers_by, is_brief, tags_of};
+ghost use Rattle.imap_connection.specs.Batches.{CarriesCommands, EndsInBatch, answers_by, is_brief};
+ghost use Rattle.imap_connection.specs.Batches.{tags_of};
 ghost use Rattle.imap_connection.specs.Conversation.{IsPrefixOf};
-ghost use Rattle.imap_connection.specs.Endings.{failed_reads, failed_writes};
+ghost use Rattle.imap_connection.specs.EndReasons.{failed_reads, failed_writes};
 ghost use Rattle.imap_connection.specs.Requests.{texts};
 
-use crate::answer_writer::tell_reply;
-use crate::end_of_conversation::{Ended, ended_by};
+use crate::answer_writer::print_reply;
+use crate::end_reason::{Ended, ended_by};
 use crate::io_traits::Port;
 use imap_node::Reply;
 use imap_syntax::{Command, Tagged};
@@ -69,19 +70,19 @@ impl Batch {
 
     /// Gives the commands to the port, and adds the answers. `Err` if the conversation ends at one
     /// of them.
-    pub fn tell<P: Port>(
+    pub fn carry_out<P: Port>(
         &mut self,
         alloc: Global,
         port: &mut P,
         text: &mut Vec<u8>,
     ) -> Result<(), Ended>
         ensures ok { OnOk result ((replies : List Reply)
-            × Carries P.steps port.old self.old replies (Ok tt) port.new
+            × CarriesCommands P.steps port.old self.old replies (Ok tt) port.new
             × (text.new.items ≡ text.old.items ++ texts (answers_by (tags_of self.old) replies))
             × (self.new ≡ [])) }
-        ensures err { IfErr result (λ ended. (told : List Answer)
-            × Falters P.steps port.old self.old ended told port.new
-            × (text.new.items ≡ text.old.items ++ texts told)) }
+        ensures err { IfErr result (λ ended. (answers : List Answer)
+            × EndsInBatch P.steps port.old self.old ended answers port.new
+            × (text.new.items ≡ text.old.items ++ texts answers)) }
         ensures devices { IfErr result
             (λ ended. (failed_reads ended ≡ 0) × (failed_writes ended ≡ 0)) }
     {
@@ -93,7 +94,7 @@ impl Batch {
         };
         let Batch { tags, commands } = mem::replace(self, Batch::new(alloc));
         let given = port.commands(alloc, commands, &mut replies);
-        let Ok(()) = tell_replies(alloc, &tags, &replies, text) else {
+        let Ok(()) = print_replies(alloc, &tags, &replies, text) else {
             return Err(Ended::NoMemory);
         };
         match given {
@@ -105,7 +106,7 @@ impl Batch {
 
 /// Adds the answers of replies to the commands with these tags. `Err` if memory runs out; then some
 /// of the first answers were added.
-fn tell_replies(
+fn print_replies(
     alloc: Global,
     tags: &[Octets],
     replies: &[Reply],
@@ -119,7 +120,7 @@ fn tell_replies(
         × IsPrefixOf front (answers_by tags.now replies.now)) }
 {
     for i in 0..replies.len() {
-        match tell_reply(alloc, text, &tags[i], &replies[i]) {
+        match print_reply(alloc, text, &tags[i], &replies[i]) {
             Ok(()) => {}
             Err(_) => return Err(AllocError),
         }

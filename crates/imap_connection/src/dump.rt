@@ -20,7 +20,7 @@ use tags_clocks::ReplicaId;
 /// folders with the ids of their present folder tags and their messages; and the names that are
 /// subscribed to. `Err` if memory runs out, and then `out` is as it was.
 ///
-/// Cost: it looks through all operations once for each replica that issued some of them.
+/// Cost: one pass over all operations for each replica that issued any.
 pub fn write_dump(alloc: Global, node: &Node, out: &mut Vec<u8>) -> Result<(), AllocError>
     ensures ok { OnOk result ((text : List ℕ)
         × IsDump node.now.state.start.replica node.now.state.applied text
@@ -168,7 +168,7 @@ fn push_folder_line(
     push_name_line(alloc, b"folder ", folder, &tags, text)
 }
 
-/// The lines of the names that are subscribed to.
+/// The lines of the subscribed names.
 fn push_subscriptions(
     alloc: Global,
     replica: &ReplicaState,

@@ -1,8 +1,8 @@
-//! What comes to a node besides the calls of one of its sessions.
+//! What happens at a node between the calls of one of its sessions.
 
 ghost use Rattle.std.specs.Prelude.{◌≡◌, ℕ};
 ghost use Rattle.imap_node.specs.Sessions.{IsOpen};
-ghost use Rattle.imap_connection.specs.NodePorts.{IsHanded};
+ghost use Rattle.imap_connection.specs.NodePorts.{IsDeliveredOrRefused};
 ghost use Rattle.imap_connection.specs.Streams.{SomeOtherSteps};
 
 use crdt_ops::SoundOp;
@@ -19,14 +19,14 @@ pub trait Others {
     /// What happens in a turn of the others: their state before it, the session's number, the node
     /// before it, the moment at which the session's next command comes, the node after it, and
     /// their state after it.
-    ghost comes: { Self → ℕ → NodeState → ℕ → NodeState → Self → Type 0 };
+    ghost takes_turn: { Self → ℕ → NodeState → ℕ → NodeState → Self → Type 0 };
 
     /// Gives the others a turn at the node, during a session that is open. Returns the moment at
     /// which the session's next command comes.
-    fn come(&mut self, alloc: Global, session: SessionNo, node: &mut Node) -> Moment
+    fn take_turn(&mut self, alloc: Global, session: SessionNo, node: &mut Node) -> Moment
         requires { IsOpen node.old.state.sessions session }
-        ensures beside { SomeOtherSteps session node.old.state node.new.state }
-        ensures just { comes self.old session node.old.state result node.new.state self.new };
+        ensures other_steps { SomeOtherSteps session node.old.state node.new.state }
+        ensures exact { takes_turn self.old session node.old.state result node.new.state self.new };
 }
 
 /// No others; all commands come at one moment.
@@ -53,11 +53,11 @@ impl NoOthers {
 }
 
 impl Others for NoOthers {
-    ghost use Rattle.imap_connection.specs.NodePorts.{NobodyComes};
+    ghost use Rattle.imap_connection.specs.NodePorts.{IsEmptyTurn};
 
-    ghost comes = { NobodyComes };
+    ghost takes_turn = { IsEmptyTurn };
 
-    fn come(&mut self, _alloc: Global, _session: SessionNo, _node: &mut Node) -> Moment {
+    fn take_turn(&mut self, _alloc: Global, _session: SessionNo, _node: &mut Node) -> Moment {
         self.moment
     }
 }
@@ -82,23 +82,23 @@ impl Deliveries {
 
 impl Others for Deliveries {
     ghost use Rattle.std.specs.Prelude.{◌≡◌};
-    ghost use Rattle.imap_connection.specs.NodePorts.{LastIsHanded};
+    ghost use Rattle.imap_connection.specs.NodePorts.{LastIsDelivered};
 
-    ghost comes = { λ d n node moment mid e. (moment ≡ d.moment)
+    ghost takes_turn = { λ d n node moment mid e. (moment ≡ d.moment)
         × (e.moment ≡ d.moment)
-        × LastIsHanded d.ops.items node mid e.ops.items };
+        × LastIsDelivered d.ops.items node mid e.ops.items };
 
-    fn come(&mut self, alloc: Global, _session: SessionNo, node: &mut Node) -> Moment {
+    fn take_turn(&mut self, alloc: Global, _session: SessionNo, node: &mut Node) -> Moment {
         if let Some(op) = self.ops.pop() {
-            hand(alloc, node, op);
+            deliver_op(alloc, node, op);
         }
         self.moment
     }
 }
 
 /// Delivers an operation to a node. If the node refuses it, it stays as it was.
-fn hand(alloc: Global, node: &mut Node, op: SoundOp)
-    ensures { IsHanded node.old.state op node.new.state }
+fn deliver_op(alloc: Global, node: &mut Node, op: SoundOp)
+    ensures { IsDeliveredOrRefused node.old.state op node.new.state }
 {
     let _ = node.deliver(alloc, op);
 }

@@ -3,7 +3,7 @@
 ghost use Rattle.std.specs.Prelude.{◌≡◌, ◌≤◌, ◌<◌, ◌+◌, ℕ, List, length, take, vec_capacity, []};
 ghost use Rattle.std.specs.Prelude.{Bool, true, IfSome, IfNone, MatchBool, MatchOption, Option};
 ghost use Rattle.std.specs.Prelude.{Result};
-ghost use Rattle.imap_connection.specs.Devices.{Gave, TookSome};
+ghost use Rattle.imap_connection.specs.Devices.{GaveOctets, TookAllOrPart};
 
 use crate::fault::PortFault;
 use imap_answers::Login;
@@ -29,7 +29,7 @@ pub trait Source {
         requires count { failures self.old < 18446744073709551615 }
         ensures count { IfSome result (λ n. n ≤ length piece.old) }
         ensures octets { IfSome result
-            (λ n. Gave (left self.old) (take n piece.new) (left self.new)) }
+            (λ n. GaveOctets (left self.old) (take n piece.new) (left self.new)) }
         ensures end { IfSome result (λ n. n ≡ 0 → is_ended self.new ≡ true) }
         ensures same { IfNone result (left self.new ≡ left self.old) }
         ensures failed { MatchOption result (failures self.new ≡ failures self.old + 1)
@@ -47,7 +47,7 @@ pub trait Sink {
     /// Writes all octets; `false` if the device failed after some of them.
     fn write(&mut self, octets: &[u8]) -> bool
         requires { failures self.old < 18446744073709551615 }
-        ensures octets { TookSome result (taken self.old) octets.now (taken self.new) }
+        ensures octets { TookAllOrPart result (taken self.old) octets.now (taken self.new) }
         ensures failed { MatchBool result (failures self.new ≡ failures self.old)
             (failures self.new ≡ failures self.old + 1) };
 }
@@ -57,7 +57,7 @@ pub trait Port {
     ghost use Rattle.imap_answers.specs.declared.fixed_words.Login.{Login};
     ghost use Rattle.imap_node.specs.declared.reply.Reply.{Reply};
     ghost use Rattle.imap_connection.specs.PortCalls.{PortCall, Command, Line};
-    ghost use Rattle.imap_connection.specs.Batches.{Carries, are_brief};
+    ghost use Rattle.imap_connection.specs.Batches.{CarriesCommands, are_brief};
     ghost use Rattle.imap_connection.specs.declared.fault.PortFault.{PortFault};
 
     /// The port before and after its session is opened.
@@ -90,7 +90,7 @@ pub trait Port {
         requires brief { are_brief commands.items ≡ true }
         requires none { replies.old.items ≡ [] }
         requires room { length commands.items ≤ vec_capacity replies.old }
-        ensures { Carries steps self.old commands.items replies.new.items result self.new }
+        ensures { CarriesCommands steps self.old commands.items replies.new.items result self.new }
     {
         for tagged in commands {
             match self.command(alloc, tagged) {

@@ -7,11 +7,11 @@ ghost use Rattle.crdt_ops.specs.declared.op.Op.{Op};
 ghost use Rattle.imap_answers.specs.Printable.{IsPrintable};
 ghost use Rattle.imap_answers.specs.declared.answer.Answer.{Answer};
 ghost use Rattle.imap_lex.specs.Frames.{AreFrames, FailsAt};
-ghost use Rattle.imap_lex.specs.Framing.{FrameProgress, cut_onward, start};
+ghost use Rattle.imap_lex.specs.Framing.{FrameProgress, cut_from, start};
 ghost use Rattle.imap_lex.specs.declared.fault.FrameFaultKind.{FrameFaultKind};
 ghost use Rattle.imap_lex.specs.declared.item.Item.{Item};
 ghost use Rattle.imap_lex.specs.declared.limits.Limits.{Limits};
-ghost use Rattle.imap_node.specs.Nodes.{IsGoing, NodeState, with_session_closed};
+ghost use Rattle.imap_node.specs.Nodes.{IsActive, NodeState, with_session_closed};
 ghost use Rattle.imap_connection.specs.Conversation.{Converses, turns_of_answers};
 ghost use Rattle.imap_connection.specs.Dumps.{IsDump};
 ghost use Rattle.imap_connection.specs.FaultAnswers.{IsFaultAnswer, IsLiteralAnswer};
@@ -30,7 +30,7 @@ ghost use Rattle.imap_connection.specs.declared.turn.Turn.{Turn};
 /// over the items of all these octets. Each item comes at the moment of the piece that completes
 /// it.
 pub fn pieces_are_one_stream()
-    ensures going { (run : Run Piece) → IsRun run
+    ensures runs { (run : Run Piece) → IsRun run
         → Converses run.old run.session (cut_in run).0 run.turns run.new
         × (run.after ≡ (cut_in run).1) }
     ensures last { (run : Run Piece) (call : Call) → IsRun run → IsCallAfter run call
@@ -38,7 +38,7 @@ pub fn pieces_are_one_stream()
     ensures items { (limits : Limits) (state : Result FrameProgress FrameFaultKind)
         (pieces : List Piece)
         → items_without_moments (items_of limits state pieces)
-        ≡ (cut_onward limits state (octets_in pieces)).0 }
+        ≡ (cut_from limits state (octets_in pieces)).0 }
 {}
 
 /// A connection whose octets are these commands, lines, refused command beginnings and this rest,
@@ -46,7 +46,7 @@ pub fn pieces_are_one_stream()
 /// piece that completes it: each is answered in its order, and nothing else is. The last piece may
 /// have ended the session by a LOGOUT.
 pub fn commands_are_answered()
-    ensures going { (run : Run Piece) (items : List Item) (rest : List ℕ) → run.before ≡ Ok start
+    ensures runs { (run : Run Piece) (items : List Item) (rest : List ℕ) → run.before ≡ Ok start
         → IsRun run
         → AreFrames run.limits (octets_in run.pieces) items rest
         → Converses run.old run.session (cut_in run).0 run.turns run.new
@@ -77,7 +77,7 @@ pub fn faults_end_the_stream()
         × (last : NodeState)
         × Converses run.old run.session (cut_with run call).0 before last
         × (items_without_moments (cut_with run call).0 ≡ items)
-        × IsGoing last run.session
+        × IsActive last run.session
         × (run.turns ++ call.turns ≡ before ++ turns_of_answers (bye ∷ []))
         × (call.new ≡ with_session_closed last run.session) }
 {}
@@ -91,29 +91,30 @@ pub fn faults_end_the_stream()
 /// fault, and the turns are that conversation over the items before it, and the BYE as the last;
 /// the session, which was open until then, is closed.
 pub fn others_come_between()
-    ensures going { (run : Run PieceAt) → IsRunBetweenOthers run
+    ensures runs { (run : Run PieceAt) → IsRunBetweenOthers run
         → ConversesBetweenOthers run.old run.session
         (items_at_each run.limits run.before run.pieces) run.turns run.new
-        × (run.after ≡ (cut_onward run.limits run.before (octets_of_pieces run.pieces)).1) }
+        × (run.after ≡ (cut_from run.limits run.before (octets_of_pieces run.pieces)).1) }
     ensures last { (run : Run PieceAt) (call : Call) → IsRunBetweenOthers run → IsCallAfter run call
         → ConversesBetweenOthers run.old run.session
         (items_at_each run.limits run.before (pieces_with run call)) (run.turns ++ call.turns)
         call.new }
     ensures items { (limits : Limits) (state : Result FrameProgress FrameFaultKind)
-        (visits : List PieceAt)
-        → items_in (items_at_each limits state visits)
-        ≡ (cut_onward limits state (octets_of_pieces visits)).0 }
-    ensures frames { (limits : Limits) (visits : List PieceAt) (items : List Item) (rest : List ℕ)
-        → AreFrames limits (octets_of_pieces visits) items rest
-        → items_in (items_at_each limits (Ok start) visits) ≡ items }
+        (pieces_at : List PieceAt)
+        → items_in (items_at_each limits state pieces_at)
+        ≡ (cut_from limits state (octets_of_pieces pieces_at)).0 }
+    ensures frames { (limits : Limits) (pieces_at : List PieceAt) (items : List Item)
+        (rest : List ℕ)
+        → AreFrames limits (octets_of_pieces pieces_at) items rest
+        → items_in (items_at_each limits (Ok start) pieces_at) ≡ items }
     ensures fault { (run : Run PieceAt) (call : Call) (why : FrameFaultKind) (bye : Answer)
         → bye_of why ≡ Some bye → IsRunBetweenOthers run
         → EndsAfter (Framing why) run call
-        → ((cut_onward run.limits run.before (octets_of_pieces (pieces_with run call))).1 ≡ Err why)
+        → ((cut_from run.limits run.before (octets_of_pieces (pieces_with run call))).1 ≡ Err why)
         × ((before : List Turn) × (last : NodeState)
         × ConversesBetweenOthers run.old run.session
         (items_at_each run.limits run.before (pieces_with run call)) before last
-        × IsGoing last run.session
+        × IsActive last run.session
         × (run.turns ++ call.turns ≡ before ++ turns_of_answers (bye ∷ []))
         × (call.new ≡ with_session_closed last run.session)) }
 {}

@@ -12,7 +12,7 @@
 //!   and replicas do between the pieces (`laws`).
 //! - `converse`: the port is opened and closed, and given each command and each line of IDLE that
 //!   the octets read spell, once and in their order. What is written is the greeting, the answers
-//!   in order and the BYE of the end (`specs/Conversing`).
+//!   in order and the BYE of the end (`specs/Conversations`).
 //! - `NodePort`: over the port of a node, `converse` has the conversation that `talk` has
 //!   (`nodes_converse`, `specs/NodeTalks`).
 //! - `write_dump` writes the applied operations, each once and ascending, and the folders, messages
@@ -36,21 +36,21 @@
 //! - A session idles after an IDLE that was answered by a `Done`, with the tag of that command,
 //!   until the next line. `converse` tracks this itself, so that a port needn't report it.
 //! - A conversation ends in `WriteFailed` if any write failed, even the last one, after the session
-//!   is closed (`Talked`).
+//!   is closed (`IsConversation`).
 //! - A node's port contains its others (`Others`, a type parameter): `converse` borrows its port
 //!   for the whole conversation, so whoever comes between two calls has to come through the port.
-//!   `Others::come` also returns the moment of the next command. The law `nodes_converse` is a
+//!   `Others::take_turn` also returns the moment of the next command. The law `nodes_converse` is a
 //!   function of that parameter, as laws on replicated values are of theirs.
 //! - A LOGOUT leaves the session open until the port is closed, and others may come in between: the
-//!   node is then the one that they left, with the session closed (`Closes`), and not the one that
+//!   node is then the one that they left, with the session closed (`ClosesAfter`), not the one that
 //!   the conversation over items closes at once.
 #![tactic(auto)]
 
 mod answer_writer;
 mod batch;
-mod conversing;
+mod conversations;
 mod dump;
-mod end_of_conversation;
+mod end_reason;
 mod fault;
 mod interleaving;
 mod io_traits;
@@ -66,9 +66,9 @@ mod turn;
 mod turn_writer;
 mod wire;
 
-pub use conversing::converse;
+pub use conversations::converse;
 pub use dump::write_dump;
-pub use end_of_conversation::Ended;
+pub use end_reason::Ended;
 pub use fault::PortFault;
 pub use imap_node::{
     Answers, Auth, Credentials, Issued, MAX_SESSIONS, Node, OpenFault, Reply, Session, SessionNo,
@@ -83,7 +83,7 @@ pub use laws::{
 pub use memory_io::{MemorySink, MemorySource};
 pub use node_port::NodePort;
 pub use node_talks::nodes_converse;
-pub use replies::is_without_memory;
+pub use replies::is_out_of_memory;
 pub use request::{Request, request_of};
 pub use talk_steps::{poll_turns, talk};
 pub use turn::{TalkFault, TalkFaultKind, Turn};

@@ -1,7 +1,7 @@
 //! Sources and sinks in memory that fail at a given point, for tests.
 
 ghost use Rattle.std.specs.Prelude.{◌≡◌, ℕ, List, Some, Bool};
-ghost use Rattle.imap_connection.specs.Devices.{Puts};
+ghost use Rattle.imap_connection.specs.Devices.{PutsOctet};
 
 use crate::io_traits::{Sink, Source};
 
@@ -116,7 +116,7 @@ impl MemorySink {
 
     /// Takes one octet; `false` if it has no room, or memory runs out.
     fn put(&mut self, octet: u8) -> bool
-        ensures taken { Puts result self.old.octets.items octet self.new.octets.items }
+        ensures taken { PutsOctet result self.old.octets.items octet self.new.octets.items }
         ensures failed { self.new.failed ≡ self.old.failed }
     {
         if self.room == 0 {

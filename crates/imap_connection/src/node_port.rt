@@ -3,7 +3,7 @@
 ghost use Rattle.std.specs.Prelude.{◌≡◌, IfNone, IfSome, None, Some};
 ghost use Rattle.imap_node.specs.Sessions.{IsOpen};
 ghost use Rattle.imap_connection.specs.PortCalls.{Command};
-ghost use Rattle.imap_connection.specs.NodePorts.{IsAway, NodeSteps, login_by};
+ghost use Rattle.imap_connection.specs.NodePorts.{HasNoSession, NodeSteps, login_by};
 
 use crate::fault::PortFault;
 use crate::interleaving::Others;
@@ -62,7 +62,7 @@ impl<O: Others> NodePort<O> {
     fn open_session(&self) -> Option<SessionNo>
         ensures some { IfSome result
             (λ n. (self.now.session ≡ Some n) × IsOpen self.now.node.sessions n) }
-        ensures none { IfNone result (IsAway self.now) }
+        ensures none { IfNone result (HasNoSession self.now) }
     {
         let session = self.session?;
         if !self.node.is_open(session) {
@@ -73,12 +73,12 @@ impl<O: Others> NodePort<O> {
 
     /// Gives the session, if it is open, a command after what others do at the node.
     fn give_command(&mut self, alloc: Global, tagged: Tagged) -> Result<Reply, PortFault>
-        ensures { NodeSteps O.comes self.old (Command tagged) result self.new }
+        ensures { NodeSteps O.takes_turn self.old (Command tagged) result self.new }
     {
         let Some(session) = self.open_session() else {
             return Err(PortFault::PassedOver);
         };
-        let moment = self.others.come(alloc, session, &mut self.node);
+        let moment = self.others.take_turn(alloc, session, &mut self.node);
         Ok(self.node.command(alloc, session, moment, tagged))
     }
 }
@@ -87,8 +87,8 @@ fn login_by(auth: &Auth) -> Login
     ensures { result ≡ login_by auth.now }
 {
     match auth {
-        Auth::Preauth => Login::Given,
-        Auth::Password { .. } => Login::Wanted,
+        Auth::Preauth => Login::PreAuthenticated,
+        Auth::Password { .. } => Login::Required,
     }
 }
 
@@ -97,9 +97,9 @@ impl<O: Others> Port for NodePort<O> {
 
     ghost opens = { λ s r t. NodeOpens s r t };
 
-    ghost steps = { λ s call r t. NodeSteps O.comes s call r t };
+    ghost steps = { λ s call r t. NodeSteps O.takes_turn s call r t };
 
-    ghost closes = { λ s t. NodeCloses O.comes s t };
+    ghost closes = { λ s t. NodeCloses O.takes_turn s t };
 
     fn open(&mut self, _alloc: Global) -> Result<Login, PortFault> {
         let Some(auth) = self.auth.take() else {
@@ -124,7 +124,7 @@ impl<O: Others> Port for NodePort<O> {
         let Some(session) = self.open_session() else {
             return Err(PortFault::PassedOver);
         };
-        let _moment = self.others.come(alloc, session, &mut self.node);
+        let _moment = self.others.take_turn(alloc, session, &mut self.node);
         Ok(self.node.done(alloc, session, line))
     }
 
@@ -132,7 +132,7 @@ impl<O: Others> Port for NodePort<O> {
         let Some(session) = self.open_session() else {
             return;
         };
-        let _ = self.others.come(alloc, session, &mut self.node);
+        let _ = self.others.take_turn(alloc, session, &mut self.node);
         self.node.close(session);
         self.session = None;
     }

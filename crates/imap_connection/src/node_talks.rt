@@ -6,8 +6,8 @@ ghost use Rattle.imap_lex.specs.declared.limits.Limits.{Limits};
 ghost use Rattle.imap_node.specs.declared.sessions.Auth.{Auth};
 ghost use Rattle.imap_connection.specs.NodePorts.{NodeCloses, NodeOpens, NodeSession, NodeSteps};
 ghost use Rattle.imap_connection.specs.NodeTalks.{IsWhole, TalksAtNode};
-ghost use Rattle.imap_connection.specs.Conversing.{Talked};
-ghost use Rattle.imap_connection.specs.declared.end_of_conversation.Ended.{Ended};
+ghost use Rattle.imap_connection.specs.Conversations.{IsConversation};
+ghost use Rattle.imap_connection.specs.declared.end_reason.Ended.{Ended};
 
 use crate::interleaving::Others;
 
@@ -21,13 +21,14 @@ use crate::interleaving::Others;
 pub fn nodes_converse<O: Others>()
     ensures { (old new : NodeSession O) (limits : Limits) (left rest before after : List ℕ)
         (at_end : Bool) (ended : Ended) → IsWhole ended
-        → Talked NodeOpens (NodeSteps O.comes) (NodeCloses O.comes) old new limits (Some left)
+        → IsConversation NodeOpens (NodeSteps O.takes_turn) (NodeCloses O.takes_turn) old new limits
+        (Some left)
         (Some rest) at_end (Some before) (Some after) ended
         → (auth : Auth)
         × (octets : List ℕ)
-        × (said : List ℕ)
+        × (output : List ℕ)
         × (old.auth ≡ Some auth)
         × (left ≡ octets ++ rest)
-        × (after ≡ before ++ said)
-        × TalksAtNode old.node auth limits octets ended said new.node }
+        × (after ≡ before ++ output)
+        × TalksAtNode old.node auth limits octets ended output new.node }
 {}

@@ -17,9 +17,9 @@ use std::alloc::{AllocError, Global};
 /// What an item of the framer is to a session.
 #[derive(Drop)]
 pub enum Request {
-    /// An item that is answered at once: by the leave to continue with a literal, or by the answer
+    /// An item that is answered at once: by a continuation request for a literal, or by the answer
     /// to a fault.
-    Told(Answer),
+    Immediate(Answer),
     /// A command of a session that doesn't idle.
     Command(Tagged),
     /// A line of a session that idles.
@@ -41,7 +41,7 @@ pub fn request_of(
     ensures { IfOk result (IsRequest (option_copied idling.entry) item.now) }
 {
     match item {
-        Item::Ready => Ok(Request::Told(Answer::Continue {
+        Item::Ready => Ok(Request::Immediate(Answer::Continue {
             with: Continuation::Ready,
         })),
         Item::Frame(frame) => frame_request(alloc, idling, frame.bytes()),
@@ -77,7 +77,7 @@ fn refused_request(
             tag: tag.copy(alloc)?,
             line: IdleLine::Other,
         }),
-        None => Ok(Request::Told(literal_answer(alloc, front)?)),
+        None => Ok(Request::Immediate(literal_answer(alloc, front)?)),
     }
 }
 
@@ -87,7 +87,7 @@ fn parsed_request(alloc: Global, octets: &[u8]) -> Result<Request, AllocError>
 {
     match parse(alloc, octets) {
         Ok(tagged) => Ok(Request::Command(tagged)),
-        Err(why) => Ok(Request::Told(fault_answer(alloc, octets, why)?)),
+        Err(why) => Ok(Request::Immediate(fault_answer(alloc, octets, why)?)),
     }
 }
 

@@ -4,20 +4,20 @@ ghost use Rattle.std.specs.Prelude.{◌≡◌, ◌++◌, ◌∷◌, [], true, fa
 ghost use Rattle.std.specs.Prelude.{OnOk, IfErr, if◌then◌else◌};
 ghost use Rattle.imap_answers.specs.declared.answer.Answer.{Answer};
 ghost use Rattle.imap_node.specs.Commands.{is_idle};
-ghost use Rattle.imap_connection.specs.Endings.{failed_reads, failed_writes};
+ghost use Rattle.imap_connection.specs.EndReasons.{failed_reads, failed_writes};
 ghost use Rattle.imap_lex.specs.declared.item.Item.{Item};
-ghost use Rattle.imap_connection.specs.Conversing.{Going, Leaves};
+ghost use Rattle.imap_connection.specs.Conversations.{HasTaken, EndsOverItems};
 ghost use Rattle.imap_connection.specs.Requests.{Fails, Handles, IsAskingOf, is_done, is_logout};
 ghost use Rattle.imap_connection.specs.Requests.{texts};
-ghost use Rattle.imap_connection.specs.declared.end_of_conversation.Ended.TheVariants.{Logout};
-ghost use Rattle.imap_connection.specs.declared.end_of_conversation.Ended.TheVariants.{NoMemory};
+ghost use Rattle.imap_connection.specs.declared.end_reason.Ended.TheVariants.{Logout};
+ghost use Rattle.imap_connection.specs.declared.end_reason.Ended.TheVariants.{NoMemory};
 ghost use Rattle.imap_connection.specs.declared.request.Request.TheVariants as requests;
 
-use crate::answer_writer::tell_reply;
+use crate::answer_writer::print_reply;
 use crate::batch::{Batch, is_brief};
-use crate::end_of_conversation::{Ended, ended_by};
+use crate::end_reason::{Ended, ended_by};
 use crate::io_traits::Port;
-use crate::replies::is_without_memory;
+use crate::replies::is_out_of_memory;
 use crate::request::{Request, request_of};
 use imap_answers::Answer;
 use imap_lex::Item;
@@ -38,15 +38,15 @@ pub fn take_item<P: Port>(
     item: &Item,
     text: &mut Vec<u8>,
 ) -> Result<(), Ended>
-    ensures ok { (first : P) (from : Option (List ℕ)) (items : List Item) (said : List ℕ)
-        → Going P.steps first from items said port.old idling.old batch.old
+    ensures ok { (first : P) (from : Option (List ℕ)) (items : List Item) (output : List ℕ)
+        → HasTaken P.steps first from items output port.old idling.old batch.old
         → OnOk result ((more : List ℕ)
-        × Going P.steps first from (items ++ item.now ∷ []) (said ++ more) port.new idling.new
+        × HasTaken P.steps first from (items ++ item.now ∷ []) (output ++ more) port.new idling.new
         batch.new × (text.new.items ≡ text.old.items ++ more)) }
-    ensures err { (first : P) (from : Option (List ℕ)) (items : List Item) (said : List ℕ)
-        → Going P.steps first from items said port.old idling.old batch.old
+    ensures err { (first : P) (from : Option (List ℕ)) (items : List Item) (output : List ℕ)
+        → HasTaken P.steps first from items output port.old idling.old batch.old
         → IfErr result (λ ended. (more : List ℕ)
-        × Leaves P.steps first from (items ++ item.now ∷ []) ended (said ++ more) port.new
+        × EndsOverItems P.steps first from (items ++ item.now ∷ []) ended (output ++ more) port.new
         × (text.new.items ≡ text.old.items ++ more)) }
     ensures devices { IfErr result (λ ended. (failed_reads ended ≡ 0) × (failed_writes ended ≡ 0)) }
 {
@@ -59,7 +59,7 @@ pub fn take_item<P: Port>(
             Err(_) => Err(Ended::NoMemory),
         },
         Asking::Now(request) => {
-            match batch.tell(alloc, port, text) {
+            match batch.carry_out(alloc, port, text) {
                 Ok(()) => {}
                 Err(ended) => return Err(ended),
             }
@@ -110,20 +110,20 @@ fn take_request<P: Port>(
     ensures devices { IfErr result (λ ended. (failed_reads ended ≡ 0) × (failed_writes ended ≡ 0)) }
 {
     match request {
-        Request::Told(answer) => tell_answer(answer, text),
+        Request::Immediate(answer) => print_answer(answer, text),
         Request::Command(tagged) => take_command(alloc, port, idling, tagged, text),
         Request::Line { tag, line } => take_line(alloc, port, idling, tag, line, text),
     }
 }
 
 /// Adds an answer; `NoMemory`, and no change, if memory runs out.
-fn tell_answer(answer: Answer, text: &mut Vec<u8>) -> Result<(), Ended>
+fn print_answer(answer: Answer, text: &mut Vec<u8>) -> Result<(), Ended>
     ensures ok { OnOk result (text.new.items ≡ text.old.items ++ texts (answer ∷ [])) }
     ensures err { IfErr result (λ ended. (ended ≡ NoMemory) × (text.new.items ≡ text.old.items)) }
 {
-    let told = print(&answer, text);
+    let printed = print(&answer, text);
     drop(answer);
-    match told {
+    match printed {
         Ok(()) => Ok(()),
         Err(_) => Err(Ended::NoMemory),
     }
@@ -159,14 +159,14 @@ fn take_command<P: Port>(
             return Err(ended_by(fault));
         }
     };
-    let Ok(()) = tell_reply(alloc, text, &tag, &reply) else {
+    let Ok(()) = print_reply(alloc, text, &tag, &reply) else {
         drop(reply);
         drop(tag);
         return Err(Ended::NoMemory);
     };
     let done = is_done(&reply);
     drop(reply);
-    go_on(idles && done, leaves && done, tag, idling)
+    set_idling(idles && done, leaves && done, tag, idling)
 }
 
 fn is_idle(command: &Command) -> bool
@@ -189,7 +189,12 @@ fn is_done(reply: &Reply) -> bool
 
 /// What follows a command that was answered: the IDLE with this tag, the end of the conversation,
 /// or neither.
-fn go_on(idles: bool, leaves: bool, tag: Octets, idling: &mut Option<Octets>) -> Result<(), Ended>
+fn set_idling(
+    idles: bool,
+    leaves: bool,
+    tag: Octets,
+    idling: &mut Option<Octets>,
+) -> Result<(), Ended>
     ensures idling { idling.new ≡ (if idles then Some tag else None) }
     ensures ok { OnOk result (leaves ≡ false) }
     ensures err { IfErr result (λ ended. (ended ≡ Logout) × (leaves ≡ true)) }
@@ -223,10 +228,10 @@ fn take_line<P: Port>(
         Ok(reply) => reply,
         Err(fault) => return Err(ended_by(fault)),
     };
-    if is_without_memory(&reply) {
+    if is_out_of_memory(&reply) {
         return Err(Ended::NoMemory);
     }
-    let Ok(()) = tell_reply(alloc, text, &tag, &reply) else {
+    let Ok(()) = print_reply(alloc, text, &tag, &reply) else {
         return Err(Ended::NoMemory);
     };
     drop(reply);

@@ -4,22 +4,22 @@ ghost use Rattle.std.specs.Prelude.{◌≡◌, ◌++◌, ◌⊎◌, ◌∷◌, [
 ghost use Rattle.std.specs.Prelude.{IfErr, OnOk, IsTrue};
 ghost use Rattle.std.specs.Option.{option_copied};
 ghost use Rattle.imap_answers.specs.declared.answer.Answer.{Answer};
-ghost use Rattle.imap_lex.specs.Framing.{cut_onward};
+ghost use Rattle.imap_lex.specs.Framing.{cut_from};
 ghost use Rattle.imap_lex.specs.declared.fault.FrameFaultKind.{FrameFaultKind};
-ghost use Rattle.imap_node.specs.Nodes.{HasLoggedOut, IsGoing};
+ghost use Rattle.imap_node.specs.Nodes.{HasLoggedOut, IsActive};
 ghost use Rattle.imap_node.specs.Sessions.{IsOpen};
 ghost use Rattle.imap_connection.specs.Conversation.{BreaksOff, Converses, StopsAt, TakesItemAt};
 ghost use Rattle.imap_connection.specs.Conversation.{turns_of_answers, item_at, items_at, turns_of};
 ghost use Rattle.imap_connection.specs.RequestSteps.{Fails, Handles};
 ghost use Rattle.imap_connection.specs.Replies.{idling_at};
-ghost use Rattle.imap_connection.specs.Talks.{BreaksPoll, EndsTalk, Polls, EndsWithBye};
+ghost use Rattle.imap_connection.specs.Talks.{BreaksPoll, EndsTalk, IsPoll, EndsWithBye};
 ghost use Rattle.imap_connection.specs.Talks.{EndsAtRefusedLine, Talks, cut_at, bye_of};
 ghost use Rattle.imap_connection.specs.declared.request.Request.TheVariants.{Command as CommandRequest};
 ghost use Rattle.imap_connection.specs.declared.request.Request.TheVariants.{Line as LineRequest};
 ghost use Rattle.imap_connection.specs.declared.turn.TalkFaultKind.TheVariants as kinds;
 ghost use Rattle.imap_connection.specs.declared.turn.Turn.{Turn};
 
-use crate::replies::is_without_memory;
+use crate::replies::is_out_of_memory;
 use crate::request::{Request, request_of};
 use crate::turn::{TalkFault, TalkFaultKind, Turn};
 use crate::turn_writer::{send, send_polled, send_reply, show};
@@ -48,12 +48,12 @@ pub fn talk(
     moment: Moment,
     piece: &[u8],
 ) -> Result<Vec<Turn>, TalkFault>
-    requires { IsGoing node.old.state session }
+    requires { IsActive node.old.state session }
     ensures ok { IfOk result (λ turns. Talks node.old.state session
-        (cut_at moment (cut_onward framer.old.limits framer.old.state piece.now)) turns.items
+        (cut_at moment (cut_from framer.old.limits framer.old.state piece.now)) turns.items
         node.new.state framer.new.state) }
     ensures err { IfErr result (λ fault. EndsTalk fault.why node.old.state session framer.old.state
-        (cut_at moment (cut_onward framer.old.limits framer.old.state piece.now)) fault.turns.items
+        (cut_at moment (cut_from framer.old.limits framer.old.state piece.now)) fault.turns.items
         node.new.state) }
     ensures failed { IfErr result
         (λ fault. (why : FrameFaultKind) → fault.why ≡ kinds.Framing why → IsErr framer.new.state) }
@@ -70,7 +70,7 @@ pub fn talk(
             if let Err(why) = take_all(alloc, node, session, moment, &items, &mut turns) {
                 return Err(TalkFault { turns, why });
             }
-            if !is_going(node, session) {
+            if !is_active(node, session) {
                 return Ok(turns);
             }
             node.close(session);
@@ -80,7 +80,7 @@ pub fn talk(
     }
 }
 
-/// Polls a session that idles. Returns the answers that send it what has changed (RFC 2177, section
+/// Polls a session that idles. Returns the answers that report what has changed (RFC 2177, section
 /// 3), as turns; none if the node refuses the poll. The only error, `NoMemory`, says that memory
 /// ran out for an answer; it closes the session and returns the turns before that answer.
 pub fn poll_turns(
@@ -89,7 +89,7 @@ pub fn poll_turns(
     session: SessionNo,
 ) -> Result<Vec<Turn>, TalkFault>
     requires { IsOpen node.old.state.sessions session }
-    ensures ok { IfOk result (λ turns. Polls node.old.state session turns.items node.new.state) }
+    ensures ok { IfOk result (λ turns. IsPoll node.old.state session turns.items node.new.state) }
     ensures err { IfErr result (λ fault. (fault.why ≡ kinds.NoMemory)
         × BreaksPoll node.old.state session fault.turns.items node.new.state) }
 {
@@ -117,7 +117,7 @@ fn take_all(
     items: &[Item],
     turns: &mut Vec<Turn>,
 ) -> Result<(), TalkFaultKind>
-    requires { IsGoing node.old.state session }
+    requires { IsActive node.old.state session }
     ensures ok { OnOk result ((more : List Turn) × (turns.new.items ≡ turns.old.items ++ more)
         × Converses node.old.state session (items_at moment items.now) more node.new.state) }
     ensures err { IfErr result (λ why. (more : List Turn)
@@ -146,14 +146,14 @@ fn take_item(
     item: &Item,
     turns: &mut Vec<Turn>,
 ) -> Result<(), TalkFaultKind>
-    requires { IsGoing node.old.state session }
+    requires { IsActive node.old.state session }
     ensures ok { OnOk result ((given : List Answer)
         × TakesItemAt node.old.state session (item_at moment item.now) given node.new.state
         × (turns.new.items ≡ turns.old.items ++ turns_of item.now given)) }
     ensures err { IfErr result (λ why. (more : List Turn)
         × (turns.new.items ≡ turns.old.items ++ more)
         × StopsAt why node.old.state session (item_at moment item.now) more node.new.state) }
-    ensures open { IsGoing node.new.state session ⊎ HasLoggedOut node.new.state session }
+    ensures open { IsActive node.new.state session ⊎ HasLoggedOut node.new.state session }
 {
     let Ok(()) = show(alloc, turns, item) else {
         return Err(TalkFaultKind::NoMemory);
@@ -197,17 +197,17 @@ fn take_request(
     request: Request,
     turns: &mut Vec<Turn>,
 ) -> Result<(), TalkFaultKind>
-    requires { IsGoing node.old.state session }
+    requires { IsActive node.old.state session }
     ensures ok { OnOk result ((given : List Answer)
         × Handles node.old.state session moment request given node.new.state
         × (turns.new.items ≡ turns.old.items ++ turns_of_answers given)) }
     ensures err { IfErr result (λ why. (front : List Turn)
         × (turns.new.items ≡ turns.old.items ++ front)
         × Fails why node.old.state session moment request front node.new.state) }
-    ensures open { IsGoing node.new.state session ⊎ HasLoggedOut node.new.state session }
+    ensures open { IsActive node.new.state session ⊎ HasLoggedOut node.new.state session }
 {
     match request {
-        Request::Told(answer) => send_one(alloc, turns, answer),
+        Request::Immediate(answer) => send_one(alloc, turns, answer),
         Request::Command(tagged) => take_command(alloc, node, session, moment, tagged, turns),
         Request::Line { tag, line } => take_line(alloc, node, session, tag, line, turns),
     }
@@ -222,14 +222,14 @@ fn take_command(
     tagged: Tagged,
     turns: &mut Vec<Turn>,
 ) -> Result<(), TalkFaultKind>
-    requires { IsGoing node.old.state session }
+    requires { IsActive node.old.state session }
     ensures ok { OnOk result ((given : List Answer)
         × Handles node.old.state session moment (CommandRequest tagged) given node.new.state
         × (turns.new.items ≡ turns.old.items ++ turns_of_answers given)) }
     ensures err { IfErr result (λ why. (front : List Turn)
         × (turns.new.items ≡ turns.old.items ++ front)
         × Fails why node.old.state session moment (CommandRequest tagged) front node.new.state) }
-    ensures open { IsGoing node.new.state session ⊎ HasLoggedOut node.new.state session }
+    ensures open { IsActive node.new.state session ⊎ HasLoggedOut node.new.state session }
 {
     // The command moves into the call, and the answer to a refused one bears its tag.
     let Ok(tag) = tagged.tag.copy(alloc) else {
@@ -252,17 +252,17 @@ fn take_line(
     line: IdleLine,
     turns: &mut Vec<Turn>,
 ) -> Result<(), TalkFaultKind>
-    requires { IsGoing node.old.state session }
+    requires { IsActive node.old.state session }
     ensures ok { OnOk result ((given : List Answer)
         × Handles node.old.state session 0 (LineRequest tag line) given node.new.state
         × (turns.new.items ≡ turns.old.items ++ turns_of_answers given)) }
     ensures err { IfErr result (λ why. (front : List Turn)
         × (turns.new.items ≡ turns.old.items ++ front)
         × Fails why node.old.state session 0 (LineRequest tag line) front node.new.state) }
-    ensures open { IsGoing node.new.state session ⊎ HasLoggedOut node.new.state session }
+    ensures open { IsActive node.new.state session ⊎ HasLoggedOut node.new.state session }
 {
     let reply = node.done(alloc, session, line);
-    if is_without_memory(&reply) {
+    if is_out_of_memory(&reply) {
         drop(reply);
         return Err(refuse_line(alloc, turns));
     }
@@ -328,8 +328,8 @@ fn has_logged_out(node: &Node, session: SessionNo) -> bool
     }
 }
 
-fn is_going(node: &Node, session: SessionNo) -> bool
-    ensures { IsTrue result ↔ IsGoing node.now.state session }
+fn is_active(node: &Node, session: SessionNo) -> bool
+    ensures { IsTrue result ↔ IsActive node.now.state session }
 {
     match node.session(session) {
         Some(session) => !matches!(session.state, State::LoggedOut),

@@ -100,7 +100,7 @@ fn send_refusal(
         alloc,
         turns,
         &[
-            Answer::Tell {
+            Answer::UntaggedOk {
                 notice: Notice::Closed,
             },
             refused,

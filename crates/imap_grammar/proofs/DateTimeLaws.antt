@@ -12,7 +12,7 @@ use Rattle.imap_syntax.specs.Dates.{date_time}
 use Rattle.imap_grammar.specs.Reading.{is_date, zeroed}
 use Rattle.imap_grammar.specs.CommandReading.{date_time_at}
 use Rattle.imap_syntax.specs.Strings.{begins}
-use Rattle.imap_grammar.proofs.Fronts.{Front, Reads, chosen, guarded, some_is}
+use Rattle.imap_grammar.proofs.ReaderLaws.{HasPrefix, IsReader, chosen, guarded, some_is}
 
 not_above : (limit n : ℕ) → not (nat_lt limit n) ≡ true → n ≤ limit
 not_above limit n h = grind (arith, nat_tests)
@@ -43,8 +43,8 @@ date_to y m d h =
     and_from _ _ (above_not 9999 y year) (and_from _ _ (above_not m 1 low) (and_from _ _ (above_not 12 m high) (and_from _ _ (above_not d 1 first) (above_not (days_in_month (pos y) m) d last))))
 
 -- the date-time that the code makes from 28 octets
-pub date_made : (octets made : List ℕ) → 28 ≤ length octets → IsDateTime (zeroed (take 28 octets)) → made ≡ zeroed (take 28 octets) → date_time_at octets ≡ Some (made, drop 28 octets)
-date_made octets made l h e =
+pub date_made : (octets map_read : List ℕ) → 28 ≤ length octets → IsDateTime (zeroed (take 28 octets)) → map_read ≡ zeroed (take 28 octets) → date_time_at octets ≡ Some (map_read, drop 28 octets)
+date_made octets map_read l h e =
     ap (λ b. cond b None (cond (is_date_time (zeroed (take 28 octets))) (Some (zeroed (take 28 octets), drop 28 octets)) None)) (le-ltb _ _ l)
     ∙ ap (λ b. cond b (Some (zeroed (take 28 octets), drop 28 octets)) None) (test_from_date_time (zeroed (take 28 octets)) h)
     ∙ ap (λ v. Some (v, drop 28 octets)) (sym e)
@@ -72,13 +72,13 @@ zero_cases (a ∷ b ∷ r) h =
       | inr f ↦ inl (sym (ap (λ c. cond c (a ∷ 48 ∷ r) (a ∷ b ∷ r)) f))
     ]
 
-date_takes : (octets : List ℕ) (x : List ℕ × List ℕ) → date_time_at octets ≡ Some x → Front (date_time x.0) octets x.1
-date_takes octets x h =
+date_sound : (octets : List ℕ) (x : List ℕ × List ℕ) → date_time_at octets ≡ Some x → HasPrefix (date_time x.0) octets x.1
+date_sound octets x h =
     let g = guarded (nat_lt (length octets) 28) (cond (is_date_time (zeroed (take 28 octets))) (Some (zeroed (take 28 octets), drop 28 octets)) None) x h in
     elim (chosen (is_date_time (zeroed (take 28 octets))) (Some (zeroed (take 28 octets), drop 28 octets)) None (Some x) g.1) [
       | inl t ↦
           let d = date_time_from_test (zeroed (take 28 octets)) t.0 in
-          subst (λ (y : List ℕ × List ℕ). Front (date_time y.0) octets y.1) (some_is (zeroed (take 28 octets), drop 28 octets) x t.1)
+          subst (λ (y : List ℕ × List ℕ). HasPrefix (date_time y.0) octets y.1) (some_is (zeroed (take 28 octets), drop 28 octets) x t.1)
           (take 28 octets, (d, zero_cases (take 28 octets) d), sym (take-append-drop 28 octets))
       | inr n ↦ absurd cc
     ]
@@ -102,8 +102,8 @@ date_of value t octets rest h l z e =
     let same : zeroed (take 28 octets) ≡ value = ap zeroed front ∙ z in
     date_made octets value n (subst IsDateTime (sym same) h) (sym same) ∙ ap (λ r. Some (value, r)) back
 
-date_again : (value octets rest : List ℕ) → Front (date_time value) octets rest → date_time_at octets ≡ Some (value, rest)
-date_again value octets rest f =
+date_complete : (value octets rest : List ℕ) → HasPrefix (date_time value) octets rest → date_time_at octets ≡ Some (value, rest)
+date_complete value octets rest f =
     let d = f.1.0 in
     elim f.1.1 [
       | inl same ↦
@@ -115,14 +115,14 @@ date_again value octets rest f =
           date_of value t octets rest d n (sym spaced.1) (f.2 ∙ ap (λ xs. xs ++ rest) spaced.2)
     ]
 
-pub date_reads : (end : List ℕ → Type 0) → Reads date_time_at date_time end
-date_reads end = record { takes = date_takes; again = λ octets rest value f s. date_again value octets rest f }
+pub date_reads : (end : List ℕ → Type 0) → IsReader date_time_at date_time end
+date_reads end = record { sound = date_sound; complete = λ octets rest value f s. date_complete value octets rest f }
 
 value_begins : (value octets rest : List ℕ) → IsDateTime value → octets ≡ value ++ rest → begins 34 octets ≡ true
 value_begins [] octets rest h e = absurd (let k : 0 ≡ 28 = date_length [] h in omega arith)
 value_begins (a ∷ r) octets rest h e = ap (begins 34) e ∙ ap (λ c. eqb c 34) (quote_first a r h)
 
-pub date_begins : (value octets rest : List ℕ) → Front (date_time value) octets rest → begins 34 octets ≡ true
+pub date_begins : (value octets rest : List ℕ) → HasPrefix (date_time value) octets rest → begins 34 octets ≡ true
 date_begins value octets rest f = elim f.1.1 [
   | inl same ↦ value_begins value octets rest f.1.0 (f.2 ∙ ap (λ xs. xs ++ rest) same)
   | inr spaced ↦ ap (begins 34) (f.2 ∙ ap (λ xs. xs ++ rest) spaced.2)

@@ -2,7 +2,7 @@ use Rattle.std.proofs.Common.{◌≡◌, ℕ, ◌+◌, ◌-◌, ◌*◌, ◌≤�
 use Rattle.std.proofs.lemmas.Bool.{cases_lt}
 use Rattle.imap_syntax.specs.Strings.{number_of}
 
--- the number that the digits write after n, or the cap once it is exceeded
+-- the number spelled by n and the digits, or the cap once it is exceeded
 abbrev pub capped : ℕ → ℕ → List ℕ → ℕ
 capped cap n [] = n
 capped cap n (d ∷ ds) = capped cap (min (min (n * 10) cap + (d - 48)) cap) ds

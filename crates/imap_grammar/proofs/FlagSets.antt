@@ -10,7 +10,7 @@ use Rattle.std.specs.Ordering.{match_ordering}
 use Rattle.std.specs.Str.{bytes_eq}
 use Rattle.std.specs.declared.cmp.Ordering.{Ordering}
 use Rattle.std.specs.declared.cmp.Ordering.TheVariants.{Less, Equal, Greater}
-use Rattle.imap_types.specs.Ascending.{AreAscending, ComesBefore, octet_order}
+use Rattle.imap_types.specs.Ascending.{AreAscending, IsBefore, octet_order}
 use Rattle.imap_types.specs.Keywords.{AreKeywords, to_lower_case, with_word}
 use Rattle.imap_types.specs.declared.flags.Flags.{Flags}
 use Rattle.imap_types.proofs.KeywordLemmas.{keywords_with}
@@ -156,15 +156,15 @@ holds_first x xs = or_left (bytes_eq x x) (holds xs x) ((bytes_eq-Decides x x).1
 holds_rest : (z x : List ℕ) (xs : List (List ℕ)) → holds xs z ≡ true → holds (x ∷ xs) z ≡ true
 holds_rest z x xs i = or_right (bytes_eq z x) (holds xs z) i
 
-first_before : (x z : List ℕ) (xs : List (List ℕ)) → AreAscending (x ∷ xs) → holds xs z ≡ true → ComesBefore x z
+first_before : (x z : List ℕ) (xs : List (List ℕ)) → AreAscending (x ∷ xs) → holds xs z ≡ true → IsBefore x z
 first_before x z [] h i = absurd (false≢true i)
 first_before x z (y ∷ xs) h i =
     elim (holds_cases z y xs i) [
-      | inl e ↦ subst (ComesBefore x) (sym e) h.0
+      | inl e ↦ subst (IsBefore x) (sym e) h.0
       | inr t ↦ nat_list_cmp_total.trans x y z h.0 (first_before y z xs h.1 t)
     ]
 
-not_itself : (x : List ℕ) → ComesBefore x x → ⊥
+not_itself : (x : List ℕ) → IsBefore x x → ⊥
 not_itself x e = let k : Less ≡ Equal = sym e ∙ tied_itself nat_list_cmp_total x in cc
 
 ascending_rest : (x : List ℕ) (xs : List (List ℕ)) → AreAscending (x ∷ xs) → AreAscending xs
@@ -174,7 +174,7 @@ ascending_rest x (y ∷ xs) h = h.1
 tail_within : (x y : List ℕ) (xs ys : List (List ℕ)) → x ≡ y → AreAscending (x ∷ xs) → IsWithin (x ∷ xs) (y ∷ ys) → IsWithin xs ys
 tail_within x y xs ys e h f z i =
     elim (holds_cases z y ys (f z (holds_rest z x xs i))) [
-      | inl k ↦ absurd (not_itself x (subst (ComesBefore x) (k ∙ sym e) (first_before x z xs h i)))
+      | inl k ↦ absurd (not_itself x (subst (IsBefore x) (k ∙ sym e) (first_before x z xs h i)))
       | inr t ↦ t
     ]
 

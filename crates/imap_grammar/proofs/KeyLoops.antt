@@ -24,9 +24,9 @@ module _ (inner : List ℕ → Option (List SearchStep × List ℕ)) where
       let k : count - i ≡ suc (count - (i + 1)) = omega arith in
       ap (λ n. more_keys_at n inner steps octets) k ∙ ap (λ r. r >>= λ next. or_more (more_keys_at (count - (i + 1)) inner) steps octets next) h
 
-  pub keys_go_on : (steps : List SearchStep) (count i : ℕ) (octets after : List ℕ) (value : List SearchStep) (total : Option (List SearchStep × List ℕ)) → i < count → next_at 32 inner octets ≡ Some (Some (value, after))
+  pub keys_continue : (steps : List SearchStep) (count i : ℕ) (octets after : List ℕ) (value : List SearchStep) (total : Option (List SearchStep × List ℕ)) → i < count → next_at 32 inner octets ≡ Some (Some (value, after))
       → more_keys_at (count - i) inner steps octets ≡ total → more_keys_at (count - (i + 1)) inner (steps ++ value ++ And ∷ []) after ≡ total
-  keys_go_on steps count i octets after value total lt h so_far = sym (one_more count i steps octets (Some (value, after)) lt h) ∙ so_far
+  keys_continue steps count i octets after value total lt h so_far = sym (one_more count i steps octets (Some (value, after)) lt h) ∙ so_far
 
   pub keys_stop : (steps : List SearchStep) (count i : ℕ) (octets : List ℕ) (total : Option (List SearchStep × List ℕ)) → i < count → next_at 32 inner octets ≡ Some None
       → more_keys_at (count - i) inner steps octets ≡ total → total ≡ Some (steps, octets)

@@ -6,7 +6,7 @@ pub mod Digits
 pub mod FlagLaws
 pub mod FlagSets
 pub mod FrameLaws
-pub mod Fronts
+pub mod ReaderLaws
 pub mod ItemLaws
 pub mod ListingLaws
 pub mod KeyLaws

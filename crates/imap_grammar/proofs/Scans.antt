@@ -21,9 +21,9 @@ after-short ws rest i total l m e =
 
 module _ {W : Type 0} (word_of : W → List ℕ) where
   -- a value whose word equals the text
-  pub found : (text : List ℕ) (ws : List W) (i : ℕ) (w : W) (shown : List ℕ) (b : Bool) → i < length ws → w ≡ get_or ws i w → shown ≡ word_of w → IsTrue b ↔ (to_lower_case text ≡ to_lower_case shown) → b ≡ true
+  pub named_equal : (text : List ℕ) (ws : List W) (i : ℕ) (w : W) (shown : List ℕ) (b : Bool) → i < length ws → w ≡ get_or ws i w → shown ≡ word_of w → IsTrue b ↔ (to_lower_case text ≡ to_lower_case shown) → b ≡ true
       → named word_of (drop i ws) text ≡ named word_of ws text → Some w ≡ named word_of ws text
-  found text ws i w shown b l e s t h inv =
+  named_equal text ws i w shown b l e s t h inv =
       let f : bytes_eq (to_lower_case text) (to_lower_case (word_of w)) ≡ true = (bytes_eq-Decides _ _).1 (t.0 h ∙ ap to_lower_case s) in
       let g : named word_of (w ∷ drop (i + 1) ws) text ≡ Some w = ap (λ c. cond c (Some w) (named word_of (drop (i + 1) ws) text)) f in
       sym (sym inv ∙ ap (λ vs. named word_of vs text) (dropped ws i w l e) ∙ g)

@@ -7,7 +7,7 @@ use Rattle.imap_grammar.specs.Reading.{span, is_nil, run_at}
 use Rattle.imap_syntax.specs.Strings.{is_in, is_pattern_octet, run}
 use Rattle.imap_syntax.specs.declared.octet_class.OctetClass.{OctetClass}
 use Rattle.imap_syntax.specs.declared.octet_class.OctetClass.TheVariants.{Tag, Atom, Astring, Pattern, Digit, Item}
-use Rattle.imap_grammar.proofs.Fronts.{Front, Reads, guarded, some_is, Ends}
+use Rattle.imap_grammar.proofs.ReaderLaws.{HasPrefix, IsReader, guarded, some_is, IsWordEnd}
 
 pub span_parts : (p : ℕ → Bool) (bs : List ℕ) → bs ≡ (span p bs).0 ++ (span p bs).1
 span_parts p [] = refl
@@ -25,12 +25,12 @@ pub span_none : (class : OctetClass) (rest : List ℕ) → begins_in class rest 
 span_none class [] h = refl
 span_none class (b ∷ bs) h = rw h refl
 
-pub span_again : (class : OctetClass) (front rest : List ℕ) → list_all (is_in class) front ≡ true → begins_in class rest ≡ false → span (is_in class) (front ++ rest) ≡ (front, rest)
-span_again class [] rest a h = span_none class rest h
-span_again class (b ∷ front) rest a h =
+pub span_complete : (class : OctetClass) (front rest : List ℕ) → list_all (is_in class) front ≡ true → begins_in class rest ≡ false → span (is_in class) (front ++ rest) ≡ (front, rest)
+span_complete class [] rest a h = span_none class rest h
+span_complete class (b ∷ front) rest a h =
     let p = and_parts (is_in class b) (list_all (is_in class) front) a in
     let first : is_in class b ≡ true = p.0 in
-    rw first (λ k. let s = span_again class front rest p.1 h k in (b ∷ s.0, s.1))
+    rw first (λ k. let s = span_complete class front rest p.1 h k in (b ∷ s.0, s.1))
 
 not_nil : (xs : List ℕ) → is_nil xs ≡ false → xs ≢ []
 not_nil [] h = cc
@@ -43,16 +43,16 @@ is_nil-not (x ∷ xs) h = refl
 StopsAt : OctetClass → List ℕ → Type 0
 StopsAt class rest = begins_in class rest ≡ false
 
-pub run_takes : (class : OctetClass) (octets : List ℕ) (x : List ℕ × List ℕ) → run_at class octets ≡ Some x → Front (run class x.0) octets x.1
-run_takes class octets x h =
+pub run_sound : (class : OctetClass) (octets : List ℕ) (x : List ℕ × List ℕ) → run_at class octets ≡ Some x → HasPrefix (run class x.0) octets x.1
+run_sound class octets x h =
     let g = guarded (is_nil (span (is_in class) octets).0) (Some (span (is_in class) octets)) x h in
-    subst (λ (y : List ℕ × List ℕ). Front (run class y.0) octets y.1) (some_is (span (is_in class) octets) x g.1)
+    subst (λ (y : List ℕ × List ℕ). HasPrefix (run class y.0) octets y.1) (some_is (span (is_in class) octets) x g.1)
     ((span (is_in class) octets).0, (not_nil _ g.0, span_all (is_in class) octets, refl), span_parts (is_in class) octets)
 
-pub run_again : (class : OctetClass) (octets rest value : List ℕ) → Front (run class value) octets rest → begins_in class rest ≡ false → run_at class octets ≡ Some (value, rest)
-run_again class octets rest value f s =
+pub run_complete : (class : OctetClass) (octets rest value : List ℕ) → HasPrefix (run class value) octets rest → begins_in class rest ≡ false → run_at class octets ≡ Some (value, rest)
+run_complete class octets rest value f s =
     let e : octets ≡ value ++ rest = f.2 ∙ ap (λ xs. xs ++ rest) f.1.2 in
-    let g : span (is_in class) octets ≡ (value, rest) = ap (span (is_in class)) e ∙ span_again class value rest f.1.1 s in
+    let g : span (is_in class) octets ≡ (value, rest) = ap (span (is_in class)) e ∙ span_complete class value rest f.1.1 s in
     ap (λ (y : List ℕ × List ℕ). cond (is_nil y.0) None (Some y)) g ∙ ap (λ b. cond b None (Some (value, rest))) (is_nil-not value f.1.0)
 
 -- each class has only octets of patterns
@@ -64,9 +64,9 @@ pattern_octet Pattern b h = h
 pattern_octet Digit b h = grind (arith, nat_tests)
 pattern_octet Item b h = grind (arith, nat_tests)
 
-pub ends_stop : (class : OctetClass) (rest : List ℕ) → Ends rest → begins_in class rest ≡ false
+pub ends_stop : (class : OctetClass) (rest : List ℕ) → IsWordEnd rest → begins_in class rest ≡ false
 ends_stop class [] h = refl
 ends_stop class (b ∷ bs) h = elim (cases_Bool (is_in class b)) [ inl t ↦ absurd (let e : not true ≡ true = subst (λ c. not c ≡ true) (pattern_octet class b t) h in cc) | inr f ↦ f ]
 
-pub run_reads : (class : OctetClass) → Reads (run_at class) (run class) Ends
-run_reads class = record { takes = run_takes class; again = λ octets rest value f s. run_again class octets rest value f (ends_stop class rest s) }
+pub run_reads : (class : OctetClass) → IsReader (run_at class) (run class) IsWordEnd
+run_reads class = record { sound = run_sound class; complete = λ octets rest value f s. run_complete class octets rest value f (ends_stop class rest s) }

@@ -18,16 +18,16 @@ use Rattle.imap_syntax.specs.Strings.{begins, is_in}
 use Rattle.imap_syntax.specs.declared.octet_class.OctetClass.TheVariants.{Item}
 use Rattle.imap_syntax.specs.declared.status.StatusItem.{StatusItem}
 use Rattle.imap_syntax.specs.declared.status.StatusItem.TheVariants as status
-use Rattle.imap_grammar.proofs.Fronts.{Front, Reads, Ends, bind_some, chosen, some_is, stopping}
-use Rattle.imap_grammar.proofs.Spans.{ends_stop, span_again, span_parts}
+use Rattle.imap_grammar.proofs.ReaderLaws.{HasPrefix, IsReader, IsWordEnd, bind_some, chosen, some_is, stopping}
+use Rattle.imap_grammar.proofs.Spans.{ends_stop, span_complete, span_parts}
 
 module _ {W : Type 0} (word_of : W → List ℕ) where
-  pub named_takes : (ws : List W) (text : List ℕ) (w : W) → named word_of ws text ≡ Some w → word (word_of w) text
-  named_takes [] text w h = cc
-  named_takes (v ∷ vs) text w h =
+  pub named_sound : (ws : List W) (text : List ℕ) (w : W) → named word_of ws text ≡ Some w → word (word_of w) text
+  named_sound [] text w h = cc
+  named_sound (v ∷ vs) text w h =
       elim (chosen (bytes_eq (to_lower_case text) (to_lower_case (word_of v))) (Some v) (named word_of vs text) (Some w) h) [
         | inl t ↦ (bytes_eq-Decides _ _).0 t.0 ∙ ap (λ u. to_lower_case (word_of u)) (some_is v w t.1)
-        | inr f ↦ named_takes vs text w f.1
+        | inr f ↦ named_sound vs text w f.1
       ]
 
   -- texts that differ only in case
@@ -37,8 +37,8 @@ module _ {W : Type 0} (word_of : W → List ℕ) where
       ap (λ t. cond (bytes_eq t (to_lower_case (word_of v))) (Some v) (named word_of vs text)) h
       ∙ ap (λ r. cond (bytes_eq (to_lower_case other) (to_lower_case (word_of v))) (Some v) r) (named_same vs text other h)
 
-  pub named_again : (ws : List W) (text : List ℕ) (w : W) → named word_of ws (word_of w) ≡ Some w → word (word_of w) text → named word_of ws text ≡ Some w
-  named_again ws text w h e = named_same ws text (word_of w) e ∙ h
+  pub named_complete : (ws : List W) (text : List ℕ) (w : W) → named word_of ws (word_of w) ≡ Some w → word (word_of w) text → named word_of ws text ≡ Some w
+  named_complete ws text w h e = named_same ws text (word_of w) e ∙ h
 
 -- each word of a command is found, and its octets are atom octets
 is_command_word : (w : CommandWord) → (named command_word command_words (command_word w) ≡ Some w) × (list_all is_atom_octet (to_lower_case (command_word w)) ≡ true)
@@ -71,8 +71,8 @@ is_command_word Rename = (refl, refl)
 is_command_word StartTls = (refl, refl)
 is_command_word Authenticate = (refl, refl)
 
-pub command_again : (text : List ℕ) (w : CommandWord) → word (command_word w) text → named command_word command_words text ≡ Some w
-command_again text w e = named_again command_word command_words text w (is_command_word w).0 e
+pub command_complete : (text : List ℕ) (w : CommandWord) → word (command_word w) text → named command_word command_words text ≡ Some w
+command_complete text w e = named_complete command_word command_words text w (is_command_word w).0 e
 
 -- an octet whose lower case is an atom octet is one
 atom_lower : (b : ℕ) → is_atom_octet (to_ascii_lowercase b) ≡ true → is_atom_octet b ≡ true
@@ -83,8 +83,8 @@ atoms_lower [] h = refl
 atoms_lower (b ∷ bs) h = let p = and_parts _ _ h in and_from _ _ (atom_lower b p.0) (atoms_lower bs p.1)
 
 -- a word's octets are atom octets
-pub word_atoms : (letters text : List ℕ) → list_all is_atom_octet (to_lower_case letters) ≡ true → word letters text → list_all is_atom_octet text ≡ true
-word_atoms letters text h e = atoms_lower text (ap (list_all is_atom_octet) e ∙ h)
+pub word_atoms : (token text : List ℕ) → list_all is_atom_octet (to_lower_case token) ≡ true → word token text → list_all is_atom_octet text ≡ true
+word_atoms token text h e = atoms_lower text (ap (list_all is_atom_octet) e ∙ h)
 
 pub command_atoms : (w : CommandWord) → list_all is_atom_octet (to_lower_case (command_word w)) ≡ true
 command_atoms w = (is_command_word w).1
@@ -100,52 +100,52 @@ items_lower (b ∷ bs) h = let p = and_parts _ _ h in and_from _ _ (item_octet b
 abbrev pub NoItem : List ℕ → Type 0
 NoItem rest = begins_in Item rest ≡ false
 
-pub item_span : (letters octets rest : List ℕ) → list_all (is_in Item) (to_lower_case letters) ≡ true → (f : Front (word letters) octets rest) → NoItem rest → span (is_in Item) octets ≡ (f.0, rest)
-item_span letters octets rest h f s = ap (span (is_in Item)) f.2 ∙ span_again Item f.0 rest (items_lower f.0 (ap (list_all (is_in Item)) f.1 ∙ h)) s
+pub item_span : (token octets rest : List ℕ) → list_all (is_in Item) (to_lower_case token) ≡ true → (f : HasPrefix (word token) octets rest) → NoItem rest → span (is_in Item) octets ≡ (f.0, rest)
+item_span token octets rest h f s = ap (span (is_in Item)) f.2 ∙ span_complete Item f.0 rest (items_lower f.0 (ap (list_all (is_in Item)) f.1 ∙ h)) s
 
-pub after_word_takes : (letters octets rest : List ℕ) → after_word letters octets ≡ Some rest → Front (word letters) octets rest
-after_word_takes letters octets rest h =
-    elim (chosen (bytes_eq (to_lower_case (span (is_in Item) octets).0) (to_lower_case letters)) (Some (span (is_in Item) octets).1) None (Some rest) h) [
+pub after_word_sound : (token octets rest : List ℕ) → after_word token octets ≡ Some rest → HasPrefix (word token) octets rest
+after_word_sound token octets rest h =
+    elim (chosen (bytes_eq (to_lower_case (span (is_in Item) octets).0) (to_lower_case token)) (Some (span (is_in Item) octets).1) None (Some rest) h) [
       | inl t ↦ ((span (is_in Item) octets).0, (bytes_eq-Decides _ _).0 t.0, span_parts (is_in Item) octets ∙ ap (λ xs. (span (is_in Item) octets).0 ++ xs) (some_is (span (is_in Item) octets).1 rest t.1))
       | inr n ↦ absurd cc
     ]
 
-pub after_word_again : (letters octets rest : List ℕ) → list_all (is_in Item) (to_lower_case letters) ≡ true → Front (word letters) octets rest → NoItem rest → after_word letters octets ≡ Some rest
-after_word_again letters octets rest h f s =
-    ap (λ (y : List ℕ × List ℕ). cond (bytes_eq (to_lower_case y.0) (to_lower_case letters)) (Some y.1) None) (item_span letters octets rest h f s)
+pub after_word_complete : (token octets rest : List ℕ) → list_all (is_in Item) (to_lower_case token) ≡ true → HasPrefix (word token) octets rest → NoItem rest → after_word token octets ≡ Some rest
+after_word_complete token octets rest h f s =
+    ap (λ (y : List ℕ × List ℕ). cond (bytes_eq (to_lower_case y.0) (to_lower_case token)) (Some y.1) None) (item_span token octets rest h f s)
     ∙ ap (λ b. cond b (Some rest) None) ((bytes_eq-Decides _ _).1 f.1)
 
 -- tables of words
-pub named_at_takes : {W : Type 0} (word_of : W → List ℕ) (values : List W) (octets : List ℕ) (x : W × List ℕ) → named_at word_of values octets ≡ Some x → Front (word (word_of x.0)) octets x.1
-named_at_takes {W} word_of values octets x h =
+pub named_at_sound : {W : Type 0} (word_of : W → List ℕ) (values : List W) (octets : List ℕ) (x : W × List ℕ) → named_at word_of values octets ≡ Some x → HasPrefix (word (word_of x.0)) octets x.1
+named_at_sound {W} word_of values octets x h =
     let cut = span (is_in Item) octets in
     let a = bind_some (named word_of values cut.0) _ x h in
-    subst (λ (y : W × List ℕ). Front (word (word_of y.0)) octets y.1) (some_is (a.0, cut.1) x a.2) (cut.0, named_takes word_of values cut.0 a.0 a.1, span_parts (is_in Item) octets)
+    subst (λ (y : W × List ℕ). HasPrefix (word (word_of y.0)) octets y.1) (some_is (a.0, cut.1) x a.2) (cut.0, named_sound word_of values cut.0 a.0 a.1, span_parts (is_in Item) octets)
 
-pub named_at_again : {W : Type 0} (word_of : W → List ℕ) (values : List W) (w : W) (octets rest : List ℕ) → named word_of values (word_of w) ≡ Some w → list_all (is_in Item) (to_lower_case (word_of w)) ≡ true
-    → Front (word (word_of w)) octets rest → NoItem rest → named_at word_of values octets ≡ Some (w, rest)
-named_at_again {W} word_of values w octets rest e h f s =
+pub named_at_complete : {W : Type 0} (word_of : W → List ℕ) (values : List W) (w : W) (octets rest : List ℕ) → named word_of values (word_of w) ≡ Some w → list_all (is_in Item) (to_lower_case (word_of w)) ≡ true
+    → HasPrefix (word (word_of w)) octets rest → NoItem rest → named_at word_of values octets ≡ Some (w, rest)
+named_at_complete {W} word_of values w octets rest e h f s =
     ap (λ (y : List ℕ × List ℕ). named word_of values y.0 >>= λ v. Some (v, y.1)) (item_span (word_of w) octets rest h f s)
-    ∙ ap (λ o. o >>= λ v. Some (v, rest)) (named_again word_of values f.0 w e f.1)
+    ∙ ap (λ o. o >>= λ v. Some (v, rest)) (named_complete word_of values f.0 w e f.1)
 
 pub table_reads : {W : Type 0} (word_of : W → List ℕ) (values : List W) → ((w : W) → named word_of values (word_of w) ≡ Some w) → ((w : W) → list_all (is_in Item) (to_lower_case (word_of w)) ≡ true)
-    → Reads (named_at word_of values) (λ w. word (word_of w)) NoItem
-table_reads word_of values found letters = record {
-  takes = named_at_takes word_of values;
-  again = λ octets rest w f s. named_at_again word_of values w octets rest (found w) (letters w) f s;
+    → IsReader (named_at word_of values) (λ w. word (word_of w)) NoItem
+table_reads word_of values is_named token = record {
+  sound = named_at_sound word_of values;
+  complete = λ octets rest w f s. named_at_complete word_of values w octets rest (is_named w) (token w) f s;
 }
 
-pub ends_item : (rest : List ℕ) → Ends rest → NoItem rest
+pub ends_item : (rest : List ℕ) → IsWordEnd rest → NoItem rest
 ends_item rest s = ends_stop Item rest s
 
-status_found : (w : StatusItem) → named status_word status_items (status_word w) ≡ Some w
-status_found status.Messages = refl
-status_found status.UidNext = refl
-status_found status.UidValidity = refl
-status_found status.Unseen = refl
-status_found status.Deleted = refl
-status_found status.Size = refl
-status_found status.HighestModSeq = refl
+status_named : (w : StatusItem) → named status_word status_items (status_word w) ≡ Some w
+status_named status.Messages = refl
+status_named status.UidNext = refl
+status_named status.UidValidity = refl
+status_named status.Unseen = refl
+status_named status.Deleted = refl
+status_named status.Size = refl
+status_named status.HighestModSeq = refl
 
 status_letters : (w : StatusItem) → list_all (is_in Item) (to_lower_case (status_word w)) ≡ true
 status_letters status.Messages = refl
@@ -156,18 +156,18 @@ status_letters status.Deleted = refl
 status_letters status.Size = refl
 status_letters status.HighestModSeq = refl
 
-pub status_reads : Reads (named_at status_word status_items) status_item Ends
-status_reads = stopping (table_reads status_word status_items status_found status_letters) Ends ends_item
+pub status_reads : IsReader (named_at status_word status_items) status_item IsWordEnd
+status_reads = stopping (table_reads status_word status_items status_named status_letters) IsWordEnd ends_item
 
 item_not : (b m : ℕ) → is_in Item b ≡ true → is_in Item m ≡ false → eqb b m ≡ false
 item_not b m h o = elim (cases_Bool (eqb b m)) [ inl t ↦ absurd (let e : true ≡ false = sym h ∙ ap (is_in Item) (eqb-true b m t) ∙ o in cc) | inr f ↦ f ]
 
-word_begins : (letters text octets rest : List ℕ) (m : ℕ) → list_all (is_in Item) (to_lower_case letters) ≡ true → is_nil (to_lower_case letters) ≡ false → is_in Item m ≡ false → word letters text → octets ≡ text ++ rest → begins m octets ≡ false
-word_begins letters [] octets rest m h n o w e = absurd (let k : true ≡ false = ap is_nil w ∙ n in cc)
-word_begins letters (b ∷ text) octets rest m h n o w e =
+word_begins : (token text octets rest : List ℕ) (m : ℕ) → list_all (is_in Item) (to_lower_case token) ≡ true → is_nil (to_lower_case token) ≡ false → is_in Item m ≡ false → word token text → octets ≡ text ++ rest → begins m octets ≡ false
+word_begins token [] octets rest m h n o w e = absurd (let k : true ≡ false = ap is_nil w ∙ n in cc)
+word_begins token (b ∷ text) octets rest m h n o w e =
     let i = items_lower (b ∷ text) (ap (list_all (is_in Item)) w ∙ h) in
     ap (begins m) e ∙ item_not b m (and_parts (is_in Item b) (list_all (is_in Item) text) i).0 o
 
 -- a word's first octet belongs to words
-pub word_first : (letters octets rest : List ℕ) (m : ℕ) → list_all (is_in Item) (to_lower_case letters) ≡ true → is_nil (to_lower_case letters) ≡ false → is_in Item m ≡ false → Front (word letters) octets rest → begins m octets ≡ false
-word_first letters octets rest m h n o f = word_begins letters f.0 octets rest m h n o f.1 f.2
+pub word_first : (token octets rest : List ℕ) (m : ℕ) → list_all (is_in Item) (to_lower_case token) ≡ true → is_nil (to_lower_case token) ≡ false → is_in Item m ≡ false → HasPrefix (word token) octets rest → begins m octets ≡ false
+word_first token octets rest m h n o f = word_begins token f.0 octets rest m h n o f.1 f.2

@@ -8,11 +8,12 @@ use Rattle.std.specs.Option.{unwrap_or}
 use Rattle.imap_types.specs.declared.sequence_set.SequenceRange.{SequenceRange}
 use Rattle.imap_types.specs.declared.flags.Flags.{Flags}
 use Rattle.imap_types.specs.DateTimeTests.{is_date_time}
-use Rattle.imap_grammar.specs.Reading.{Gives, after, after_word, before, both, fetched_at}
-use Rattle.imap_grammar.specs.Reading.{flag_group_at, flags_of, is_nil, listed_at, literal_at, made}
+use Rattle.imap_grammar.specs.Reading.{IsReading, after, after_word, before, both, fetched_at}
+use Rattle.imap_grammar.specs.Reading.{flag_group_at, flags_of, is_nil, listed_at, literal_at}
+use Rattle.imap_grammar.specs.Reading.{map_read}
 use Rattle.imap_grammar.specs.Reading.{mailbox_at, modifier_at, named, named_at, no_flags}
 use Rattle.imap_grammar.specs.Reading.{parens_at, peeked_at, run_at, set_at, spaced, span}
-use Rattle.imap_grammar.specs.Reading.{stored_at, text_at, zeroed, ◌>>=◌}
+use Rattle.imap_grammar.specs.Reading.{store_flags_at, text_at, zeroed, ◌>>=◌}
 use Rattle.imap_syntax.specs.declared.flags.Flag.{Flag}
 use Rattle.imap_syntax.specs.declared.fetch.FetchItem.{FetchItem}
 use Rattle.imap_syntax.specs.declared.store.StoreAction.{StoreAction}
@@ -35,12 +36,12 @@ use Rattle.imap_grammar.specs.KeyReading.{search_at}
 -- LOGIN: a user and a password.
 abbrev pub login_at : List ℕ → Option (Command × List ℕ)
 login_at =
-    made (λ parts. commands.Login parts.0 parts.1)
+    map_read (λ parts. commands.Login parts.0 parts.1)
     (spaced (both (text_at Astring) (spaced (text_at Astring))))
 
 -- ENABLE: names of extensions.
 abbrev pub enable_at : List ℕ → Option (Command × List ℕ)
-enable_at = made commands.Enable (spaced (listed_at 32 (run_at Atom)))
+enable_at = map_read commands.Enable (spaced (listed_at 32 (run_at Atom)))
 
 -- ` (CONDSTORE)` or nothing (RFC 7162, section 3.1.8).
 abbrev pub condstore_at : List ℕ → Option (Bool × List ℕ)
@@ -49,7 +50,7 @@ condstore_at (octet ∷ octets) =
     if octet
     == 32 then (after (40 ∷ []) octets
     >>= λ inner. after_word (codes "CONDSTORE") inner
-    >>= λ behind. after (41 ∷ []) behind >>= λ rest. Some (true, rest))
+    >>= λ tail. after (41 ∷ []) tail >>= λ rest. Some (true, rest))
     else Some (false, octet ∷ octets)
 
 -- The mailbox of SELECT or EXAMINE, and whether CONDSTORE follows.
@@ -57,22 +58,22 @@ abbrev pub opened_at : List ℕ → Option ((List ℕ × Bool) × List ℕ)
 opened_at = spaced (both mailbox_at condstore_at)
 
 abbrev pub select_at : List ℕ → Option (Command × List ℕ)
-select_at = made (λ parts. commands.Select parts.0 parts.1) opened_at
+select_at = map_read (λ parts. commands.Select parts.0 parts.1) opened_at
 
 abbrev pub examine_at : List ℕ → Option (Command × List ℕ)
-examine_at = made (λ parts. commands.Examine parts.0 parts.1) opened_at
+examine_at = map_read (λ parts. commands.Examine parts.0 parts.1) opened_at
 
 abbrev pub create_at : List ℕ → Option (Command × List ℕ)
-create_at = made commands.Create (spaced mailbox_at)
+create_at = map_read commands.Create (spaced mailbox_at)
 
 abbrev pub delete_at : List ℕ → Option (Command × List ℕ)
-delete_at = made commands.Delete (spaced mailbox_at)
+delete_at = map_read commands.Delete (spaced mailbox_at)
 
 abbrev pub subscribe_at : List ℕ → Option (Command × List ℕ)
-subscribe_at = made commands.Subscribe (spaced mailbox_at)
+subscribe_at = map_read commands.Subscribe (spaced mailbox_at)
 
 abbrev pub unsubscribe_at : List ℕ → Option (Command × List ℕ)
-unsubscribe_at = made commands.Unsubscribe (spaced mailbox_at)
+unsubscribe_at = map_read commands.Unsubscribe (spaced mailbox_at)
 
 -- `SUBSCRIBED)` or `)`, after the opening parenthesis; whether it is SUBSCRIBED.
 abbrev pub options_inner_at : List ℕ → Option (Bool × List ℕ)
@@ -80,7 +81,7 @@ options_inner_at [] = None
 options_inner_at (octet ∷ octets) =
     if octet == 41 then Some (false, octets)
     else (after_word (codes "SUBSCRIBED") (octet ∷ octets)
-    >>= λ behind. after (41 ∷ []) behind >>= λ rest. Some (true, rest))
+    >>= λ tail. after (41 ∷ []) tail >>= λ rest. Some (true, rest))
 
 -- `(SUBSCRIBED)` or `()`.
 abbrev pub options_at : List ℕ → Option (Bool × List ℕ)
@@ -115,7 +116,7 @@ list_of parts =
     })
 
 abbrev pub list_at : List ℕ → Option (Command × List ℕ)
-list_at = made list_of list_parts_at
+list_at = map_read list_of list_parts_at
 
 -- A date-time of 28 octets; its day may begin with a space.
 abbrev pub date_time_at : List ℕ → Option (List ℕ × List ℕ)
@@ -131,7 +132,7 @@ flags_given given = flags_of no_flags (unwrap_or given [])
 
 -- A space and the flags of APPEND, or nothing.
 abbrev pub append_flags_at : List ℕ → Option (Flags × List ℕ)
-append_flags_at = made flags_given (peeked_at 40 flag_group_at)
+append_flags_at = map_read flags_given (peeked_at 40 flag_group_at)
 
 -- A space and the date-time of APPEND, or nothing.
 abbrev pub append_date_at : List ℕ → Option (Option (List ℕ) × List ℕ)
@@ -154,12 +155,12 @@ append_of parts =
     (record { name = parts.0; flags = parts.1.0; date = parts.1.1.0; text = parts.1.1.1 })
 
 abbrev pub append_at : List ℕ → Option (Command × List ℕ)
-append_at = made append_of append_parts_at
+append_at = map_read append_of append_parts_at
 
 -- STATUS: a mailbox and items.
 abbrev pub status_at : List ℕ → Option (Command × List ℕ)
 status_at =
-    made (λ parts. commands.Status parts.0 parts.1) (spaced
+    map_read (λ parts. commands.Status parts.0 parts.1) (spaced
     (both mailbox_at (spaced (parens_at (listed_at 32 (named_at status_word status_items))))))
 
 -- COPY and MOVE: a set of messages and the destination mailbox.
@@ -171,17 +172,17 @@ copy_of by_uid parts =
     commands.Copy (record { by_uid = by_uid; messages = parts.0; name = parts.1 })
 
 abbrev pub copy_at : Bool → List ℕ → Option (Command × List ℕ)
-copy_at by_uid = made (copy_of by_uid) copied_at
+copy_at by_uid = map_read (copy_of by_uid) copied_at
 
 abbrev pub move_of : Bool → List SequenceRange × List ℕ → Command
 move_of by_uid parts =
     commands.Move (record { by_uid = by_uid; messages = parts.0; name = parts.1 })
 
 abbrev pub move_at : Bool → List ℕ → Option (Command × List ℕ)
-move_at by_uid = made (move_of by_uid) copied_at
+move_at by_uid = map_read (move_of by_uid) copied_at
 
 abbrev pub uid_expunge_at : List ℕ → Option (Command × List ℕ)
-uid_expunge_at = made commands.UidExpunge (spaced set_at)
+uid_expunge_at = map_read commands.UidExpunge (spaced set_at)
 
 -- FETCH: a set of messages, items and CHANGEDSINCE.
 abbrev pub fetch_parts_at : List ℕ
@@ -195,14 +196,14 @@ fetch_of by_uid parts =
     (record { by_uid = by_uid; messages = parts.0; items = parts.1.0; changed_since = parts.1.1 })
 
 abbrev pub fetch_at : Bool → List ℕ → Option (Command × List ℕ)
-fetch_at by_uid = made (fetch_of by_uid) fetch_parts_at
+fetch_at by_uid = map_read (fetch_of by_uid) fetch_parts_at
 
 -- STORE: a set of messages, UNCHANGEDSINCE, an action and flags.
 abbrev pub store_parts_at : List ℕ
     → Option ((List SequenceRange × (Option ℕ × (StoreAction × Flags))) × List ℕ)
 store_parts_at =
     spaced (both set_at (both (modifier_at (codes "UNCHANGEDSINCE"))
-    (spaced (both (named_at store_word store_actions) (spaced stored_at)))))
+    (spaced (both (named_at store_word store_actions) (spaced store_flags_at)))))
 
 abbrev pub store_of : Bool → List SequenceRange × (Option ℕ × (StoreAction × Flags)) → Command
 store_of by_uid parts =
@@ -215,7 +216,7 @@ store_of by_uid parts =
     })
 
 abbrev pub store_at : Bool → List ℕ → Option (Command × List ℕ)
-store_at by_uid = made (store_of by_uid) store_parts_at
+store_at by_uid = map_read (store_of by_uid) store_parts_at
 
 -- The arguments of a command that follows UID (RFC 9051, section 6.4.9).
 abbrev pub uid_arguments_at : CommandWord → List ℕ → Option (Command × List ℕ)
@@ -273,19 +274,19 @@ word_at octets = named command_word command_words (span (is_in Atom) octets).0
 
 -- The arguments and CRLF, after which nothing may follow.
 abbrev pub ended_at : CommandWord → List ℕ → Option Command
-ended_at found octets =
-    arguments_at found octets
+ended_at known octets =
+    arguments_at known octets
     >>= λ this. after (13 ∷ 10 ∷ []) this.1 >>= λ rest. if is_nil rest then Some this.0 else None
 
 -- The command with its tag.
 abbrev pub tagged_at : List ℕ → CommandWord → List ℕ → Option Tagged
-tagged_at tag found octets =
-    ended_at found octets >>= λ this. Some (record { tag = tag; command = this })
+tagged_at tag known octets =
+    ended_at known octets >>= λ this. Some (record { tag = tag; command = this })
 
 -- The result of parsing a frame with this tag, by the command's word after it, if any.
 abbrev pub AnswersWord : Result Tagged ParseFault → List ℕ → Option CommandWord → List ℕ → Type 0
 AnswersWord answer tag None octets = answer ≡ Err UnknownCommand
-AnswersWord answer tag (Some found) octets = Gives (λ x. x) answer (tagged_at tag found octets)
+AnswersWord answer tag (Some known) octets = IsReading (λ x. x) answer (tagged_at tag known octets)
 
 -- The result of parsing a frame, by its tag and the octets after it, if it has a tag.
 abbrev pub AnswersTag : Result Tagged ParseFault → Option (List ℕ × List ℕ) → Type 0

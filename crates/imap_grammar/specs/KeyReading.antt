@@ -6,7 +6,7 @@ use Rattle.std.specs.Prelude.{Option, Some, None, if◌then◌else◌}
 use Rattle.std.specs.Str.{bytes_eq}
 use Rattle.imap_types.specs.Keywords.{to_lower_case}
 use Rattle.imap_syntax.specs.KeyWords.{key_word, key_words, option_word, search_options}
-use Rattle.imap_grammar.specs.Reading.{◌>>=◌, after, before, both, date_at, listed_at, made}
+use Rattle.imap_grammar.specs.Reading.{◌>>=◌, after, before, both, date_at, listed_at, map_read}
 use Rattle.imap_grammar.specs.Reading.{named_at, next_at, number_at, parens_at, run_at, set_at}
 use Rattle.imap_grammar.specs.Reading.{spaced, span, text_at}
 use Rattle.imap_syntax.specs.Strings.{is_in}
@@ -27,16 +27,16 @@ abbrev pub leaf_at : SearchKeyWord → List ℕ → Option (SearchTest × List �
 leaf_at key.All octets = Some (tests.All, octets)
 leaf_at (key.System flag is_set) octets = Some (tests.System flag is_set, octets)
 leaf_at (key.Keyword is_set) octets =
-    made (λ keyword. tests.Keyword keyword is_set) (spaced (run_at Atom)) octets
-leaf_at (key.Place place) octets = made (tests.Holds place) (spaced (text_at Astring)) octets
+    map_read (λ keyword. tests.Keyword keyword is_set) (spaced (run_at Atom)) octets
+leaf_at (key.Place place) octets = map_read (tests.Holds place) (spaced (text_at Astring)) octets
 leaf_at key.Header octets =
-    made (λ parts. tests.Header parts.0 parts.1)
+    map_read (λ parts. tests.Header parts.0 parts.1)
     (spaced (both (text_at Astring) (spaced (text_at Astring)))) octets
-leaf_at (key.Dated order) octets = made (tests.Dated order) (spaced date_at) octets
-leaf_at key.Larger octets = made tests.Larger (spaced (number_at 9223372036854775807)) octets
-leaf_at key.Smaller octets = made tests.Smaller (spaced (number_at 9223372036854775807)) octets
-leaf_at key.ModSeq octets = made tests.ModSeq (spaced (number_at 9223372036854775807)) octets
-leaf_at key.Uid octets = made tests.Uids (spaced set_at) octets
+leaf_at (key.Dated order) octets = map_read (tests.Dated order) (spaced date_at) octets
+leaf_at key.Larger octets = map_read tests.Larger (spaced (number_at 9223372036854775807)) octets
+leaf_at key.Smaller octets = map_read tests.Smaller (spaced (number_at 9223372036854775807)) octets
+leaf_at key.ModSeq octets = map_read tests.ModSeq (spaced (number_at 9223372036854775807)) octets
+leaf_at key.Uid octets = map_read tests.Uids (spaced set_at) octets
 leaf_at key.Not octets = None
 leaf_at key.Or octets = None
 
@@ -62,14 +62,14 @@ keys_at inner octets = inner octets >>= λ first. more_keys_at (length octets) i
 -- The steps of a key, after its word.
 abbrev pub worded_at : (List ℕ → Option (List SearchStep × List ℕ)) → SearchKeyWord → List ℕ
     → Option (List SearchStep × List ℕ)
-worded_at inner key.Not octets = made (λ steps. steps ++ Not ∷ []) (spaced inner) octets
+worded_at inner key.Not octets = map_read (λ steps. steps ++ Not ∷ []) (spaced inner) octets
 worded_at inner key.Or octets =
-    made (λ parts. parts.0 ++ parts.1 ++ Or ∷ []) (spaced (both inner (spaced inner))) octets
-worded_at inner other octets = made (λ test. Test test ∷ []) (leaf_at other) octets
+    map_read (λ parts. parts.0 ++ parts.1 ++ Or ∷ []) (spaced (both inner (spaced inner))) octets
+worded_at inner other octets = map_read (λ test. Test test ∷ []) (leaf_at other) octets
 
 -- A sequence set as a key.
 abbrev pub numbers_at : List ℕ → Option (List SearchStep × List ℕ)
-numbers_at = made (λ numbers. Test (tests.Numbers numbers) ∷ []) set_at
+numbers_at = map_read (λ numbers. Test (tests.Numbers numbers) ∷ []) set_at
 
 -- A key whose inner keys are read by `inner`.
 abbrev pub level_at : (List ℕ → Option (List SearchStep × List ℕ)) → List ℕ
@@ -79,7 +79,7 @@ level_at inner (octet ∷ octets) =
     if octet == 40 then before (keys_at inner) (after (41 ∷ [])) octets
     else (if is_in Digit octet || (octet == 42) then numbers_at (octet ∷ octets)
     else
-    (named_at key_word key_words (octet ∷ octets) >>= λ found. worded_at inner found.0 found.1))
+    (named_at key_word key_words (octet ∷ octets) >>= λ parsed. worded_at inner parsed.0 parsed.1))
 
 -- A key that nests at most this number of levels, itself included.
 unfoldable pub below_at : ℕ → List ℕ → Option (List SearchStep × List ℕ)
@@ -134,4 +134,4 @@ search_of by_uid parts =
     commands.Search (record { by_uid = by_uid; options = parts.0; steps = parts.1 })
 
 abbrev pub search_at : Bool → List ℕ → Option (Command × List ℕ)
-search_at by_uid = made (search_of by_uid) search_parts_at
+search_at by_uid = map_read (search_of by_uid) search_parts_at

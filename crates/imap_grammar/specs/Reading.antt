@@ -8,7 +8,7 @@ use Rattle.std.specs.Prelude.{if◌then◌else◌, ◌&&◌, not, pos}
 use Rattle.std.specs.Str.{bytes_eq}
 use Rattle.imap_types.specs.Keywords.{to_lower_case, with_word}
 use Rattle.imap_types.specs.Names.{fold_inbox}
-pub use Rattle.imap_types.specs.ReaderSteps.{◌>>=◌, GivesBy, after, with_front}
+pub use Rattle.imap_types.specs.ReaderSteps.{◌>>=◌, IsReadingBy, after, with_prefix}
 use Rattle.jiff.specs.Words.{days_in_month}
 use Rattle.imap_types.specs.declared.sequence_set.SequenceBound.{SequenceBound}
 use Rattle.imap_types.specs.declared.sequence_set.SequenceBound.TheVariants.{Number, Greatest}
@@ -52,8 +52,8 @@ Fails NoTag read = ⊥
 Fails UnknownCommand read = ⊥
 
 -- The result of the code is that of a reading function, unless memory runs out.
-abbrev pub Gives : {X Y : Type 0} → (X → Y) → Result X ParseFault → Option Y → Type 0
-Gives = GivesBy Fails
+abbrev pub IsReading : {X Y : Type 0} → (X → Y) → Result X ParseFault → Option Y → Type 0
+IsReading = IsReadingBy Fails
 
 -- The first of the values whose word is this text, ignoring ASCII case.
 abbrev pub named : {W : Type 0} → (W → List ℕ) → List W → List ℕ → Option W
@@ -99,14 +99,14 @@ run_at class octets =
 
 -- The string up to its closing quote, without escapes; the flag says whether a `\` comes before.
 abbrev pub quoted_at : Bool → List ℕ → Option (List ℕ × List ℕ)
-quoted_at behind_escape [] = None
+quoted_at after_escape [] = None
 quoted_at true (octet ∷ octets) =
-    if (octet == 34) || (octet == 92) then with_front (octet ∷ []) (quoted_at false octets)
+    if (octet == 34) || (octet == 92) then with_prefix (octet ∷ []) (quoted_at false octets)
     else None
 quoted_at false (octet ∷ octets) =
     if octet == 34 then Some ([], octets)
     else (if octet == 92 then quoted_at true octets
-    else (if is_quotable octet then with_front (octet ∷ []) (quoted_at false octets) else None))
+    else (if is_quotable octet then with_prefix (octet ∷ []) (quoted_at false octets) else None))
 
 -- The octets after a `+` (43), if they begin with one.
 abbrev pub after_plus : List ℕ → List ℕ
@@ -139,9 +139,9 @@ both read more octets =
     read octets >>= λ first. more first.1 >>= λ second. Some ((first.0, second.0), second.1)
 
 -- A value, put through a function.
-abbrev pub made : {A B : Type 0} → (A → B) → (List ℕ → Option (A × List ℕ)) → List ℕ
+abbrev pub map_read : {A B : Type 0} → (A → B) → (List ℕ → Option (A × List ℕ)) → List ℕ
     → Option (B × List ℕ)
-made make read octets = read octets >>= λ first. Some (make first.0, first.1)
+map_read make read octets = read octets >>= λ first. Some (make first.0, first.1)
 
 -- A separator and a value, or nothing if the octets don't begin with the separator.
 abbrev pub next_at : {A : Type 0} → ℕ → (List ℕ → Option (A × List ℕ)) → List ℕ
@@ -163,7 +163,7 @@ more_at zero separator read octets = Some ([], octets)
 more_at (suc n) separator read octets =
     next_at separator read octets >>= λ next. and_more (more_at n separator read) octets next
 
--- One or more values with a separator between each two; there are at most as many as octets.
+-- One or more values with separators between them; there are at most as many as octets.
 abbrev pub listed_at : {A : Type 0} → ℕ → (List ℕ → Option (A × List ℕ)) → List ℕ
     → Option (List A × List ℕ)
 listed_at separator read octets =
@@ -173,7 +173,7 @@ listed_at separator read octets =
 
 -- A mailbox name, with INBOX in capitals.
 abbrev pub mailbox_at : List ℕ → Option (List ℕ × List ℕ)
-mailbox_at = made fold_inbox (text_at Astring)
+mailbox_at = map_read fold_inbox (text_at Astring)
 
 -- A value, after which `skip` must succeed.
 abbrev pub before : {A : Type 0} → (List ℕ → Option (A × List ℕ)) → (List ℕ → Option (List ℕ))
@@ -192,8 +192,8 @@ parens_at = enclosed_at 40 41
 
 -- The octets after a word, which may be in any case.
 abbrev pub after_word : List ℕ → List ℕ → Option (List ℕ)
-after_word letters octets =
-    if bytes_eq (to_lower_case (span (is_in Item) octets).0) (to_lower_case letters)
+after_word token octets =
+    if bytes_eq (to_lower_case (span (is_in Item) octets).0) (to_lower_case token)
     then Some (span (is_in Item) octets).1
     else None
 
@@ -223,7 +223,7 @@ nz_at octets =
 abbrev pub bound_at : List ℕ → Option (SequenceBound × List ℕ)
 bound_at [] = None
 bound_at (octet ∷ octets) =
-    if octet == 42 then Some (Greatest, octets) else made Number nz_at (octet ∷ octets)
+    if octet == 42 then Some (Greatest, octets) else map_read Number nz_at (octet ∷ octets)
 
 -- A range after its first bound: `:` (58) and a second bound, or nothing.
 abbrev pub ranged_at : SequenceBound → List ℕ → Option (SequenceRange × List ℕ)
@@ -253,7 +253,7 @@ digits_at least most limit octets =
 
 -- A month's name.
 abbrev pub month_name_at : List ℕ → Option (ℕ × List ℕ)
-month_name_at = made month_of (octets_at 3)
+month_name_at = map_read month_of (octets_at 3)
 
 -- A hyphen (45) and a value.
 abbrev pub hyphened : {A : Type 0} → (List ℕ → Option (A × List ℕ)) → List ℕ → Option (A × List ℕ)
@@ -282,32 +282,32 @@ date_at (octet ∷ octets) =
 -- ---- Modifiers, flags and items.
 
 -- Whether the octets begin with a space and then `mark`.
-abbrev pub peeks : ℕ → List ℕ → Bool
-peeks mark [] = false
-peeks mark (octet ∷ []) = false
-peeks mark (octet ∷ next ∷ octets) = (octet == 32) && (next == mark)
+abbrev pub follows_space : ℕ → List ℕ → Bool
+follows_space mark [] = false
+follows_space mark (octet ∷ []) = false
+follows_space mark (octet ∷ next ∷ octets) = (octet == 32) && (next == mark)
 
 -- A space and a value, or nothing if the octets don't begin with a space and then `mark`.
 abbrev pub peeked_at : {A : Type 0} → ℕ → (List ℕ → Option (A × List ℕ)) → List ℕ
     → Option (Option A × List ℕ)
 peeked_at mark read octets =
-    if peeks mark octets then made Some (spaced read) octets else Some (None, octets)
+    if follows_space mark octets then map_read Some (spaced read) octets else Some (None, octets)
 
 -- A modifier with its mod-sequence, in parentheses.
 abbrev pub modifier_group_at : List ℕ → List ℕ → Option (ℕ × List ℕ)
-modifier_group_at letters =
-    parens_at (λ octets. after_word letters octets >>= spaced (number_at 9223372036854775807))
+modifier_group_at token =
+    parens_at (λ octets. after_word token octets >>= spaced (number_at 9223372036854775807))
 
 -- A space and a modifier, or nothing.
 abbrev pub modifier_at : List ℕ → List ℕ → Option (Option ℕ × List ℕ)
-modifier_at letters = peeked_at 40 (modifier_group_at letters)
+modifier_at token = peeked_at 40 (modifier_group_at token)
 
 -- A `\` (92) and a system flag, or a keyword.
 abbrev pub flag_at : List ℕ → Option (Flag × List ℕ)
 flag_at [] = None
 flag_at (octet ∷ octets) =
-    if octet == 92 then made System (named_at system_word system_flags) octets
-    else made Keyword (run_at Atom) (octet ∷ octets)
+    if octet == 92 then map_read System (named_at system_word system_flags) octets
+    else map_read Keyword (run_at Atom) (octet ∷ octets)
 
 -- Zero or more flags up to the closing parenthesis.
 abbrev pub maybe_flags_at : List ℕ → Option (List Flag × List ℕ)
@@ -353,19 +353,19 @@ flags_of flags [] = flags
 flags_of flags (one ∷ more) = flags_of (with_flag flags one) more
 
 -- The flags of STORE as a set.
-abbrev pub stored_at : List ℕ → Option (Flags × List ℕ)
-stored_at = made (flags_of no_flags) stored_texts_at
+abbrev pub store_flags_at : List ℕ → Option (Flags × List ℕ)
+store_flags_at = map_read (flags_of no_flags) stored_texts_at
 
 -- A space and names of header fields in parentheses.
 abbrev pub field_names_at : List ℕ → Option (List (List ℕ) × List ℕ)
 field_names_at = spaced (parens_at (listed_at 32 (text_at Astring)))
 
 -- A section after its word.
-abbrev pub section_behind_at : SectionWord → List ℕ → Option (Section × List ℕ)
-section_behind_at sections.Header octets = Some (Header, octets)
-section_behind_at sections.Text octets = Some (Text, octets)
-section_behind_at sections.Fields octets = made Fields field_names_at octets
-section_behind_at sections.FieldsNot octets = made FieldsNot field_names_at octets
+abbrev pub section_tail_at : SectionWord → List ℕ → Option (Section × List ℕ)
+section_tail_at sections.Header octets = Some (Header, octets)
+section_tail_at sections.Text octets = Some (Text, octets)
+section_tail_at sections.Fields octets = map_read Fields field_names_at octets
+section_tail_at sections.FieldsNot octets = map_read FieldsNot field_names_at octets
 
 -- A section up to its closing bracket (93).
 abbrev pub section_at : List ℕ → Option (Section × List ℕ)
@@ -373,7 +373,7 @@ section_at [] = None
 section_at (octet ∷ octets) =
     if octet == 93 then Some (Whole, octet ∷ octets)
     else (named_at section_word section_words (octet ∷ octets)
-    >>= λ found. section_behind_at found.0 found.1)
+    >>= λ parsed. section_tail_at parsed.0 parsed.1)
 
 -- A section in brackets.
 abbrev pub bracketed_at : List ℕ → Option (Section × List ℕ)
@@ -392,28 +392,28 @@ partial_at (octet ∷ octets) =
 
 -- The section and the partial range of BODY or BODY.PEEK.
 abbrev pub body_at : Bool → List ℕ → Option (FetchItem × List ℕ)
-body_at peek = made (λ parts. items.Body peek parts.0 parts.1) (both bracketed_at partial_at)
+body_at peek = map_read (λ parts. items.Body peek parts.0 parts.1) (both bracketed_at partial_at)
 
 -- An item after its word.
-abbrev pub item_behind_at : FetchWord → List ℕ → Option (FetchItem × List ℕ)
-item_behind_at fetch.Flags octets = Some (items.Flags, octets)
-item_behind_at fetch.InternalDate octets = Some (items.InternalDate, octets)
-item_behind_at fetch.Size octets = Some (items.Size, octets)
-item_behind_at fetch.Uid octets = Some (items.Uid, octets)
-item_behind_at fetch.ModSeq octets = Some (items.ModSeq, octets)
-item_behind_at fetch.Body octets = body_at false octets
-item_behind_at fetch.BodyPeek octets = body_at true octets
+abbrev pub item_tail_at : FetchWord → List ℕ → Option (FetchItem × List ℕ)
+item_tail_at fetch.Flags octets = Some (items.Flags, octets)
+item_tail_at fetch.InternalDate octets = Some (items.InternalDate, octets)
+item_tail_at fetch.Size octets = Some (items.Size, octets)
+item_tail_at fetch.Uid octets = Some (items.Uid, octets)
+item_tail_at fetch.ModSeq octets = Some (items.ModSeq, octets)
+item_tail_at fetch.Body octets = body_at false octets
+item_tail_at fetch.BodyPeek octets = body_at true octets
 
 -- An item.
 abbrev pub item_at : List ℕ → Option (FetchItem × List ℕ)
-item_at octets = named_at fetch_word fetch_words octets >>= λ found. item_behind_at found.0 found.1
+item_at octets = named_at fetch_word fetch_words octets >>= λ parsed. item_tail_at parsed.0 parsed.1
 
 -- FAST or one item.
 abbrev pub alone_at : List ℕ → Option (List FetchItem × List ℕ)
 alone_at octets =
     if bytes_eq (to_lower_case (span (is_in Item) octets).0) (to_lower_case (codes "FAST")) then
     Some (fast_items, (span (is_in Item) octets).1)
-    else made (λ item. item ∷ []) item_at octets
+    else map_read (λ item. item ∷ []) item_at octets
 
 -- Items in parentheses, FAST, or one item.
 abbrev pub fetched_at : List ℕ → Option (List FetchItem × List ℕ)

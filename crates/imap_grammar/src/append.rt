@@ -1,13 +1,13 @@
 //! The arguments of APPEND (RFC 9051, section 6.3.12).
 
 ghost use Rattle.std.specs.Prelude.{◌≡◌, length};
-ghost use Rattle.imap_grammar.specs.Reading.{Gives, both, literal_at, spaced, zeroed};
+ghost use Rattle.imap_grammar.specs.Reading.{IsReading, both, literal_at, spaced, zeroed};
 ghost use Rattle.imap_grammar.specs.CommandReading.{append_at, append_date_at, append_flags_at};
 ghost use Rattle.imap_grammar.specs.CommandReading.{date_time_at, literal_text_at};
 
 use crate::fault::ParseFault;
 use crate::flags::{collect_flags, flag_group};
-use crate::modifier::{left_out_fault, peeks};
+use crate::modifier::{fault_of_word, follows_space};
 use crate::scan::space;
 use crate::text::{literal, spaced_mailbox};
 use imap_syntax::{Append, Command};
@@ -17,7 +17,7 @@ use std::alloc::Global;
 /// Reads the arguments of APPEND: a mailbox, flags, a date-time and a literal (RFC 9051, section
 /// 6.3.12).
 pub fn append(alloc: Global, octets: &[u8]) -> Result<(Command, &[u8]), ParseFault>
-    ensures { Gives (λ x. (x.0, x.1.now)) result (append_at octets.now) }
+    ensures { IsReading (λ x. (x.0, x.1.now)) result (append_at octets.now) }
 {
     let (name, rest) = spaced_mailbox(alloc, octets)?;
     match message(alloc, rest) {
@@ -42,7 +42,7 @@ fn message(
     alloc: Global,
     octets: &[u8],
 ) -> Result<((Flags, (Option<DateTime>, Text)), &[u8]), ParseFault>
-    ensures { Gives (λ x. (x.0, x.1.now)) result
+    ensures { IsReading (λ x. (x.0, x.1.now)) result
         (both append_flags_at (both append_date_at (spaced literal_text_at)) octets.now) }
 {
     let (flags, rest) = append_flags(alloc, octets)?;
@@ -57,7 +57,7 @@ fn message(
 
 /// Reads the message's date-time, if any, and its text.
 fn dated_text(alloc: Global, octets: &[u8]) -> Result<((Option<DateTime>, Text), &[u8]), ParseFault>
-    ensures { Gives (λ x. (x.0, x.1.now)) result
+    ensures { IsReading (λ x. (x.0, x.1.now)) result
         (both append_date_at (spaced literal_text_at) octets.now) }
 {
     let (date, rest) = append_date(octets)?;
@@ -67,9 +67,9 @@ fn dated_text(alloc: Global, octets: &[u8]) -> Result<((Option<DateTime>, Text),
 
 /// Reads ` (flag flag ..)`, or nothing, which means no flags.
 fn append_flags(alloc: Global, octets: &[u8]) -> Result<(Flags, &[u8]), ParseFault>
-    ensures { Gives (λ x. (x.0, x.1.now)) result (append_flags_at octets.now) }
+    ensures { IsReading (λ x. (x.0, x.1.now)) result (append_flags_at octets.now) }
 {
-    if !peeks(b'(', octets) {
+    if !follows_space(b'(', octets) {
         return Ok((Flags::none(alloc), octets));
     }
     let rest = space(octets)?;
@@ -79,9 +79,9 @@ fn append_flags(alloc: Global, octets: &[u8]) -> Result<(Flags, &[u8]), ParseFau
 
 /// Reads a space and a date-time, or nothing.
 fn append_date(octets: &[u8]) -> Result<(Option<DateTime>, &[u8]), ParseFault>
-    ensures { Gives (λ x. (x.0, x.1.now)) result (append_date_at octets.now) }
+    ensures { IsReading (λ x. (x.0, x.1.now)) result (append_date_at octets.now) }
 {
-    if !peeks(b'"', octets) {
+    if !follows_space(b'"', octets) {
         return Ok((None, octets));
     }
     let rest = space(octets)?;
@@ -92,7 +92,7 @@ fn append_date(octets: &[u8]) -> Result<(Option<DateTime>, &[u8]), ParseFault>
 /// Reads a quoted date-time of 28 octets, whose day may begin with a space (RFC 9051, section 9,
 /// date-time).
 fn date_time(octets: &[u8]) -> Result<(DateTime, &[u8]), ParseFault>
-    ensures { Gives (λ x. (x.0, x.1.now)) result (date_time_at octets.now) }
+    ensures { IsReading (λ x. (x.0, x.1.now)) result (date_time_at octets.now) }
 {
     if octets.len() < 28 {
         return Err(ParseFault::BadSyntax);
@@ -120,21 +120,21 @@ fn zero_for_space(octets: &[u8]) -> [u8; 28]
 /// Reads the message's text. A literal8 and UTF8 (RFC 9051, section 9; RFC 6855) are forms that
 /// this server doesn't support.
 fn literal_text(alloc: Global, octets: &[u8]) -> Result<(Text, &[u8]), ParseFault>
-    ensures { Gives (λ x. (x.0, x.1.now)) result (literal_text_at octets.now) }
+    ensures { IsReading (λ x. (x.0, x.1.now)) result (literal_text_at octets.now) }
 {
     match octets {
         [] => Err(ParseFault::BadSyntax),
         [first, rest @ ..] => match *first {
             b'{' => shared_text(alloc, rest),
             b'~' => Err(ParseFault::NotInProfile),
-            _ => Err(left_out_fault(octets, &[b"UTF8"])),
+            _ => Err(fault_of_word(octets, &[b"UTF8"])),
         },
     }
 }
 
 /// Reads a literal after its `{`, as a text whose copies share its octets.
 fn shared_text(alloc: Global, octets: &[u8]) -> Result<(Text, &[u8]), ParseFault>
-    ensures { Gives (λ x. (x.0, x.1.now)) result (literal_at octets.now) }
+    ensures { IsReading (λ x. (x.0, x.1.now)) result (literal_at octets.now) }
 {
     let (octets, rest) = literal(alloc, octets)?;
     Ok((Text::new(octets.into_vec())?, rest))

@@ -1,7 +1,7 @@
 //! The arguments of commands, by the command's word (RFC 9051, section 6).
 
 ghost use Rattle.std.specs.Prelude.{◌≡◌};
-ghost use Rattle.imap_grammar.specs.Reading.{Gives, listed_at, named_at, parens_at, spaced};
+ghost use Rattle.imap_grammar.specs.Reading.{IsReading, listed_at, named_at, parens_at, spaced};
 ghost use Rattle.imap_grammar.specs.CommandReading.{arguments_at, condstore_at, copied_at, copy_at};
 ghost use Rattle.imap_grammar.specs.CommandReading.{create_at, delete_at, enable_at, examine_at};
 ghost use Rattle.imap_grammar.specs.CommandReading.{login_at, move_at, opened_at, select_at};
@@ -17,7 +17,7 @@ use crate::grammar_word::leading_word;
 use crate::listing::list;
 use crate::modifier::modifier_word;
 use crate::scan::{skip, space};
-use crate::searching::search;
+use crate::search_args::search;
 use crate::sets::spaced_set;
 use crate::status::StatusItems;
 use crate::store::store;
@@ -26,14 +26,14 @@ use imap_syntax::{Command, CommandWord, OctetClass, StatusItem, Transfer, Writte
 use imap_types::{Name, Octets, SequenceSet};
 use std::alloc::Global;
 
-/// Reads what follows a command's word; `specs/Commands` of `imap_syntax` says what that is for
+/// Reads what follows a command's word, as `specs/Commands` of `imap_syntax` defines it for
 /// each command.
 pub fn arguments(
     alloc: Global,
     word: CommandWord,
     octets: &[u8],
 ) -> Result<(Command, &[u8]), ParseFault>
-    ensures { Gives (λ x. (x.0, x.1.now)) result (arguments_at word octets.now) }
+    ensures { IsReading (λ x. (x.0, x.1.now)) result (arguments_at word octets.now) }
 {
     match word {
         CommandWord::Capability => Ok((Command::Capability, octets)),
@@ -67,7 +67,7 @@ pub fn arguments(
 
 /// Reads the arguments of LOGIN: a user and a password (RFC 9051, section 6.2.3).
 fn login(alloc: Global, octets: &[u8]) -> Result<(Command, &[u8]), ParseFault>
-    ensures { Gives (λ x. (x.0, x.1.now)) result (login_at octets.now) }
+    ensures { IsReading (λ x. (x.0, x.1.now)) result (login_at octets.now) }
 {
     let ((user, password), rest) = spaced_texts(alloc, octets)?;
     Ok((Command::Login { user, password }, rest))
@@ -91,7 +91,7 @@ impl ListElement for Atoms {
 
 /// Reads the arguments of ENABLE: names of extensions (RFC 9051, section 6.3.1).
 fn enable(alloc: Global, octets: &[u8]) -> Result<(Command, &[u8]), ParseFault>
-    ensures { Gives (λ x. (x.0, x.1.now)) result (enable_at octets.now) }
+    ensures { IsReading (λ x. (x.0, x.1.now)) result (enable_at octets.now) }
 {
     let (names, rest) = element_list::<Atoms>(alloc, b' ', space(octets)?)?;
     Ok((
@@ -104,7 +104,7 @@ fn enable(alloc: Global, octets: &[u8]) -> Result<(Command, &[u8]), ParseFault>
 
 /// Reads the arguments of SELECT (RFC 9051, section 6.3.2).
 fn select(alloc: Global, octets: &[u8]) -> Result<(Command, &[u8]), ParseFault>
-    ensures { Gives (λ x. (x.0, x.1.now)) result (select_at octets.now) }
+    ensures { IsReading (λ x. (x.0, x.1.now)) result (select_at octets.now) }
 {
     let ((name, condstore), rest) = mailbox_to_open(alloc, octets)?;
     Ok((Command::Select { name, condstore }, rest))
@@ -112,7 +112,7 @@ fn select(alloc: Global, octets: &[u8]) -> Result<(Command, &[u8]), ParseFault>
 
 /// Reads the arguments of EXAMINE (RFC 9051, section 6.3.3).
 fn examine(alloc: Global, octets: &[u8]) -> Result<(Command, &[u8]), ParseFault>
-    ensures { Gives (λ x. (x.0, x.1.now)) result (examine_at octets.now) }
+    ensures { IsReading (λ x. (x.0, x.1.now)) result (examine_at octets.now) }
 {
     let ((name, condstore), rest) = mailbox_to_open(alloc, octets)?;
     Ok((Command::Examine { name, condstore }, rest))
@@ -120,7 +120,7 @@ fn examine(alloc: Global, octets: &[u8]) -> Result<(Command, &[u8]), ParseFault>
 
 /// Reads the mailbox to open, and whether CONDSTORE follows.
 fn mailbox_to_open(alloc: Global, octets: &[u8]) -> Result<((Name, bool), &[u8]), ParseFault>
-    ensures { Gives (λ x. (x.0, x.1.now)) result (opened_at octets.now) }
+    ensures { IsReading (λ x. (x.0, x.1.now)) result (opened_at octets.now) }
 {
     let (name, rest) = spaced_mailbox(alloc, octets)?;
     let (condstore, rest) = condstore(rest)?;
@@ -129,7 +129,7 @@ fn mailbox_to_open(alloc: Global, octets: &[u8]) -> Result<((Name, bool), &[u8])
 
 /// Reads ` (CONDSTORE)` or nothing (RFC 7162, section 3.1.8).
 fn condstore(octets: &[u8]) -> Result<(bool, &[u8]), ParseFault>
-    ensures { Gives (λ x. (x.0, x.1.now)) result (condstore_at octets.now) }
+    ensures { IsReading (λ x. (x.0, x.1.now)) result (condstore_at octets.now) }
 {
     match octets {
         [] => Ok((false, octets)),
@@ -146,7 +146,7 @@ fn condstore(octets: &[u8]) -> Result<(bool, &[u8]), ParseFault>
 
 /// Reads the argument of CREATE (RFC 9051, section 6.3.4).
 fn create(alloc: Global, octets: &[u8]) -> Result<(Command, &[u8]), ParseFault>
-    ensures { Gives (λ x. (x.0, x.1.now)) result (create_at octets.now) }
+    ensures { IsReading (λ x. (x.0, x.1.now)) result (create_at octets.now) }
 {
     let (name, rest) = spaced_mailbox(alloc, octets)?;
     Ok((Command::Create { name }, rest))
@@ -154,7 +154,7 @@ fn create(alloc: Global, octets: &[u8]) -> Result<(Command, &[u8]), ParseFault>
 
 /// Reads the argument of DELETE (RFC 9051, section 6.3.5).
 fn delete(alloc: Global, octets: &[u8]) -> Result<(Command, &[u8]), ParseFault>
-    ensures { Gives (λ x. (x.0, x.1.now)) result (delete_at octets.now) }
+    ensures { IsReading (λ x. (x.0, x.1.now)) result (delete_at octets.now) }
 {
     let (name, rest) = spaced_mailbox(alloc, octets)?;
     Ok((Command::Delete { name }, rest))
@@ -162,7 +162,7 @@ fn delete(alloc: Global, octets: &[u8]) -> Result<(Command, &[u8]), ParseFault>
 
 /// Reads the argument of SUBSCRIBE (RFC 9051, section 6.3.7).
 fn subscribe(alloc: Global, octets: &[u8]) -> Result<(Command, &[u8]), ParseFault>
-    ensures { Gives (λ x. (x.0, x.1.now)) result (subscribe_at octets.now) }
+    ensures { IsReading (λ x. (x.0, x.1.now)) result (subscribe_at octets.now) }
 {
     let (name, rest) = spaced_mailbox(alloc, octets)?;
     Ok((Command::Subscribe { name }, rest))
@@ -170,7 +170,7 @@ fn subscribe(alloc: Global, octets: &[u8]) -> Result<(Command, &[u8]), ParseFaul
 
 /// Reads the argument of UNSUBSCRIBE (RFC 9051, section 6.3.8).
 fn unsubscribe(alloc: Global, octets: &[u8]) -> Result<(Command, &[u8]), ParseFault>
-    ensures { Gives (λ x. (x.0, x.1.now)) result (unsubscribe_at octets.now) }
+    ensures { IsReading (λ x. (x.0, x.1.now)) result (unsubscribe_at octets.now) }
 {
     let (name, rest) = spaced_mailbox(alloc, octets)?;
     Ok((Command::Unsubscribe { name }, rest))
@@ -178,7 +178,7 @@ fn unsubscribe(alloc: Global, octets: &[u8]) -> Result<(Command, &[u8]), ParseFa
 
 /// Reads the arguments of STATUS: a mailbox and items (RFC 9051, section 6.3.11).
 fn status(alloc: Global, octets: &[u8]) -> Result<(Command, &[u8]), ParseFault>
-    ensures { Gives (λ x. (x.0, x.1.now)) result (status_at octets.now) }
+    ensures { IsReading (λ x. (x.0, x.1.now)) result (status_at octets.now) }
 {
     let (name, rest) = spaced_mailbox(alloc, octets)?;
     match status_items(alloc, rest) {
@@ -195,7 +195,7 @@ fn status(alloc: Global, octets: &[u8]) -> Result<(Command, &[u8]), ParseFault>
 
 /// Reads ` (item item ..)`.
 fn status_items(alloc: Global, octets: &[u8]) -> Result<(Vec<StatusItem>, &[u8]), ParseFault>
-    ensures { Gives (λ x. (x.0.items, x.1.now)) result
+    ensures { IsReading (λ x. (x.0.items, x.1.now)) result
         (spaced (parens_at (listed_at 32 (named_at status_word status_items))) octets.now) }
 {
     let rest = skip(space(octets)?, b"(")?;
@@ -206,7 +206,7 @@ fn status_items(alloc: Global, octets: &[u8]) -> Result<(Vec<StatusItem>, &[u8])
 
 /// Reads the arguments of COPY (RFC 9051, section 6.4.7).
 fn copy(alloc: Global, by_uid: bool, octets: &[u8]) -> Result<(Command, &[u8]), ParseFault>
-    ensures { Gives (λ x. (x.0, x.1.now)) result (copy_at by_uid octets.now) }
+    ensures { IsReading (λ x. (x.0, x.1.now)) result (copy_at by_uid octets.now) }
 {
     let ((messages, name), rest) = messages_and_mailbox(alloc, octets)?;
     let transfer = Transfer {
@@ -219,7 +219,7 @@ fn copy(alloc: Global, by_uid: bool, octets: &[u8]) -> Result<(Command, &[u8]), 
 
 /// Reads the arguments of MOVE (RFC 9051, section 6.4.8).
 fn move_messages(alloc: Global, by_uid: bool, octets: &[u8]) -> Result<(Command, &[u8]), ParseFault>
-    ensures { Gives (λ x. (x.0, x.1.now)) result (move_at by_uid octets.now) }
+    ensures { IsReading (λ x. (x.0, x.1.now)) result (move_at by_uid octets.now) }
 {
     let ((messages, name), rest) = messages_and_mailbox(alloc, octets)?;
     let transfer = Transfer {
@@ -235,7 +235,7 @@ fn messages_and_mailbox(
     alloc: Global,
     octets: &[u8],
 ) -> Result<((SequenceSet, Name), &[u8]), ParseFault>
-    ensures { Gives (λ x. (x.0, x.1.now)) result (copied_at octets.now) }
+    ensures { IsReading (λ x. (x.0, x.1.now)) result (copied_at octets.now) }
 {
     let (messages, rest) = spaced_set(alloc, octets)?;
     let (name, rest) = spaced_mailbox(alloc, rest)?;
@@ -254,7 +254,7 @@ const UID_WORDS: [CommandWord; 6] = [
 
 /// Reads a command's word after UID, and its arguments (RFC 9051, section 6.4.9).
 fn uid(alloc: Global, octets: &[u8]) -> Result<(Command, &[u8]), ParseFault>
-    ensures { Gives (λ x. (x.0, x.1.now)) result (uid_at octets.now) }
+    ensures { IsReading (λ x. (x.0, x.1.now)) result (uid_at octets.now) }
 {
     let (word, rest) = uid_word(space(octets)?)?;
     uid_arguments(alloc, word, rest)
@@ -262,7 +262,7 @@ fn uid(alloc: Global, octets: &[u8]) -> Result<(Command, &[u8]), ParseFault>
 
 /// Reads the command's word after UID.
 fn uid_word(octets: &[u8]) -> Result<(CommandWord, &[u8]), ParseFault>
-    ensures { Gives (λ x. (x.0, x.1.now)) result (named_at command_word uid_words octets.now) }
+    ensures { IsReading (λ x. (x.0, x.1.now)) result (named_at command_word uid_words octets.now) }
 {
     leading_word(&UID_WORDS, octets)
 }
@@ -273,7 +273,7 @@ fn uid_arguments(
     word: CommandWord,
     octets: &[u8],
 ) -> Result<(Command, &[u8]), ParseFault>
-    ensures { Gives (λ x. (x.0, x.1.now)) result (uid_arguments_at word octets.now) }
+    ensures { IsReading (λ x. (x.0, x.1.now)) result (uid_arguments_at word octets.now) }
 {
     match word {
         CommandWord::Copy => copy(alloc, true, octets),
@@ -288,7 +288,7 @@ fn uid_arguments(
 
 /// Reads the argument of UID EXPUNGE: a set of UIDs (RFC 9051, section 6.4.9).
 fn uid_expunge(alloc: Global, octets: &[u8]) -> Result<(Command, &[u8]), ParseFault>
-    ensures { Gives (λ x. (x.0, x.1.now)) result (uid_expunge_at octets.now) }
+    ensures { IsReading (λ x. (x.0, x.1.now)) result (uid_expunge_at octets.now) }
 {
     let (uids, rest) = spaced_set(alloc, octets)?;
     Ok((Command::UidExpunge { uids }, rest))

@@ -2,7 +2,7 @@
 
 ghost use Rattle.std.specs.Prelude.{◌≡◌, ◌<◌, ◌≤◌, ◌-◌, ◌^◌, IfOk};
 ghost use Rattle.imap_types.specs.DateTimes.{month_of};
-ghost use Rattle.imap_grammar.specs.Reading.{Gives, date_at, date_text_at, digits_at};
+ghost use Rattle.imap_grammar.specs.Reading.{IsReading, date_at, date_text_at, digits_at};
 ghost use Rattle.imap_grammar.specs.Reading.{month_name_at};
 
 use crate::fault::ParseFault;
@@ -13,7 +13,7 @@ use imap_types::Day;
 
 /// Reads the day of a SEARCH key, with or without quotes (RFC 9051, section 9, date).
 pub fn date(octets: &[u8]) -> Result<(Day, &[u8]), ParseFault>
-    ensures { Gives (λ x. (x.0, x.1.now)) result (date_at octets.now) }
+    ensures { IsReading (λ x. (x.0, x.1.now)) result (date_at octets.now) }
 {
     match octets {
         [] => Err(ParseFault::BadSyntax),
@@ -30,7 +30,7 @@ pub fn date(octets: &[u8]) -> Result<(Day, &[u8]), ParseFault>
 
 /// Reads `d-Mon-yyyy`, a day that exists in the calendar (RFC 9051, section 9, date-text).
 fn date_text(octets: &[u8]) -> Result<(Day, &[u8]), ParseFault>
-    ensures { Gives (λ x. (x.0, x.1.now)) result (date_text_at octets.now) }
+    ensures { IsReading (λ x. (x.0, x.1.now)) result (date_text_at octets.now) }
 {
     let (day, rest) = digits(octets, 1, 2, 31)?;
     let (month, rest) = month_name(skip(rest, b"-")?)?;
@@ -43,7 +43,7 @@ fn date_text(octets: &[u8]) -> Result<(Day, &[u8]), ParseFault>
 
 /// Reads a number up to `limit`, written in `least` to `most` digits.
 fn digits(octets: &[u8], least: usize, most: usize, limit: u16) -> Result<(u16, &[u8]), ParseFault>
-    ensures value { Gives (λ x. (x.0, x.1.now)) result (digits_at least most limit octets.now) }
+    ensures value { IsReading (λ x. (x.0, x.1.now)) result (digits_at least most limit octets.now) }
     ensures bound { IfOk result (λ x. x.0 ≤ limit) }
 {
     let (digits, rest) = run(OctetClass::Digit, octets)?;
@@ -56,7 +56,7 @@ fn digits(octets: &[u8], least: usize, most: usize, limit: u16) -> Result<(u16, 
 
 /// Takes the three octets of a month's name, whatever they are.
 fn month_name(octets: &[u8]) -> Result<(&[u8], &[u8]), ParseFault>
-    ensures { Gives (λ x. (month_of x.0.now, x.1.now)) result (month_name_at octets.now) }
+    ensures { IsReading (λ x. (month_of x.0.now, x.1.now)) result (month_name_at octets.now) }
 {
     if octets.len() < 3 {
         return Err(ParseFault::BadSyntax);

@@ -1,7 +1,7 @@
-//! Lists of values with a separator between each two.
+//! Lists of values with separators between them.
 
 ghost use Rattle.std.specs.Prelude.{◌≡◌, ◌∷◌, [], length, option_map};
-ghost use Rattle.imap_grammar.specs.Reading.{Gives, listed_at, next_at};
+ghost use Rattle.imap_grammar.specs.Reading.{IsReading, listed_at, next_at};
 
 use crate::fault::ParseFault;
 use std::alloc::Global;
@@ -12,22 +12,23 @@ pub trait ListElement {
     type Value: Drop;
 
     ghost use Rattle.std.specs.Prelude.{ℕ, List, Option};
-    ghost use Rattle.imap_grammar.specs.Reading.{Gives};
+    ghost use Rattle.imap_grammar.specs.Reading.{IsReading};
 
     ghost read_at: { List ℕ → Option (Self.Value × List ℕ) };
 
-    /// Reads the value that the octets begin with, and gives the rest.
+    /// Reads the value that the octets begin with, and returns the rest.
     fn read(alloc: Global, octets: &[u8]) -> Result<(Self::Value, &[u8]), ParseFault>
-        ensures { Gives (λ x. (x.0, x.1.now)) result (read_at octets.now) };
+        ensures { IsReading (λ x. (x.0, x.1.now)) result (read_at octets.now) };
 }
 
-/// Reads one or more values with a separator between each two, and gives the rest.
+/// Reads one or more values with separators between them, and returns the rest.
 pub fn element_list<E: ListElement>(
     alloc: Global,
     separator: u8,
     octets: &[u8],
 ) -> Result<(Vec<E::Value>, &[u8]), ParseFault>
-    ensures { Gives (λ x. (x.0.items, x.1.now)) result (listed_at separator E.read_at octets.now) }
+    ensures { IsReading (λ x. (x.0.items, x.1.now)) result
+        (listed_at separator E.read_at octets.now) }
 {
     let mut values = Vec::new(alloc);
     let (first, mut rest) = E::read(alloc, octets)?;
@@ -49,7 +50,7 @@ fn next<E: ListElement>(
     separator: u8,
     octets: &[u8],
 ) -> Result<Option<(E::Value, &[u8])>, ParseFault>
-    ensures { Gives (λ x. option_map (λ y. (y.0, y.1.now)) x) result
+    ensures { IsReading (λ x. option_map (λ y. (y.0, y.1.now)) x) result
         (next_at separator E.read_at octets.now) }
 {
     match octets {

@@ -1,8 +1,8 @@
-//! Faults of frames that give no command.
+//! Faults of frames that are no command.
 
 use std::alloc::{AllocError, AllocFailed};
 
-/// Why a frame gives no command. A fault changes nothing.
+/// Why a frame is no command. A fault changes nothing.
 #[derive(Clone, Copy, Debug, PartialEq, Eq, thiserror::Error)]
 pub enum ParseFault {
     /// The frame doesn't begin with a tag and a space.

@@ -1,9 +1,10 @@
 //! The arguments of FETCH (RFC 9051, section 6.4.5; RFC 7162, section 3.1.4).
 
 ghost use Rattle.std.specs.Prelude.{◌≡◌, ◌⊎◌, IfOk};
-ghost use Rattle.imap_grammar.specs.Reading.{Gives, alone_at, body_at, bracketed_at, fetched_at};
-ghost use Rattle.imap_grammar.specs.Reading.{field_names_at, item_at, item_behind_at, named_at};
-ghost use Rattle.imap_grammar.specs.Reading.{partial_at, section_at, section_behind_at};
+ghost use Rattle.imap_grammar.specs.Reading.{IsReading, alone_at, body_at, bracketed_at};
+ghost use Rattle.imap_grammar.specs.Reading.{fetched_at};
+ghost use Rattle.imap_grammar.specs.Reading.{field_names_at, item_at, item_tail_at, named_at};
+ghost use Rattle.imap_grammar.specs.Reading.{partial_at, section_at, section_tail_at};
 ghost use Rattle.imap_grammar.specs.CommandReading.{fetch_at};
 ghost use Rattle.imap_syntax.specs.Words.{fetch_word, fetch_words, section_word, section_words};
 ghost use Rattle.imap_syntax.specs.Items.{fast_items};
@@ -12,7 +13,7 @@ ghost use Rattle.imap_grammar.specs.declared.fault.ParseFault.TheVariants.{BadSy
 use crate::element_list::{ListElement, element_list};
 use crate::fault::ParseFault;
 use crate::grammar_word::{GrammarWord, find};
-use crate::modifier::{changed_since, left_out_fault};
+use crate::modifier::{changed_since, fault_of_word};
 use crate::numbers::{number, nz};
 use crate::scan::{skip, space, span};
 use crate::sets::spaced_set;
@@ -78,7 +79,7 @@ impl GrammarWord for SectionWord {
 /// Reads the arguments of FETCH (RFC 9051, section 6.4.5; RFC 7162, section 3.1.4). Spare capacity
 /// is released, since a journal stores the command for good.
 pub fn fetch(alloc: Global, by_uid: bool, octets: &[u8]) -> Result<(Command, &[u8]), ParseFault>
-    ensures { Gives (λ x. (x.0, x.1.now)) result (fetch_at by_uid octets.now) }
+    ensures { IsReading (λ x. (x.0, x.1.now)) result (fetch_at by_uid octets.now) }
 {
     let (messages, rest) = spaced_set(alloc, octets)?;
     let (mut items, rest) = fetch_items(alloc, space(rest)?)?;
@@ -95,7 +96,7 @@ pub fn fetch(alloc: Global, by_uid: bool, octets: &[u8]) -> Result<(Command, &[u
 
 /// Reads items in parentheses, FAST, or one item.
 fn fetch_items(alloc: Global, octets: &[u8]) -> Result<(Vec<FetchItem>, &[u8]), ParseFault>
-    ensures { Gives (λ x. (x.0.items, x.1.now)) result (fetched_at octets.now) }
+    ensures { IsReading (λ x. (x.0.items, x.1.now)) result (fetched_at octets.now) }
 {
     match octets {
         [] => Err(ParseFault::BadSyntax),
@@ -112,10 +113,10 @@ fn fetch_items(alloc: Global, octets: &[u8]) -> Result<(Vec<FetchItem>, &[u8]), 
 
 /// Reads FAST or one item.
 fn alone(alloc: Global, octets: &[u8]) -> Result<(Vec<FetchItem>, &[u8]), ParseFault>
-    ensures { Gives (λ x. (x.0.items, x.1.now)) result (alone_at octets.now) }
+    ensures { IsReading (λ x. (x.0.items, x.1.now)) result (alone_at octets.now) }
 {
-    let (letters, rest) = span(OctetClass::Item, octets);
-    if letters.eq_ignore_ascii_case(b"FAST") {
+    let (token, rest) = span(OctetClass::Item, octets);
+    if token.eq_ignore_ascii_case(b"FAST") {
         return Ok((fast(alloc)?, rest));
     }
     let (item, rest) = item(alloc, octets)?;
@@ -152,20 +153,20 @@ impl ListElement for Items {
 
 /// Reads one item.
 fn item(alloc: Global, octets: &[u8]) -> Result<(FetchItem, &[u8]), ParseFault>
-    ensures { Gives (λ x. (x.0, x.1.now)) result (item_at octets.now) }
+    ensures { IsReading (λ x. (x.0, x.1.now)) result (item_at octets.now) }
 {
     let (word, rest) = fetch_word(octets)?;
-    item_behind(alloc, word, rest)
+    item_tail(alloc, word, rest)
 }
 
 /// Reads an item's word. Some words belong to forms that this server doesn't support.
 fn fetch_word(octets: &[u8]) -> Result<(FetchWord, &[u8]), ParseFault>
-    ensures { Gives (λ x. (x.0, x.1.now)) result (named_at fetch_word fetch_words octets.now) }
+    ensures { IsReading (λ x. (x.0, x.1.now)) result (named_at fetch_word fetch_words octets.now) }
 {
-    let (letters, rest) = span(OctetClass::Item, octets);
-    match find(&FETCH_WORDS, letters) {
+    let (token, rest) = span(OctetClass::Item, octets);
+    match find(&FETCH_WORDS, token) {
         Some(word) => Ok((word, rest)),
-        None => Err(left_out_fault(
+        None => Err(fault_of_word(
             octets,
             &[
                 b"ENVELOPE",
@@ -184,12 +185,12 @@ fn fetch_word(octets: &[u8]) -> Result<(FetchWord, &[u8]), ParseFault>
 }
 
 /// Reads the rest of the item that this word begins.
-fn item_behind(
+fn item_tail(
     alloc: Global,
     word: FetchWord,
     octets: &[u8],
 ) -> Result<(FetchItem, &[u8]), ParseFault>
-    ensures { Gives (λ x. (x.0, x.1.now)) result (item_behind_at word octets.now) }
+    ensures { IsReading (λ x. (x.0, x.1.now)) result (item_tail_at word octets.now) }
 {
     match word {
         FetchWord::Flags => Ok((FetchItem::Flags, octets)),
@@ -204,7 +205,7 @@ fn item_behind(
 
 /// Reads the section and the partial range of BODY or BODY.PEEK.
 fn body(alloc: Global, peek: bool, octets: &[u8]) -> Result<(FetchItem, &[u8]), ParseFault>
-    ensures { Gives (λ x. (x.0, x.1.now)) result (body_at peek octets.now) }
+    ensures { IsReading (λ x. (x.0, x.1.now)) result (body_at peek octets.now) }
 {
     let (section, rest) = bracketed_section(alloc, peek, octets)?;
     let (partial, rest) = partial_range(rest)?;
@@ -224,7 +225,7 @@ fn bracketed_section(
     peek: bool,
     octets: &[u8],
 ) -> Result<(Section, &[u8]), ParseFault>
-    ensures { Gives (λ x. (x.0, x.1.now)) result (bracketed_at octets.now) }
+    ensures { IsReading (λ x. (x.0, x.1.now)) result (bracketed_at octets.now) }
 {
     match octets {
         [] => Err(no_section(peek)),
@@ -254,7 +255,7 @@ fn no_section(peek: bool) -> ParseFault
 /// Reads a section up to its bracket; nothing means the whole text (RFC 9051, section 9,
 /// section-spec).
 fn section(alloc: Global, octets: &[u8]) -> Result<(Section, &[u8]), ParseFault>
-    ensures { Gives (λ x. (x.0, x.1.now)) result (section_at octets.now) }
+    ensures { IsReading (λ x. (x.0, x.1.now)) result (section_at octets.now) }
 {
     match octets {
         [] => Err(ParseFault::BadSyntax),
@@ -263,35 +264,36 @@ fn section(alloc: Global, octets: &[u8]) -> Result<(Section, &[u8]), ParseFault>
                 return Ok((Section::Whole, octets));
             }
             let (word, rest) = section_word(octets)?;
-            section_behind(alloc, word, rest)
+            section_tail(alloc, word, rest)
         }
     }
 }
 
 /// Reads a section's word. Numbered parts and MIME are forms that this server doesn't support.
 fn section_word(octets: &[u8]) -> Result<(SectionWord, &[u8]), ParseFault>
-    ensures { Gives (λ x. (x.0, x.1.now)) result (named_at section_word section_words octets.now) }
+    ensures { IsReading (λ x. (x.0, x.1.now)) result
+        (named_at section_word section_words octets.now) }
 {
-    let (letters, rest) = span(OctetClass::Item, octets);
-    match find(&SECTION_WORDS, letters) {
+    let (token, rest) = span(OctetClass::Item, octets);
+    match find(&SECTION_WORDS, token) {
         Some(word) => Ok((word, rest)),
         None => {
             let (digits, _) = span(OctetClass::Digit, octets);
             if !digits.is_empty() {
                 return Err(ParseFault::NotInProfile);
             }
-            Err(left_out_fault(octets, &[b"MIME"]))
+            Err(fault_of_word(octets, &[b"MIME"]))
         }
     }
 }
 
 /// Reads the rest of the section that this word begins.
-fn section_behind(
+fn section_tail(
     alloc: Global,
     word: SectionWord,
     octets: &[u8],
 ) -> Result<(Section, &[u8]), ParseFault>
-    ensures { Gives (λ x. (x.0, x.1.now)) result (section_behind_at word octets.now) }
+    ensures { IsReading (λ x. (x.0, x.1.now)) result (section_tail_at word octets.now) }
 {
     match word {
         SectionWord::Header => Ok((Section::Header, octets)),
@@ -325,7 +327,7 @@ impl ListElement for Astrings {
 
 /// Reads ` (name name ..)` (RFC 9051, section 9, header-list).
 fn field_names(alloc: Global, octets: &[u8]) -> Result<(FieldNames, &[u8]), ParseFault>
-    ensures { Gives (λ x. (x.0, x.1.now)) result (field_names_at octets.now) }
+    ensures { IsReading (λ x. (x.0, x.1.now)) result (field_names_at octets.now) }
 {
     let rest = skip(space(octets)?, b"(")?;
     let (names, rest) = element_list::<Astrings>(alloc, b' ', rest)?;
@@ -335,7 +337,7 @@ fn field_names(alloc: Global, octets: &[u8]) -> Result<(FieldNames, &[u8]), Pars
 
 /// Reads `<start.count>` or nothing (RFC 9051, section 9, partial).
 fn partial_range(octets: &[u8]) -> Result<(Option<Partial>, &[u8]), ParseFault>
-    ensures { Gives (λ x. (x.0, x.1.now)) result (partial_at octets.now) }
+    ensures { IsReading (λ x. (x.0, x.1.now)) result (partial_at octets.now) }
 {
     match octets {
         [] => Ok((None, octets)),

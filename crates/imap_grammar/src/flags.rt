@@ -1,8 +1,8 @@
 //! Flags of messages (RFC 9051, section 9, flag).
 
 ghost use Rattle.std.specs.Prelude.{◌≡◌, IfOk, OnOk};
-ghost use Rattle.imap_grammar.specs.Reading.{Gives, flag_at, flag_group_at, flags_of};
-ghost use Rattle.imap_grammar.specs.Reading.{maybe_flags_at, named_at, no_flags, stored_at};
+ghost use Rattle.imap_grammar.specs.Reading.{IsReading, flag_at, flag_group_at, flags_of};
+ghost use Rattle.imap_grammar.specs.Reading.{maybe_flags_at, named_at, no_flags, store_flags_at};
 ghost use Rattle.imap_grammar.specs.Reading.{stored_texts_at, with_flag};
 ghost use Rattle.imap_syntax.specs.Words.{system_flags, system_word};
 
@@ -57,7 +57,7 @@ impl ListElement for FlagTexts {
 
 /// Reads one flag: a `\` and a system flag, or a keyword.
 fn one_flag(alloc: Global, octets: &[u8]) -> Result<(Flag, &[u8]), ParseFault>
-    ensures { Gives (λ x. (x.0, x.1.now)) result (flag_at octets.now) }
+    ensures { IsReading (λ x. (x.0, x.1.now)) result (flag_at octets.now) }
 {
     match octets {
         [] => Err(ParseFault::BadSyntax),
@@ -74,13 +74,14 @@ fn one_flag(alloc: Global, octets: &[u8]) -> Result<(Flag, &[u8]), ParseFault>
 
 /// Reads a system flag after its `\`. Any other word is a flag that this server doesn't support.
 fn system_flag(octets: &[u8]) -> Result<(SystemFlag, &[u8]), ParseFault>
-    ensures { Gives (λ x. (x.0, x.1.now)) result (named_at system_word system_flags octets.now) }
+    ensures { IsReading (λ x. (x.0, x.1.now)) result
+        (named_at system_word system_flags octets.now) }
 {
-    let (letters, rest) = span(OctetClass::Item, octets);
-    match find(&SYSTEM_FLAGS, letters) {
+    let (token, rest) = span(OctetClass::Item, octets);
+    match find(&SYSTEM_FLAGS, token) {
         Some(known) => Ok((known, rest)),
         None => {
-            if letters.is_empty() {
+            if token.is_empty() {
                 return Err(ParseFault::BadSyntax);
             }
             Err(ParseFault::NotInProfile)
@@ -90,7 +91,7 @@ fn system_flag(octets: &[u8]) -> Result<(SystemFlag, &[u8]), ParseFault>
 
 /// Reads flags in parentheses, or one or more without (RFC 9051, section 9, store-att-flags).
 pub fn store_flags(alloc: Global, octets: &[u8]) -> Result<(Flags, &[u8]), ParseFault>
-    ensures { Gives (λ x. (x.0, x.1.now)) result (stored_at octets.now) }
+    ensures { IsReading (λ x. (x.0, x.1.now)) result (store_flags_at octets.now) }
 {
     let (written, rest) = stored_texts(alloc, octets)?;
     Ok((collect_flags(alloc, &written)?, rest))
@@ -98,7 +99,7 @@ pub fn store_flags(alloc: Global, octets: &[u8]) -> Result<(Flags, &[u8]), Parse
 
 /// Reads the flags of STORE as they are written.
 fn stored_texts(alloc: Global, octets: &[u8]) -> Result<(Vec<Flag>, &[u8]), ParseFault>
-    ensures { Gives (λ x. (x.0.items, x.1.now)) result (stored_texts_at octets.now) }
+    ensures { IsReading (λ x. (x.0.items, x.1.now)) result (stored_texts_at octets.now) }
 {
     match octets {
         [] => Err(ParseFault::BadSyntax),
@@ -113,7 +114,7 @@ fn stored_texts(alloc: Global, octets: &[u8]) -> Result<(Vec<Flag>, &[u8]), Pars
 
 /// Reads zero or more flags in parentheses, as they are written (RFC 9051, section 9, flag-list).
 pub fn flag_group(alloc: Global, octets: &[u8]) -> Result<(Vec<Flag>, &[u8]), ParseFault>
-    ensures { Gives (λ x. (x.0.items, x.1.now)) result (flag_group_at octets.now) }
+    ensures { IsReading (λ x. (x.0.items, x.1.now)) result (flag_group_at octets.now) }
 {
     let rest = skip(octets, b"(")?;
     let (written, rest) = maybe_flags(alloc, rest)?;
@@ -123,7 +124,7 @@ pub fn flag_group(alloc: Global, octets: &[u8]) -> Result<(Vec<Flag>, &[u8]), Pa
 
 /// Reads zero or more flags up to the closing parenthesis.
 fn maybe_flags(alloc: Global, octets: &[u8]) -> Result<(Vec<Flag>, &[u8]), ParseFault>
-    ensures { Gives (λ x. (x.0.items, x.1.now)) result (maybe_flags_at octets.now) }
+    ensures { IsReading (λ x. (x.0.items, x.1.now)) result (maybe_flags_at octets.now) }
 {
     match octets {
         [] => Err(ParseFault::BadSyntax),

@@ -3,7 +3,7 @@
 ghost use Rattle.std.specs.Prelude.{◌≡◌, ◌↔◌, ◌⊎◌, ℕ, List, IfOk, MatchOption, Ok, Err, option_map};
 ghost use Rattle.imap_syntax.specs.Commands.{IsSpelled};
 ghost use Rattle.imap_syntax.specs.Faults.{HasTag, IsTagged, NamesCommand};
-ghost use Rattle.imap_grammar.specs.Reading.{Gives};
+ghost use Rattle.imap_grammar.specs.Reading.{IsReading};
 ghost use Rattle.imap_grammar.specs.CommandReading.{AnswersTag, ended_at, tag_at};
 ghost use Rattle.imap_syntax.specs.declared.command.Tagged.{Tagged};
 ghost use Rattle.imap_grammar.specs.declared.fault.ParseFault.TheVariants.{BadSyntax, NoMemory};
@@ -25,7 +25,7 @@ use std::alloc::Global;
 /// answer but the first two faults.
 pub fn parse(alloc: Global, frame: &[u8]) -> Result<Tagged, ParseFault>
     // A command that is read is one that the frame spells.
-    ensures found { IfOk result (λ tagged. IsSpelled tagged frame.now) }
+    ensures spelled { IfOk result (λ tagged. IsSpelled tagged frame.now) }
     // A command that the frame spells is read, unless memory runs out.
     ensures only { (tagged : Tagged)
         → IsSpelled tagged frame.now
@@ -61,8 +61,8 @@ fn parse_frame(alloc: Global, frame: &[u8]) -> Result<Tagged, ParseFault>
     let Some((tag, rest)) = split_tag(frame) else {
         return Err(ParseFault::NoTag);
     };
-    let (letters, rest) = span(OctetClass::Atom, rest);
-    let Some(word) = find_command(letters) else {
+    let (token, rest) = span(OctetClass::Atom, rest);
+    let Some(word) = find_command(token) else {
         return Err(ParseFault::UnknownCommand);
     };
     let tag = Octets::from_slice(alloc, tag)?;
@@ -91,7 +91,7 @@ fn split_tag(frame: &[u8]) -> Option<(&[u8], &[u8])>
 
 /// Reads the arguments of the command with this word, and the CRLF that ends it.
 fn command_to_end(alloc: Global, word: CommandWord, octets: &[u8]) -> Result<Command, ParseFault>
-    ensures { Gives (λ x. x) result (ended_at word octets.now) }
+    ensures { IsReading (λ x. x) result (ended_at word octets.now) }
 {
     let (command, rest) = arguments(alloc, word, octets)?;
     if rest != b"\r\n".as_slice() {

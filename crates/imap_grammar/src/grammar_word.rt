@@ -1,7 +1,7 @@
 //! Words of the grammar, and finding them without regard to ASCII case.
 
 ghost use Rattle.std.specs.Prelude.{◌≡◌};
-ghost use Rattle.imap_grammar.specs.Reading.{Gives, named, named_at};
+ghost use Rattle.imap_grammar.specs.Reading.{IsReading, named, named_at};
 ghost use Rattle.imap_syntax.specs.Words.{command_word, command_words};
 
 use crate::fault::ParseFault;
@@ -115,10 +115,10 @@ pub fn leading_word<'a, W: GrammarWord>(
     values: &[W],
     octets: &'a [u8],
 ) -> Result<(W, &'a [u8]), ParseFault>
-    ensures { Gives (λ x. (x.0, x.1.now)) result (named_at W.word_of values.now octets.now) }
+    ensures { IsReading (λ x. (x.0, x.1.now)) result (named_at W.word_of values.now octets.now) }
 {
-    let (letters, rest) = span(OctetClass::Item, octets);
-    match find(values, letters) {
+    let (token, rest) = span(OctetClass::Item, octets);
+    match find(values, token) {
         Some(value) => Ok((value, rest)),
         None => Err(ParseFault::BadSyntax),
     }

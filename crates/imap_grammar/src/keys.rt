@@ -5,7 +5,8 @@ ghost use Rattle.std.specs.Prelude.{◌≡◌, ◌⊎◌, ◌++◌, ◌∷◌, [
 ghost use Rattle.imap_grammar.specs.KeyReading.{below_at, keys_at, leaf_at, level_at, numbers_at};
 ghost use Rattle.imap_grammar.specs.KeyReading.{worded_at};
 ghost use Rattle.imap_syntax.specs.KeyWords.{key_word, key_words};
-ghost use Rattle.imap_grammar.specs.Reading.{Gives, made, named_at, next_at, number_at, spaced};
+ghost use Rattle.imap_grammar.specs.Reading.{IsReading, map_read, named_at, next_at, number_at};
+ghost use Rattle.imap_grammar.specs.Reading.{spaced};
 ghost use Rattle.imap_grammar.specs.declared.fault.ParseFault.TheVariants.{BadSyntax, NotInProfile};
 ghost use Rattle.imap_syntax.specs.declared.search.SearchKeyWord.TheVariants as key;
 ghost use Rattle.imap_syntax.specs.declared.search.SearchStep.TheVariants.{And, Or, Test};
@@ -14,7 +15,7 @@ use crate::class::is_in;
 use crate::dates::date;
 use crate::fault::ParseFault;
 use crate::grammar_word::find;
-use crate::modifier::left_out_fault;
+use crate::modifier::fault_of_word;
 use crate::numbers::number;
 use crate::scan::{skip, space, span};
 use crate::sets::{set, spaced_set};
@@ -119,7 +120,7 @@ pub fn below(
     levels: usize,
     octets: &[u8],
 ) -> Result<(Vec<SearchStep>, &[u8]), ParseFault>
-    ensures { Gives (λ x. (x.0.items, x.1.now)) result (below_at levels octets.now) }
+    ensures { IsReading (λ x. (x.0.items, x.1.now)) result (below_at levels octets.now) }
 {
     if levels == 0 {
         return Err(ParseFault::BadSyntax);
@@ -134,7 +135,7 @@ fn level(
     levels: usize,
     octets: &[u8],
 ) -> Result<(Vec<SearchStep>, &[u8]), ParseFault>
-    ensures { Gives (λ x. (x.0.items, x.1.now)) result (level_at (below_at levels) octets.now) }
+    ensures { IsReading (λ x. (x.0.items, x.1.now)) result (level_at (below_at levels) octets.now) }
 {
     match octets {
         [] => Err(ParseFault::BadSyntax),
@@ -155,7 +156,7 @@ fn level(
 
 /// Reads a sequence set as a key.
 fn numbers(alloc: Global, octets: &[u8]) -> Result<(Vec<SearchStep>, &[u8]), ParseFault>
-    ensures { Gives (λ x. (x.0.items, x.1.now)) result (numbers_at octets.now) }
+    ensures { IsReading (λ x. (x.0.items, x.1.now)) result (numbers_at octets.now) }
 {
     let (numbers, rest) = set(alloc, octets)?;
     Ok((alone(alloc, SearchTest::Numbers { numbers })?, rest))
@@ -172,10 +173,10 @@ fn alone(alloc: Global, test: SearchTest) -> Result<Vec<SearchStep>, AllocError>
 
 /// Reads the word that begins a key.
 fn key_word(octets: &[u8]) -> Result<(SearchKeyWord, &[u8]), ParseFault>
-    ensures { Gives (λ x. (x.0, x.1.now)) result (named_at key_word key_words octets.now) }
+    ensures { IsReading (λ x. (x.0, x.1.now)) result (named_at key_word key_words octets.now) }
 {
-    let (letters, rest) = span(OctetClass::Item, octets);
-    match find(&KEY_WORDS, letters) {
+    let (token, rest) = span(OctetClass::Item, octets);
+    match find(&KEY_WORDS, token) {
         Some(word) => Ok((word, rest)),
         None => Err(no_key(octets)),
     }
@@ -189,7 +190,7 @@ fn no_key(octets: &[u8]) -> ParseFault
     if octets.starts_with(b"$") {
         return ParseFault::NotInProfile;
     }
-    left_out_fault(octets, &[b"SENTBEFORE", b"SENTON", b"SENTSINCE"])
+    fault_of_word(octets, &[b"SENTBEFORE", b"SENTON", b"SENTSINCE"])
 }
 
 /// Reads the rest of the key that this word begins.
@@ -200,7 +201,7 @@ fn key_of_word(
     word: SearchKeyWord,
     octets: &[u8],
 ) -> Result<(Vec<SearchStep>, &[u8]), ParseFault>
-    ensures { Gives (λ x. (x.0.items, x.1.now)) result
+    ensures { IsReading (λ x. (x.0.items, x.1.now)) result
         (worded_at (below_at levels) word octets.now) }
 {
     match word {
@@ -226,7 +227,7 @@ fn spaced_key(
     levels: usize,
     octets: &[u8],
 ) -> Result<(Vec<SearchStep>, &[u8]), ParseFault>
-    ensures { Gives (λ x. (x.0.items, x.1.now)) result (spaced (below_at levels) octets.now) }
+    ensures { IsReading (λ x. (x.0.items, x.1.now)) result (spaced (below_at levels) octets.now) }
 {
     below(alloc, levels, space(octets)?)
 }
@@ -237,8 +238,8 @@ fn leaf_key(
     word: SearchKeyWord,
     octets: &[u8],
 ) -> Result<(Vec<SearchStep>, &[u8]), ParseFault>
-    ensures { Gives (λ x. (x.0.items, x.1.now)) result
-        (made (λ test. Test test ∷ []) (leaf_at word) octets.now) }
+    ensures { IsReading (λ x. (x.0.items, x.1.now)) result
+        (map_read (λ test. Test test ∷ []) (leaf_at word) octets.now) }
 {
     let (test, rest) = leaf(alloc, word, octets)?;
     Ok((alone(alloc, test)?, rest))
@@ -271,7 +272,7 @@ pub fn keys(
     levels: usize,
     octets: &[u8],
 ) -> Result<(Vec<SearchStep>, &[u8]), ParseFault>
-    ensures { Gives (λ x. (x.0.items, x.1.now)) result (keys_at (below_at levels) octets.now) }
+    ensures { IsReading (λ x. (x.0.items, x.1.now)) result (keys_at (below_at levels) octets.now) }
 {
     let (mut steps, mut rest) = below(alloc, levels, octets)?;
     // Each turn takes a space, so there are at most as many turns as octets.
@@ -292,7 +293,7 @@ fn next_key(
     levels: usize,
     octets: &[u8],
 ) -> Result<Option<(Vec<SearchStep>, &[u8])>, ParseFault>
-    ensures { Gives (λ x. option_map (λ y. (y.0.items, y.1.now)) x) result
+    ensures { IsReading (λ x. option_map (λ y. (y.0.items, y.1.now)) x) result
         (next_at 32 (below_at levels) octets.now) }
 {
     match octets {
@@ -307,13 +308,13 @@ fn next_key(
     }
 }
 
-/// Reads what follows the word of a key that holds no other key, and gives its test.
+/// Reads what follows the word of a key without inner keys, and returns its test.
 fn leaf(
     alloc: Global,
     word: SearchKeyWord,
     octets: &[u8],
 ) -> Result<(SearchTest, &[u8]), ParseFault>
-    ensures { Gives (λ x. (x.0, x.1.now)) result (leaf_at word octets.now) }
+    ensures { IsReading (λ x. (x.0, x.1.now)) result (leaf_at word octets.now) }
 {
     match word {
         SearchKeyWord::All => Ok((SearchTest::All, octets)),
@@ -333,7 +334,7 @@ fn leaf(
 
 /// Reads the keyword of KEYWORD or UNKEYWORD.
 fn keyword(alloc: Global, is_set: bool, octets: &[u8]) -> Result<(SearchTest, &[u8]), ParseFault>
-    ensures { Gives (λ x. (x.0, x.1.now)) result (leaf_at (key.Keyword is_set) octets.now) }
+    ensures { IsReading (λ x. (x.0, x.1.now)) result (leaf_at (key.Keyword is_set) octets.now) }
 {
     let (keyword, rest) = plain(alloc, OctetClass::Atom, space(octets)?)?;
     Ok((SearchTest::Keyword { keyword, is_set }, rest))
@@ -345,7 +346,7 @@ fn text_key(
     place: TextPlace,
     octets: &[u8],
 ) -> Result<(SearchTest, &[u8]), ParseFault>
-    ensures { Gives (λ x. (x.0, x.1.now)) result (leaf_at (key.Place place) octets.now) }
+    ensures { IsReading (λ x. (x.0, x.1.now)) result (leaf_at (key.Place place) octets.now) }
 {
     let (text, rest) = spaced_text(alloc, octets)?;
     Ok((SearchTest::Holds { place, text }, rest))
@@ -353,7 +354,7 @@ fn text_key(
 
 /// Reads the field name and the text of HEADER.
 fn header(alloc: Global, octets: &[u8]) -> Result<(SearchTest, &[u8]), ParseFault>
-    ensures { Gives (λ x. (x.0, x.1.now)) result (leaf_at key.Header octets.now) }
+    ensures { IsReading (λ x. (x.0, x.1.now)) result (leaf_at key.Header octets.now) }
 {
     let ((name, text), rest) = spaced_texts(alloc, octets)?;
     Ok((SearchTest::Header { name, text }, rest))
@@ -361,7 +362,7 @@ fn header(alloc: Global, octets: &[u8]) -> Result<(SearchTest, &[u8]), ParseFaul
 
 /// Reads the day of BEFORE, ON or SINCE.
 fn date_key(order: DateRelation, octets: &[u8]) -> Result<(SearchTest, &[u8]), ParseFault>
-    ensures { Gives (λ x. (x.0, x.1.now)) result (leaf_at (key.Dated order) octets.now) }
+    ensures { IsReading (λ x. (x.0, x.1.now)) result (leaf_at (key.Dated order) octets.now) }
 {
     let (day, rest) = date(space(octets)?)?;
     Ok((SearchTest::Dated { order, day }, rest))
@@ -369,7 +370,7 @@ fn date_key(order: DateRelation, octets: &[u8]) -> Result<(SearchTest, &[u8]), P
 
 /// Reads the size of LARGER.
 fn larger(octets: &[u8]) -> Result<(SearchTest, &[u8]), ParseFault>
-    ensures { Gives (λ x. (x.0, x.1.now)) result (leaf_at key.Larger octets.now) }
+    ensures { IsReading (λ x. (x.0, x.1.now)) result (leaf_at key.Larger octets.now) }
 {
     let (octets, rest) = size(octets)?;
     Ok((SearchTest::Larger { octets }, rest))
@@ -377,7 +378,7 @@ fn larger(octets: &[u8]) -> Result<(SearchTest, &[u8]), ParseFault>
 
 /// Reads the size of SMALLER.
 fn smaller(octets: &[u8]) -> Result<(SearchTest, &[u8]), ParseFault>
-    ensures { Gives (λ x. (x.0, x.1.now)) result (leaf_at key.Smaller octets.now) }
+    ensures { IsReading (λ x. (x.0, x.1.now)) result (leaf_at key.Smaller octets.now) }
 {
     let (octets, rest) = size(octets)?;
     Ok((SearchTest::Smaller { octets }, rest))
@@ -385,7 +386,7 @@ fn smaller(octets: &[u8]) -> Result<(SearchTest, &[u8]), ParseFault>
 
 /// Reads a space and a number of octets.
 fn size(octets: &[u8]) -> Result<(u64, &[u8]), ParseFault>
-    ensures { Gives (λ x. (x.0, x.1.now)) result
+    ensures { IsReading (λ x. (x.0, x.1.now)) result
         (spaced (number_at 9223372036854775807) octets.now) }
 {
     number(space(octets)?, GREATEST)
@@ -393,7 +394,7 @@ fn size(octets: &[u8]) -> Result<(u64, &[u8]), ParseFault>
 
 /// Reads the mod-sequence of MODSEQ.
 fn since(octets: &[u8]) -> Result<(SearchTest, &[u8]), ParseFault>
-    ensures { Gives (λ x. (x.0, x.1.now)) result (leaf_at key.ModSeq octets.now) }
+    ensures { IsReading (λ x. (x.0, x.1.now)) result (leaf_at key.ModSeq octets.now) }
 {
     let (value, rest) = modseq(space(octets)?)?;
     Ok((SearchTest::ModSeq { value }, rest))
@@ -401,7 +402,7 @@ fn since(octets: &[u8]) -> Result<(SearchTest, &[u8]), ParseFault>
 
 /// Reads the set of UID.
 fn uids(alloc: Global, octets: &[u8]) -> Result<(SearchTest, &[u8]), ParseFault>
-    ensures { Gives (λ x. (x.0, x.1.now)) result (leaf_at key.Uid octets.now) }
+    ensures { IsReading (λ x. (x.0, x.1.now)) result (leaf_at key.Uid octets.now) }
 {
     let (uids, rest) = spaced_set(alloc, octets)?;
     Ok((SearchTest::Uids { uids }, rest))
@@ -410,7 +411,7 @@ fn uids(alloc: Global, octets: &[u8]) -> Result<(SearchTest, &[u8]), ParseFault>
 /// Reads a mod-sequence. An entry name before it (RFC 7162, section 3.1.5) is a form that this
 /// server doesn't support.
 fn modseq(octets: &[u8]) -> Result<(u64, &[u8]), ParseFault>
-    ensures { Gives (λ x. (x.0, x.1.now)) result (number_at 9223372036854775807 octets.now) }
+    ensures { IsReading (λ x. (x.0, x.1.now)) result (number_at 9223372036854775807 octets.now) }
 {
     match octets {
         [] => Err(ParseFault::BadSyntax),

@@ -37,7 +37,7 @@ mod modifier;
 mod numbers;
 mod scan;
 mod search;
-mod searching;
+mod search_args;
 mod sets;
 mod status;
 mod store;

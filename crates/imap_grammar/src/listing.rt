@@ -1,7 +1,7 @@
 //! The arguments of LIST (RFC 9051, section 6.3.9).
 
 ghost use Rattle.std.specs.Prelude.{◌≡◌, codes};
-ghost use Rattle.imap_grammar.specs.Reading.{Gives, after_word, text_at};
+ghost use Rattle.imap_grammar.specs.Reading.{IsReading, after_word, text_at};
 ghost use Rattle.imap_grammar.specs.CommandReading.{list_at, options_at, options_inner_at};
 ghost use Rattle.imap_grammar.specs.CommandReading.{returns_at, selection_at};
 ghost use Rattle.imap_syntax.specs.declared.octet_class.OctetClass.TheVariants.{Pattern};
@@ -16,7 +16,7 @@ use std::alloc::Global;
 /// Reads the arguments of LIST: selection options, a reference, a pattern and return options (RFC
 /// 9051, section 6.3.9).
 pub fn list(alloc: Global, octets: &[u8]) -> Result<(Command, &[u8]), ParseFault>
-    ensures { Gives (λ x. (x.0, x.1.now)) result (list_at octets.now) }
+    ensures { IsReading (λ x. (x.0, x.1.now)) result (list_at octets.now) }
 {
     let (subscribed_only, rest) = selection(space(octets)?)?;
     let (reference, rest) = text(alloc, OctetClass::Astring, rest)?;
@@ -33,7 +33,7 @@ pub fn list(alloc: Global, octets: &[u8]) -> Result<(Command, &[u8]), ParseFault
 
 /// Reads a pattern. A list of patterns is a form that this server doesn't support.
 fn pattern(alloc: Global, octets: &[u8]) -> Result<(Octets, &[u8]), ParseFault>
-    ensures { Gives (λ x. (x.0, x.1.now)) result (text_at Pattern octets.now) }
+    ensures { IsReading (λ x. (x.0, x.1.now)) result (text_at Pattern octets.now) }
 {
     match octets {
         [] => Err(ParseFault::BadSyntax),
@@ -44,9 +44,9 @@ fn pattern(alloc: Global, octets: &[u8]) -> Result<(Octets, &[u8]), ParseFault>
     }
 }
 
-/// Reads the selection options and a space, or nothing; gives whether SUBSCRIBED is among them.
+/// Reads the selection options and a space, or nothing; returns whether SUBSCRIBED is among them.
 fn selection(octets: &[u8]) -> Result<(bool, &[u8]), ParseFault>
-    ensures { Gives (λ x. (x.0, x.1.now)) result (selection_at octets.now) }
+    ensures { IsReading (λ x. (x.0, x.1.now)) result (selection_at octets.now) }
 {
     match octets {
         [] => Ok((false, octets)),
@@ -54,17 +54,17 @@ fn selection(octets: &[u8]) -> Result<(bool, &[u8]), ParseFault>
             if *first != b'(' {
                 return Ok((false, octets));
             }
-            let (chosen, rest) = options(octets)?;
+            let (subscribed, rest) = options(octets)?;
             let rest = space(rest)?;
-            Ok((chosen, rest))
+            Ok((subscribed, rest))
         }
     }
 }
 
-/// Reads a space, RETURN and the return options, or nothing; gives whether SUBSCRIBED is among
+/// Reads a space, RETURN and the return options, or nothing; returns whether SUBSCRIBED is among
 /// them.
 fn returns(octets: &[u8]) -> Result<(bool, &[u8]), ParseFault>
-    ensures { Gives (λ x. (x.0, x.1.now)) result (returns_at octets.now) }
+    ensures { IsReading (λ x. (x.0, x.1.now)) result (returns_at octets.now) }
 {
     match octets {
         [] => Ok((false, octets)),
@@ -81,7 +81,7 @@ fn returns(octets: &[u8]) -> Result<(bool, &[u8]), ParseFault>
 
 /// Reads `(SUBSCRIBED)` or `()`.
 fn options(octets: &[u8]) -> Result<(bool, &[u8]), ParseFault>
-    ensures { Gives (λ x. (x.0, x.1.now)) result (options_at octets.now) }
+    ensures { IsReading (λ x. (x.0, x.1.now)) result (options_at octets.now) }
 {
     let rest = skip(octets, b"(")?;
     options_inner(rest)
@@ -89,7 +89,7 @@ fn options(octets: &[u8]) -> Result<(bool, &[u8]), ParseFault>
 
 /// Reads options up to and including the closing parenthesis.
 fn options_inner(octets: &[u8]) -> Result<(bool, &[u8]), ParseFault>
-    ensures { Gives (λ x. (x.0, x.1.now)) result (options_inner_at octets.now) }
+    ensures { IsReading (λ x. (x.0, x.1.now)) result (options_inner_at octets.now) }
 {
     match octets {
         [] => Err(ParseFault::BadSyntax),
@@ -106,13 +106,13 @@ fn options_inner(octets: &[u8]) -> Result<(bool, &[u8]), ParseFault>
 
 /// Reads SUBSCRIBED. Any other word is an option that this server doesn't support.
 fn subscribed_option(octets: &[u8]) -> Result<&[u8], ParseFault>
-    ensures { Gives (λ rest. rest.now) result (after_word (codes "SUBSCRIBED") octets.now) }
+    ensures { IsReading (λ rest. rest.now) result (after_word (codes "SUBSCRIBED") octets.now) }
 {
-    let (letters, rest) = span(OctetClass::Item, octets);
-    if letters.eq_ignore_ascii_case(b"SUBSCRIBED") {
+    let (token, rest) = span(OctetClass::Item, octets);
+    if token.eq_ignore_ascii_case(b"SUBSCRIBED") {
         return Ok(rest);
     }
-    if letters.is_empty() {
+    if token.is_empty() {
         return Err(ParseFault::BadSyntax);
     }
     Err(ParseFault::NotInProfile)

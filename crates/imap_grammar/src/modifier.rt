@@ -2,8 +2,8 @@
 //! support (RFC 7162, section 3.1).
 
 ghost use Rattle.std.specs.Prelude.{◌≡◌, ◌<◌, ◌-◌, ◌^◌, ◌⊎◌, codes};
-ghost use Rattle.imap_grammar.specs.Reading.{Gives, after_word, modifier_at, modifier_group_at};
-ghost use Rattle.imap_grammar.specs.Reading.{peeks};
+ghost use Rattle.imap_grammar.specs.Reading.{IsReading, after_word, modifier_at, modifier_group_at};
+ghost use Rattle.imap_grammar.specs.Reading.{follows_space};
 ghost use Rattle.imap_grammar.specs.declared.fault.ParseFault.TheVariants.{BadSyntax, NotInProfile};
 
 use crate::fault::ParseFault;
@@ -15,8 +15,8 @@ use imap_syntax::OctetClass;
 const MAX_MODSEQ: u64 = 9_223_372_036_854_775_807;
 
 /// Whether the octets begin with a space and then `mark`.
-pub fn peeks(mark: u8, octets: &[u8]) -> bool
-    ensures { result ≡ peeks mark octets.now }
+pub fn follows_space(mark: u8, octets: &[u8]) -> bool
+    ensures { result ≡ follows_space mark octets.now }
 {
     match octets {
         [] => false,
@@ -27,36 +27,38 @@ pub fn peeks(mark: u8, octets: &[u8]) -> bool
 
 /// Reads ` (CHANGEDSINCE n)` or nothing (RFC 7162, section 3.1.4.1).
 pub fn changed_since(octets: &[u8]) -> Result<(Option<u64>, &[u8]), ParseFault>
-    ensures { Gives (λ x. (x.0, x.1.now)) result (modifier_at (codes "CHANGEDSINCE") octets.now) }
+    ensures { IsReading (λ x. (x.0, x.1.now)) result
+        (modifier_at (codes "CHANGEDSINCE") octets.now) }
 {
     modifier(b"CHANGEDSINCE", octets)
 }
 
 /// Reads ` (UNCHANGEDSINCE n)` or nothing (RFC 7162, section 3.1.3).
 pub fn unchanged_since(octets: &[u8]) -> Result<(Option<u64>, &[u8]), ParseFault>
-    ensures { Gives (λ x. (x.0, x.1.now)) result (modifier_at (codes "UNCHANGEDSINCE") octets.now) }
+    ensures { IsReading (λ x. (x.0, x.1.now)) result
+        (modifier_at (codes "UNCHANGEDSINCE") octets.now) }
 {
     modifier(b"UNCHANGEDSINCE", octets)
 }
 
 /// Reads a space and the modifier with this word, or nothing.
-fn modifier<'a>(letters: &[u8], octets: &'a [u8]) -> Result<(Option<u64>, &'a [u8]), ParseFault>
-    ensures { Gives (λ x. (x.0, x.1.now)) result (modifier_at letters.now octets.now) }
+fn modifier<'a>(token: &[u8], octets: &'a [u8]) -> Result<(Option<u64>, &'a [u8]), ParseFault>
+    ensures { IsReading (λ x. (x.0, x.1.now)) result (modifier_at token.now octets.now) }
 {
-    if !peeks(b'(', octets) {
+    if !follows_space(b'(', octets) {
         return Ok((None, octets));
     }
     let rest = space(octets)?;
-    let (value, rest) = modifier_group(letters, rest)?;
+    let (value, rest) = modifier_group(token, rest)?;
     Ok((Some(value), rest))
 }
 
 /// Reads the modifier with this word, its parentheses included.
-fn modifier_group<'a>(letters: &[u8], octets: &'a [u8]) -> Result<(u64, &'a [u8]), ParseFault>
-    ensures { Gives (λ x. (x.0, x.1.now)) result (modifier_group_at letters.now octets.now) }
+fn modifier_group<'a>(token: &[u8], octets: &'a [u8]) -> Result<(u64, &'a [u8]), ParseFault>
+    ensures { IsReading (λ x. (x.0, x.1.now)) result (modifier_group_at token.now octets.now) }
 {
     let rest = skip(octets, b"(")?;
-    let rest = modifier_word(letters, rest)?;
+    let rest = modifier_word(token, rest)?;
     let rest = space(rest)?;
     let (value, rest) = number(rest, MAX_MODSEQ)?;
     let rest = skip(rest, b")")?;
@@ -65,24 +67,24 @@ fn modifier_group<'a>(letters: &[u8], octets: &'a [u8]) -> Result<(u64, &'a [u8]
 
 /// Reads the modifier's word. VANISHED and QRESYNC (RFC 7162, section 3.2) are forms that this
 /// server doesn't support.
-pub fn modifier_word<'a>(letters: &[u8], octets: &'a [u8]) -> Result<&'a [u8], ParseFault>
-    ensures { Gives (λ rest. rest.now) result (after_word letters.now octets.now) }
+pub fn modifier_word<'a>(token: &[u8], octets: &'a [u8]) -> Result<&'a [u8], ParseFault>
+    ensures { IsReading (λ rest. rest.now) result (after_word token.now octets.now) }
 {
     let (front, rest) = span(OctetClass::Item, octets);
-    if front.eq_ignore_ascii_case(letters) {
+    if front.eq_ignore_ascii_case(token) {
         return Ok(rest);
     }
-    Err(left_out_fault(octets, &[b"VANISHED", b"QRESYNC"]))
+    Err(fault_of_word(octets, &[b"VANISHED", b"QRESYNC"]))
 }
 
 /// The fault of octets that can't be read: `NotInProfile` if they begin with one of `words`, else
 /// `BadSyntax`.
-pub fn left_out_fault(octets: &[u8], words: &[&[u8]]) -> ParseFault
+pub fn fault_of_word(octets: &[u8], words: &[&[u8]]) -> ParseFault
     ensures { (result ≡ BadSyntax) ⊎ (result ≡ NotInProfile) }
 {
-    let (letters, _) = span(OctetClass::Item, octets);
+    let (token, _) = span(OctetClass::Item, octets);
     for word in words {
-        if letters.eq_ignore_ascii_case(word) {
+        if token.eq_ignore_ascii_case(word) {
             return ParseFault::NotInProfile;
         }
     }

@@ -1,7 +1,7 @@
 //! Numbers in decimal digits (RFC 9051, section 9).
 
 ghost use Rattle.std.specs.Prelude.{◌≡◌, ◌<◌, ◌-◌, ◌^◌, length, min};
-ghost use Rattle.imap_grammar.specs.Reading.{Gives, number_at, nz_at};
+ghost use Rattle.imap_grammar.specs.Reading.{IsReading, number_at, nz_at};
 ghost use Rattle.imap_syntax.specs.Strings.{begins, number_of};
 
 use crate::fault::ParseFault;
@@ -11,7 +11,7 @@ use imap_syntax::OctetClass;
 /// Reads a number up to `limit` (RFC 9051, section 9, number64).
 pub fn number(octets: &[u8], limit: u64) -> Result<(u64, &[u8]), ParseFault>
     requires { limit < 2 ^ 64 - 1 }
-    ensures { Gives (λ x. (x.0, x.1.now)) result (number_at limit octets.now) }
+    ensures { IsReading (λ x. (x.0, x.1.now)) result (number_at limit octets.now) }
 {
     let (digits, rest) = run(OctetClass::Digit, octets)?;
     let value = saturating_number(digits);
@@ -23,7 +23,7 @@ pub fn number(octets: &[u8], limit: u64) -> Result<(u64, &[u8]), ParseFault>
 
 /// Reads a number from 1 to 4,294,967,295 without leading zeros (RFC 9051, section 9, nz-number).
 pub fn nz(octets: &[u8]) -> Result<(u32, &[u8]), ParseFault>
-    ensures { Gives (λ x. (x.0, x.1.now)) result (nz_at octets.now) }
+    ensures { IsReading (λ x. (x.0, x.1.now)) result (nz_at octets.now) }
 {
     let (digits, rest) = run(OctetClass::Digit, octets)?;
     let value = saturating_number(digits);
@@ -43,7 +43,7 @@ fn begins_with_zero(digits: &[u8]) -> bool
     }
 }
 
-/// The number that the digits write, or the greatest `u64` if it is greater.
+/// The number spelled by the digits, or the greatest `u64` if it is greater.
 pub fn saturating_number(digits: &[u8]) -> u64
     ensures { result ≡ min (number_of 0 digits.now) (2 ^ 64 - 1) }
 {

@@ -2,7 +2,8 @@
 
 ghost use Rattle.std.specs.Prelude.{◌≡◌, ◌<◌, ◌≤◌, length, [], ◌∷◌, IfSome};
 ghost use Rattle.imap_syntax.specs.Strings.{is_in, number_of};
-ghost use Rattle.imap_grammar.specs.Reading.{Gives, after, after_word, run_at, span, after_plus};
+ghost use Rattle.imap_grammar.specs.Reading.{IsReading, after, after_word, run_at, span};
+ghost use Rattle.imap_grammar.specs.Reading.{after_plus};
 
 use crate::class::is_in;
 use crate::fault::ParseFault;
@@ -24,7 +25,7 @@ pub fn span(class: OctetClass, octets: &[u8]) -> (&[u8], &[u8])
 
 /// As `span`, but the prefix must not be empty.
 pub fn run(class: OctetClass, octets: &[u8]) -> Result<(&[u8], &[u8]), ParseFault>
-    ensures { Gives (λ x. (x.0.now, x.1.now)) result (run_at class octets.now) }
+    ensures { IsReading (λ x. (x.0.now, x.1.now)) result (run_at class octets.now) }
 {
     let (front, rest) = span(class, octets);
     if front.is_empty() {
@@ -34,11 +35,11 @@ pub fn run(class: OctetClass, octets: &[u8]) -> Result<(&[u8], &[u8]), ParseFaul
 }
 
 /// The octets after a prefix that they must begin with.
-pub fn skip<'a>(octets: &'a [u8], wanted: &[u8]) -> Result<&'a [u8], ParseFault>
-    ensures { Gives (λ rest. rest.now) result (after wanted.now octets.now) }
+pub fn skip<'a>(octets: &'a [u8], expected: &[u8]) -> Result<&'a [u8], ParseFault>
+    ensures { IsReading (λ rest. rest.now) result (after expected.now octets.now) }
 {
     let mut rest = octets;
-    for octet in wanted {
+    for octet in expected {
         match rest {
             [] => return Err(ParseFault::BadSyntax),
             [first, tail @ ..] => {
@@ -54,17 +55,17 @@ pub fn skip<'a>(octets: &'a [u8], wanted: &[u8]) -> Result<&'a [u8], ParseFault>
 
 /// The octets after one space, which they must begin with.
 pub fn space(octets: &[u8]) -> Result<&[u8], ParseFault>
-    ensures { Gives (λ rest. rest.now) result (after (32 ∷ []) octets.now) }
+    ensures { IsReading (λ rest. rest.now) result (after (32 ∷ []) octets.now) }
 {
     skip(octets, b" ")
 }
 
 /// The octets after a word that they must begin with, in any case.
-pub fn skip_word<'a>(octets: &'a [u8], letters: &[u8]) -> Result<&'a [u8], ParseFault>
-    ensures { Gives (λ rest. rest.now) result (after_word letters.now octets.now) }
+pub fn skip_word<'a>(octets: &'a [u8], token: &[u8]) -> Result<&'a [u8], ParseFault>
+    ensures { IsReading (λ rest. rest.now) result (after_word token.now octets.now) }
 {
     let (front, rest) = span(OctetClass::Item, octets);
-    if !front.eq_ignore_ascii_case(letters) {
+    if !front.eq_ignore_ascii_case(token) {
         return Err(ParseFault::BadSyntax);
     }
     Ok(rest)

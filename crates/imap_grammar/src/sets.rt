@@ -1,7 +1,8 @@
 //! Sequence sets (RFC 9051, section 9, sequence-set).
 
 ghost use Rattle.std.specs.Prelude.{◌≡◌};
-ghost use Rattle.imap_grammar.specs.Reading.{Gives, bound_at, range_at, ranged_at, set_at, spaced};
+ghost use Rattle.imap_grammar.specs.Reading.{IsReading, bound_at, range_at, ranged_at, set_at};
+ghost use Rattle.imap_grammar.specs.Reading.{spaced};
 
 use crate::element_list::{ListElement, element_list};
 use crate::fault::ParseFault;
@@ -13,7 +14,7 @@ use std::alloc::Global;
 /// Reads a sequence set (RFC 9051, section 9, sequence-set). Spare capacity is released, since a
 /// journal stores the command for good.
 pub fn set(alloc: Global, octets: &[u8]) -> Result<(SequenceSet, &[u8]), ParseFault>
-    ensures { Gives (λ x. (x.0, x.1.now)) result (set_at octets.now) }
+    ensures { IsReading (λ x. (x.0, x.1.now)) result (set_at octets.now) }
 {
     let (mut ranges, rest) = element_list::<Ranges>(alloc, b',', octets)?;
     ranges.shrink_to_fit();
@@ -22,7 +23,7 @@ pub fn set(alloc: Global, octets: &[u8]) -> Result<(SequenceSet, &[u8]), ParseFa
 
 /// Reads a space and a sequence set.
 pub fn spaced_set(alloc: Global, octets: &[u8]) -> Result<(SequenceSet, &[u8]), ParseFault>
-    ensures { Gives (λ x. (x.0, x.1.now)) result (spaced set_at octets.now) }
+    ensures { IsReading (λ x. (x.0, x.1.now)) result (spaced set_at octets.now) }
 {
     set(alloc, space(octets)?)
 }
@@ -44,7 +45,7 @@ impl ListElement for Ranges {
 
 /// Reads one number, `*`, or two of these with a `:` between (RFC 9051, section 9, seq-range).
 fn range(octets: &[u8]) -> Result<(SequenceRange, &[u8]), ParseFault>
-    ensures { Gives (λ x. (x.0, x.1.now)) result (range_at octets.now) }
+    ensures { IsReading (λ x. (x.0, x.1.now)) result (range_at octets.now) }
 {
     let (first, rest) = bound(octets)?;
     range_from(first, rest)
@@ -52,7 +53,7 @@ fn range(octets: &[u8]) -> Result<(SequenceRange, &[u8]), ParseFault>
 
 /// Reads the rest of the range that begins with this bound.
 fn range_from(first: SequenceBound, octets: &[u8]) -> Result<(SequenceRange, &[u8]), ParseFault>
-    ensures { Gives (λ x. (x.0, x.1.now)) result (ranged_at first octets.now) }
+    ensures { IsReading (λ x. (x.0, x.1.now)) result (ranged_at first octets.now) }
 {
     match octets {
         [] => Ok((SequenceRange { first, last: first }, octets)),
@@ -68,7 +69,7 @@ fn range_from(first: SequenceBound, octets: &[u8]) -> Result<(SequenceRange, &[u
 
 /// Reads a number or `*`. `$` (RFC 5182) is a form that this server doesn't support.
 fn bound(octets: &[u8]) -> Result<(SequenceBound, &[u8]), ParseFault>
-    ensures { Gives (λ x. (x.0, x.1.now)) result (bound_at octets.now) }
+    ensures { IsReading (λ x. (x.0, x.1.now)) result (bound_at octets.now) }
 {
     match octets {
         [] => Err(ParseFault::BadSyntax),

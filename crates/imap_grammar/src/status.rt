@@ -1,7 +1,7 @@
 //! The items of STATUS (RFC 9051, section 6.3.11; RFC 7162, section 3.1.7).
 
 ghost use Rattle.std.specs.Prelude.{◌≡◌};
-ghost use Rattle.imap_grammar.specs.Reading.{Gives, named_at};
+ghost use Rattle.imap_grammar.specs.Reading.{IsReading, named_at};
 ghost use Rattle.imap_syntax.specs.Words.{status_items, status_word};
 
 use crate::element_list::ListElement;
@@ -57,7 +57,8 @@ impl ListElement for StatusItems {
 
 /// Reads one item.
 fn status_item(octets: &[u8]) -> Result<(StatusItem, &[u8]), ParseFault>
-    ensures { Gives (λ x. (x.0, x.1.now)) result (named_at status_word status_items octets.now) }
+    ensures { IsReading (λ x. (x.0, x.1.now)) result
+        (named_at status_word status_items octets.now) }
 {
     leading_word(&STATUS_ITEMS, octets)
 }

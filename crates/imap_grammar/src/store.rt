@@ -1,7 +1,8 @@
 //! The arguments of STORE (RFC 9051, section 6.4.6; RFC 7162, section 3.1.3).
 
 ghost use Rattle.std.specs.Prelude.{◌≡◌, codes};
-ghost use Rattle.imap_grammar.specs.Reading.{Gives, both, modifier_at, named_at, spaced, stored_at};
+ghost use Rattle.imap_grammar.specs.Reading.{IsReading, both, modifier_at, named_at, spaced};
+ghost use Rattle.imap_grammar.specs.Reading.{store_flags_at};
 ghost use Rattle.imap_grammar.specs.CommandReading.{store_at};
 ghost use Rattle.imap_syntax.specs.Words.{store_actions, store_word};
 
@@ -78,10 +79,10 @@ const STORE_ACTIONS: [StoreAction; 6] = [
 /// Reads the arguments of STORE: messages, UNCHANGEDSINCE, an action and flags (RFC 9051, section
 /// 6.4.6; RFC 7162, section 3.1.3).
 pub fn store(alloc: Global, by_uid: bool, octets: &[u8]) -> Result<(Command, &[u8]), ParseFault>
-    ensures { Gives (λ x. (x.0, x.1.now)) result (store_at by_uid octets.now) }
+    ensures { IsReading (λ x. (x.0, x.1.now)) result (store_at by_uid octets.now) }
 {
     let (messages, rest) = spaced_set(alloc, octets)?;
-    match store_change(alloc, rest) {
+    match flag_change(alloc, rest) {
         Err(fault) => {
             drop(messages);
             Err(fault)
@@ -100,12 +101,12 @@ pub fn store(alloc: Global, by_uid: bool, octets: &[u8]) -> Result<(Command, &[u
 }
 
 /// Reads how each message is to be changed.
-fn store_change(
+fn flag_change(
     alloc: Global,
     octets: &[u8],
 ) -> Result<((Option<u64>, (StoreAction, Flags)), &[u8]), ParseFault>
-    ensures { Gives (λ x. (x.0, x.1.now)) result (both (modifier_at (codes "UNCHANGEDSINCE"))
-        (spaced (both (named_at store_word store_actions) (spaced stored_at))) octets.now) }
+    ensures { IsReading (λ x. (x.0, x.1.now)) result (both (modifier_at (codes "UNCHANGEDSINCE"))
+        (spaced (both (named_at store_word store_actions) (spaced store_flags_at))) octets.now) }
 {
     let (unchanged_since, rest) = unchanged_since(octets)?;
     let (action, rest) = store_action(space(rest)?)?;
@@ -115,7 +116,8 @@ fn store_change(
 
 /// Reads FLAGS, +FLAGS or -FLAGS, with or without .SILENT.
 fn store_action(octets: &[u8]) -> Result<(StoreAction, &[u8]), ParseFault>
-    ensures { Gives (λ x. (x.0, x.1.now)) result (named_at store_word store_actions octets.now) }
+    ensures { IsReading (λ x. (x.0, x.1.now)) result
+        (named_at store_word store_actions octets.now) }
 {
     leading_word(&STORE_ACTIONS, octets)
 }

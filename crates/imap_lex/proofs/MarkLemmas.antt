@@ -5,7 +5,7 @@ use Rattle.std.proofs.lemmas.Bool.{cases_Bool, and_parts, and_from, eqb-true, eq
 use Rattle.std.proofs.lemmas.List.{at_drop_more, take-append-drop, take_at, drop_at}
 use Rattle.std.proofs.lemmas.Slice.Eq.{bytes_eq-Decides}
 use Rattle.imap_lex.specs.Marks.{AreDigits, IsNumber, IsMarked, IsUnmarked, closing, value_of}
-use Rattle.imap_lex.specs.MarkReading.{closing_at, digits_at, mark_at, mark_behind, mark_of_number, or_else}
+use Rattle.imap_lex.specs.MarkReading.{closing_at, digits_at, line_mark, brace_mark, mark_of_number, or_else}
 
 -- Further digits make a number no smaller.
 pub grows : (n : ℕ) (ds : List ℕ) → n ≤ value_of n ds
@@ -57,17 +57,17 @@ closing_is text plus h =
       ]
     ]
 
-closing_found : (plus : Bool) → closing_at (closing plus) ≡ Some plus
-closing_found true = refl
-closing_found false = refl
+closing_at_closing : (plus : Bool) → closing_at (closing plus) ≡ Some plus
+closing_at_closing true = refl
+closing_at_closing false = refl
 
 numbered_is : (v n : ℕ) (plus : Bool) (o : Option Bool) → mark_of_number v o ≡ Some (n, plus) → (v ≡ n) × (o ≡ Some plus)
 numbered_is v n plus None h = absurd cc
 numbered_is v n plus (Some q) h = let e : ◌≡◌ {A = ℕ × Bool} (v, q) (n, plus) = cc in (ap (λ m. m.0) e, ap (λ m. Some m.1) e)
 
 -- The mark after a brace.
-behind_is : (text : List ℕ) (n : ℕ) (plus : Bool) → mark_behind text ≡ Some (n, plus) → (digits : List ℕ) × IsNumber n digits × (text ≡ digits ++ closing plus)
-behind_is text n plus h =
+brace_mark_is : (text : List ℕ) (n : ℕ) (plus : Bool) → brace_mark text ≡ Some (n, plus) → (digits : List ℕ) × IsNumber n digits × (text ≡ digits ++ closing plus)
+brace_mark_is text n plus h =
     elim (cases_Bool (eqb (digits_at text) 0)) [
       | inl t ↦ let k : ◌≡◌ {A = Option (ℕ × Bool)} None (Some (n, plus)) = rw t at h in absurd cc
       | inr f ↦
@@ -95,16 +95,16 @@ behind_is text n plus h =
             | inr f ↦ h (rw f refl)
           ]
 
-behind_at : (text digits : List ℕ) (n : ℕ) (plus : Bool) → text ≡ digits ++ closing plus → digits_at text ≡ length digits → eqb (length digits) 0 ≡ false → value_of 0 digits ≡ n → mark_behind text ≡ Some (n, plus)
-behind_at text digits n plus e k z v =
+brace_mark_of : (text digits : List ℕ) (n : ℕ) (plus : Bool) → text ≡ digits ++ closing plus → digits_at text ≡ length digits → eqb (length digits) 0 ≡ false → value_of 0 digits ≡ n → brace_mark text ≡ Some (n, plus)
+brace_mark_of text digits n plus e k z v =
     let t : take (length digits) text ≡ digits = ap (take (length digits)) e ∙ take_at digits (closing plus) (length digits) refl in
     let r : drop (length digits) text ≡ closing plus = ap (drop (length digits)) e ∙ drop_at digits (closing plus) (length digits) refl in
-    rw (k, z, t, r, closing_found plus, v) refl
+    rw (k, z, t, r, closing_at_closing plus, v) refl
 
-behind_found : (digits : List ℕ) (n : ℕ) (plus : Bool) → IsNumber n digits → mark_behind (digits ++ closing plus) ≡ Some (n, plus)
-behind_found [] n plus h = absurd (h.not_empty refl)
-behind_found (d ∷ ds) n plus h =
-    behind_at (d ∷ ds ++ closing plus) (d ∷ ds) n plus refl (digits_before_closing (d ∷ ds) plus h.are_digits) (ne_eqb (length (d ∷ ds)) 0 (λ e. omega arith)) h.value
+brace_mark_digits : (digits : List ℕ) (n : ℕ) (plus : Bool) → IsNumber n digits → brace_mark (digits ++ closing plus) ≡ Some (n, plus)
+brace_mark_digits [] n plus h = absurd (h.not_empty refl)
+brace_mark_digits (d ∷ ds) n plus h =
+    brace_mark_of (d ∷ ds ++ closing plus) (d ∷ ds) n plus refl (digits_before_closing (d ∷ ds) plus h.are_digits) (ne_eqb (length (d ∷ ds)) 0 (λ e. omega arith)) h.value
 
 -- No brace comes after the brace of a mark.
 has_brace : List ℕ → Bool
@@ -122,12 +122,12 @@ no_brace [] true h = refl
 no_brace [] false h = refl
 no_brace (d ∷ ds) plus h = rw (ne_eqb d 123 (λ e. omega arith)) (no_brace ds plus h.2)
 
-none_before_brace : (front back : List ℕ) → mark_behind (front ++ 123 ∷ back) ≡ None
-none_before_brace front back = by_cases (mark_behind (front ++ 123 ∷ back)) refl where
-  by_cases : (o : Option (ℕ × Bool)) → mark_behind (front ++ 123 ∷ back) ≡ o → mark_behind (front ++ 123 ∷ back) ≡ None
+none_before_brace : (front back : List ℕ) → brace_mark (front ++ 123 ∷ back) ≡ None
+none_before_brace front back = by_cases (brace_mark (front ++ 123 ∷ back)) refl where
+  by_cases : (o : Option (ℕ × Bool)) → brace_mark (front ++ 123 ∷ back) ≡ o → brace_mark (front ++ 123 ∷ back) ≡ None
   by_cases None e = e
   by_cases (Some m) e =
-      let p = behind_is (front ++ 123 ∷ back) m.0 m.1 e in
+      let p = brace_mark_is (front ++ 123 ∷ back) m.0 m.1 e in
       let a : has_brace (front ++ 123 ∷ back) ≡ true = brace_in front back in
       let b : has_brace (p.0 ++ closing m.1) ≡ false = no_brace p.0 m.1 p.1.are_digits in
       let c : has_brace (front ++ 123 ∷ back) ≡ has_brace (p.0 ++ closing m.1) = ap has_brace p.2 in
@@ -137,37 +137,37 @@ none_before_brace front back = by_cases (mark_behind (front ++ 123 ∷ back)) re
 marked_further : (b : ℕ) (bs : List ℕ) (n : ℕ) (plus : Bool) → IsMarked n plus bs → IsMarked n plus (b ∷ bs)
 marked_further b bs n plus m = record { before = b ∷ m.before; digits = m.digits; number = m.number; line_is = ap (λ t. b ∷ t) m.line_is }
 
-marked_here : (b : ℕ) (bs : List ℕ) (n : ℕ) (plus : Bool) (o : Option (ℕ × Bool)) → b ≡ 123 → mark_behind bs ≡ o → (mark_at bs ≡ Some (n, plus) → IsMarked n plus bs) → or_else o (mark_at bs) ≡ Some (n, plus) → IsMarked n plus (b ∷ bs)
+marked_here : (b : ℕ) (bs : List ℕ) (n : ℕ) (plus : Bool) (o : Option (ℕ × Bool)) → b ≡ 123 → brace_mark bs ≡ o → (line_mark bs ≡ Some (n, plus) → IsMarked n plus bs) → or_else o (line_mark bs) ≡ Some (n, plus) → IsMarked n plus (b ∷ bs)
 marked_here b bs n plus None e k further g = marked_further b bs n plus (further g)
 marked_here b bs n plus (Some m) e k further g =
-    let p = behind_is bs n plus (k ∙ g) in
+    let p = brace_mark_is bs n plus (k ∙ g) in
     record { before = []; digits = p.0; number = p.1; line_is = λ j. e j ∷ p.2 j }
 
-pub mark_is : (line : List ℕ) (n : ℕ) (plus : Bool) → mark_at line ≡ Some (n, plus) → IsMarked n plus line
+pub mark_is : (line : List ℕ) (n : ℕ) (plus : Bool) → line_mark line ≡ Some (n, plus) → IsMarked n plus line
 mark_is [] n plus h = absurd cc
 mark_is (b ∷ bs) n plus h =
     elim (cases_Bool (eqb b 123)) [
-      | inl t ↦ marked_here b bs n plus (mark_behind bs) (eqb-true b 123 t) refl (mark_is bs n plus) (rw t at h)
+      | inl t ↦ marked_here b bs n plus (brace_mark bs) (eqb-true b 123 t) refl (mark_is bs n plus) (rw t at h)
       | inr f ↦ marked_further b bs n plus (mark_is bs n plus (rw f at h))
     ]
 
--- And the mark of a line is read.
-found_in : (before digits : List ℕ) (n : ℕ) (plus : Bool) → IsNumber n digits → mark_at (before ++ 123 ∷ (digits ++ closing plus)) ≡ Some (n, plus)
-found_in [] digits n plus h = rw (behind_found digits n plus h) refl
-found_in (b ∷ before) digits n plus h =
+-- The mark of a line is read.
+line_mark_split : (before digits : List ℕ) (n : ℕ) (plus : Bool) → IsNumber n digits → line_mark (before ++ 123 ∷ (digits ++ closing plus)) ≡ Some (n, plus)
+line_mark_split [] digits n plus h = rw (brace_mark_digits digits n plus h) refl
+line_mark_split (b ∷ before) digits n plus h =
     elim (cases_Bool (eqb b 123)) [
-      | inl t ↦ rw (t, none_before_brace before (digits ++ closing plus)) (found_in before digits n plus h)
-      | inr f ↦ rw f (found_in before digits n plus h)
+      | inl t ↦ rw (t, none_before_brace before (digits ++ closing plus)) (line_mark_split before digits n plus h)
+      | inr f ↦ rw f (line_mark_split before digits n plus h)
     ]
 
-pub mark_found : (line : List ℕ) (n : ℕ) (plus : Bool) → IsMarked n plus line → mark_at line ≡ Some (n, plus)
-mark_found line n plus m = ap mark_at m.line_is ∙ found_in m.before m.digits n plus m.number
+pub line_mark_marked : (line : List ℕ) (n : ℕ) (plus : Bool) → IsMarked n plus line → line_mark line ≡ Some (n, plus)
+line_mark_marked line n plus m = ap line_mark m.line_is ∙ line_mark_split m.before m.digits n plus m.number
 
-pub unmarked_is : (line : List ℕ) → mark_at line ≡ None → IsUnmarked line
-unmarked_is line h n plus m = let k = mark_found line n plus m in absurd cc
+pub unmarked_is : (line : List ℕ) → line_mark line ≡ None → IsUnmarked line
+unmarked_is line h n plus m = let k = line_mark_marked line n plus m in absurd cc
 
-pub unmarked_found : (line : List ℕ) → IsUnmarked line → mark_at line ≡ None
-unmarked_found line h = by_cases (mark_at line) refl where
-  by_cases : (o : Option (ℕ × Bool)) → mark_at line ≡ o → mark_at line ≡ None
+pub line_mark_unmarked : (line : List ℕ) → IsUnmarked line → line_mark line ≡ None
+line_mark_unmarked line h = by_cases (line_mark line) refl where
+  by_cases : (o : Option (ℕ × Bool)) → line_mark line ≡ o → line_mark line ≡ None
   by_cases None e = e
   by_cases (Some m) e = absurd (h m.0 m.1 (mark_is line m.0 m.1 e))

@@ -10,18 +10,18 @@ use Rattle.imap_lex.specs.declared.item.Item.{Item}
 use Rattle.imap_lex.specs.declared.item.Item.TheVariants.{Frame, Refused}
 use Rattle.imap_lex.specs.declared.limits.Limits.{Limits}
 use Rattle.imap_lex.specs.Marks.{IsMarked}
-use Rattle.imap_lex.specs.Frames.{AreCommands, AreFrames, ArePartsOfCommand, KeepLimits, FailsAt, HasNoCrlf, HasNoNul, IsFrame, IsLine, IsOpenLine, IsOpenLiteral, IsPart, IsRefusedFront, MakesFault, Part, announced_octets, octets_of, octets_outside, readies, ready}
-use Rattle.imap_lex.specs.MarkReading.{mark_at}
-use Rattle.imap_lex.specs.Framing.{Cut, FrameProgress, after_octet, cut_onward, is_end, octets_so_far, ready_item, start, with_items}
-use Rattle.imap_lex.proofs.CutLemmas.{goes_on-fault}
+use Rattle.imap_lex.specs.Frames.{AreCommands, AreFrames, ArePartsOfCommand, AreWithinLimits, FailsAt, HasNoCrlf, HasNoNul, IsFrame, IsLine, IsOpenLine, IsOpenLiteral, IsPart, IsRefusedFront, MakesFault, Part, announced_octets, octets_of, octets_outside, readies, ready}
+use Rattle.imap_lex.specs.MarkReading.{line_mark}
+use Rattle.imap_lex.specs.Framing.{Cut, FrameProgress, after_octet, cut_from, is_end, octets_so_far, ready_item, start, with_items}
+use Rattle.imap_lex.proofs.CutLemmas.{cut_of-fault}
 use Rattle.imap_lex.proofs.LineLemmas.{end_parts, ended_line, no_nul_both, open_more}
 use Rattle.imap_lex.proofs.MarkLemmas.{mark_is, unmarked_is}
 use Rattle.imap_lex.proofs.StepLemmas.{announced_of-push, at_line, at_literal, ended, ended_literal, ended_too_long, ended_whole, literal_whole, octets_of-push, outside_of-push, readies-push, ready_is, step_end, step_full, step_line, step_literal, step_nul}
 use Rattle.imap_lex.proofs.RunLemmas.{run_step}
 
 -- A rest, and the framer's progress after it.
-abbrev pub IsKept : Limits → List ℕ → List Item → FrameProgress → Type 0
-IsKept limits rest items p =
+abbrev pub HasProgress : Limits → List ℕ → List Item → FrameProgress → Type 0
+HasProgress limits rest items p =
     ((o : IsOpenLine limits rest items) × (p ≡ at_line o.parts o.line))
     ⊎ ((o : IsOpenLiteral limits rest items) × (p ≡ at_literal o.parts o.line o.n o.literal))
 
@@ -31,7 +31,7 @@ pub record HasRead (limits : Limits) (stream : List ℕ) (items : List Item) (p 
   pub last : List Item
   pub rest : List ℕ
   pub are_commands : AreCommands limits commands
-  pub kept : IsKept limits rest last p
+  pub progress : HasProgress limits rest last p
   pub stream_is : stream ≡ flat_map (λ c. c.0) commands ++ rest
   pub items_are : items ≡ flat_map (λ c. c.1) commands ++ last
 
@@ -41,7 +41,7 @@ flat_map-push f xs x = append-nil (flat_map f (xs ++ x ∷ [])) ∙ flat_map-app
 -- The effect of an octet on a rest: the rest continues, a command or a refused beginning is
 -- complete, or there is a fault.
 pub data Change (limits : Limits) (rest : List ℕ) (items : List Item) (p : FrameProgress) (octet : ℕ) : Type 0 where
-  longer : (item : Option Item) (q : FrameProgress) → after_octet limits p octet ≡ Ok (item, q) → IsKept limits (rest ++ octet ∷ []) (items ++ option_to_list item) q → Change limits rest items p octet
+  longer : (item : Option Item) (q : FrameProgress) → after_octet limits p octet ≡ Ok (item, q) → HasProgress limits (rest ++ octet ∷ []) (items ++ option_to_list item) q → Change limits rest items p octet
   finished : (item : Item) → after_octet limits p octet ≡ Ok (Some item, start) → IsFrame limits (rest ++ octet ∷ []) (items ++ item ∷ []) ⊎ IsRefusedFront limits (rest ++ octet ∷ []) (items ++ item ∷ []) → Change limits rest items p octet
   failed : (why : FrameFaultKind) → after_octet limits p octet ≡ Err why → MakesFault limits rest octet why → Change limits rest items p octet
 
@@ -54,7 +54,7 @@ parts_push [] part h k = (k, tt)
 parts_push (p ∷ ps) part h k = (h.0, parts_push ps part h.1 k)
 
 -- One further octet of a line.
-taken_more : (limits : Limits) (parts : List Part) (line : List ℕ) (octet : ℕ) → KeepLimits limits parts line → octet ≢ 0 → octets_outside parts + length line < limits.line → KeepLimits limits parts (line ++ octet ∷ [])
+taken_more : (limits : Limits) (parts : List Part) (line : List ℕ) (octet : ℕ) → AreWithinLimits limits parts line → octet ≢ 0 → octets_outside parts + length line < limits.line → AreWithinLimits limits parts (line ++ octet ∷ [])
 taken_more limits parts line octet h nul l =
     let n = length_push line octet in
     record {
@@ -65,7 +65,7 @@ taken_more limits parts line octet h nul l =
     }
 
 -- One further part.
-taken_part : (limits : Limits) (parts : List Part) (part : Part) → KeepLimits limits parts part.line → IsPart part → announced_octets parts + length part.literal ≤ limits.literals → HasNoNul part.literal → KeepLimits limits (parts ++ part ∷ []) []
+taken_part : (limits : Limits) (parts : List Part) (part : Part) → AreWithinLimits limits parts part.line → IsPart part → announced_octets parts + length part.literal ≤ limits.literals → HasNoNul part.literal → AreWithinLimits limits (parts ++ part ∷ []) []
 taken_part limits parts part h is_part fits nul =
     let o = outside_of-push parts part in
     let a = announced_of-push parts part in
@@ -81,8 +81,8 @@ taken_part limits parts part h is_part fits nul =
     }
 
 -- After a line with a mark comes an open literal, or an open line if the literal is complete.
-literal_kept : (limits : Limits) (parts : List Part) (line : List ℕ) (n : ℕ) (plus : Bool) (literal rest : List ℕ) (items : List Item) → KeepLimits limits parts line → IsLine line → IsMarked n plus line → announced_octets parts + n ≤ limits.literals → length literal ≤ n → HasNoNul literal → rest ≡ octets_of parts ++ (line ++ literal) → items ≡ readies parts ++ ready plus → IsKept limits rest items (at_literal parts line n literal)
-literal_kept limits parts line n plus literal rest items taken ends mark fits l nul e f =
+literal_progress : (limits : Limits) (parts : List Part) (line : List ℕ) (n : ℕ) (plus : Bool) (literal rest : List ℕ) (items : List Item) → AreWithinLimits limits parts line → IsLine line → IsMarked n plus line → announced_octets parts + n ≤ limits.literals → length literal ≤ n → HasNoNul literal → rest ≡ octets_of parts ++ (line ++ literal) → items ≡ readies parts ++ ready plus → HasProgress limits rest items (at_literal parts line n literal)
+literal_progress limits parts line n plus literal rest items taken ends mark fits l nul e f =
     elim (cases_lt (length literal) n) [
       | inl short ↦ inr (
         record { parts = parts; line = line; n = n; plus = plus; literal = literal; taken = taken; ends = ends; mark = mark; fits = fits; short = short; no_nul = nul; text_is = e; items_are = f },
@@ -106,16 +106,16 @@ literal_kept limits parts line n plus literal rest items taken ends mark fits l 
     ]
 
 -- LF after CR.
-end_change : (limits : Limits) (rest : List ℕ) (items : List Item) (o : IsOpenLine limits rest items) → octets_outside o.parts + length o.line < limits.line → is_end o.line 10 ≡ true → (m : Option (ℕ × Bool)) → mark_at (o.line ++ 10 ∷ []) ≡ m → Change limits rest items (at_line o.parts o.line) 10
+end_change : (limits : Limits) (rest : List ℕ) (items : List Item) (o : IsOpenLine limits rest items) → octets_outside o.parts + length o.line < limits.line → is_end o.line 10 ≡ true → (m : Option (ℕ × Bool)) → line_mark (o.line ++ 10 ∷ []) ≡ m → Change limits rest items (at_line o.parts o.line) 10
 end_change limits rest items o l e m k =
     let s = end_parts o.line 10 e in
     let text : List ℕ = o.line ++ 10 ∷ [] in
     let ends : IsLine text = ended_line o.line s.0 o.open_line s.2 in
-    let taken : KeepLimits limits o.parts text = taken_more limits o.parts o.line 10 o.taken (λ z. omega arith) l in
+    let taken : AreWithinLimits limits o.parts text = taken_more limits o.parts o.line 10 o.taken (λ z. omega arith) l in
     let whole : rest ++ 10 ∷ [] ≡ octets_of o.parts ++ text = ap (λ t. t ++ 10 ∷ []) o.text_is ∙ append_assoc (octets_of o.parts) o.line (10 ∷ []) in
     let step : after_octet limits (at_line o.parts o.line) 10 ≡ ended limits o.parts text = step_end limits o.parts o.line l e in
     by_mark m k ends taken whole step where
-      too_long : (n : ℕ) (plus : Bool) → IsMarked n plus (o.line ++ 10 ∷ []) → limits.literals - announced_octets o.parts < n → IsLine (o.line ++ 10 ∷ []) → KeepLimits limits o.parts (o.line ++ 10 ∷ []) → rest ++ 10 ∷ [] ≡ octets_of o.parts ++ (o.line ++ 10 ∷ []) → after_octet limits (at_line o.parts o.line) 10 ≡ ended limits o.parts (o.line ++ 10 ∷ []) → Change limits rest items (at_line o.parts o.line) 10
+      too_long : (n : ℕ) (plus : Bool) → IsMarked n plus (o.line ++ 10 ∷ []) → limits.literals - announced_octets o.parts < n → IsLine (o.line ++ 10 ∷ []) → AreWithinLimits limits o.parts (o.line ++ 10 ∷ []) → rest ++ 10 ∷ [] ≡ octets_of o.parts ++ (o.line ++ 10 ∷ []) → after_octet limits (at_line o.parts o.line) 10 ≡ ended limits o.parts (o.line ++ 10 ∷ []) → Change limits rest items (at_line o.parts o.line) 10
       too_long n true mark long ends taken whole step =
           let a = taken.announced in
           failed LiteralTooLong (step ∙ ended_too_long limits o.parts (o.line ++ 10 ∷ []) n true mark long)
@@ -126,7 +126,7 @@ end_change limits rest items o l e m k =
           (step ∙ ended_too_long limits o.parts (o.line ++ 10 ∷ []) n false mark long ∙ ap (λ t. Ok (Some (Refused t), start)) (sym whole))
           (inr (record { parts = o.parts; line = o.line ++ 10 ∷ []; n = n; taken = taken; ends = ends; mark = mark; too_long = omega arith; text_is = whole; items_are = ap (λ t. t ++ Refused (rest ++ 10 ∷ []) ∷ []) o.items_are }))
 
-      by_mark : (m : Option (ℕ × Bool)) → mark_at (o.line ++ 10 ∷ []) ≡ m → IsLine (o.line ++ 10 ∷ []) → KeepLimits limits o.parts (o.line ++ 10 ∷ []) → rest ++ 10 ∷ [] ≡ octets_of o.parts ++ (o.line ++ 10 ∷ []) → after_octet limits (at_line o.parts o.line) 10 ≡ ended limits o.parts (o.line ++ 10 ∷ []) → Change limits rest items (at_line o.parts o.line) 10
+      by_mark : (m : Option (ℕ × Bool)) → line_mark (o.line ++ 10 ∷ []) ≡ m → IsLine (o.line ++ 10 ∷ []) → AreWithinLimits limits o.parts (o.line ++ 10 ∷ []) → rest ++ 10 ∷ [] ≡ octets_of o.parts ++ (o.line ++ 10 ∷ []) → after_octet limits (at_line o.parts o.line) 10 ≡ ended limits o.parts (o.line ++ 10 ∷ []) → Change limits rest items (at_line o.parts o.line) 10
       by_mark None k ends taken whole step =
           let unmarked = unmarked_is (o.line ++ 10 ∷ []) k in
           finished (Frame (rest ++ 10 ∷ []))
@@ -140,7 +140,7 @@ end_change limits rest items o l e m k =
                 let a = taken.announced in
                 longer (ready_item plus) (at_literal o.parts (o.line ++ 10 ∷ []) n [])
                 (step ∙ ended_literal limits o.parts (o.line ++ 10 ∷ []) n plus mark short)
-                (literal_kept limits o.parts (o.line ++ 10 ∷ []) n plus [] (rest ++ 10 ∷ []) (items ++ option_to_list (ready_item plus)) taken ends mark (omega arith) (omega arith) tt
+                (literal_progress limits o.parts (o.line ++ 10 ∷ []) n plus [] (rest ++ 10 ∷ []) (items ++ option_to_list (ready_item plus)) taken ends mark (omega arith) (omega arith) tt
                 (whole ∙ ap (λ t. octets_of o.parts ++ t) (sym (append-nil (o.line ++ 10 ∷ []))))
                 (ap (λ t. t ++ option_to_list (ready_item plus)) o.items_are ∙ ap (λ t. readies o.parts ++ t) (ready_is plus)))
           ]
@@ -154,7 +154,7 @@ line_change limits rest items octet o nul =
         | inl t ↦
             let s = end_parts o.line octet t in
             subst (λ (b : ℕ). Change limits rest items (at_line o.parts o.line) b) (sym s.1)
-            (end_change limits rest items o room (subst (λ (b : ℕ). is_end o.line b ≡ true) s.1 t) (mark_at (o.line ++ 10 ∷ [])) refl)
+            (end_change limits rest items o room (subst (λ (b : ℕ). is_end o.line b ≡ true) s.1 t) (line_mark (o.line ++ 10 ∷ [])) refl)
         | inr f ↦ longer None (at_line o.parts (o.line ++ octet ∷ [])) (step_line limits o.parts o.line octet nul room f)
             (inl (
               record {
@@ -175,24 +175,24 @@ literal_change limits rest items octet o nul =
     let n = length_push o.literal octet in
     let short = o.short in
     longer None (at_literal o.parts o.line o.n (o.literal ++ octet ∷ [])) (step_literal limits o.parts o.line o.n o.literal octet nul o.short)
-    (literal_kept limits o.parts o.line o.n o.plus (o.literal ++ octet ∷ []) (rest ++ octet ∷ []) (items ++ []) o.taken o.ends o.mark o.fits (omega arith) (no_nul_both o.literal (octet ∷ []) o.no_nul (nul, tt))
+    (literal_progress limits o.parts o.line o.n o.plus (o.literal ++ octet ∷ []) (rest ++ octet ∷ []) (items ++ []) o.taken o.ends o.mark o.fits (omega arith) (no_nul_both o.literal (octet ∷ []) o.no_nul (nul, tt))
     (ap (λ t. t ++ octet ∷ []) o.text_is ∙ append_assoc (octets_of o.parts) (o.line ++ o.literal) (octet ∷ []) ∙ ap (λ t. octets_of o.parts ++ t) (append_assoc o.line o.literal (octet ∷ [])))
     (append-nil items ∙ o.items_are))
 
-change : (limits : Limits) (rest : List ℕ) (items : List Item) (p : FrameProgress) (octet : ℕ) → IsKept limits rest items p → Change limits rest items p octet
-change limits rest items p octet kept =
+change : (limits : Limits) (rest : List ℕ) (items : List Item) (p : FrameProgress) (octet : ℕ) → HasProgress limits rest items p → Change limits rest items p octet
+change limits rest items p octet progress =
     elim (cases_eq octet 0) [
       | inl e ↦ failed NulByte (step_nul limits p octet e) e
-      | inr nul ↦ elim kept [
+      | inr nul ↦ elim progress [
         | inl o ↦ subst (λ (p : FrameProgress). Change limits rest items p octet) (sym o.1) (line_change limits rest items octet o.0 nul)
         | inr o ↦ subst (λ (p : FrameProgress). Change limits rest items p octet) (sym o.1) (literal_change limits rest items octet o.0 nul)
       ]
     ]
 
--- What was read of a stream was read of an equal stream.
+-- Equal streams are read alike.
 reread : (limits : Limits) (stream stream' : List ℕ) (items items' : List Item) (p : FrameProgress) → stream' ≡ stream → items' ≡ items → HasRead limits stream items p → HasRead limits stream' items' p
 reread limits stream stream' items items' p e f h =
-    record { commands = h.commands; last = h.last; rest = h.rest; are_commands = h.are_commands; kept = h.kept; stream_is = e ∙ h.stream_is; items_are = f ∙ h.items_are }
+    record { commands = h.commands; last = h.last; rest = h.rest; are_commands = h.are_commands; progress = h.progress; stream_is = e ∙ h.stream_is; items_are = f ∙ h.items_are }
 
 frames_of : (limits : Limits) (stream : List ℕ) (items : List Item) (p : FrameProgress) (h : HasRead limits stream items p) → AreFrames limits stream items h.rest
 frames_of limits stream items p h =
@@ -200,18 +200,18 @@ frames_of limits stream items p h =
       commands = h.commands;
       last = h.last;
       are_commands = h.are_commands;
-      is_rest = elim h.kept [ inl o ↦ inl o.0 | inr o ↦ inr o.0 ];
+      is_rest = elim h.progress [ inl o ↦ inl o.0 | inr o ↦ inr o.0 ];
       stream_is = h.stream_is;
       items_are = h.items_are;
     }
 
 refail : (limits : Limits) (stream stream' : List ℕ) (items items' : List Item) (why : FrameFaultKind) → stream' ≡ stream → items' ≡ items → FailsAt limits stream items why → FailsAt limits stream' items' why
 refail limits stream stream' items items' why e f h =
-    record { front = h.front; octet = h.octet; behind = h.behind; rest = h.rest; stream_is = e ∙ h.stream_is; before = subst (λ (xs : List Item). AreFrames limits h.front xs h.rest) (sym f) h.before; fault = h.fault }
+    record { front = h.front; octet = h.octet; after = h.after; rest = h.rest; stream_is = e ∙ h.stream_is; before = subst (λ (xs : List Item). AreFrames limits h.front xs h.rest) (sym f) h.before; fault = h.fault }
 
-kept_octets : (limits : Limits) (rest : List ℕ) (items : List Item) (p : FrameProgress) → IsKept limits rest items p → rest ≡ octets_so_far p
-kept_octets limits rest items p kept =
-    elim kept [
+octets_of_progress : (limits : Limits) (rest : List ℕ) (items : List Item) (p : FrameProgress) → HasProgress limits rest items p → rest ≡ octets_so_far p
+octets_of_progress limits rest items p progress =
+    elim progress [
       | inl o ↦ o.0.text_is ∙ ap octets_so_far (sym o.1)
       | inr o ↦ o.0.text_is ∙ sym (append-nil (octets_of o.0.parts ++ (o.0.line ++ o.0.literal))) ∙ ap octets_so_far (sym o.1)
     ]
@@ -221,8 +221,8 @@ commands_push limits [] c h k = (k, tt)
 commands_push limits (d ∷ ds) c h k = (h.0, commands_push limits ds c h.1 k)
 
 -- Nothing was read.
-nothing_kept : (limits : Limits) → IsKept limits [] [] start
-nothing_kept limits = inl (
+no_progress : (limits : Limits) → HasProgress limits [] [] start
+no_progress limits = inl (
   record {
     parts = [];
     line = [];
@@ -245,8 +245,8 @@ read_octet limits stream items p octet h =
     let text : stream ++ octet ∷ [] ≡ flat_map (λ c. c.0) h.commands ++ (h.rest ++ octet ∷ []) =
     ap (λ t. t ++ octet ∷ []) h.stream_is ∙ append_assoc (flat_map (λ c. c.0) h.commands) h.rest (octet ∷ [])
     in
-    elim (change limits h.rest h.last p octet h.kept) [
-      | longer item q e kept ↦ inl (
+    elim (change limits h.rest h.last p octet h.progress) [
+      | longer item q e progress ↦ inl (
         item,
         q,
         e,
@@ -255,7 +255,7 @@ read_octet limits stream items p octet h =
           last = h.last ++ option_to_list item;
           rest = h.rest ++ octet ∷ [];
           are_commands = h.are_commands;
-          kept = kept;
+          progress = progress;
           stream_is = text;
           items_are = ap (λ t. t ++ option_to_list item) h.items_are ∙ append_assoc (flat_map (λ c. c.1) h.commands) h.last (option_to_list item);
         },
@@ -271,7 +271,7 @@ read_octet limits stream items p octet h =
               last = [];
               rest = [];
               are_commands = commands_push limits h.commands c h.are_commands one;
-              kept = nothing_kept limits;
+              progress = no_progress limits;
               stream_is = text ∙ sym (flat_map-push (λ (c : List ℕ × List Item). c.0) h.commands c);
               items_are =
                   ap (λ t. t ++ item ∷ []) h.items_are
@@ -285,8 +285,8 @@ read_octet limits stream items p octet h =
 -- Several octets of a stream: either they are read, or one of them makes a fault.
 abbrev pub ReadsStretch : (limits : Limits) (past : List ℕ) (items : List Item) (p : FrameProgress) (octets : List ℕ) → Type 0
 ReadsStretch limits past items p octets =
-    ((more : List Item) × (q : FrameProgress) × (cut_onward limits (Ok p) octets ≡ (more, Ok q)) × HasRead limits (past ++ octets) (items ++ more) q)
-    ⊎ ((more : List Item) × (why : FrameFaultKind) × (cut_onward limits (Ok p) octets ≡ (more, Err why)) × FailsAt limits (past ++ octets) (items ++ more) why)
+    ((more : List Item) × (q : FrameProgress) × (cut_from limits (Ok p) octets ≡ (more, Ok q)) × HasRead limits (past ++ octets) (items ++ more) q)
+    ⊎ ((more : List Item) × (why : FrameFaultKind) × (cut_from limits (Ok p) octets ≡ (more, Err why)) × FailsAt limits (past ++ octets) (items ++ more) why)
 
 read_stretch : (limits : Limits) (past : List ℕ) (items : List Item) (p : FrameProgress) (octets : List ℕ) → HasRead limits past items p → ReadsStretch limits past items p octets
 read_stretch limits past items p [] h = inl ([], p, refl, reread limits past (past ++ []) items (items ++ []) p (append-nil past) (append-nil items) h)
@@ -294,7 +294,7 @@ read_stretch limits past items p (b ∷ bs) h =
     elim (read_octet limits past items p b h) [
       | inl s ↦
           let given_items : List Item = option_to_list s.0 in
-          let step : cut_onward limits (Ok p) (b ∷ bs) ≡ with_items given_items (cut_onward limits (Ok s.1) bs) = run_step limits p b bs (Ok (s.0, s.1)) s.2 in
+          let step : cut_from limits (Ok p) (b ∷ bs) ≡ with_items given_items (cut_from limits (Ok s.1) bs) = run_step limits p b bs (Ok (s.0, s.1)) s.2 in
           elim (read_stretch limits (past ++ b ∷ []) (items ++ given_items) s.1 bs s.3) [
             | inl r ↦ inl (
               given_items ++ r.0,
@@ -314,11 +314,11 @@ read_stretch limits past items p (b ∷ bs) h =
       | inr s ↦ inr (
         [],
         s.0,
-        run_step limits p b bs (Err s.0) s.1 ∙ ap (with_items []) (goes_on-fault limits s.0 bs),
+        run_step limits p b bs (Err s.0) s.1 ∙ ap (with_items []) (cut_of-fault limits s.0 bs),
         record {
           front = past;
           octet = b;
-          behind = bs;
+          after = bs;
           rest = h.rest;
           stream_is = refl;
           before = subst (λ (xs : List Item). AreFrames limits past xs h.rest) (sym (append-nil items)) (frames_of limits past items p h);
@@ -331,10 +331,10 @@ read_stretch limits past items p (b ∷ bs) h =
 read_all : (limits : Limits) (stream : List ℕ) → ReadsStretch limits [] [] start stream
 read_all limits stream =
     read_stretch limits [] [] start stream
-    (record { commands = []; last = []; rest = []; are_commands = tt; kept = nothing_kept limits; stream_is = refl; items_are = refl })
+    (record { commands = []; last = []; rest = []; are_commands = tt; progress = no_progress limits; stream_is = refl; items_are = refl })
 
--- What is given without a fault are frames.
-pub frames_by_given : (limits : Limits) (stream : List ℕ) (items : List Item) (p : FrameProgress) → cut_onward limits (Ok start) stream ≡ (items, Ok p) → AreFrames limits stream items (octets_so_far p)
+-- Items read without a fault are those of frames.
+pub frames_by_given : (limits : Limits) (stream : List ℕ) (items : List Item) (p : FrameProgress) → cut_from limits (Ok start) stream ≡ (items, Ok p) → AreFrames limits stream items (octets_so_far p)
 frames_by_given limits stream items p e =
     elim (read_all limits stream) [
       | inl r ↦
@@ -342,7 +342,7 @@ frames_by_given limits stream items p e =
           let xs : r.0 ≡ items = ap (λ c. c.0) k in
           let state : ◌≡◌ {A = Result FrameProgress FrameFaultKind} (Ok r.1) (Ok p) = ap (λ c. c.1) k in
           let q : r.1 ≡ p = cc in
-          let rest : r.3.rest ≡ octets_so_far p = kept_octets limits r.3.rest r.3.last r.1 r.3.kept ∙ ap octets_so_far q in
+          let rest : r.3.rest ≡ octets_so_far p = octets_of_progress limits r.3.rest r.3.last r.1 r.3.progress ∙ ap octets_so_far q in
           subst (λ (xs : List Item). AreFrames limits stream xs (octets_so_far p)) xs
           (subst (λ (t : List ℕ). AreFrames limits stream r.0 t) rest (frames_of limits stream r.0 r.1 r.3))
       | inr r ↦
@@ -352,7 +352,7 @@ frames_by_given limits stream items p e =
     ]
 
 -- A stream that ends in a fault fails at an octet.
-pub fault_by_given : (limits : Limits) (stream : List ℕ) (items : List Item) (why : FrameFaultKind) → cut_onward limits (Ok start) stream ≡ (items, Err why) → FailsAt limits stream items why
+pub fault_by_given : (limits : Limits) (stream : List ℕ) (items : List Item) (why : FrameFaultKind) → cut_from limits (Ok start) stream ≡ (items, Err why) → FailsAt limits stream items why
 fault_by_given limits stream items why e =
     elim (read_all limits stream) [
       | inl r ↦

@@ -10,8 +10,8 @@ use Rattle.imap_lex.specs.declared.literal_mark.LineEffect.TheVariants.{Whole, T
 use Rattle.imap_lex.specs.Marks.{IsMarked, IsUnmarked}
 use Rattle.imap_lex.specs.Frames.{Part, octets_of, octets_outside, announced_octets, ready, readies}
 use Rattle.imap_lex.specs.MarkReading.{line_effect_of}
-use Rattle.imap_lex.specs.Framing.{FrameProgress, Outcome, after_octet, after_ending, is_end, with_octet, ready_item}
-use Rattle.imap_lex.proofs.MarkLemmas.{mark_found, unmarked_found}
+use Rattle.imap_lex.specs.Framing.{FrameProgress, Outcome, after_octet, after_line_end, is_end, with_octet, ready_item}
+use Rattle.imap_lex.proofs.MarkLemmas.{line_mark_marked, line_mark_unmarked}
 
 -- The progress after these parts and this much of a line.
 abbrev pub at_line : List Part → List ℕ → FrameProgress
@@ -81,25 +81,25 @@ step_full limits parts line octet h l = rw (ne_eqb octet 0 h, le-leb limits.line
 
 -- The result of the end of this line.
 abbrev pub ended : Limits → List Part → List ℕ → Outcome
-ended limits parts text = after_ending (at_line parts text) (line_effect_of text (limits.literals - announced_octets parts))
+ended limits parts text = after_line_end (at_line parts text) (line_effect_of text (limits.literals - announced_octets parts))
 
 pub step_end : (limits : Limits) (parts : List Part) (line : List ℕ) → octets_outside parts + length line < limits.line → is_end line 10 ≡ true → after_octet limits (at_line parts line) 10 ≡ ended limits parts (line ++ 10 ∷ [])
 step_end limits parts line l e =
     rw (lt-leb limits.line (octets_outside parts + length line) l, e)
-    (ap (λ p. after_ending p (line_effect_of (line ++ 10 ∷ []) (limits.literals - announced_octets parts))) (line_more parts line 10))
+    (ap (λ p. after_line_end p (line_effect_of (line ++ 10 ∷ []) (limits.literals - announced_octets parts))) (line_more parts line 10))
 
--- Which end a line has.
-pub ended_whole : (limits : Limits) (parts : List Part) (text : List ℕ) → IsUnmarked text → ended limits parts text ≡ after_ending (at_line parts text) Whole
-ended_whole limits parts text h = rw (unmarked_found text h) refl
+-- The result of a line's end in each case.
+pub ended_whole : (limits : Limits) (parts : List Part) (text : List ℕ) → IsUnmarked text → ended limits parts text ≡ after_line_end (at_line parts text) Whole
+ended_whole limits parts text h = rw (line_mark_unmarked text h) refl
 
-pub ended_too_long : (limits : Limits) (parts : List Part) (text : List ℕ) (n : ℕ) (plus : Bool) → IsMarked n plus text → limits.literals - announced_octets parts < n → ended limits parts text ≡ after_ending (at_line parts text) (TooLong plus)
-ended_too_long limits parts text n plus h l = rw (mark_found text n plus h, lt-leb n (limits.literals - announced_octets parts) l) refl
+pub ended_too_long : (limits : Limits) (parts : List Part) (text : List ℕ) (n : ℕ) (plus : Bool) → IsMarked n plus text → limits.literals - announced_octets parts < n → ended limits parts text ≡ after_line_end (at_line parts text) (TooLong plus)
+ended_too_long limits parts text n plus h l = rw (line_mark_marked text n plus h, lt-leb n (limits.literals - announced_octets parts) l) refl
 
 pub ended_literal : (limits : Limits) (parts : List Part) (text : List ℕ) (n : ℕ) (plus : Bool) → IsMarked n plus text → n ≤ limits.literals - announced_octets parts → ended limits parts text ≡ Ok (ready_item plus, at_literal parts text n [])
 ended_literal limits parts text n plus h l =
     let f : octets_of parts ++ text ≡ octets_of parts ++ (text ++ []) = ap (λ t. octets_of parts ++ t) (sym (append-nil text)) in
     let z : n ≡ n - 0 = omega arith in
-    rw (mark_found text n plus h, le-leb n (limits.literals - announced_octets parts) l)
+    rw (line_mark_marked text n plus h, le-leb n (limits.literals - announced_octets parts) l)
     (λ k. Ok (ready_item plus, record { front = f k; line = []; outside = octets_outside parts + length text; announced = announced_octets parts + n; awaited = z k }))
 
 pub ready_is : (plus : Bool) → option_to_list (ready_item plus) ≡ ready plus

@@ -66,7 +66,7 @@ abbrev pub readies : List Part → List Item
 readies parts = flat_map (λ part. ready part.plus) parts
 
 -- Parts and a line after them, within the limits and without NUL.
-pub record KeepLimits (limits : Limits) (parts : List Part) (line : List ℕ) : Type 0 where
+pub record AreWithinLimits (limits : Limits) (parts : List Part) (line : List ℕ) : Type 0 where
   pub are_parts : ArePartsOfCommand parts
   pub outside : octets_outside parts + length line ≤ limits.line
   pub announced : announced_octets parts ≤ limits.literals
@@ -76,7 +76,7 @@ pub record KeepLimits (limits : Limits) (parts : List Part) (line : List ℕ) : 
 pub record IsFrame (limits : Limits) (text : List ℕ) (items : List Item) : Type 0 where
   pub parts : List Part
   pub line : List ℕ
-  pub taken : KeepLimits limits parts line
+  pub taken : AreWithinLimits limits parts line
   pub ends : IsLine line
   pub unmarked : IsUnmarked line
   pub text_is : text ≡ octets_of parts ++ line
@@ -87,7 +87,7 @@ pub record IsRefusedFront (limits : Limits) (text : List ℕ) (items : List Item
   pub parts : List Part
   pub line : List ℕ
   pub n : ℕ
-  pub taken : KeepLimits limits parts line
+  pub taken : AreWithinLimits limits parts line
   pub ends : IsLine line
   pub mark : IsMarked n false line
   pub too_long : limits.literals < announced_octets parts + n
@@ -98,7 +98,7 @@ pub record IsRefusedFront (limits : Limits) (text : List ℕ) (items : List Item
 pub record IsOpenLine (limits : Limits) (text : List ℕ) (items : List Item) : Type 0 where
   pub parts : List Part
   pub line : List ℕ
-  pub taken : KeepLimits limits parts line
+  pub taken : AreWithinLimits limits parts line
   pub open_line : HasNoCrlf line
   pub text_is : text ≡ octets_of parts ++ line
   pub items_are : items ≡ readies parts
@@ -110,7 +110,7 @@ pub record IsOpenLiteral (limits : Limits) (text : List ℕ) (items : List Item)
   pub n : ℕ
   pub plus : Bool
   pub literal : List ℕ
-  pub taken : KeepLimits limits parts line
+  pub taken : AreWithinLimits limits parts line
   pub ends : IsLine line
   pub mark : IsMarked n plus line
   pub fits : announced_octets parts + n ≤ limits.literals
@@ -144,7 +144,7 @@ pub record AreFrames (limits : Limits) (stream : List ℕ) (items : List Item) (
 pub record IsFullLine (limits : Limits) (rest : List ℕ) : Type 0 where
   pub parts : List Part
   pub line : List ℕ
-  pub taken : KeepLimits limits parts line
+  pub taken : AreWithinLimits limits parts line
   pub open_line : HasNoCrlf line
   pub full : octets_outside parts + length line ≡ limits.line
   pub rest_is : rest ≡ octets_of parts ++ line
@@ -154,7 +154,7 @@ pub record IsTooLongAtLf (limits : Limits) (rest : List ℕ) : Type 0 where
   pub parts : List Part
   pub line : List ℕ
   pub n : ℕ
-  pub taken : KeepLimits limits parts (line ++ 10 ∷ [])
+  pub taken : AreWithinLimits limits parts (line ++ 10 ∷ [])
   pub ends : IsLine (line ++ 10 ∷ [])
   pub mark : IsMarked n true (line ++ 10 ∷ [])
   pub too_long : limits.literals < announced_octets parts + n
@@ -173,8 +173,8 @@ pub record FailsAt (limits : Limits) (stream : List ℕ) (items : List Item) (wh
     Type 0 where
   pub front : List ℕ
   pub octet : ℕ
-  pub behind : List ℕ
+  pub after : List ℕ
   pub rest : List ℕ
-  pub stream_is : stream ≡ front ++ octet ∷ behind
+  pub stream_is : stream ≡ front ++ octet ∷ after
   pub before : AreFrames limits front items rest
   pub fault : MakesFault limits rest octet why

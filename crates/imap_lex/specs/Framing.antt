@@ -38,9 +38,9 @@ abbrev pub Outcome : Type 0
 Outcome = Result (Option Item × FrameProgress) FrameFaultKind
 
 -- The result of the end of a line.
-abbrev pub after_ending : FrameProgress → LineEffect → Outcome
-after_ending p Whole = Ok (Some (Frame (p.front ++ p.line)), start)
-after_ending p (Literal n plus) =
+abbrev pub after_line_end : FrameProgress → LineEffect → Outcome
+after_line_end p Whole = Ok (Some (Frame (p.front ++ p.line)), start)
+after_line_end p (Literal n plus) =
     Ok (
       ready_item plus,
       record {
@@ -51,8 +51,8 @@ after_ending p (Literal n plus) =
         awaited = n;
       },
     )
-after_ending p (TooLong true) = Err LiteralTooLong
-after_ending p (TooLong false) = Ok (Some (Refused (p.front ++ p.line)), start)
+after_line_end p (TooLong true) = Err LiteralTooLong
+after_line_end p (TooLong false) = Ok (Some (Refused (p.front ++ p.line)), start)
 
 -- Whether this octet ends this line.
 abbrev pub is_end : List ℕ → ℕ → Bool
@@ -66,7 +66,7 @@ with_octet p octet = record p { line = p.line ++ octet ∷ []; outside = p.outsi
 abbrev pub after_line_octet : Limits → FrameProgress → ℕ → Outcome
 after_line_octet limits p octet =
     if nat_le limits.line p.outside then Err LineTooLong
-    else (if is_end p.line octet then after_ending (with_octet p octet)
+    else (if is_end p.line octet then after_line_end (with_octet p octet)
     (line_effect_of (p.line ++ octet ∷ []) (limits.literals - p.announced))
     else Ok (None, with_octet p octet))
 
@@ -87,7 +87,7 @@ has_nul octets = list_any (λ octet. octet == 0) octets
 abbrev pub is_inside : ℕ → Bool
 is_inside octet = not (octet == 10) && not (octet == 0)
 
--- The progress after octets of a line, none of which ends it.
+-- The progress after octets inside a line.
 abbrev pub with_octets : FrameProgress → List ℕ → FrameProgress
 with_octets p octets = record p { line = p.line ++ octets; outside = p.outside + length octets }
 
@@ -115,11 +115,11 @@ after_octet_of limits (Ok p) octet = cut_of_stream (after_octet limits p octet)
 after_octet_of limits (Err why) octet = ([], Err why)
 
 -- The cut of these octets, from this progress or fault.
-abbrev pub cut_onward : Limits → Result FrameProgress FrameFaultKind → List ℕ → Cut
-cut_onward limits state [] = ([], state)
-cut_onward limits state (octet ∷ octets) =
+abbrev pub cut_from : Limits → Result FrameProgress FrameFaultKind → List ℕ → Cut
+cut_from limits state [] = ([], state)
+cut_from limits state (octet ∷ octets) =
     with_items (after_octet_of limits state octet).0
-    (cut_onward limits (after_octet_of limits state octet).1 octets)
+    (cut_from limits (after_octet_of limits state octet).1 octets)
 
 -- A framer between two pieces of input.
 pub record FramerState : Type 0 where
@@ -160,8 +160,8 @@ FaultsNow NulByte items old new cut = IsOk old × (new ≡ Err NulByte) × Fault
 abbrev pub cut_of_pieces : Limits → Result FrameProgress FrameFaultKind → List (List ℕ) → Cut
 cut_of_pieces limits state [] = ([], state)
 cut_of_pieces limits state (piece ∷ pieces) =
-    with_items (cut_onward limits state piece).0
-    (cut_of_pieces limits (cut_onward limits state piece).1 pieces)
+    with_items (cut_from limits state piece).0
+    (cut_of_pieces limits (cut_from limits state piece).1 pieces)
 
 -- The octets that were read of the next command.
 abbrev pub octets_so_far : FrameProgress → List ℕ

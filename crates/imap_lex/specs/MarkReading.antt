@@ -28,8 +28,8 @@ digits_at text = prefix_len is_ascii_digit text
 
 -- The mark whose opening brace comes just before this text: the octets that it announces, and
 -- whether it is `{n+}`.
-abbrev pub mark_behind : List ℕ → Option (ℕ × Bool)
-mark_behind text =
+abbrev pub brace_mark : List ℕ → Option (ℕ × Bool)
+brace_mark text =
     if digits_at text == 0 then None
     else mark_of_number (value_of 0 (take (digits_at text) text))
     (closing_at (drop (digits_at text) text))
@@ -41,10 +41,10 @@ or_else (Some mark) other = Some mark
 
 -- The mark at the end of a line: the first brace that begins one decides, since a mark has no brace
 -- inside.
-abbrev pub mark_at : List ℕ → Option (ℕ × Bool)
-mark_at [] = None
-mark_at (octet ∷ octets) =
-    if octet == 123 then or_else (mark_behind octets) (mark_at octets) else mark_at octets
+abbrev pub line_mark : List ℕ → Option (ℕ × Bool)
+line_mark [] = None
+line_mark (octet ∷ octets) =
+    if octet == 123 then or_else (brace_mark octets) (line_mark octets) else line_mark octets
 
 -- The mark as the program represents it: a number that 64 bits can't hold is above any limit.
 abbrev pub fit_to_limit : Option (ℕ × Bool) → Option Mark
@@ -60,4 +60,4 @@ line_effect_by (Some mark) room =
 
 -- What the end of this line means.
 abbrev pub line_effect_of : List ℕ → ℕ → LineEffect
-line_effect_of line room = line_effect_by (mark_at line) room
+line_effect_of line room = line_effect_by (line_mark line) room

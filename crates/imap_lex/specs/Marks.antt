@@ -11,12 +11,12 @@ abbrev pub AreDigits : List ℕ → Type 0
 AreDigits [] = Unit {0}
 AreDigits (d ∷ ds) = (48 ≤ d) × (d ≤ 57) × AreDigits ds
 
--- The number that digits write after those of `n`.
+-- The number spelled by the digits of `n` and these digits.
 abbrev pub value_of : ℕ → List ℕ → ℕ
 value_of n [] = n
 value_of n (d ∷ ds) = value_of (n * 10 + (d - 48)) ds
 
--- One or more digits that write `n`; leading zeros don't count.
+-- One or more digits that spell `n`; leading zeros don't count.
 pub record IsNumber (n : ℕ) (digits : List ℕ) : Type 0 where
   pub not_empty : digits ≡ [] → ⊥
   pub are_digits : AreDigits digits

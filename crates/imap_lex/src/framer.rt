@@ -2,9 +2,9 @@
 
 ghost use Rattle.std.specs.Prelude.{◌≡◌, OnOk, IfOk, IfErr, IsOk, Ok};
 
-use crate::cutting::cut_piece;
 use crate::fault::{FrameFault, FrameFaultKind};
 use crate::item::Item;
+use crate::item_cut::cut_piece;
 use crate::limits::Limits;
 use crate::progress::FrameProgress;
 use std::alloc::Global;
@@ -28,7 +28,7 @@ impl Model for Framer {
 }
 
 impl Framer {
-    ghost use Rattle.imap_lex.specs.Framing.{FaultsNow, cut_onward, start};
+    ghost use Rattle.imap_lex.specs.Framing.{FaultsNow, cut_from, start};
 
     /// A framer at the beginning of a stream.
     pub fn new(alloc: Global, limits: Limits) -> Framer
@@ -52,11 +52,11 @@ impl Framer {
     /// every later call returns `Failed`.
     pub fn feed(&mut self, alloc: Global, piece: &[u8]) -> Result<Vec<Item>, FrameFault>
         ensures limits { self.new.limits ≡ self.old.limits }
-        ensures ok { IfOk result (λ items. cut_onward self.old.limits self.old.state piece.now
+        ensures ok { IfOk result (λ items. cut_from self.old.limits self.old.state piece.now
             ≡ (items.items, self.new.state)) }
-        ensures going { OnOk result (IsOk self.new.state) }
+        ensures state_ok { OnOk result (IsOk self.new.state) }
         ensures err { IfErr result (λ fault. FaultsNow fault.why fault.items.items self.old.state
-            self.new.state (cut_onward self.old.limits self.old.state piece.now)) }
+            self.new.state (cut_from self.old.limits self.old.state piece.now)) }
     {
         let mut items = Vec::new(alloc);
         if self.fault.is_some() {

@@ -6,7 +6,7 @@ ghost use Rattle.imap_lex.specs.declared.fault.FrameFaultKind.{FrameFaultKind};
 ghost use Rattle.imap_lex.specs.declared.item.Item.{Item};
 ghost use Rattle.imap_lex.specs.declared.limits.Limits.{Limits};
 ghost use Rattle.imap_lex.specs.Frames.{AreFrames, FailsAt};
-ghost use Rattle.imap_lex.specs.Framing.{FrameProgress, cut_of_pieces, cut_onward, concat_pieces};
+ghost use Rattle.imap_lex.specs.Framing.{FrameProgress, cut_of_pieces, cut_from, concat_pieces};
 ghost use Rattle.imap_lex.specs.Framing.{octets_so_far, start};
 
 /// A stream's result doesn't depend on how it is cut into pieces: the items, and the fault or the
@@ -14,36 +14,36 @@ ghost use Rattle.imap_lex.specs.Framing.{octets_so_far, start};
 pub fn any_cuts()
     ensures whole { (limits : Limits) (pieces : List (List ℕ))
         → cut_of_pieces limits (Ok start) pieces
-        ≡ cut_onward limits (Ok start) (concat_pieces pieces) }
+        ≡ cut_from limits (Ok start) (concat_pieces pieces) }
     ensures cuts { (limits : Limits) (pieces others : List (List ℕ))
         → concat_pieces pieces ≡ concat_pieces others
         → cut_of_pieces limits (Ok start) pieces ≡ cut_of_pieces limits (Ok start) others }
 {}
 
 /// A stream of these commands and this rest gives exactly these items and no fault.
-pub fn frames_are_given()
+pub fn frames_are_read()
     ensures { (limits : Limits) (stream rest : List ℕ) (items : List Item)
         → AreFrames limits stream items rest
-        → (begun : FrameProgress)
-        × (cut_onward limits (Ok start) stream ≡ (items, Ok begun))
-        × (octets_so_far begun ≡ rest) }
+        → (progress : FrameProgress)
+        × (cut_from limits (Ok start) stream ≡ (items, Ok progress))
+        × (octets_so_far progress ≡ rest) }
 {}
 
 /// A stream without a fault is made of the commands that it gives, and the rest is what was read of
 /// the next command.
-pub fn given_are_frames()
-    ensures { (limits : Limits) (stream : List ℕ) (items : List Item) (begun : FrameProgress)
-        → cut_onward limits (Ok start) stream ≡ (items, Ok begun)
-        → AreFrames limits stream items (octets_so_far begun) }
+pub fn read_items_are_frames()
+    ensures { (limits : Limits) (stream : List ℕ) (items : List Item) (progress : FrameProgress)
+        → cut_from limits (Ok start) stream ≡ (items, Ok progress)
+        → AreFrames limits stream items (octets_so_far progress) }
 {}
 
 /// A stream ends in a fault exactly if some octet makes a fault: the first such octet decides. The
 /// items are those before it.
 pub fn faults_come_first()
     ensures at { (limits : Limits) (stream : List ℕ) (items : List Item) (why : FrameFaultKind)
-        → cut_onward limits (Ok start) stream ≡ (items, Err why)
+        → cut_from limits (Ok start) stream ≡ (items, Err why)
         → FailsAt limits stream items why }
     ensures so { (limits : Limits) (stream : List ℕ) (items : List Item) (why : FrameFaultKind)
         → FailsAt limits stream items why
-        → cut_onward limits (Ok start) stream ≡ (items, Err why) }
+        → cut_from limits (Ok start) stream ≡ (items, Err why) }
 {}

@@ -24,10 +24,10 @@
 //!   finished. Memory may run out at any octet, so no contract says how many items there are.
 #![tactic(auto)]
 
-mod cutting;
 mod fault;
 mod framer;
 mod item;
+mod item_cut;
 mod laws;
 mod limits;
 mod literal_mark;
@@ -36,5 +36,5 @@ mod progress;
 pub use fault::{FrameFault, FrameFaultKind};
 pub use framer::Framer;
 pub use item::{Frame, Item};
-pub use laws::{any_cuts, faults_come_first, frames_are_given, given_are_frames};
+pub use laws::{any_cuts, faults_come_first, frames_are_read, read_items_are_frames};
 pub use limits::Limits;

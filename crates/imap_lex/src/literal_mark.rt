@@ -4,7 +4,7 @@ ghost use Rattle.std.specs.Prelude.{◌≡◌, ◌+◌, ◌-◌, ◌*◌, ◌<�
 ghost use Rattle.std.specs.Char.{is_ascii_digit};
 ghost use Rattle.std.specs.List.{prefix_len};
 ghost use Rattle.imap_lex.specs.Marks.{value_of};
-ghost use Rattle.imap_lex.specs.MarkReading.{closing_at, fit_to_limit, mark_behind, mark_at};
+ghost use Rattle.imap_lex.specs.MarkReading.{closing_at, fit_to_limit, brace_mark, line_mark};
 ghost use Rattle.imap_lex.specs.MarkReading.{line_effect_of};
 
 /// What the end of a line means.
@@ -49,13 +49,13 @@ pub(crate) fn read_line_effect(line: &[u8], room: usize) -> LineEffect
 /// The mark at the line's end: the first brace that begins one decides, since a mark has no brace
 /// inside.
 fn read_mark(line: &[u8]) -> Option<Mark>
-    ensures { result ≡ fit_to_limit (mark_at line.now) }
+    ensures { result ≡ fit_to_limit (line_mark line.now) }
 {
     let mut rest = line;
     while let [octet, tail @ ..] = rest {
         rest = tail;
         if *octet == b'{' {
-            if let Some(mark) = read_mark_behind(rest) {
+            if let Some(mark) = read_brace_mark(rest) {
                 return Some(mark);
             }
         }
@@ -64,8 +64,8 @@ fn read_mark(line: &[u8]) -> Option<Mark>
 }
 
 /// The mark whose opening brace comes just before this text.
-fn read_mark_behind(text: &[u8]) -> Option<Mark>
-    ensures { result ≡ fit_to_limit (mark_behind text.now) }
+fn read_brace_mark(text: &[u8]) -> Option<Mark>
+    ensures { result ≡ fit_to_limit (brace_mark text.now) }
 {
     let count = count_digits(text);
     if count == 0 {
@@ -101,7 +101,7 @@ fn count_digits(text: &[u8]) -> usize
         .count()
 }
 
-/// The number that digits write, if it fits into a `usize`. It may have leading zeros.
+/// The number spelled by digits, if it fits into a `usize`. It may have leading zeros.
 fn number(digits: &[u8]) -> Option<usize>
     ensures { SomeIff result (value_of 0 digits.now < 2 ^ 64) (value_of 0 digits.now) }
 {

@@ -44,7 +44,7 @@ impl Model for FrameProgress {
 impl FrameProgress {
     ghost use Rattle.imap_lex.specs.MarkReading.{line_effect_of};
     ghost use Rattle.imap_lex.specs.Framing.{start, has_nul, after_literal, after_octet};
-    ghost use Rattle.imap_lex.specs.Framing.{after_line_octet, after_ending, with_octets};
+    ghost use Rattle.imap_lex.specs.Framing.{after_line_octet, after_line_end, with_octets};
 
     /// Nothing was read.
     pub(crate) fn new(alloc: Global) -> FrameProgress
@@ -89,7 +89,7 @@ impl FrameProgress {
         limits.line.saturating_sub(self.outside)
     }
 
-    /// Takes octets of a line, none of which ends it, all at once. After an `Err` the progress
+    /// Takes octets inside a line, all at once. After an `Err` the progress
     /// can't be used.
     pub(crate) fn take_inside(&mut self, octets: &[u8]) -> Result<(), FrameFaultKind>
         requires { self.old.outside + length octets.now < 2 ^ 64 }
@@ -146,11 +146,11 @@ impl FrameProgress {
 
     /// Ends the line that was read, whose last octets are CRLF.
     fn end_line(&mut self, alloc: Global, limits: Limits) -> Result<Option<Item>, FrameFaultKind>
-        ensures ok { IfOk result (λ item. after_ending self.old
+        ensures ok { IfOk result (λ item. after_line_end self.old
             (line_effect_of self.old.line (limits.literals - self.old.announced))
             ≡ Ok (item, self.new)) }
         ensures err { IfErr result (λ why. (why ≡ NoMemory)
-            ⊎ (after_ending self.old
+            ⊎ (after_line_end self.old
             (line_effect_of self.old.line (limits.literals - self.old.announced)) ≡ Err why)) }
     {
         match read_line_effect(&self.line, limits.literals.saturating_sub(self.announced)) {

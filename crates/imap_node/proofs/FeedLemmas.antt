@@ -19,8 +19,8 @@ use Rattle.session_view.specs.declared.notes.Note.TheVariants.{Ended}
 use Rattle.uid_projection.specs.declared.first_numbers.Counters.{Counters}
 use Rattle.uid_projection.specs.Applied.{IsApplied}
 use Rattle.uid_projection.specs.UidsAndModSeqs.{kind_names_folder}
-use Rattle.uid_projection.proofs.Lasting.{about_name}
-use Rattle.imap_node.proofs.BesideLemmas.{all_beside}
+use Rattle.uid_projection.proofs.CounterLemmas.{about_name}
+use Rattle.imap_node.proofs.OtherFolderLemmas.{listings_other}
 
 -- everything may differ in each listed mailbox
 abbrev pub AreEnded : List MailboxNotes → Type 0
@@ -94,20 +94,20 @@ notes_unnamed (folder ∷ folders) name k =
     ]
 
 -- such change notes name what the operations change
-pub ended_news : (start : Counters) (list ops : List Op) → IsApplied (list ++ ops) → AreChangeNotes start list (list ++ ops) (all_ended [] ops)
-ended_news start list ops a = λ name uidvalidity uid.
+pub ended_change_notes : (start : Counters) (list ops : List Op) → IsApplied (list ++ ops) → AreChangeNotes start list (list ++ ops) (all_ended [] ops)
+ended_change_notes start list ops a = λ name uidvalidity uid.
     let folders : List MailboxNotes = all_ended [] ops in
     elim (cases_Bool (is_named folders name)) [
       | inl t ↦ inr (ap (λ (notes : List Note). list_any (λ (note : Note). note_names uid note) notes) (notes_named folders name (all_are [] ops tt) t))
-      | inr f ↦ inl (ap (flags_at uid) (sym (all_beside start name ops list a (λ o i. elim (cases_Bool (kind_names_folder name o.kind)) [
+      | inr f ↦ inl (ap (flags_at uid) (sym (listings_other start name ops list a (λ o i. elim (cases_Bool (kind_names_folder name o.kind)) [
         | inl c ↦ absurd (false≢true (sym f ∙ ap (is_named folders) (about_name name o.kind c) ∙ each_named [] ops o i))
         | inr n ↦ n
       ]) uidvalidity)))
     ]
 
 -- an input without operations changes nothing
-pub no_news : (start : Counters) (list : List Op) → AreChangeNotes start list list []
-no_news start list = λ name uidvalidity uid. inl refl
+pub no_change_notes : (start : Counters) (list : List Op) → AreChangeNotes start list list []
+no_change_notes start list = λ name uidvalidity uid. inl refl
 
 -- the loop over the operations is done
 pub ended_through : (folders : List MailboxNotes) (ops : List Op) (k : ℕ) → length ops ≤ k → all_ended folders (drop k ops) ≡ all_ended [] ops → all_ended [] ops ≡ folders
@@ -121,6 +121,6 @@ current_by start ops places feeds n p view noted e m o v uid =
       | inl t ↦ absurd (false≢true (sym m ∙ ap (λ (q : Pending). q.missed) e ∙ t))
       | inr note_names ↦ elim (note_names uid) [
         | inl same ↦ same
-        | inr told ↦ absurd (false≢true (subst (λ (notes : List Note). is_noted notes uid ≡ true) (sym (ap (λ (q : Pending). q.notes) e) ∙ o) told))
+        | inr in_notes ↦ absurd (false≢true (subst (λ (notes : List Note). is_noted notes uid ≡ true) (sym (ap (λ (q : Pending). q.notes) e) ∙ o) in_notes))
       ]
     ]

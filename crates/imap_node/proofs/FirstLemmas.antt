@@ -25,7 +25,7 @@ use Rattle.session_view.specs.ViewState.{ViewState}
 use Rattle.session_view.specs.Views.{entries_of, entry_of, last_from}
 use Rattle.session_view.specs.declared.view_entry.ViewEntry.{ViewEntry}
 use Rattle.uid_projection.specs.declared.first_numbers.Counters.{Counters}
-use Rattle.imap_node.proofs.GoingLemmas.{same_seen}
+use Rattle.imap_node.proofs.SessionChangeLemmas.{same_view}
 
 -- ---- an initial part of a listing
 
@@ -99,15 +99,15 @@ pub all_is_shown : (start : Counters) (ops : List Op) (rows : List ListedMessage
     → now ≡ record was { entries = entries_after_sync front.sync rows (view_after_reply rows was.entries front.silent front.own) } → IsFirstSight was.entries front → length now.entries ≡ length rows
     → (view : ViewState) → view_of (Selected now read_only) ≡ Some view → (uid : ℕ) → flags_at uid view.entries ≡ flags_at uid (entries_of (rows_for start ops view))
 all_is_shown start ops rows was now read_only front r e n first l = λ view q uid.
-    let seen : now.entries ≡ after_answers rows [] front.own =
+    let entries_are : now.entries ≡ after_answers rows [] front.own =
     ap (λ (s : ViewState). s.entries) n
     ∙ ap (λ s. entries_after_sync s rows (view_after_reply rows was.entries front.silent front.own)) first.unsynced
     ∙ ap (λ es. view_after_reply rows es front.silent front.own) first.nothing
     ∙ ap (λ ss. view_after_reply rows [] ss front.own) first.silent in
-    let whole : now.entries ≡ entries_of rows = seen ∙ shown_first rows r front.own first.own (sym (ap length seen) ∙ l) in
+    let whole : now.entries ≡ entries_of rows = entries_are ∙ shown_first rows r front.own first.own (sym (ap length entries_are) ∙ l) in
     let same : rows ≡ rows_for start ops now = e ∙ sym (ap (rows_for start ops) n) in
     let here : flags_at uid now.entries ≡ flags_at uid (entries_of (rows_for start ops now)) = ap (flags_at uid) whole ∙ ap (λ (rs : List ListedMessage). flags_at uid (entries_of rs)) same in
-    subst (λ (v : ViewState). flags_at uid v.entries ≡ flags_at uid (entries_of (rows_for start ops v))) (same_seen now view q) here
+    subst (λ (v : ViewState). flags_at uid v.entries ≡ flags_at uid (entries_of (rows_for start ops v))) (same_view now view q) here
 
 -- what it shows needs no notes
 pub shown_noted : (start : Counters) (ops : List Op) (state : State) (all : Bool) (pending : Pending) (view : ViewState) → ShowsAll start ops state all → all ≡ true → view_of state ≡ Some view → IsNotedFor start ops pending view

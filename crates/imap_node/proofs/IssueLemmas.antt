@@ -13,7 +13,7 @@ use Rattle.imap_node.specs.Responses.{AreHeldAfter, Responds}
 use Rattle.imap_node.specs.declared.input.Input.{Input}
 use Rattle.imap_node.specs.declared.reply.Reply.{Reply}
 use Rattle.imap_node.specs.declared.reply.Reply.TheVariants.{Done, Refused}
-use Rattle.imap_node.proofs.CanLemmas.{input_can}
+use Rattle.imap_node.proofs.CanIssueLemmas.{input_can}
 use Rattle.imap_node.proofs.NextLemmas.{can_by, next_applied, next_issued, next_ripe, no_cut}
 use Rattle.uid_projection.specs.Applied.{IsApplied}
 use Rattle.crdt_ops.specs.Ops.{id_of}
@@ -32,9 +32,9 @@ next_sound replica applied front op counts c can n =
     }
 
 -- the first operation of those that come next has a clock of what was applied
-clock_there : (replica : ℕ) (applied : List Op) (kinds : List Kind) (ops : List Op) (op : Op) → AreNext replica applied kinds ops → IsIn op ops → (clock : List (ℕ × ℕ)) × IsClockOf id_of applied clock
-clock_there replica applied kinds [] op h i = absurd i
-clock_there replica applied kinds (o ∷ ops) op h i =
+clock_exists : (replica : ℕ) (applied : List Op) (kinds : List Kind) (ops : List Op) (op : Op) → AreNext replica applied kinds ops → IsIn op ops → (clock : List (ℕ × ℕ)) × IsClockOf id_of applied clock
+clock_exists replica applied kinds [] op h i = absurd i
+clock_exists replica applied kinds (o ∷ ops) op h i =
     (o.clock, subst (λ (os : List Op). IsClockOf (λ (p : Op). p.id) os o.clock) (append-nil applied) (h.next [] o ops refl).clock)
 
 pub kind_in : (ops : List Op) (op : Op) → IsIn op ops → IsIn op.kind (map (λ (o : Op). o.kind) ops)
@@ -46,41 +46,41 @@ pub next_fresh : (replica : ℕ) (applied : List Op) (kinds : List Kind) (ops : 
 next_fresh replica applied kinds ops can h op i =
     let cut = split_at op ops i in
     let n = h.next cut.0 op cut.1 cut.2 in
-    let c = clock_there replica applied kinds ops op h i in
+    let c = clock_exists replica applied kinds ops op h i in
     record {
       sound = next_sound replica applied cut.0 op c.0 c.1 (can op.kind (subst (IsIn op.kind) h.of_kinds (kind_in ops op i))) n;
       own = n.own;
       fresh = λ has. (next_ripe replica (applied ++ cut.0) op n).1 (id_in_front id_of op.id applied cut.0 has);
     }
 
-kept_always : (ops old new : List Op) → AreHeldAfter ops old new → AreHeldStill id_of ops old new
-kept_always [] old new h = λ o. (λ i. (subst (IsIn o) h i, λ none. none), λ p. subst (IsIn o) (sym h) p.0)
-kept_always (op ∷ ops) old new h = h
+held_still : (ops old new : List Op) → AreHeldAfter ops old new → AreHeldStill id_of ops old new
+held_still [] old new h = λ o. (λ i. (subst (IsIn o) h i, λ none. none), λ p. subst (IsIn o) (sym h) p.0)
+held_still (op ∷ ops) old new h = h
 
 -- what a reply issued
 pub issues_well : (old new : NodeState) (n : ℕ) (input : Input) (reply : Reply) → IsApplied old.applied → Responds old n input reply new → Issues old (issued_by reply) new
 issues_well old new n input (Done answers silent issued) a (session, at, c) =
-    let can = input_can old.start old.applied a c.stamp session.state input c.kinds c.wanted in
+    let can = input_can old.start old.applied a c.stamp session.state input c.kinds c.intended in
     let fresh = next_fresh old.start.replica old.applied c.kinds issued can c.next in
     record {
       start = c.becomes.start;
       applied = c.becomes.applied;
-      held = kept_always issued old.held new.held c.becomes.held;
+      held = held_still issued old.held new.held c.becomes.held;
       issued = next_issued old.start.replica old.applied c.kinds issued c.next;
       kinds = c.kinds;
       next = c.next;
       fresh = fresh;
-      lasts = c.lasts;
+      not_exhausted = c.not_exhausted;
       whole = subst IsApplied (sym c.becomes.applied) (next_applied old.start.replica old.applied c.kinds issued a.sound a.causal (λ o i. (fresh o i).sound) c.next);
     }
 issues_well old new n input (Refused why closed) a (session, at, h) = record {
   start = h.2.start;
   applied = h.2.applied;
-  held = kept_always [] old.held new.held h.2.held;
+  held = held_still [] old.held new.held h.2.held;
   issued = λ front o back e. absurd (no_cut front o back e);
   kinds = [];
   next = record { of_kinds = refl; next = λ front op back e. absurd (no_cut front op back e) };
   fresh = λ op i. absurd i;
-  lasts = λ (front, o, back, k, x). absurd (no_cut front o back k);
+  not_exhausted = λ (front, o, back, k, x). absurd (no_cut front o back k);
   whole = subst IsApplied (sym (h.2.applied ∙ append-nil old.applied)) a;
 }

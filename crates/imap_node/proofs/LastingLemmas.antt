@@ -18,7 +18,7 @@ use Rattle.uid_projection.specs.Bounds.{IsLasting}
 use Rattle.uid_projection.specs.Exhaustion.{Exhausts, IsExhausted}
 use Rattle.crdt_ops.specs.Ops.{clock_of, id_of}
 
--- one further operation that found no counter used up
+-- one further operation that exhausts no counter
 lasts_one : (start : Counters) (ops : List Op) (o : Op) → (Exhausts start [] ops → ⊥) → (Exhausts start ops (o ∷ []) → ⊥) → Exhausts start [] (ops ++ o ∷ []) → ⊥
 lasts_one start ops o l n (front, p, back, e, x) =
     elim (last_cut ops front back o p e) [
@@ -28,7 +28,7 @@ lasts_one start ops o l n (front, p, back, e, x) =
       | inr t ↦ l (front, p, t.0, t.1, x)
     ]
 
--- several further operations that found no counter used up
+-- several further operations that exhaust no counter
 lasts_more : (start : Counters) (more ops : List Op) → (Exhausts start [] ops → ⊥) → (Exhausts start ops more → ⊥) → Exhausts start [] (ops ++ more) → ⊥
 lasts_more start [] ops l n = subst (λ (xs : List Op). Exhausts start [] xs → ⊥) (sym (append-nil ops)) l
 lasts_more start (o ∷ more) ops l n =
@@ -49,7 +49,7 @@ released_lasts (suc count) old new (before, r, s) l =
     subst (λ (x : Counters). Exhausts x [] new.applied → ⊥) (sym s.start)
     (subst (λ (xs : List Op). Exhausts before.start [] xs → ⊥) (sym s.applied) (lasts_one before.start before.applied s.op early s.in_reach))
 
-arrived_lasts : (old new : ReceivedOps Counters Op) (op : Op) (came : Arrival) → Arrives id_of clock_of Exhausts old op came new → (Exhausts old.start [] old.applied → ⊥) → Exhausts new.start [] new.applied → ⊥
+arrived_lasts : (old new : ReceivedOps Counters Op) (op : Op) (arrival : Arrival) → Arrives id_of clock_of Exhausts old op arrival new → (Exhausts old.start [] old.applied → ⊥) → Exhausts new.start [] new.applied → ⊥
 arrived_lasts old new op Repeat h l = subst (λ (s : ReceivedOps Counters Op). Exhausts s.start [] s.applied → ⊥) (sym h.1) l
 arrived_lasts old new op Held (is_new, holds, start, applied, held) l =
     subst (λ (x : Counters). Exhausts x [] new.applied → ⊥) (sym start) (subst (λ (xs : List Op). Exhausts old.start [] xs → ⊥) (sym applied) l)
@@ -61,19 +61,19 @@ input_lasts old new n input reply l r =
     let issues = issues_well old new n input reply l.applied r in
     record {
       applied = issues.whole;
-      lasts =
+      not_exhausted =
           subst (λ (x : Counters). Exhausts x [] new.applied → ⊥) (sym issues.start)
-          (subst (λ (xs : List Op). Exhausts old.start [] xs → ⊥) (sym issues.applied) (lasts_more old.start (issued_by reply) old.applied l.lasts issues.lasts));
+          (subst (λ (xs : List Op). Exhausts old.start [] xs → ⊥) (sym issues.applied) (lasts_more old.start (issued_by reply) old.applied l.not_exhausted issues.not_exhausted));
     }
 
-pub delivery_lasts : (old new : NodeState) (op : Op) (came : Arrival) → IsApplied new.applied → IsLasting old.start old.applied → Delivers old op came new → IsLasting new.start new.applied
-delivery_lasts old new op came a l d = record { applied = a; lasts = arrived_lasts (received_ops old) (received_ops new) op came d.arrives l.lasts }
+pub delivery_lasts : (old new : NodeState) (op : Op) (arrival : Arrival) → IsApplied new.applied → IsLasting old.start old.applied → Delivers old op arrival new → IsLasting new.start new.applied
+delivery_lasts old new op arrival a l d = record { applied = a; not_exhausted = arrived_lasts (received_ops old) (received_ops new) op arrival d.arrives l.not_exhausted }
 
 pub drain_lasts : (old new : NodeState) (count : ℕ) → IsApplied new.applied → IsLasting old.start old.applied → Drains old count new → IsLasting new.start new.applied
-drain_lasts old new count a l d = record { applied = a; lasts = released_lasts count (received_ops old) (received_ops new) d.released l.lasts }
+drain_lasts old new count a l d = record { applied = a; not_exhausted = released_lasts count (received_ops old) (received_ops new) d.released l.not_exhausted }
 
 pub begins_lasting : (start : Counters) → IsLasting start []
 begins_lasting start = record {
   applied = record { sound = λ o i. absurd i; causal = λ front o back e. absurd (no_cut front o back e) };
-  lasts = λ (front, o, back, k, x). absurd (no_cut front o back k);
+  not_exhausted = λ (front, o, back, k, x). absurd (no_cut front o back k);
 }

@@ -1,15 +1,15 @@
 pub mod NextLemmas
-pub mod CanLemmas
+pub mod CanIssueLemmas
 pub mod PlanLemmas
 pub mod PrepareLemmas
-pub mod RestLemmas
+pub mod SettledNoopLemmas
 pub mod PlaceLemmas
-pub mod TellLemmas
+pub mod ReportLemmas
 pub mod ShownLemmas
-pub mod ThereLemmas
+pub mod ExistingFolderLemmas
 pub mod PrintLemmas
 pub mod PrintReplies
-pub mod LandingLemmas
+pub mod CopyTargetLemmas
 mod PrintExamples
 pub mod SessionLemmas
 pub mod IssueLemmas
@@ -17,12 +17,12 @@ pub mod ReplayLemmas
 pub mod UidLemmas
 pub mod MomentLemmas
 pub mod QuietLemmas
-pub mod BackLemmas
+pub mod OlderViewLemmas
 pub mod LastingLemmas
-pub mod BesideLemmas
+pub mod OtherFolderLemmas
 pub mod FeedLemmas
 pub mod OwnLemmas
-pub mod GoingLemmas
+pub mod SessionChangeLemmas
 pub mod FirstLemmas
-pub mod NewsLemmas
+pub mod ChangeNotesLemmas
 pub mod ThreadLemmas

@@ -14,13 +14,13 @@ use Rattle.uid_projection.specs.Applied.{IsApplied}
 use Rattle.uid_projection.specs.Incarnations.{folder_exists, k_of, uidvalidity_of}
 use Rattle.uid_projection.specs.UidsAndModSeqs.{uidnext_of}
 use Rattle.uid_projection.specs.Listing.{listing}
-use Rattle.uid_projection.proofs.Keeping.{apart, for_good}
-use Rattle.uid_projection.proofs.Lasting.{Stays, stays_there}
-use Rattle.uid_projection.proofs.Listed.{row_in}
-use Rattle.uid_projection.proofs.Noted.{validity_inbox, validity_there}
+use Rattle.uid_projection.proofs.ForGoodLemmas.{apart, for_good}
+use Rattle.uid_projection.proofs.CounterLemmas.{Stays, stays_by_uidvalidity}
+use Rattle.uid_projection.proofs.SortedRowLemmas.{row_in}
+use Rattle.uid_projection.proofs.NextOpLemmas.{validity_inbox, validity_present}
 use Rattle.uid_projection.proofs.Steps.{k_here}
 use Rattle.session_view.specs.NoteChanges.{uids_of}
-use Rattle.imap_node.specs.GoingBack.{IsOlderView}
+use Rattle.imap_node.specs.OlderViews.{IsOlderView}
 use Rattle.imap_node.specs.Mailboxes.{rows_for, validity_of}
 use Rattle.imap_node.proofs.UidLemmas.{IsKnown}
 
@@ -34,7 +34,7 @@ validity_once : (start : Counters) (folder : List ℕ) (ops : List Op) (o : Op) 
 validity_once start folder ops o t u =
     elim (cases_Bool (bytes_eq folder inbox)) [
       | inl own ↦ sym (validity_inbox start ops folder own) ∙ validity_inbox start (ops ++ o ∷ []) folder own
-      | inr other ↦ sym (validity_there start ops folder other t (k_of start folder ops) refl) ∙ validity_there start (ops ++ o ∷ []) folder other u (k_of start folder ops) (sym (k_here start folder ops o u))
+      | inr other ↦ sym (validity_present start ops folder other t (k_of start folder ops) refl) ∙ validity_present start (ops ++ o ∷ []) folder other u (k_of start folder ops) (sym (k_here start folder ops o u))
     ]
 
 validity_stays : (start : Counters) (folder : List ℕ) (back more ops : List Op) → Stays start folder ops (back ++ more) → uidvalidity_of start folder ops ≡ uidvalidity_of start folder (ops ++ back)
@@ -49,7 +49,7 @@ validity_between : (start : Counters) (folder : List ℕ) (front back more : Lis
     → uidvalidity_of start folder (front ++ back) ≡ Some v
 validity_between start folder front back more v a t e =
     let whole : (front ++ back) ++ more ≡ front ++ (back ++ more) = append_assoc front back more in
-    let s = stays_there start folder front (back ++ more) v (subst IsApplied whole a) t (subst (λ (os : List Op). uidvalidity_of start folder os ≡ Some v) whole e) in
+    let s = stays_by_uidvalidity start folder front (back ++ more) v (subst IsApplied whole a) t (subst (λ (os : List Op). uidvalidity_of start folder os ≡ Some v) whole e) in
     sym (validity_stays start folder back more front s) ∙ t
 
 -- an existing mailbox has a UIDVALIDITY
@@ -57,37 +57,37 @@ pub validity_is : (start : Counters) (name : List ℕ) (ops : List Op) → folde
 validity_is start name ops t =
     elim (cases_Bool (bytes_eq name inbox)) [
       | inl own ↦ some_own (uidvalidity_of start name ops) start.replica (sym (validity_inbox start ops name own))
-      | inr other ↦ some_own (uidvalidity_of start name ops) (65536 * k_of start name ops + start.replica) (sym (validity_there start ops name other t (k_of start name ops) refl))
+      | inr other ↦ some_own (uidvalidity_of start name ops) (65536 * k_of start name ops + start.replica) (sym (validity_present start ops name other t (k_of start name ops) refl))
     ]
   where
     some_own : (o : Option ℕ) (v : ℕ) → o ≡ Some v → o ≡ Some (unwrap_or o 0)
     some_own None v e = let k : ◌≡◌ {A = Option ℕ} None (Some v) = e in cc
     some_own (Some u) v e = refl
 
--- ---- a view that goes back, after further operations
+-- ---- an older view, after further operations
 
-pub goes_on : (start : Counters) (ops more : List Op) (view : ViewState) → IsApplied (ops ++ more) → IsOlderView start ops view → IsOlderView start (ops ++ more) view
-goes_on start ops more view a g =
+pub older_view_append : (start : Counters) (ops more : List Op) (view : ViewState) → IsApplied (ops ++ more) → IsOlderView start ops view → IsOlderView start (ops ++ more) view
+older_view_append start ops more view a g =
     let still : uidvalidity_of start view.name (ops ++ more) ≡ Some view.uidvalidity → uidvalidity_of start view.name ops ≡ Some view.uidvalidity = λ e.
     subst (λ (os : List Op). uidvalidity_of start view.name os ≡ Some view.uidvalidity) (sym g.split)
-    (validity_between start view.name g.front g.back more view.uidvalidity (subst (λ (os : List Op). IsApplied (os ++ more)) g.split a) g.there
+    (validity_between start view.name g.front g.back more view.uidvalidity (subst (λ (os : List Op). IsApplied (os ++ more)) g.split a) g.exists
     (subst (λ (os : List Op). uidvalidity_of start view.name (os ++ more) ≡ Some view.uidvalidity) g.split e)) in
     record {
       front = g.front;
       back = g.back ++ more;
       split = ap (λ (os : List Op). os ++ more) g.split ∙ append_assoc g.front g.back more;
-      there = g.there;
+      exists = g.exists;
       has = λ e. g.has (still e);
       below = λ e. g.below (still e);
     }
 
--- whether a view goes back depends only on its UIDs
-pub back_by_uids : (start : Counters) (ops : List Op) (view : ViewState) (es : List ViewEntry) → uids_of es ≡ uids_of view.entries → IsOlderView start ops view → IsOlderView start ops (record view { entries = es })
-back_by_uids start ops view es u g = record {
+-- whether a view is an older one depends only on its UIDs
+pub older_by_uids : (start : Counters) (ops : List Op) (view : ViewState) (es : List ViewEntry) → uids_of es ≡ uids_of view.entries → IsOlderView start ops view → IsOlderView start ops (record view { entries = es })
+older_by_uids start ops view es u g = record {
   front = g.front;
   back = g.back;
   split = g.split;
-  there = g.there;
+  exists = g.exists;
   has = λ e row i. subst (IsIn row.uid) (sym u) (g.has e row i);
   below = λ e uid i. g.below e uid (subst (IsIn uid) u i);
 }
@@ -118,13 +118,13 @@ known_since start folder front back v uids a t e has below row i =
 pub known : (start : Counters) (ops : List Op) (view : ViewState) → IsApplied ops → IsOlderView start ops view → uidvalidity_of start view.name ops ≡ Some view.uidvalidity → (row : ListedMessage) → IsIn row (listing start view.name ops) → IsKnown (uids_of view.entries) row.uid
 known start ops view a g e =
     subst (λ (os : List Op). (row : ListedMessage) → IsIn row (listing start view.name os) → IsKnown (uids_of view.entries) row.uid) (sym g.split)
-    (known_since start view.name g.front g.back view.uidvalidity (uids_of view.entries) (subst IsApplied g.split a) g.there (subst (λ (os : List Op). uidvalidity_of start view.name os ≡ Some view.uidvalidity) g.split e) (g.has e) (g.below e))
+    (known_since start view.name g.front g.back view.uidvalidity (uids_of view.entries) (subst IsApplied g.split a) g.exists (subst (λ (os : List Op). uidvalidity_of start view.name os ≡ Some view.uidvalidity) g.split e) (g.has e) (g.below e))
 
 -- UIDNEXT grows
 pub next_grown : (start : Counters) (ops : List Op) (view : ViewState) → IsApplied ops → (g : IsOlderView start ops view) → uidvalidity_of start view.name ops ≡ Some view.uidvalidity → uidnext_of start view.name g.front ≤ uidnext_of start view.name ops
 next_grown start ops view a g e =
     subst (λ (os : List Op). uidnext_of start view.name g.front ≤ uidnext_of start view.name os) (sym g.split)
-    (for_good start view.name g.front g.back view.uidvalidity (subst IsApplied g.split a) g.there (subst (λ (os : List Op). uidvalidity_of start view.name os ≡ Some view.uidvalidity) g.split e)).uidnext
+    (for_good start view.name g.front g.back view.uidvalidity (subst IsApplied g.split a) g.exists (subst (λ (os : List Op). uidvalidity_of start view.name os ≡ Some view.uidvalidity) g.split e)).uidnext
 
 -- ---- a view that is brought up to date
 
@@ -147,12 +147,12 @@ rows_are start ops view e =
     ap (λ (now : Option ℕ). rows_under view.uidvalidity now (listing start view.name ops)) e
     ∙ ap (λ (b : Bool). if b then listing start view.name ops else []) (eq-eqb view.uidvalidity view.uidvalidity refl)
 
-pub brought_back : (start : Counters) (ops : List Op) (view : ViewState) (es : List ViewEntry) → IsOlderView start ops view
+pub older_with_entries : (start : Counters) (ops : List Op) (view : ViewState) (es : List ViewEntry) → IsOlderView start ops view
     → (uidvalidity_of start view.name ops ≡ Some view.uidvalidity → (row : ListedMessage) → IsIn row (listing start view.name ops) → IsIn row.uid (uids_of es))
     → (uidvalidity_of start view.name ops ≡ Some view.uidvalidity → (uid : ℕ) → IsIn uid (uids_of es) → uid < uidnext_of start view.name ops)
     → IsOlderView start ops (record view { entries = es })
-brought_back start ops view es g has below =
+older_with_entries start ops view es g has below =
     elim (is_or_not (uidvalidity_of start view.name ops) view.uidvalidity) [
-      | inl e ↦ record { front = ops; back = []; split = sym (append-nil ops); there = e; has = has; below = below }
-      | inr ended ↦ record { front = g.front; back = g.back; split = g.split; there = g.there; has = λ e. absurd (ended e); below = λ e. absurd (ended e) }
+      | inl e ↦ record { front = ops; back = []; split = sym (append-nil ops); exists = e; has = has; below = below }
+      | inr ended ↦ record { front = g.front; back = g.back; split = g.split; exists = g.exists; has = λ e. absurd (ended e); below = λ e. absurd (ended e) }
     ]

@@ -87,8 +87,8 @@ pub covers_more : (clock more : List (ℕ × ℕ)) (kind : Kind) → ((i : OpId)
 covers_more clock more (Create folder) w h = tt
 covers_more clock more (Delete folder seen) w h = covered_more clock more seen w h
 covers_more clock more (Append folder flags date text) w h = tt
-covers_more clock more (Expunge folder olds) w h = covered_more clock more olds w h
-covers_more clock more (Store folder flags olds origin) w h = (covered_more clock more olds w h.0, w origin h.1)
+covers_more clock more (Expunge folder old_ids) w h = covered_more clock more old_ids w h
+covers_more clock more (Store folder flags old_ids origin) w h = (covered_more clock more old_ids w h.0, w origin h.1)
 covers_more clock more (Subscribe name) w h = tt
 covers_more clock more (Unsubscribe name seen) w h = covered_more clock more seen w h
 

@@ -16,27 +16,27 @@ silent_append : (view : List ViewEntry) (xs ys : List SilentFlags) → after_sil
 silent_append view [] ys = refl
 silent_append view (x ∷ xs) ys = silent_append (with_flags_at view x.number x.flags) xs ys
 
-told_by : (view : List ViewEntry) (k : ℕ) (flags : Option Flags) → with_fetched_flags view k flags ≡ after_silent view (flags_by k flags)
-told_by view k None = refl
-told_by view k (Some flags) = refl
+with_fetched_flags_silent : (view : List ViewEntry) (k : ℕ) (flags : Option Flags) → with_fetched_flags view k flags ≡ after_silent view (flags_by k flags)
+with_fetched_flags_silent view k None = refl
+with_fetched_flags_silent view k (Some flags) = refl
 
-one_told : (rows : List ListedMessage) (view : List ViewEntry) (answer : Answer) → is_shifting answer ≡ false → after_answer rows view answer ≡ after_silent view (fetched_flags answer)
-one_told rows view (Expunge n) h = absurd (false≢true (sym h))
-one_told rows view (Exists n) h = absurd (false≢true (sym h))
-one_told rows view (Fetch k items) h = told_by view k items.flags
-one_told rows view _ h = refl
+after_answer_silent : (rows : List ListedMessage) (view : List ViewEntry) (answer : Answer) → is_shifting answer ≡ false → after_answer rows view answer ≡ after_silent view (fetched_flags answer)
+after_answer_silent rows view (Expunge n) h = absurd (false≢true (sym h))
+after_answer_silent rows view (Exists n) h = absurd (false≢true (sym h))
+after_answer_silent rows view (Fetch k items) h = with_fetched_flags_silent view k items.flags
+after_answer_silent rows view _ h = refl
 
 neither : (a b : Bool) → (a || b) ≡ false → (a ≡ false) × (b ≡ false)
 neither true b h = absurd (false≢true (sym h))
 neither false b h = (refl, h)
 
-own_told : (rows : List ListedMessage) (view : List ViewEntry) (own : List Answer) → list_any is_shifting own ≡ false → after_answers rows view own ≡ after_silent view (all_fetched_flags own)
-own_told rows view [] h = refl
-own_told rows view (answer ∷ own) h =
+after_answers_silent : (rows : List ListedMessage) (view : List ViewEntry) (own : List Answer) → list_any is_shifting own ≡ false → after_answers rows view own ≡ after_silent view (all_fetched_flags own)
+after_answers_silent rows view [] h = refl
+after_answers_silent rows view (answer ∷ own) h =
     let k = neither (is_shifting answer) (list_any is_shifting own) h in
-    ap (λ (es : List ViewEntry). after_answers rows es own) (one_told rows view answer k.0)
-    ∙ own_told rows (after_silent view (fetched_flags answer)) own k.1
+    ap (λ (es : List ViewEntry). after_answers rows es own) (after_answer_silent rows view answer k.0)
+    ∙ after_answers_silent rows (after_silent view (fetched_flags answer)) own k.1
     ∙ sym (silent_append view (fetched_flags answer) (all_fetched_flags own))
 
 pub own_replayed : (rows : List ListedMessage) (view : List ViewEntry) (silent : List SilentFlags) (own : List Answer) → list_any is_shifting own ≡ false → view_after_reply rows view silent own ≡ after_silent view (silent ++ all_fetched_flags own)
-own_replayed rows view silent own h = own_told rows (after_silent view silent) own h ∙ sym (silent_append view silent (all_fetched_flags own))
+own_replayed rows view silent own h = after_answers_silent rows (after_silent view silent) own h ∙ sym (silent_append view silent (all_fetched_flags own))

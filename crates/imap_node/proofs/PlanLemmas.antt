@@ -8,14 +8,14 @@ use Rattle.crdt_ops.specs.declared.kind.Kind.{Kind}
 use Rattle.crdt_ops.specs.declared.op.Op.{Op}
 use Rattle.imap_answers.specs.declared.fixed_words.Refusal.{Refusal}
 use Rattle.imap_answers.specs.declared.fixed_words.Refusal.TheVariants.{NoMemory}
-use Rattle.imap_commands.specs.Gives.{GivesOrLacksMemory}
+use Rattle.imap_commands.specs.MemoryFaults.{EqualsOrLacksMemory}
 use Rattle.imap_commands.specs.declared.intent.Intent.{Intent}
 use Rattle.imap_commands.specs.declared.session.Session.{Session}
 use Rattle.imap_commands.specs.declared.session.State.{State}
 use Rattle.imap_commands.specs.declared.session.State.TheVariants.{Authenticated}
 use Rattle.imap_node.specs.declared.input.Input.{Input}
 use Rattle.imap_node.specs.declared.input.Input.TheVariants as inputs
-use Rattle.imap_node.specs.declared.plan.SessionStep.TheVariants.{Goes, Leaves, Stays, Wakes}
+use Rattle.imap_node.specs.declared.plan.SessionStep.TheVariants.{Advances, Leaves, Stays, Wakes}
 use Rattle.imap_node.specs.declared.plan.PreparedInput.{PreparedInput}
 use Rattle.imap_node.specs.InputEffects.{InputEffect, answers_of_effect}
 use Rattle.imap_node.specs.declared.plan.PreparedReply.{PreparedReply}
@@ -23,7 +23,7 @@ use Rattle.imap_node.specs.Nodes.{NodeWithRoom, NodeState}
 use Rattle.imap_node.specs.Rooms.{HasRoomFor}
 use Rattle.imap_node.proofs.NextLemmas.{no_cut}
 use Rattle.imap_node.specs.Commands.{is_selected, is_selecting}
-use Rattle.imap_node.specs.Operations.{CanIssueAll, IsNotReady}
+use Rattle.imap_node.specs.Operations.{CanIssueAll, IsReadyRefusal}
 use Rattle.imap_node.specs.SessionFeeds.{AreChangeNotes}
 use Rattle.imap_node.specs.SessionChanges.{CanChangeSession, changed_session}
 use Rattle.imap_node.specs.Plans.{CanStep, IsPreparedReply, IsPlanned, IsPlanOf, IsPreparedInput, plan_of_prepared, step_of_refusal, place_after_step, plan_by, session_after_step}
@@ -37,8 +37,8 @@ use Rattle.causal_inbox.specs.declared.delivery.Arrival.TheVariants.{Applied, He
 use Rattle.causal_inbox.specs.declared.delivery.DeliverFault.{DeliverFault}
 use Rattle.causal_inbox.proofs.Union.{arrival_grows, arrival_start, releases_grow}
 use Rattle.uid_projection.specs.Exhaustion.{Exhausts}
-use Rattle.imap_node.proofs.CanLemmas.{input_can}
-use Rattle.imap_node.proofs.FeedLemmas.{no_news}
+use Rattle.imap_node.proofs.CanIssueLemmas.{input_can}
+use Rattle.imap_node.proofs.FeedLemmas.{no_change_notes}
 use Rattle.uid_projection.specs.declared.first_numbers.Counters.{Counters}
 use Rattle.uid_projection.specs.Applied.{IsApplied}
 use Rattle.crdt_ops.specs.Ops.{clock_of, id_of}
@@ -49,12 +49,12 @@ match_weaker (Ok t) P P' Q Q' f g h = f t h
 match_weaker (Err e) P P' Q Q' f g h = g e h
 
 -- what stays held if something is issued
-pub kept_some : (ops old new : List Op) → (ops ≡ [] → ⊥) → AreHeldStill id_of ops old new → AreHeldAfter ops old new
-kept_some [] old new n h = absurd (n refl)
-kept_some (op ∷ ops) old new n h = h
+pub held_after_some : (ops old new : List Op) → (ops ≡ [] → ⊥) → AreHeldStill id_of ops old new → AreHeldAfter ops old new
+held_after_some [] old new n h = absurd (n refl)
+held_after_some (op ∷ ops) old new n h = h
 
-pub kept_none : (ops old : List Op) → ops ≡ [] → AreHeldAfter ops old old
-kept_none ops old e = subst (λ (os : List Op). AreHeldAfter os old old) (sym e) refl
+pub held_after_none : (ops old : List Op) → ops ≡ [] → AreHeldAfter ops old old
+held_after_none ops old e = subst (λ (os : List Op). AreHeldAfter os old old) (sym e) refl
 
 module _ (session : Session) where
   left_command : (b : Bool) → Some (session_after_step session (if b then Leaves else Stays)) ≡ Some (record { state = if b then Authenticated else session.state; condstore = session.condstore; idling = session.idling })
@@ -77,9 +77,9 @@ module _ (old : NodeState) (n : ℕ) (session : Session) (input : Input) (at : s
 
   done_responds : (p : PreparedInput) → IsPreparedInput old.start old.applied session input p → IsPlanOf old n input (plan_of_prepared n p)
   done_responds p h = λ new k.
-      let after : Session = session_after old.start (old.applied ++ p.ops) session input h.answered.course in
-      let place : place_after_step (session_at old.sessions n) (Goes p.answered.going) ≡ Some after =
-      ap (λ (s : Option Session). place_after_step s (Goes p.answered.going)) at ∙ ap (λ (s : Session). Some s) h.answered.becomes in (
+      let after : Session = session_after old.start (old.applied ++ p.ops) session input h.answered.effect in
+      let place : place_after_step (session_at old.sessions n) (Advances p.answered.update) ≡ Some after =
+      ap (λ (s : Option Session). place_after_step s (Advances p.answered.update)) at ∙ ap (λ (s : Session). Some s) h.answered.becomes in (
         session,
         at,
         subst (λ (os : List Op). CarriesOut old n session input p.answered.answers p.answered.silent os new) (sym h.copies)
@@ -87,10 +87,10 @@ module _ (old : NodeState) (n : ℕ) (session : Session) (input : Input) (at : s
               stamp = h.stamp;
               stamped = h.stamped;
               kinds = h.kinds;
-              wanted = h.wanted;
+              intended = h.intended;
               next = h.next;
-              lasts = h.lasts;
-              course = h.answered.course;
+              not_exhausted = h.not_exhausted;
+              effect = h.answered.effect;
               taken = h.answered.taken;
               answers_are = h.answered.answers;
               silent_is = h.answered.silent;
@@ -107,26 +107,26 @@ module _ (old : NodeState) (n : ℕ) (session : Session) (input : Input) (at : s
   plan_responds (Err why) h k = refused_responds why k
 
 -- what an input issues may be issued
-pub gives_can : (start : Counters) (ops : List Op) (a : IsApplied ops) (stamp : List ℕ) (state : State) (input : Input) (r : Result Intent Refusal) → GivesOrLacksMemory (λ wanted. wanted.kinds.items) r (input_intent start ops stamp state input) → IfOk r (λ wanted. CanIssueAll ops wanted.kinds.items)
+pub gives_can : (start : Counters) (ops : List Op) (a : IsApplied ops) (stamp : List ℕ) (state : State) (input : Input) (r : Result Intent Refusal) → EqualsOrLacksMemory (λ intended. intended.kinds.items) r (input_intent start ops stamp state input) → IfOk r (λ intended. CanIssueAll ops intended.kinds.items)
 gives_can start ops a stamp state input (Ok given) g = input_can start ops a stamp state input given.kinds.items g
 gives_can start ops a stamp state input (Err why) g = tt
 
 -- the refusal of an input by its intent
-pub refused_by_want : (start : Counters) (ops : List Op) (stamp : List ℕ) (state : State) (input : Input) (why : Refusal) → IsStamp input stamp
+pub refused_by_intent : (start : Counters) (ops : List Op) (stamp : List ℕ) (state : State) (input : Input) (why : Refusal) → IsStamp input stamp
     → (why ≡ NoMemory) ⊎ (input_intent start ops stamp state input ≡ Err why) → IsRefused start ops state input why
-refused_by_want start ops stamp state input why s h = elim h [ inl e ↦ inl e | inr e ↦ inr (stamp, s, inl e) ]
+refused_by_intent start ops stamp state input why s h = elim h [ inl e ↦ inl e | inr e ↦ inr (stamp, s, inl e) ]
 
 -- the refusal of an input whose operations can't be made ready
 pub refused_by_end : (start : Counters) (ops : List Op) (stamp : List ℕ) (state : State) (input : Input) (given : List Kind) (why : Refusal) → IsStamp input stamp → input_intent start ops stamp state input ≡ Ok given
-    → IsNotReady start ops given why → IsRefused start ops state input why
+    → IsReadyRefusal start ops given why → IsRefused start ops state input why
 refused_by_end start ops stamp state input given why s w h = elim h [ inl e ↦ inl e | inr e ↦ inr (stamp, s, inr (e.0, given, w, e.1)) ]
 
 -- the answers to an input with this effect
-pub answered_by : {E : Type 0} (start : Counters) (before after : List Op) (session : Session) (input : Input) (course : InputEffect) → IsInputEffect start before after session input course → (r : Result PreparedReply E)
-    → IfOk r (λ a. a.answers ≡ answers_of_effect start after course) → IfOk r (λ a. a.silent ≡ course.silent) → IfOk r (λ a. changed_session session a.going ≡ session_after start after session input course)
+pub answered_by : {E : Type 0} (start : Counters) (before after : List Op) (session : Session) (input : Input) (effect : InputEffect) → IsInputEffect start before after session input effect → (r : Result PreparedReply E)
+    → IfOk r (λ a. a.answers ≡ answers_of_effect start after effect) → IfOk r (λ a. a.silent ≡ effect.silent) → IfOk r (λ a. changed_session session a.update ≡ session_after start after session input effect)
     → IfOk r (λ a. IsPreparedReply start before after session input a)
-answered_by start before after session input course taken (Ok a) p q s = record { course = course; taken = taken; answers = p; silent = q; becomes = s }
-answered_by start before after session input course taken (Err e) p q s = tt
+answered_by start before after session input effect taken (Ok a) p q s = record { effect = effect; taken = taken; answers = p; silent = q; becomes = s }
+answered_by start before after session input effect taken (Err e) p q s = tt
 
 -- the next step of a session whose input was refused
 left_steps : (start : Counters) (ops : List Op) (session : Session) (a b : Bool) → CanStep start ops session (if a then Leaves else (if b then Wakes else Stays))
@@ -138,29 +138,29 @@ left_steps start ops session false false = tt
 pub plan_planned : (node : NodeWithRoom) (n : ℕ) (state : State) (input : Input) (outcome : Result PreparedInput Refusal) → IsOpen node.state.sessions n
     → IfOk outcome (λ p. AreIssued id_of clock_of node.state.applied p.ops) → IfOk outcome (λ p. (p.ops ≡ [] → ⊥) → HasRoomFor node.state.applied node.room p.ops)
     → IfOk outcome (λ p. AreChangeNotes node.state.start node.state.applied (node.state.applied ++ p.ops) p.change_notes)
-    → ((s : Session) → session_at node.state.sessions n ≡ Some s → IfOk outcome (λ p. CanChangeSession node.state.start (node.state.applied ++ p.ops) s.state p.answered.going.onward)) → IsPlanned node (plan_by n state input outcome)
+    → ((s : Session) → session_at node.state.sessions n ≡ Some s → IfOk outcome (λ p. CanChangeSession node.state.start (node.state.applied ++ p.ops) s.state p.answered.update.state_change)) → IsPlanned node (plan_by n state input outcome)
 plan_planned node n state input (Ok p) opened i r w c = record { is_open = opened; issued = i; room = r; change_notes = w; can = c }
 plan_planned node n state input (Err why) opened i r w c = record {
   is_open = opened;
   issued = λ front o back e. absurd (no_cut front o back e);
   room = λ f. absurd (f refl);
-  change_notes = subst (λ (list : List Op). AreChangeNotes node.state.start node.state.applied list []) (sym (append-nil node.state.applied)) (no_news node.state.start node.state.applied);
+  change_notes = subst (λ (list : List Op). AreChangeNotes node.state.start node.state.applied list []) (sym (append-nil node.state.applied)) (no_change_notes node.state.start node.state.applied);
   can = λ s e. left_steps node.state.start (node.state.applied ++ []) s (leaves_mailbox state input) (ends_idling input why);
 }
 
 -- a plan can be committed if the room was made after it
-pub plan_planned_behind : (start : Counters) (applied : List Op) (places : Places) (node : NodeWithRoom) (n : ℕ) (state : State) (input : Input) (outcome : Result PreparedInput Refusal) → node.state.start ≡ start → node.state.applied ≡ applied → node.state.sessions ≡ places
+pub plan_planned_after : (start : Counters) (applied : List Op) (places : Places) (node : NodeWithRoom) (n : ℕ) (state : State) (input : Input) (outcome : Result PreparedInput Refusal) → node.state.start ≡ start → node.state.applied ≡ applied → node.state.sessions ≡ places
     → IsOpen places n → IfOk outcome (λ p. AreIssued id_of clock_of applied p.ops) → IfOk outcome (λ p. (p.ops ≡ [] → ⊥) → HasRoomFor node.state.applied node.room p.ops) → IfOk outcome (λ p. AreChangeNotes start applied (applied ++ p.ops) p.change_notes)
-    → ((s : Session) → session_at places n ≡ Some s → IfOk outcome (λ p. CanChangeSession start (applied ++ p.ops) s.state p.answered.going.onward)) → IsPlanned node (plan_by n state input outcome)
-plan_planned_behind start applied places node n state input outcome e f g opened i r w c =
+    → ((s : Session) → session_at places n ≡ Some s → IfOk outcome (λ p. CanChangeSession start (applied ++ p.ops) s.state p.answered.update.state_change)) → IsPlanned node (plan_by n state input outcome)
+plan_planned_after start applied places node n state input outcome e f g opened i r w c =
     plan_planned node n state input outcome
     (subst (λ (ps : Places). IsOpen ps n) (sym g) opened)
     (subst (λ (os : List Op). IfOk outcome (λ p. AreIssued id_of clock_of os p.ops)) (sym f) i)
     r
     (subst (λ (x : Counters). IfOk outcome (λ p. AreChangeNotes x node.state.applied (node.state.applied ++ p.ops) p.change_notes)) (sym e) (subst (λ (os : List Op). IfOk outcome (λ p. AreChangeNotes start os (os ++ p.ops) p.change_notes)) (sym f) w))
     (λ s at.
-    subst (λ (x : Counters). IfOk outcome (λ p. CanChangeSession x (node.state.applied ++ p.ops) s.state p.answered.going.onward)) (sym e)
-    (subst (λ (os : List Op). IfOk outcome (λ p. CanChangeSession start (os ++ p.ops) s.state p.answered.going.onward)) (sym f) (c s (ap (λ (ps : Places). session_at ps n) (sym g) ∙ at))))
+    subst (λ (x : Counters). IfOk outcome (λ p. CanChangeSession x (node.state.applied ++ p.ops) s.state p.answered.update.state_change)) (sym e)
+    (subst (λ (os : List Op). IfOk outcome (λ p. CanChangeSession start (os ++ p.ops) s.state p.answered.update.state_change)) (sym f) (c s (ap (λ (ps : Places). session_at ps n) (sym g) ∙ at))))
 
 -- a delivery that applies operations
 pub deliver_grown : {T : Type 0} (arrival : T → Arrival) (old new : ReceivedOps Counters Op) (op : Op) (r : Result T DeliverFault)
@@ -176,7 +176,7 @@ none_more : {X : Type 0} (xs : List X) → length xs ≡ 0 → xs ≡ []
 none_more [] l = refl
 none_more (x ∷ xs) l = absurd (omega (arith, l))
 
-arrive_one : (old new : ReceivedOps Counters Op) (op : Op) (came : Arrival) → Arrives id_of clock_of Exhausts old op came new → length new.applied ≡ length old.applied + 1 → new.applied ≡ old.applied ++ op ∷ []
+arrive_one : (old new : ReceivedOps Counters Op) (op : Op) (arrived : Arrival) → Arrives id_of clock_of Exhausts old op arrived new → length new.applied ≡ length old.applied + 1 → new.applied ≡ old.applied ++ op ∷ []
 arrive_one old new op Repeat h l = let e = ap (λ (s : ReceivedOps Counters Op). length s.applied) h.1 in absurd (omega (arith, e, l))
 arrive_one old new op Held h l = let e = ap (λ (ops : List Op). length ops) h.3 in absurd (omega (arith, e, l))
 arrive_one old new op (Applied n) h l =

@@ -25,14 +25,14 @@ issued_next replica applied kinds ops h = λ front o back e.
 pub prepares : (start start' : Counters) (applied applied' : List Op) (session : Session) (input : Input) (stamp : List ℕ) (kinds : List Kind) (ops : List Op) (prepared : PreparedInput) → start' ≡ start → applied' ≡ applied → IsStamp input stamp
     → input_intent start applied stamp session.state input ≡ Ok kinds → AreNext start.replica applied kinds ops → CanFollow start' applied' ops → IsPreparedReply start' applied' (applied' ++ ops) session input prepared.answered
     → prepared.ops ≡ ops → prepared.copies ≡ ops → IsPreparedInput start applied session input prepared
-prepares start start' applied applied' session input stamp kinds ops prepared s a stamped wanted next follow answered o copies =
+prepares start start' applied applied' session input stamp kinds ops prepared s a stamped intended next follow answered o copies =
     record {
       stamp = stamp;
       stamped = stamped;
       kinds = kinds;
-      wanted = wanted;
+      intended = intended;
       next = subst (λ (xs : List Op). AreNext start.replica applied kinds xs) (sym o) next;
-      lasts = subst (λ (xs : List Op). Exhausts start applied xs → ⊥) (sym o) (subst (λ (b : Counters). Exhausts b applied ops → ⊥) s (subst (λ (list : List Op). Exhausts start' list ops → ⊥) a follow.lasts));
+      not_exhausted = subst (λ (xs : List Op). Exhausts start applied xs → ⊥) (sym o) (subst (λ (b : Counters). Exhausts b applied ops → ⊥) s (subst (λ (list : List Op). Exhausts start' list ops → ⊥) a follow.not_exhausted));
       answered =
           subst (λ (xs : List Op). IsPreparedReply start applied (applied ++ xs) session input prepared.answered) (sym o)
           (subst (λ (b : Counters). IsPreparedReply b applied (applied ++ ops) session input prepared.answered) s

@@ -2,7 +2,7 @@ use Rattle.std.proofs.Common.{◌≡◌, ◌++◌, List, [], ◌∷◌, true, fa
 use Rattle.crdt_ops.specs.declared.op.Op.{Op}
 use Rattle.imap_types.specs.declared.flags.Flags.{Flags}
 use Rattle.imap_commands.specs.declared.session.State.TheVariants.{Selected}
-use Rattle.uid_projection.proofs.Coming.{none_exhausted}
+use Rattle.uid_projection.proofs.ExhaustionLemmas.{none_exhausted}
 use Rattle.imap_node.specs.Printing.{IsAnswerableIn, IsPresentable}
 
 -- a node that has applied nothing can be shown
@@ -15,7 +15,7 @@ fresh_shown = record {
   lawful = record { named = omega arith; replica = omega arith; first = omega arith; uid = omega arith };
   lasting = record {
     applied = record { sound = λ o i. absurd i; causal = λ front o back e. absurd (no_cut front o back e) };
-    lasts = none_exhausted (record { replica = 1; uid = 1; k = 1 }) [];
+    not_exhausted = none_exhausted (record { replica = 1; uid = 1; k = 1 }) [];
   };
   writable = λ o i. absurd i;
   count = omega arith;

@@ -5,19 +5,19 @@ use Rattle.crdt_ops.specs.Sets.{folders_of, subscribed_names_of}
 use Rattle.imap_answers.specs.declared.answer.Answer.{Answer}
 use Rattle.imap_answers.specs.Printable.{Each}
 use Rattle.imap_commands.specs.Arguments.{StoreArgs}
-use Rattle.imap_commands.specs.Copying.{copies_in, moved_answers, sources_of}
-use Rattle.imap_commands.specs.Fetching.{mode_of, shown_of}
-use Rattle.imap_commands.specs.Storing.{stored_answer, stored_answers, taken_messages}
+use Rattle.imap_commands.specs.CopyCommand.{copies_in, moved_answers, sources_of}
+use Rattle.imap_commands.specs.FetchCommand.{mode_of, shown_of}
+use Rattle.imap_commands.specs.StoreCommand.{stored_answer, stored_answers, taken_messages}
 use Rattle.imap_commands.specs.Report.{CommandReport, message_at}
 use Rattle.imap_commands.specs.declared.session.State.{State}
 use Rattle.imap_commands.specs.declared.session.State.TheVariants.{NotAuthenticated, Authenticated, Selected, LoggedOut}
-use Rattle.imap_commands.proofs.PrintSelected.{each_append}
+use Rattle.imap_commands.proofs.PrintSelectLemmas.{each_append}
 use Rattle.imap_syntax.specs.declared.command.Command.{Command}
 use Rattle.imap_syntax.specs.declared.command.Command.TheVariants as commands
 use Rattle.imap_syntax.specs.declared.fetch.FetchItem.{FetchItem}
-use Rattle.imap_query.specs.Fetching.{answer_of, is_above_changed_since}
+use Rattle.imap_query.specs.FetchCommand.{answer_of, is_above_changed_since}
 use Rattle.imap_query.specs.ListNames.{ListsMatching, ListsNames}
-use Rattle.imap_query.specs.declared.fetching.FetchMode.{FetchMode}
+use Rattle.imap_query.specs.declared.fetch_command.FetchMode.{FetchMode}
 use Rattle.imap_query.specs.declared.list_answers.ListMode.{ListMode}
 use Rattle.imap_query.specs.declared.viewed_message.ViewedMessage.{ViewedMessage}
 use Rattle.mailbox_rows.specs.ListedMessage.{ListedMessage}
@@ -50,15 +50,15 @@ fetch_quiet items mode shown None row = tt
 fetch_quiet items mode shown (Some old) None = tt
 fetch_quiet items mode shown (Some old) (Some row) = elim (cases_Bool (is_above_changed_since mode.changed_since old)) [ inl t ↦ rw t (tt, tt) | inr f ↦ rw f tt ]
 
-stored_quiet : (condstore : Bool) (asked : StoreArgs) (n : ℕ) (row : Option ListedMessage) → Each IsQuiet (stored_answer condstore asked n row)
-stored_quiet condstore asked n None = tt
-stored_quiet condstore asked n (Some row) = (tt, tt)
+stored_quiet : (condstore : Bool) (request : StoreArgs) (n : ℕ) (row : Option ListedMessage) → Each IsQuiet (stored_answer condstore request n row)
+stored_quiet condstore request n None = tt
+stored_quiet condstore request n (Some row) = (tt, tt)
 
-store_quiet : (after : List ListedMessage) (view : List ViewEntry) (condstore : Bool) (asked : StoreArgs) (taken : List ℕ) → Each IsQuiet (stored_answers after view condstore asked taken)
-store_quiet after view condstore asked taken =
-    elim (cases_Bool (asked.action.silent && not (is_some asked.unchanged_since))) [
+store_quiet : (after : List ListedMessage) (view : List ViewEntry) (condstore : Bool) (request : StoreArgs) (taken : List ℕ) → Each IsQuiet (stored_answers after view condstore request taken)
+store_quiet after view condstore request taken =
+    elim (cases_Bool (request.action.silent && not (is_some request.unchanged_since))) [
       | inl t ↦ rw t tt
-      | inr f ↦ rw f (quiet_flat (λ n. stored_answer condstore asked n (message_at after view n)) taken (λ n. stored_quiet condstore asked n (message_at after view n)))
+      | inr f ↦ rw f (quiet_flat (λ n. stored_answer condstore request n (message_at after view n)) taken (λ n. stored_quiet condstore request n (message_at after view n)))
     ]
 
 move_quiet : (uidvalidity : ℕ) (sources copies : List ℕ) → Each IsQuiet (moved_answers uidvalidity sources copies)
@@ -73,45 +73,45 @@ names_quiet : (mode : ListMode) (reference pattern : List ℕ) (folders subscrip
 names_quiet mode reference [] folders subscriptions answers h = subst (Each IsQuiet) (sym h) (tt, tt)
 names_quiet mode reference (octet ∷ pattern) folders subscriptions answers h = matched_quiet mode.subscribed_only mode.return_subscribed _ folders subscriptions answers h
 
-selected_quiet : (state : State) (tell : ViewState → Bool → CommandReport) → ((view : ViewState) (read_only : Bool) → Each IsQuiet (tell view read_only).own) → Each IsQuiet (report_if_selected state tell).own
-selected_quiet (NotAuthenticated credentials) tell h = tt
-selected_quiet Authenticated tell h = tt
-selected_quiet (Selected view read_only) tell h = h view read_only
-selected_quiet LoggedOut tell h = tt
+selected_quiet : (state : State) (report_of : ViewState → Bool → CommandReport) → ((view : ViewState) (read_only : Bool) → Each IsQuiet (report_of view read_only).own) → Each IsQuiet (report_if_selected state report_of).own
+selected_quiet (NotAuthenticated credentials) report_of h = tt
+selected_quiet Authenticated report_of h = tt
+selected_quiet (Selected view read_only) report_of h = h view read_only
+selected_quiet LoggedOut report_of h = tt
 
 module _ (start : Counters) (before after : List Op) where
-  pub tells_quiet : (command : Command) (state : State) (modseq : Bool) (tag : List ℕ) (told : CommandReport) → is_selecting command ≡ false → IsCommandReport start before after state modseq tag command told → Each IsQuiet told.own
-  tells_quiet commands.Capability state modseq tag told s h = subst (λ (t : CommandReport). Each IsQuiet t.own) (sym h) (tt, tt)
-  tells_quiet commands.Namespace state modseq tag told s h = subst (λ (t : CommandReport). Each IsQuiet t.own) (sym h) (tt, tt)
-  tells_quiet commands.Logout state modseq tag told s h = subst (λ (t : CommandReport). Each IsQuiet t.own) (sym h) (tt, tt)
-  tells_quiet commands.Idle state modseq tag told s h = subst (λ (t : CommandReport). Each IsQuiet t.own) (sym h) (tt, tt)
-  tells_quiet (commands.Enable names) state modseq tag told s h = subst (λ (t : CommandReport). Each IsQuiet t.own) (sym h) (tt, tt)
-  tells_quiet (commands.Select name condstore) state modseq tag told s h = absurd (false≢true (sym s))
-  tells_quiet (commands.Examine name condstore) state modseq tag told s h = absurd (false≢true (sym s))
-  tells_quiet (commands.Status name items) state modseq tag told s h = subst (λ (t : CommandReport). Each IsQuiet t.own) (sym h) (tt, tt)
-  tells_quiet (commands.Append asked) state modseq tag told s h = subst (λ (t : CommandReport). Each IsQuiet t.own) (sym h) tt
-  tells_quiet (commands.UidExpunge uids) state modseq tag told s h = subst (λ (t : CommandReport). Each IsQuiet t.own) (sym h) (selected_quiet state _ (λ view read_only. tt))
-  tells_quiet (commands.Fetch asked) state modseq tag told s h =
+  pub report_quiet : (command : Command) (state : State) (modseq : Bool) (tag : List ℕ) (report : CommandReport) → is_selecting command ≡ false → IsCommandReport start before after state modseq tag command report → Each IsQuiet report.own
+  report_quiet commands.Capability state modseq tag report s h = subst (λ (t : CommandReport). Each IsQuiet t.own) (sym h) (tt, tt)
+  report_quiet commands.Namespace state modseq tag report s h = subst (λ (t : CommandReport). Each IsQuiet t.own) (sym h) (tt, tt)
+  report_quiet commands.Logout state modseq tag report s h = subst (λ (t : CommandReport). Each IsQuiet t.own) (sym h) (tt, tt)
+  report_quiet commands.Idle state modseq tag report s h = subst (λ (t : CommandReport). Each IsQuiet t.own) (sym h) (tt, tt)
+  report_quiet (commands.Enable names) state modseq tag report s h = subst (λ (t : CommandReport). Each IsQuiet t.own) (sym h) (tt, tt)
+  report_quiet (commands.Select name condstore) state modseq tag report s h = absurd (false≢true (sym s))
+  report_quiet (commands.Examine name condstore) state modseq tag report s h = absurd (false≢true (sym s))
+  report_quiet (commands.Status name items) state modseq tag report s h = subst (λ (t : CommandReport). Each IsQuiet t.own) (sym h) (tt, tt)
+  report_quiet (commands.Append request) state modseq tag report s h = subst (λ (t : CommandReport). Each IsQuiet t.own) (sym h) tt
+  report_quiet (commands.UidExpunge uids) state modseq tag report s h = subst (λ (t : CommandReport). Each IsQuiet t.own) (sym h) (selected_quiet state _ (λ view read_only. tt))
+  report_quiet (commands.Fetch request) state modseq tag report s h =
       subst (λ (t : CommandReport). Each IsQuiet t.own) (sym h)
       (selected_quiet state _ (λ view read_only.
-      let mode = mode_of (mailbox_in start before view read_only) modseq (record { by_uid = asked.by_uid; messages = asked.messages; items = asked.items; changed_since = asked.changed_since }) in
-      quiet_flat (λ (shown : ViewedMessage). answer_of asked.items mode shown (row_of shown.uid (rows_for start before view)) (row_of shown.uid (rows_for start after view))) (shown_of view.entries (numbers_in_set asked.by_uid asked.messages view.entries))
-      (λ shown. fetch_quiet asked.items mode shown (row_of shown.uid (rows_for start before view)) (row_of shown.uid (rows_for start after view)))))
-  tells_quiet (commands.Store asked) state modseq tag told s h =
+      let mode = mode_of (mailbox_in start before view read_only) modseq (record { by_uid = request.by_uid; messages = request.messages; items = request.items; changed_since = request.changed_since }) in
+      quiet_flat (λ (shown : ViewedMessage). answer_of request.items mode shown (row_of shown.uid (rows_for start before view)) (row_of shown.uid (rows_for start after view))) (shown_of view.entries (numbers_in_set request.by_uid request.messages view.entries))
+      (λ shown. fetch_quiet request.items mode shown (row_of shown.uid (rows_for start before view)) (row_of shown.uid (rows_for start after view)))))
+  report_quiet (commands.Store request) state modseq tag report s h =
       subst (λ (t : CommandReport). Each IsQuiet t.own) (sym h)
       (selected_quiet state _ (λ view read_only.
-      store_quiet (rows_for start after view) view.entries modseq (record { by_uid = asked.by_uid; messages = asked.messages; unchanged_since = asked.unchanged_since; action = asked.action; flags = asked.flags }) (taken_messages (rows_for start before view) view.entries asked.unchanged_since (numbers_in_set asked.by_uid asked.messages view.entries))))
-  tells_quiet (commands.Copy asked) state modseq tag told s h = subst (λ (t : CommandReport). Each IsQuiet t.own) (sym h) (selected_quiet state _ (λ view read_only. tt))
-  tells_quiet (commands.Move asked) state modseq tag told s h =
+      store_quiet (rows_for start after view) view.entries modseq (record { by_uid = request.by_uid; messages = request.messages; unchanged_since = request.unchanged_since; action = request.action; flags = request.flags }) (taken_messages (rows_for start before view) view.entries request.unchanged_since (numbers_in_set request.by_uid request.messages view.entries))))
+  report_quiet (commands.Copy request) state modseq tag report s h = subst (λ (t : CommandReport). Each IsQuiet t.own) (sym h) (selected_quiet state _ (λ view read_only. tt))
+  report_quiet (commands.Move request) state modseq tag report s h =
       subst (λ (t : CommandReport). Each IsQuiet t.own) (sym h)
-      (selected_quiet state _ (λ view read_only. move_quiet (validity_of start asked.name after) (sources_of (rows_for start before view) view.entries (numbers_in_set asked.by_uid asked.messages view.entries)) (copies_in (uidnext_of start asked.name before) (listing start asked.name after))))
-  tells_quiet (commands.ListNames asked) state modseq tag told s h =
-      names_quiet (record { subscribed_only = asked.subscribed_only; return_subscribed = asked.return_subscribed }) asked.reference asked.pattern (folders_of before) (subscribed_names_of before) told.own h.names
-  tells_quiet (commands.Search asked) (Selected view read_only) modseq tag told s h = subst (λ (t : CommandReport). Each IsQuiet t.own) (sym h.only) (tt, tt)
-  tells_quiet (commands.Search asked) (NotAuthenticated credentials) modseq tag told s h = subst (λ (t : CommandReport). Each IsQuiet t.own) (sym h) tt
-  tells_quiet (commands.Search asked) Authenticated modseq tag told s h = subst (λ (t : CommandReport). Each IsQuiet t.own) (sym h) tt
-  tells_quiet (commands.Search asked) LoggedOut modseq tag told s h = subst (λ (t : CommandReport). Each IsQuiet t.own) (sym h) tt
-  tells_quiet _ state modseq tag told s h = subst (λ (t : CommandReport). Each IsQuiet t.own) (sym h) tt
+      (selected_quiet state _ (λ view read_only. move_quiet (validity_of start request.name after) (sources_of (rows_for start before view) view.entries (numbers_in_set request.by_uid request.messages view.entries)) (copies_in (uidnext_of start request.name before) (listing start request.name after))))
+  report_quiet (commands.ListNames request) state modseq tag report s h =
+      names_quiet (record { subscribed_only = request.subscribed_only; return_subscribed = request.return_subscribed }) request.reference request.pattern (folders_of before) (subscribed_names_of before) report.own h.names
+  report_quiet (commands.Search request) (Selected view read_only) modseq tag report s h = subst (λ (t : CommandReport). Each IsQuiet t.own) (sym h.only) (tt, tt)
+  report_quiet (commands.Search request) (NotAuthenticated credentials) modseq tag report s h = subst (λ (t : CommandReport). Each IsQuiet t.own) (sym h) tt
+  report_quiet (commands.Search request) Authenticated modseq tag report s h = subst (λ (t : CommandReport). Each IsQuiet t.own) (sym h) tt
+  report_quiet (commands.Search request) LoggedOut modseq tag report s h = subst (λ (t : CommandReport). Each IsQuiet t.own) (sym h) tt
+  report_quiet _ state modseq tag report s h = subst (λ (t : CommandReport). Each IsQuiet t.own) (sym h) tt
 
 -- ---- what comes before it
 

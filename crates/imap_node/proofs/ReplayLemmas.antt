@@ -41,7 +41,7 @@ use Rattle.imap_node.specs.declared.input.Input.{Input}
 use Rattle.imap_node.specs.declared.input.Input.TheVariants as inputs
 use Rattle.imap_node.specs.declared.reply.Reply.{Reply}
 use Rattle.imap_node.specs.declared.reply.Reply.TheVariants.{Done, Refused}
-use Rattle.imap_node.proofs.CanLemmas.{not_ok}
+use Rattle.imap_node.proofs.CanIssueLemmas.{not_ok}
 use Rattle.imap_node.specs.declared.sessions.Auth.{Auth}
 use Rattle.imap_node.specs.declared.sessions.Auth.TheVariants.{Preauth, Password}
 use Rattle.imap_node.proofs.IssueLemmas.{issues_well}
@@ -62,49 +62,49 @@ idle_still (Some tag) = λ rows view. refl
 
 -- an input's own answers, those of the sync and the last ones, one after another
 module _ (rows : List ListedMessage) (modseq : Bool) where
-  told_replay : (sync : Option SyncKind) (view : List ViewEntry) (own tail : List Answer) → AreStill tail
+  replay_sync : (sync : Option SyncKind) (view : List ViewEntry) (own tail : List Answer) → AreStill tail
       → after_answers rows view (own ++ (answers_of_sync sync modseq rows (after_answers rows view own) ++ tail)) ≡ entries_after_sync sync rows (after_answers rows view own)
-  told_replay None view own tail still = after_append rows view own tail ∙ still rows (after_answers rows view own)
-  told_replay (Some kind) view own tail still =
-      let seen = after_answers rows view own in
-      let sent = sync_answers kind modseq rows seen in
-      after_append rows view own (sent ++ tail) ∙ after_append rows seen sent tail ∙ still rows (after_answers rows seen sent) ∙ syncs_replay kind modseq rows seen
+  replay_sync None view own tail still = after_append rows view own tail ∙ still rows (after_answers rows view own)
+  replay_sync (Some kind) view own tail still =
+      let new_view = after_answers rows view own in
+      let sent = sync_answers kind modseq rows new_view in
+      after_append rows view own (sent ++ tail) ∙ after_append rows new_view sent tail ∙ still rows (after_answers rows new_view sent) ∙ syncs_replay kind modseq rows new_view
 
 module _ (start : Counters) (ops : List Op) (sync : Option SyncKind) (modseq : Bool) (silent : List SilentFlags) (own tail : List Answer) (still : AreStill tail) where
-  ending_replays : (state : State) → view_of (sync_result start ops sync modseq state silent own).state ≡ view_after_replies start ops (view_of state) silent (own ++ ((sync_result start ops sync modseq state silent own).answers ++ tail))
-  ending_replays (NotAuthenticated credentials) = refl
-  ending_replays Authenticated = refl
-  ending_replays LoggedOut = refl
-  ending_replays (Selected view read_only) =
-      ap (λ (es : List ViewEntry). Some (record view { entries = es })) (sym (told_replay (rows_for start ops view) modseq sync (after_silent view.entries silent) own tail still))
+  sync_result_replays : (state : State) → view_of (sync_result start ops sync modseq state silent own).state ≡ view_after_replies start ops (view_of state) silent (own ++ ((sync_result start ops sync modseq state silent own).answers ++ tail))
+  sync_result_replays (NotAuthenticated credentials) = refl
+  sync_result_replays Authenticated = refl
+  sync_result_replays LoggedOut = refl
+  sync_result_replays (Selected view read_only) =
+      ap (λ (es : List ViewEntry). Some (record view { entries = es })) (sym (replay_sync (rows_for start ops view) modseq sync (after_silent view.entries silent) own tail still))
 
 -- ---- the view on which it is replayed
 
 -- a command that is carried out
-moved_base : (start : Counters) (before after : List Op) (stamp : List ℕ) (state : State) (command : Command) (wanted : List Kind) → command_intent start before stamp state command ≡ Ok wanted
+moved_base : (start : Counters) (before after : List Op) (stamp : List ℕ) (state : State) (command : Command) (intended : List Kind) → command_intent start before stamp state command ≡ Ok intended
     → view_of (state_after_command start after state command) ≡ replay_base_of_command start after (view_of state) command
-moved_base start before after stamp (NotAuthenticated credentials) (commands.Login user password) wanted w = refl
-moved_base start before after stamp Authenticated (commands.Login user password) wanted w = refl
-moved_base start before after stamp (Selected view read_only) (commands.Login user password) wanted w = not_ok refusals.NotNow wanted w
-moved_base start before after stamp LoggedOut (commands.Login user password) wanted w = refl
-moved_base start before after stamp state (commands.Select name condstore) wanted w = refl
-moved_base start before after stamp state (commands.Examine name condstore) wanted w = refl
-moved_base start before after stamp state commands.Logout wanted w = refl
-moved_base start before after stamp state commands.Unselect wanted w = refl
-moved_base start before after stamp state commands.Close wanted w = refl
-moved_base start before after stamp state _ wanted w = refl
+moved_base start before after stamp (NotAuthenticated credentials) (commands.Login user password) intended w = refl
+moved_base start before after stamp Authenticated (commands.Login user password) intended w = refl
+moved_base start before after stamp (Selected view read_only) (commands.Login user password) intended w = not_ok refusals.NotNow intended w
+moved_base start before after stamp LoggedOut (commands.Login user password) intended w = refl
+moved_base start before after stamp state (commands.Select name condstore) intended w = refl
+moved_base start before after stamp state (commands.Examine name condstore) intended w = refl
+moved_base start before after stamp state commands.Logout intended w = refl
+moved_base start before after stamp state commands.Unselect intended w = refl
+moved_base start before after stamp state commands.Close intended w = refl
+moved_base start before after stamp state _ intended w = refl
 
 module _ (start : Counters) (before after : List Op) (session : Session) where
-  course_still : (input : Input) (course : InputEffect) → IsInputEffect start before after session input course → AreStill course.tail
-  course_still (inputs.Command moment tagged) course (told, tells, is) = subst (λ (c : InputEffect). AreStill c.tail) (sym is) (tail_still tagged.tag tagged.command told.code)
-  course_still (inputs.Line line) course is = subst (λ (c : InputEffect). AreStill c.tail) (sym is) (idle_still session.idling)
-  course_still inputs.Poll course is = subst (λ (c : InputEffect). AreStill c.tail) (sym is) (λ rows view. refl)
+  effect_still : (input : Input) (effect : InputEffect) → IsInputEffect start before after session input effect → AreStill effect.tail
+  effect_still (inputs.Command moment tagged) effect (report, is_report, is) = subst (λ (c : InputEffect). AreStill c.tail) (sym is) (tail_still tagged.tag tagged.command report.code)
+  effect_still (inputs.Line line) effect is = subst (λ (c : InputEffect). AreStill c.tail) (sym is) (idle_still session.idling)
+  effect_still inputs.Poll effect is = subst (λ (c : InputEffect). AreStill c.tail) (sym is) (λ rows view. refl)
 
-  course_base : (stamp : List ℕ) (wanted : List Kind) (input : Input) (course : InputEffect) → input_intent start before stamp session.state input ≡ Ok wanted → IsInputEffect start before after session input course
-      → view_of course.state ≡ replay_base_of start after (view_of session.state) input
-  course_base stamp wanted (inputs.Command moment tagged) course w (told, tells, is) = ap (λ (c : InputEffect). view_of c.state) is ∙ moved_base start before after stamp session.state tagged.command wanted w
-  course_base stamp wanted (inputs.Line line) course w is = ap (λ (c : InputEffect). view_of c.state) is
-  course_base stamp wanted inputs.Poll course w is = ap (λ (c : InputEffect). view_of c.state) is
+  effect_base : (stamp : List ℕ) (intended : List Kind) (input : Input) (effect : InputEffect) → input_intent start before stamp session.state input ≡ Ok intended → IsInputEffect start before after session input effect
+      → view_of effect.state ≡ replay_base_of start after (view_of session.state) input
+  effect_base stamp intended (inputs.Command moment tagged) effect w (report, is_report, is) = ap (λ (c : InputEffect). view_of c.state) is ∙ moved_base start before after stamp session.state tagged.command intended w
+  effect_base stamp intended (inputs.Line line) effect w is = ap (λ (c : InputEffect). view_of c.state) is
+  effect_base stamp intended inputs.Poll effect w is = ap (λ (c : InputEffect). view_of c.state) is
 
 -- ---- replies
 
@@ -123,9 +123,9 @@ left_view session (inputs.Command moment tagged) why = refused_view session.stat
 left_view session (inputs.Line line) why = refl
 left_view session inputs.Poll why = refl
 
--- the view of the session whose input it was
-pub seen_now : (old new : NodeState) (ops : List Op) (n : ℕ) (session next : Session) → session_at old.sessions n ≡ Some session → IsNodeAfter old ops (with_session old.sessions n (Some next)) new → view_at new.sessions n ≡ view_of next.state
-seen_now old new ops n session next at h = ap (λ (p : Places). view_at p n) h.sessions ∙ ap view_in (session_put old.sessions n (Some next) session at)
+-- the view of the input's session
+pub view_now : (old new : NodeState) (ops : List Op) (n : ℕ) (session next : Session) → session_at old.sessions n ≡ Some session → IsNodeAfter old ops (with_session old.sessions n (Some next)) new → view_at new.sessions n ≡ view_of next.state
+view_now old new ops n session next at h = ap (λ (p : Places). view_at p n) h.sessions ∙ ap view_in (session_put old.sessions n (Some next) session at)
 
 -- the operations are those of the node afterwards
 moved_on : (old new : NodeState) (ops : List Op) (P : Counters → List Op → Type 0) → new.start ≡ old.start → new.applied ≡ old.applied ++ ops → P old.start (old.applied ++ ops) → P new.start new.applied
@@ -136,28 +136,28 @@ carried_replays : (old new : NodeState) (n : ℕ) (session : Session) (input : I
 carried_replays old new n session input answers silent issued at c =
     let start = old.start in
     let after = old.applied ++ issued in
-    let next = session_after start after session input c.course in
-    let still = course_still start old.applied after session input c.course c.taken in
-    let base = course_base start old.applied after session c.stamp c.kinds input c.course c.wanted c.taken in
+    let next = session_after start after session input c.effect in
+    let still = effect_still start old.applied after session input c.effect c.taken in
+    let base = effect_base start old.applied after session c.stamp c.kinds input c.effect c.intended c.taken in
     moved_on old new issued (λ s os. view_at new.sessions n ≡ view_after_replies s os (replay_base_of s os (view_at old.sessions n) input) silent answers) c.becomes.start c.becomes.applied
-    (seen_now old new issued n session next at c.becomes
-    ∙ ending_replays start after c.course.sync c.course.modseq c.course.silent c.course.own c.course.tail still c.course.state
-    ∙ ap (λ (v : Option ViewState). view_after_replies start after v c.course.silent (answers_of_effect start after c.course)) base
-    ∙ ap (λ (s : List SilentFlags). view_after_replies start after (replay_base_of start after (view_of session.state) input) s (answers_of_effect start after c.course)) (sym c.silent_is)
-    ∙ ap (λ (told : List Answer). view_after_replies start after (replay_base_of start after (view_of session.state) input) silent told) (sym c.answers_are)
+    (view_now old new issued n session next at c.becomes
+    ∙ sync_result_replays start after c.effect.sync c.effect.modseq c.effect.silent c.effect.own c.effect.tail still c.effect.state
+    ∙ ap (λ (v : Option ViewState). view_after_replies start after v c.effect.silent (answers_of_effect start after c.effect)) base
+    ∙ ap (λ (s : List SilentFlags). view_after_replies start after (replay_base_of start after (view_of session.state) input) s (answers_of_effect start after c.effect)) (sym c.silent_is)
+    ∙ ap (λ (report : List Answer). view_after_replies start after (replay_base_of start after (view_of session.state) input) silent report) (sym c.answers_are)
     ∙ ap (λ (o : Option Session). view_after_replies start after (replay_base_of start after (view_in o) input) silent answers) (sym at))
 
 pub replies_replay : (old new : NodeState) (n : ℕ) (input : Input) (reply : Reply) → Responds old n input reply new → view_at new.sessions n ≡ view_after_input new.start new.applied (view_at old.sessions n) input reply
 replies_replay old new n input (Done answers silent issued) (session, at, c) = carried_replays old new n session input answers silent issued at c
 replies_replay old new n input (Refused why with_session_closed) (session, at, h) =
-    seen_now old new [] n session (session_after_refusal session input why) at h.2 ∙ left_view session input why
+    view_now old new [] n session (session_after_refusal session input why) at h.2 ∙ left_view session input why
     ∙ ap (λ (o : Option Session). if selects input then None else view_in o) (sym at)
 
 -- ---- the other sessions
 
 pub others_as_before : (old new : NodeState) (n : ℕ) (input : Input) (reply : Reply) → Responds old n input reply new → OthersStay old.sessions n new.sessions
 others_as_before old new n input (Done answers silent issued) (session, at, c) =
-    subst (OthersStay old.sessions n) (sym c.becomes.sessions) (others_stay old.sessions n (Some (session_after old.start (old.applied ++ issued) session input c.course)) session at)
+    subst (OthersStay old.sessions n) (sym c.becomes.sessions) (others_stay old.sessions n (Some (session_after old.start (old.applied ++ issued) session input c.effect)) session at)
 others_as_before old new n input (Refused why with_session_closed) (session, at, h) = subst (OthersStay old.sessions n) (sym h.2.sessions) (others_stay old.sessions n (Some (session_after_refusal session input why)) session at)
 
 -- ---- ascending UIDs
@@ -206,9 +206,9 @@ unless_ascends : (b : Bool) (o : Option ViewState) → Ascends o → Ascends (if
 unless_ascends true o h = none_ascends
 unless_ascends false o h = h
 
-behind_ascends : (start : Counters) (ops : List Op) (o : Option ViewState) (input : Input) (reply : Reply) → 1 ≤ start.uid → IsApplied ops → Ascends o → Ascends (view_after_input start ops o input reply)
-behind_ascends start ops o input (Done answers silent issued) l a h = entries_ascend start ops (replay_base_of start ops o input) silent answers l a (based_ascends start ops o input h)
-behind_ascends start ops o input (Refused why with_session_closed) l a h = unless_ascends (selects input) o h
+input_ascends : (start : Counters) (ops : List Op) (o : Option ViewState) (input : Input) (reply : Reply) → 1 ≤ start.uid → IsApplied ops → Ascends o → Ascends (view_after_input start ops o input reply)
+input_ascends start ops o input (Done answers silent issued) l a h = entries_ascend start ops (replay_base_of start ops o input) silent answers l a (based_ascends start ops o input h)
+input_ascends start ops o input (Refused why with_session_closed) l a h = unless_ascends (selects input) o h
 
 -- all but one session are as they were
 pub all_ascend : (old new : NodeState) (n : ℕ) → OthersStay old.sessions n new.sessions → ViewsAscend old.sessions → Ascends (view_at new.sessions n) → ViewsAscend new.sessions
@@ -221,10 +221,10 @@ all_ascend old new n others h here = λ m view e.
 pub inputs_ascend : (old new : NodeState) (n : ℕ) (input : Input) (reply : Reply) → 1 ≤ new.start.uid → IsApplied new.applied → Responds old n input reply new → ViewsAscend old.sessions → ViewsAscend new.sessions
 inputs_ascend old new n input reply l a r h =
     all_ascend old new n (others_as_before old new n input reply r) h
-    (subst Ascends (sym (replies_replay old new n input reply r)) (behind_ascends new.start new.applied (view_at old.sessions n) input reply l a (λ view e. h n view e)))
+    (subst Ascends (sym (replies_replay old new n input reply r)) (input_ascends new.start new.applied (view_at old.sessions n) input reply l a (λ view e. h n view e)))
 
-pub ascend_behind : (old new : NodeState) (n : ℕ) (input : Input) (reply : Reply) → 1 ≤ old.start.uid → IsApplied old.applied → Responds old n input reply new → ViewsAscend old.sessions → ViewsAscend new.sessions
-ascend_behind old new n input reply l a r h =
+pub views_ascend_after : (old new : NodeState) (n : ℕ) (input : Input) (reply : Reply) → 1 ≤ old.start.uid → IsApplied old.applied → Responds old n input reply new → ViewsAscend old.sessions → ViewsAscend new.sessions
+views_ascend_after old new n input reply l a r h =
     let issues = issues_well old new n input reply a r in
     inputs_ascend old new n input reply (subst (λ (s : Counters). 1 ≤ s.uid) (sym issues.start) l) issues.whole r h
 
@@ -234,20 +234,20 @@ stays_ascending old new e h = subst ViewsAscend (sym e) h
 pub closes_alone : (old : NodeState) (n : ℕ) → IsOpen old.sessions n → OthersStay old.sessions n (with_session_closed old n).sessions
 closes_alone old n new_session = let s = open_is (session_at old.sessions n) new_session in others_stay old.sessions n None s.0 s.1
 
-pub closed_sees : (old : NodeState) (n : ℕ) → IsOpen old.sessions n → view_at (with_session_closed old n).sessions n ≡ None
-closed_sees old n new_session = let s = open_is (session_at old.sessions n) new_session in ap view_in (session_put old.sessions n None s.0 s.1)
+pub closed_view : (old : NodeState) (n : ℕ) → IsOpen old.sessions n → view_at (with_session_closed old n).sessions n ≡ None
+closed_view old n new_session = let s = open_is (session_at old.sessions n) new_session in ap view_in (session_put old.sessions n None s.0 s.1)
 
 pub closes_ascend : (old : NodeState) (n : ℕ) → IsOpen old.sessions n → ViewsAscend old.sessions → ViewsAscend (with_session_closed old n).sessions
-closes_ascend old n new_session h = all_ascend old (with_session_closed old n) n (closes_alone old n new_session) h (subst Ascends (sym (closed_sees old n new_session)) none_ascends)
+closes_ascend old n new_session h = all_ascend old (with_session_closed old n) n (closes_alone old n new_session) h (subst Ascends (sym (closed_view old n new_session)) none_ascends)
 
-opened_sees : (auth : Auth) → view_of (new_session auth).state ≡ None
-opened_sees Preauth = refl
-opened_sees (Password credentials) = refl
+new_session_view : (auth : Auth) → view_of (new_session auth).state ≡ None
+new_session_view Preauth = refl
+new_session_view (Password credentials) = refl
 
 pub opens_ascend : (old new : Places) (auth : Auth) (n : ℕ) → Opens old auth n new → ViewsAscend old → ViewsAscend new
 opens_ascend old new auth n o h = λ m view e.
     elim (eqb_tells m n) [
-      | inl t ↦ none_ascends view (sym (ap view_in o.open_now ∙ opened_sees auth) ∙ subst (λ (k : ℕ). view_at new k ≡ Some view) t.1 e)
+      | inl t ↦ none_ascends view (sym (ap view_in o.open_now ∙ new_session_view auth) ∙ subst (λ (k : ℕ). view_at new k ≡ Some view) t.1 e)
       | inr f ↦ h m view (ap view_in (sym (o.others m f.1)) ∙ e)
     ]
 
@@ -256,8 +256,8 @@ vacant : (zeroed : Bool) (i : ℕ) → cond zeroed None (get_or {A = Option Sess
 vacant true i = refl
 vacant false i = refl
 
-pub nothing_seen : (n : ℕ) → view_at [] n ≡ None
-nothing_seen n = ap view_in (vacant (eqb n 0) (n - 1))
+pub no_view : (n : ℕ) → view_at [] n ≡ None
+no_view n = ap view_in (vacant (eqb n 0) (n - 1))
 
 pub begins_ascending : ViewsAscend []
-begins_ascending = λ n view e. none_ascends view (sym (nothing_seen n) ∙ e)
+begins_ascending = λ n view e. none_ascends view (sym (no_view n) ∙ e)

@@ -4,10 +4,10 @@ use Rattle.imap_commands.specs.declared.session.Session.{Session}
 use Rattle.imap_node.specs.Sessions.{OthersStay, Places, session_at, with_session}
 
 -- a place that exists holds what is put in it
-put_there : (places : Places) (i : ℕ) (place : Option Session) (s : Session) → get_or places i None ≡ Some s → get_or (set places i place) i None ≡ place
-put_there [] i place s h = let e : ◌≡◌ {A = Option Session} None (Some s) = h in cc
-put_there (p ∷ places) zero place s h = refl
-put_there (p ∷ places) (suc i) place s h = put_there places i place s h
+get_set_place : (places : Places) (i : ℕ) (place : Option Session) (s : Session) → get_or places i None ≡ Some s → get_or (set places i place) i None ≡ place
+get_set_place [] i place s h = let e : ◌≡◌ {A = Option Session} None (Some s) = h in cc
+get_set_place (p ∷ places) zero place s h = refl
+get_set_place (p ∷ places) (suc i) place s h = get_set_place places i place s h
 
 -- every other place stays as it was
 put_elsewhere : (places : Places) (i j : ℕ) (place : Option Session) → (i ≡ j → ⊥) → get_or (set places i place) j None ≡ get_or places j None
@@ -17,9 +17,9 @@ put_elsewhere (p ∷ places) zero (suc j) place d = refl
 put_elsewhere (p ∷ places) (suc i) zero place d = refl
 put_elsewhere (p ∷ places) (suc i) (suc j) place d = put_elsewhere places i j place (λ e. d (ap (λ (k : ℕ). suc k) e))
 
-there : (zeroed : Bool) (places : Places) (i : ℕ) (place : Option Session) (s : Session) → cond zeroed None (get_or places i None) ≡ Some s → cond zeroed None (get_or (set places i place) i None) ≡ place
-there true places i place s h = let e : ◌≡◌ {A = Option Session} None (Some s) = h in cc
-there false places i place s h = put_there places i place s h
+get_set_unless : (zeroed : Bool) (places : Places) (i : ℕ) (place : Option Session) (s : Session) → cond zeroed None (get_or places i None) ≡ Some s → cond zeroed None (get_or (set places i place) i None) ≡ place
+get_set_unless true places i place s h = let e : ◌≡◌ {A = Option Session} None (Some s) = h in cc
+get_set_unless false places i place s h = get_set_place places i place s h
 
 elsewhere : (zeroed : Bool) (places : Places) (i j : ℕ) (place : Option Session) → (i ≡ j → ⊥) → cond zeroed None (get_or (set places i place) j None) ≡ cond zeroed None (get_or places j None)
 elsewhere true places i j place d = refl
@@ -27,7 +27,7 @@ elsewhere false places i j place d = put_elsewhere places i j place d
 
 -- an open session is replaced
 pub session_put : (places : Places) (n : ℕ) (place : Option Session) (s : Session) → session_at places n ≡ Some s → session_at (with_session places n place) n ≡ place
-session_put places n place s h = there (eqb n 0) places (n - 1) place s h
+session_put places n place s h = get_set_unless (eqb n 0) places (n - 1) place s h
 
 -- no session has the number 0
 pub numbered_from_one : (places : Places) (n : ℕ) (s : Session) → session_at places n ≡ Some s → 0 < n

@@ -20,15 +20,15 @@ use Rattle.crdt_ops.specs.Sound.{IsSound}
 use Rattle.crdt_ops.specs.TagLaws.{same_tag_is}
 use Rattle.crdt_ops.specs.Tags.{FolderTag, MessageTag, SubscriptionTag, Tag, tag_added_by, adds, is_present, is_some_tag, name_of, removes}
 use Rattle.session_view.specs.ViewState.{ViewState, rows_under}
-use Rattle.imap_commands.specs.Printing.{AreNonzeroMarks, AreShowable}
+use Rattle.imap_commands.specs.Printing.{AreNonzeroCounters, AreShowable}
 use Rattle.imap_commands.specs.Printing.{IsShowable}
-use Rattle.imap_commands.proofs.PrintSelected.{each_of}
+use Rattle.imap_commands.proofs.PrintSelectLemmas.{each_of}
 use Rattle.uid_projection.specs.declared.first_numbers.Counters.{Counters}
 use Rattle.uid_projection.specs.Incarnations.{folder_exists, k_of, uidvalidity_of}
 use Rattle.uid_projection.specs.UidsAndModSeqs.{uidnext_of}
 use Rattle.uid_projection.specs.Listing.{listing}
 use Rattle.uid_projection.proofs.BoundLemmas.{bounds, rows_written}
-use Rattle.uid_projection.proofs.Noted.{validity_inbox, validity_there}
+use Rattle.uid_projection.proofs.NextOpLemmas.{validity_inbox, validity_present}
 use Rattle.uid_projection.proofs.Presence.{applied_front}
 use Rattle.imap_node.specs.Mailboxes.{counters_of, rows_for, validity_of}
 use Rattle.imap_node.specs.Printing.{IsPresentable}
@@ -98,7 +98,7 @@ pub validity_nonzero : (start : Counters) (name : List ℕ) (ops : List Op) → 
 validity_nonzero start name ops p t =
     elim (cases_Bool (bytes_eq name inbox)) [
       | inl own ↦ validity_by start name ops (uidvalidity_of start name ops) start.replica p refl (sym (validity_inbox start ops name own))
-      | inr other ↦ validity_by start name ops (uidvalidity_of start name ops) (65536 * k_of start name ops + start.replica) p refl (sym (validity_there start ops name other t (k_of start name ops) refl))
+      | inr other ↦ validity_by start name ops (uidvalidity_of start name ops) (65536 * k_of start name ops + start.replica) p refl (sym (validity_present start ops name other t (k_of start name ops) refl))
     ]
 
 pub highest_nonzero : (start : Counters) (name : List ℕ) (ops : List Op) → IsPresentable start ops → IsModSeq (counters_of start name ops).highest_modseq
@@ -109,8 +109,8 @@ highest_nonzero start name ops p =
     let count = p.count in
     (omega (arith, first), omega (arith, last, count))
 
-pub marks_nonzero : (start : Counters) (name : List ℕ) (ops : List Op) → IsPresentable start ops → folder_exists name ops ≡ true → AreNonzeroMarks (counters_of start name ops)
-marks_nonzero start name ops p t = record { uidnext = next_nonzero start name ops p; uidvalidity = validity_nonzero start name ops p t; highest = highest_nonzero start name ops p }
+pub counters_nonzero : (start : Counters) (name : List ℕ) (ops : List Op) → IsPresentable start ops → folder_exists name ops ≡ true → AreNonzeroCounters (counters_of start name ops)
+counters_nonzero start name ops p t = record { uidnext = next_nonzero start name ops p; uidvalidity = validity_nonzero start name ops p t; highest = highest_nonzero start name ops p }
 
 -- ---- what existed before
 
@@ -122,7 +122,7 @@ shown_before start ops more p =
       lawful = p.lawful;
       lasting = record {
         applied = applied_front ops more p.lasting.applied;
-        lasts = λ (front, o, back, k, h). p.lasting.lasts (front, o, back ++ more, ap (λ xs. xs ++ more) k ∙ append_assoc front (o ∷ back) more, h);
+        not_exhausted = λ (front, o, back, k, h). p.lasting.not_exhausted (front, o, back ++ more, ap (λ xs. xs ++ more) k ∙ append_assoc front (o ∷ back) more, h);
       };
       writable = λ o i. p.writable o (in_front o ops more i);
       count = omega (arith, count, l);
@@ -140,8 +140,8 @@ unfolding tag_name
 named_by t id (kinds.Create folder) h = ap tag_name (same_tag_is t (FolderTag folder id) h)
 named_by t id (kinds.Delete folder seen) h = absurd (false≢true h)
 named_by t id (kinds.Append folder flags date text) h = ap tag_name (same_tag_is t (MessageTag folder id) h)
-named_by t id (kinds.Expunge folder olds) h = ap tag_name (same_tag_is t (FolderTag folder id) h)
-named_by t id (kinds.Store folder flags olds origin) h = ap tag_name (same_tag_is t (MessageTag folder id) h)
+named_by t id (kinds.Expunge folder old_ids) h = ap tag_name (same_tag_is t (FolderTag folder id) h)
+named_by t id (kinds.Store folder flags old_ids origin) h = ap tag_name (same_tag_is t (MessageTag folder id) h)
 named_by t id (kinds.Subscribe name) h = ap tag_name (same_tag_is t (SubscriptionTag name id) h)
 named_by t id (kinds.Unsubscribe name seen) h = absurd (false≢true h)
 

@@ -1,5 +1,5 @@
 -- A node may be sent to another thread and shared among threads. A balanced tree refers to itself,
--- and the checker finds these facts for no type that holds one by itself. They are built up here,
+-- and the checker can't find these facts for a type that holds one. They are built up here,
 -- from the held operations to the node, so that no crate above has to search for them through all
 -- parts.
 use denote.RattleType.{RattleType}

@@ -131,17 +131,17 @@ beyond_first uid low (row ∷ rows) l h =
 
 -- ---- the view after a partial sync
 
-kept_uid : (e : ViewEntry) (row : Option ListedMessage) → (refreshed_entry_by e row).uid ≡ e.uid
-kept_uid e None = refl
-kept_uid e (Some row) = refl
+refreshed_uid : (e : ViewEntry) (row : Option ListedMessage) → (refreshed_entry_by e row).uid ≡ e.uid
+refreshed_uid e None = refl
+refreshed_uid e (Some row) = refl
 
-kept_in : (rows : List ListedMessage) (uid : ℕ) (es : List ViewEntry) → IsIn uid (uids_of es) → IsIn uid (uids_of (map (refreshed_entry rows) es))
-kept_in rows uid [] i = absurd i
-kept_in rows uid (e ∷ es) i = elim i [ inl q ↦ inl (kept_uid e (row_of e.uid rows) ∙ q) | inr t ↦ inr (kept_in rows uid es t) ]
+refreshed_in : (rows : List ListedMessage) (uid : ℕ) (es : List ViewEntry) → IsIn uid (uids_of es) → IsIn uid (uids_of (map (refreshed_entry rows) es))
+refreshed_in rows uid [] i = absurd i
+refreshed_in rows uid (e ∷ es) i = elim i [ inl q ↦ inl (refreshed_uid e (row_of e.uid rows) ∙ q) | inr t ↦ inr (refreshed_in rows uid es t) ]
 
-kept_from : (rows : List ListedMessage) (uid : ℕ) (es : List ViewEntry) → IsIn uid (uids_of (map (refreshed_entry rows) es)) → IsIn uid (uids_of es)
-kept_from rows uid [] i = absurd i
-kept_from rows uid (e ∷ es) i = elim i [ inl q ↦ inl (sym (kept_uid e (row_of e.uid rows)) ∙ q) | inr t ↦ inr (kept_from rows uid es t) ]
+refreshed_from : (rows : List ListedMessage) (uid : ℕ) (es : List ViewEntry) → IsIn uid (uids_of (map (refreshed_entry rows) es)) → IsIn uid (uids_of es)
+refreshed_from rows uid [] i = absurd i
+refreshed_from rows uid (e ∷ es) i = elim i [ inl q ↦ inl (sym (refreshed_uid e (row_of e.uid rows)) ∙ q) | inr t ↦ inr (refreshed_from rows uid es t) ]
 
 uids_append : (xs ys : List ViewEntry) → uids_of (xs ++ ys) ≡ uids_of xs ++ uids_of ys
 uids_append [] ys = refl
@@ -155,7 +155,7 @@ pub partial_has : (rows : List ListedMessage) (es : List ViewEntry) (row : Liste
 partial_has rows es row l i k =
     subst (IsIn row.uid) (sym (uids_append (map (refreshed_entry rows) es) (entries_of (rows_after_uid (last_uid es) rows))))
     (elim k [
-      | inl t ↦ in_front row.uid (uids_of (map (refreshed_entry rows) es)) (uids_of (entries_of (rows_after_uid (last_uid es) rows))) (kept_in rows row.uid es t)
+      | inl t ↦ in_front row.uid (uids_of (map (refreshed_entry rows) es)) (uids_of (entries_of (rows_after_uid (last_uid es) rows))) (refreshed_in rows row.uid es t)
       | inr over ↦ in_back row.uid (uids_of (map (refreshed_entry rows) es)) (uids_of (entries_of (rows_after_uid (last_uid es) rows)))
           (listed_uid row (rows_after_uid (last_uid es) rows) ((in_filter (λ (r : ListedMessage). nat_lt (last_uid es) r.uid) rows row).1 (i, above (last_uid es) row (last_below es row.uid l over))))
     ])
@@ -164,7 +164,7 @@ partial_has rows es row l i k =
 pub partial_from : (rows : List ListedMessage) (es : List ViewEntry) (uid : ℕ) → IsIn uid (uids_of (view_after_sync Partial rows es)) → IsIn uid (uids_of es) ⊎ ((row : ListedMessage) × IsIn row rows × (row.uid ≡ uid))
 partial_from rows es uid i =
     elim (in_parts uid (uids_of (map (refreshed_entry rows) es)) (uids_of (entries_of (rows_after_uid (last_uid es) rows))) (subst (IsIn uid) (uids_append (map (refreshed_entry rows) es) (entries_of (rows_after_uid (last_uid es) rows))) i)) [
-      | inl t ↦ inl (kept_from rows uid es t)
+      | inl t ↦ inl (refreshed_from rows uid es t)
       | inr t ↦
           let w = uid_listed uid (rows_after_uid (last_uid es) rows) t in
           inr (w.0, ((in_filter (λ (r : ListedMessage). nat_lt (last_uid es) r.uid) rows w.0).0 w.1).0, w.2)

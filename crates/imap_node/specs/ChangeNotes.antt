@@ -22,7 +22,7 @@ pub record MailboxSnapshot : Type 0 where
   pub touched : List ℕ
 
 -- `ahead` is the mailbox `name` before the operations: its UIDVALIDITY, its UIDNEXT, and UIDs below
--- that outside of which rows don't change, as long as the UIDVALIDITY doesn't.
+-- that; no other rows change, as long as the UIDVALIDITY doesn't.
 pub record IsSnapshotOf (start : Counters) (before ops : List Op) (name : List ℕ)
     (ahead : MailboxSnapshot) : Type 0 where
   pub name_is : ahead.name ≡ name
@@ -35,8 +35,8 @@ pub record IsSnapshotOf (start : Counters) (before ops : List Op) (name : List �
 
 -- If the UIDVALIDITY didn't change, the notes name each touched UID and each UID from `first` up to
 -- `uidnext`; otherwise they name every UID.
-abbrev pub TellsOf : Option ℕ → Option ℕ → ℕ → ℕ → List ℕ → List Note → Type 0
-TellsOf before now first uidnext touched notes =
+abbrev pub NamesTouched : Option ℕ → Option ℕ → ℕ → ℕ → List ℕ → List Note → Type 0
+NamesTouched before now first uidnext touched notes =
     (((before ≡ now) × ((uid : ℕ) → IsIn uid touched → is_noted notes uid ≡ true)
     × ((uid : ℕ) → first ≤ uid → uid < uidnext → is_noted notes uid ≡ true))
     ⊎ ((uid : ℕ) → is_noted notes uid ≡ true))
@@ -52,5 +52,5 @@ AreNamed start before ops folders =
 pub record AreNotesSoFar (start : Counters) (before ops : List Op) (name : List ℕ)
     (old new : List MailboxNotes) : Type 0 where
   pub own : is_named new name ≡ true
-  pub kept : (other : List ℕ) → is_named old other ≡ true → is_named new other ≡ true
+  pub still_named : (other : List ℕ) → is_named old other ≡ true → is_named new other ≡ true
   pub named : AreNamed start before ops old → AreNamed start before ops new

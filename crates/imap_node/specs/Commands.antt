@@ -8,31 +8,31 @@ use Rattle.crdt_ops.specs.declared.op.Op.{Op}
 use Rattle.crdt_ops.specs.Sets.{delete_set_of, folders_of, subscribed_names_of}
 use Rattle.crdt_ops.specs.Sets.{subscription_tags_of}
 use Rattle.imap_answers.specs.declared.answer.Answer.{Answer}
-use Rattle.imap_answers.specs.declared.answer.Answer.TheVariants.{Tell}
+use Rattle.imap_answers.specs.declared.answer.Answer.TheVariants.{UntaggedOk}
 use Rattle.imap_answers.specs.declared.codes.Notice.TheVariants.{HighestModSeq}
 use Rattle.imap_answers.specs.declared.fixed_words.CompletedWord.{CompletedWord}
 use Rattle.imap_answers.specs.declared.fixed_words.CompletedWord.TheVariants as words
 use Rattle.imap_answers.specs.declared.fixed_words.Refusal.{Refusal}
 use Rattle.imap_answers.specs.declared.fixed_words.Refusal.TheVariants.{NotNow}
-use Rattle.imap_commands.specs.Appending.{append_report, append_intent}
+use Rattle.imap_commands.specs.AppendCommand.{append_report, append_intent}
 use Rattle.imap_commands.specs.Arguments.{SearchArgs}
 use Rattle.imap_commands.specs.SimpleCommands.{IsListReport, capability_report, idle_report}
 use Rattle.imap_commands.specs.SimpleCommands.{logout_report, namespace_report, status_report}
 use Rattle.imap_commands.specs.SimpleCommands.{status_intent}
-use Rattle.imap_commands.specs.Copying.{copy_report, copy_intent, move_report, move_intent}
-use Rattle.imap_commands.specs.Enabling.{asks_condstore, enable_report, fetch_asks_modseq}
-use Rattle.imap_commands.specs.Enabling.{search_asks_modseq, status_asks_modseq}
+use Rattle.imap_commands.specs.CopyCommand.{copy_report, copy_intent, move_report, move_intent}
+use Rattle.imap_commands.specs.EnableCommand.{asks_condstore, enable_report, fetch_asks_modseq}
+use Rattle.imap_commands.specs.EnableCommand.{search_asks_modseq, status_asks_modseq}
 use Rattle.imap_commands.specs.Login.{login_intent}
-use Rattle.imap_commands.specs.Expunging.{close_intent, expunge_intent, uid_expunge_report}
-use Rattle.imap_commands.specs.Expunging.{uid_expunge_intent}
-use Rattle.imap_commands.specs.Fetching.{fetch_report, fetch_intent}
+use Rattle.imap_commands.specs.ExpungeCommand.{close_intent, expunge_intent, uid_expunge_report}
+use Rattle.imap_commands.specs.ExpungeCommand.{uid_expunge_intent}
+use Rattle.imap_commands.specs.FetchCommand.{fetch_report, fetch_intent}
 use Rattle.imap_commands.specs.NamedMessages.{NamedMessages, messages_named_by, no_messages_named}
 use Rattle.imap_commands.specs.NamedMessages.{messages_stored_by}
 use Rattle.imap_commands.specs.Mailboxes.{create_intent, created_name, delete_intent}
 use Rattle.imap_commands.specs.Mailboxes.{subscribe_intent, unsubscribe_intent}
-use Rattle.imap_commands.specs.Searching.{IsSearchReport, search_intent}
-use Rattle.imap_commands.specs.Selecting.{IsSelectReport, select_intent}
-use Rattle.imap_commands.specs.Storing.{store_report, store_intent}
+use Rattle.imap_commands.specs.SearchCommand.{IsSearchReport, search_intent}
+use Rattle.imap_commands.specs.SelectCommand.{IsSelectReport, select_intent}
+use Rattle.imap_commands.specs.StoreCommand.{store_report, store_intent}
 use Rattle.imap_commands.specs.Report.{CommandReport, empty_report}
 use Rattle.imap_commands.specs.declared.session.Credentials.{Credentials}
 use Rattle.imap_commands.specs.declared.session.State.{State}
@@ -50,33 +50,33 @@ use Rattle.uid_projection.specs.Incarnations.{folder_exists, uidvalidity_of}
 use Rattle.uid_projection.specs.UidsAndModSeqs.{highest_modseq_of, uidnext_of}
 use Rattle.uid_projection.specs.Listing.{listing}
 
--- ---- the states in which commands are lawful (RFC 9051, section 3)
+-- ---- the states in which commands are valid (RFC 9051, section 3)
 
 abbrev pub is_selected : State → Bool
 is_selected (Selected view read_only) = true
 is_selected _ = false
 
 -- A result only in a session that has not logged in.
-abbrev pub when_new : {X : Type 0} → State → (Credentials → Result X Refusal) → Result X Refusal
-when_new (NotAuthenticated credentials) want = want credentials
-when_new _ want = Err NotNow
+abbrev pub before_login : {X : Type 0} → State → (Credentials → Result X Refusal) → Result X Refusal
+before_login (NotAuthenticated credentials) outcome = outcome credentials
+before_login _ outcome = Err NotNow
 
 -- The session's user is known and has not logged out.
-abbrev pub is_known : State → Bool
-is_known (NotAuthenticated credentials) = false
-is_known Authenticated = true
-is_known (Selected view read_only) = true
-is_known LoggedOut = false
+abbrev pub is_logged_in : State → Bool
+is_logged_in (NotAuthenticated credentials) = false
+is_logged_in Authenticated = true
+is_logged_in (Selected view read_only) = true
+is_logged_in LoggedOut = false
 
 -- A result only in a session whose user is known.
-abbrev pub when_known : {X : Type 0} → State → Result X Refusal → Result X Refusal
-when_known state want = if is_known state then want else Err NotNow
+abbrev pub if_logged_in : {X : Type 0} → State → Result X Refusal → Result X Refusal
+if_logged_in state outcome = if is_logged_in state then outcome else Err NotNow
 
 -- A result only in a session that has selected a mailbox.
-abbrev pub when_selected : {X : Type 0} → State → (ViewState → Bool → Result X Refusal)
+abbrev pub if_selected : {X : Type 0} → State → (ViewState → Bool → Result X Refusal)
     → Result X Refusal
-when_selected (Selected view read_only) want = want view read_only
-when_selected _ want = Err NotNow
+if_selected (Selected view read_only) outcome = outcome view read_only
+if_selected _ outcome = Err NotNow
 
 -- ---- what each command issues, names and reports
 
@@ -88,79 +88,84 @@ command_intent start ops stamp state commands.Capability = Ok []
 command_intent start ops stamp state commands.Noop = Ok []
 command_intent start ops stamp state commands.Logout = Ok []
 command_intent start ops stamp state (commands.Login user password) =
-    when_new state (λ credentials. login_intent credentials user password)
-command_intent start ops stamp state (commands.Enable names) = when_known state (Ok [])
+    before_login state (λ credentials. login_intent credentials user password)
+command_intent start ops stamp state (commands.Enable names) = if_logged_in state (Ok [])
 command_intent start ops stamp state (commands.Select name condstore) =
-    when_known state (select_intent (folder_exists name ops))
+    if_logged_in state (select_intent (folder_exists name ops))
 command_intent start ops stamp state (commands.Examine name condstore) =
-    when_known state (select_intent (folder_exists name ops))
+    if_logged_in state (select_intent (folder_exists name ops))
 command_intent start ops stamp state (commands.Create name) =
-    when_known state (create_intent (folder_exists (created_name name) ops) name)
+    if_logged_in state (create_intent (folder_exists (created_name name) ops) name)
 command_intent start ops stamp state (commands.Delete name) =
-    when_known state (delete_intent (folder_exists name ops) (delete_set_of ops name) name)
+    if_logged_in state (delete_intent (folder_exists name ops) (delete_set_of ops name) name)
 command_intent start ops stamp state (commands.Subscribe name) =
-    when_known state (subscribe_intent (is_subscribed name ops) name)
+    if_logged_in state (subscribe_intent (is_subscribed name ops) name)
 command_intent start ops stamp state (commands.Unsubscribe name) =
-    when_known state (unsubscribe_intent (subscription_tags_of ops name) name)
-command_intent start ops stamp state (commands.ListNames asked) = when_known state (Ok [])
-command_intent start ops stamp state commands.Namespace = when_known state (Ok [])
+    if_logged_in state (unsubscribe_intent (subscription_tags_of ops name) name)
+command_intent start ops stamp state (commands.ListNames request) = if_logged_in state (Ok [])
+command_intent start ops stamp state commands.Namespace = if_logged_in state (Ok [])
 command_intent start ops stamp state (commands.Status name items) =
-    when_known state (status_intent (folder_exists name ops))
-command_intent start ops stamp state (commands.Append asked) =
-    when_known state (append_intent (folder_exists asked.name ops) stamp
-    (record { name = asked.name; flags = asked.flags; date = asked.date; text = asked.text }))
-command_intent start ops stamp state commands.Idle = when_known state (Ok [])
+    if_logged_in state (status_intent (folder_exists name ops))
+command_intent start ops stamp state (commands.Append request) =
+    if_logged_in state (append_intent (folder_exists request.name ops) stamp
+    (record {
+      name = request.name;
+      flags = request.flags;
+      date = request.date;
+      text = request.text;
+    }))
+command_intent start ops stamp state commands.Idle = if_logged_in state (Ok [])
 command_intent start ops stamp state commands.Close =
-    when_selected state (λ view read_only. close_intent (mailbox_in start ops view read_only))
+    if_selected state (λ view read_only. close_intent (mailbox_in start ops view read_only))
 command_intent start ops stamp state commands.Unselect =
-    when_selected state (λ view read_only. Ok [])
+    if_selected state (λ view read_only. Ok [])
 command_intent start ops stamp state commands.Expunge =
-    when_selected state (λ view read_only. expunge_intent (mailbox_in start ops view read_only))
+    if_selected state (λ view read_only. expunge_intent (mailbox_in start ops view read_only))
 command_intent start ops stamp state (commands.UidExpunge uids) =
-    when_selected state
+    if_selected state
     (λ view read_only. uid_expunge_intent (mailbox_in start ops view read_only) uids)
-command_intent start ops stamp state (commands.Search asked) =
-    when_selected state (λ view read_only. search_intent view.entries asked.steps)
-command_intent start ops stamp state (commands.Fetch asked) =
-    when_selected state (λ view read_only. fetch_intent (mailbox_in start ops view read_only)
+command_intent start ops stamp state (commands.Search request) =
+    if_selected state (λ view read_only. search_intent view.entries request.steps)
+command_intent start ops stamp state (commands.Fetch request) =
+    if_selected state (λ view read_only. fetch_intent (mailbox_in start ops view read_only)
     (record {
-      by_uid = asked.by_uid;
-      messages = asked.messages;
-      items = asked.items;
-      changed_since = asked.changed_since;
+      by_uid = request.by_uid;
+      messages = request.messages;
+      items = request.items;
+      changed_since = request.changed_since;
     }))
-command_intent start ops stamp state (commands.Store asked) =
-    when_selected state (λ view read_only. store_intent (mailbox_in start ops view read_only)
+command_intent start ops stamp state (commands.Store request) =
+    if_selected state (λ view read_only. store_intent (mailbox_in start ops view read_only)
     (record {
-      by_uid = asked.by_uid;
-      messages = asked.messages;
-      unchanged_since = asked.unchanged_since;
-      action = asked.action;
-      flags = asked.flags;
+      by_uid = request.by_uid;
+      messages = request.messages;
+      unchanged_since = request.unchanged_since;
+      action = request.action;
+      flags = request.flags;
     }))
-command_intent start ops stamp state (commands.Copy asked) =
-    when_selected state (λ view read_only. copy_intent (mailbox_in start ops view read_only)
-    (record { by_uid = asked.by_uid; messages = asked.messages; destination = asked.name })
-    (folder_exists asked.name ops))
-command_intent start ops stamp state (commands.Move asked) =
-    when_selected state (λ view read_only. move_intent (mailbox_in start ops view read_only)
-    (record { by_uid = asked.by_uid; messages = asked.messages; destination = asked.name })
-    (folder_exists asked.name ops))
+command_intent start ops stamp state (commands.Copy request) =
+    if_selected state (λ view read_only. copy_intent (mailbox_in start ops view read_only)
+    (record { by_uid = request.by_uid; messages = request.messages; destination = request.name })
+    (folder_exists request.name ops))
+command_intent start ops stamp state (commands.Move request) =
+    if_selected state (λ view read_only. move_intent (mailbox_in start ops view read_only)
+    (record { by_uid = request.by_uid; messages = request.messages; destination = request.name })
+    (folder_exists request.name ops))
 
 -- The commands that name messages of the selected mailbox and report on them.
 abbrev pub names_messages : Command → Bool
 names_messages (commands.UidExpunge uids) = true
-names_messages (commands.Fetch asked) = true
-names_messages (commands.Store asked) = true
-names_messages (commands.Copy asked) = true
-names_messages (commands.Move asked) = true
+names_messages (commands.Fetch request) = true
+names_messages (commands.Store request) = true
+names_messages (commands.Copy request) = true
+names_messages (commands.Move request) = true
 names_messages _ = false
 
 -- The commands that read the selected mailbox.
-abbrev pub asks_mailbox : Command → Bool
-asks_mailbox commands.Close = true
-asks_mailbox commands.Expunge = true
-asks_mailbox command = names_messages command
+abbrev pub reads_mailbox : Command → Bool
+reads_mailbox commands.Close = true
+reads_mailbox commands.Expunge = true
+reads_mailbox command = names_messages command
 
 -- The messages named in the selected mailbox; none if no mailbox is selected.
 abbrev pub messages_named_if_selected : State → (ViewState → Bool → NamedMessages) → NamedMessages
@@ -171,30 +176,30 @@ messages_named_if_selected _ find = no_messages_named
 abbrev pub messages_named_by_command : Counters → List Op → State → Command → NamedMessages
 messages_named_by_command start ops state (commands.UidExpunge uids) =
     messages_named_if_selected state (λ view read_only. messages_named_by true uids view.entries)
-messages_named_by_command start ops state (commands.Fetch asked) =
+messages_named_by_command start ops state (commands.Fetch request) =
     messages_named_if_selected state
-    (λ view read_only. messages_named_by asked.by_uid asked.messages view.entries)
-messages_named_by_command start ops state (commands.Store asked) =
+    (λ view read_only. messages_named_by request.by_uid request.messages view.entries)
+messages_named_by_command start ops state (commands.Store request) =
     messages_named_if_selected state (λ view read_only. messages_stored_by
     (mailbox_in start ops view read_only) (record {
-      by_uid = asked.by_uid;
-      messages = asked.messages;
-      unchanged_since = asked.unchanged_since;
-      action = asked.action;
-      flags = asked.flags;
+      by_uid = request.by_uid;
+      messages = request.messages;
+      unchanged_since = request.unchanged_since;
+      action = request.action;
+      flags = request.flags;
     }))
-messages_named_by_command start ops state (commands.Copy asked) =
+messages_named_by_command start ops state (commands.Copy request) =
     messages_named_if_selected state
-    (λ view read_only. messages_named_by asked.by_uid asked.messages view.entries)
-messages_named_by_command start ops state (commands.Move asked) =
+    (λ view read_only. messages_named_by request.by_uid request.messages view.entries)
+messages_named_by_command start ops state (commands.Move request) =
     messages_named_if_selected state
-    (λ view read_only. messages_named_by asked.by_uid asked.messages view.entries)
+    (λ view read_only. messages_named_by request.by_uid request.messages view.entries)
 messages_named_by_command start ops state _ = no_messages_named
 
 -- A report on the selected mailbox; empty if no mailbox is selected.
 abbrev pub report_if_selected : State → (ViewState → Bool → CommandReport) → CommandReport
-report_if_selected (Selected view read_only) tell = tell view read_only
-report_if_selected _ tell = empty_report
+report_if_selected (Selected view read_only) report_of = report_of view read_only
+report_if_selected _ report_of = empty_report
 
 -- A command's own report, given the operations before it and those with its own; empty for SELECT,
 -- EXAMINE, LIST and SEARCH, which `IsCommandReport` defines.
@@ -206,68 +211,68 @@ command_report start before after state modseq commands.Idle = idle_report
 command_report start before after state modseq (commands.Enable names) = enable_report names
 command_report start before after state modseq (commands.Status name items) =
     status_report name items (counters_of start name after) (listing start name after)
-command_report start before after state modseq (commands.Append asked) =
-    append_report (validity_of start asked.name after) (uidnext_of start asked.name before)
+command_report start before after state modseq (commands.Append request) =
+    append_report (validity_of start request.name after) (uidnext_of start request.name before)
 command_report start before after state modseq (commands.UidExpunge uids) =
     report_if_selected state
     (λ view read_only. uid_expunge_report (mailbox_in start before view read_only) uids)
-command_report start before after state modseq (commands.Fetch asked) =
+command_report start before after state modseq (commands.Fetch request) =
     report_if_selected state (λ view read_only. fetch_report
     (mailbox_in start before view read_only) (rows_for start after view) modseq
     (record {
-      by_uid = asked.by_uid;
-      messages = asked.messages;
-      items = asked.items;
-      changed_since = asked.changed_since;
+      by_uid = request.by_uid;
+      messages = request.messages;
+      items = request.items;
+      changed_since = request.changed_since;
     }))
-command_report start before after state modseq (commands.Store asked) =
+command_report start before after state modseq (commands.Store request) =
     report_if_selected state (λ view read_only. store_report
     (mailbox_in start before view read_only) (rows_for start after view) modseq
     (record {
-      by_uid = asked.by_uid;
-      messages = asked.messages;
-      unchanged_since = asked.unchanged_since;
-      action = asked.action;
-      flags = asked.flags;
+      by_uid = request.by_uid;
+      messages = request.messages;
+      unchanged_since = request.unchanged_since;
+      action = request.action;
+      flags = request.flags;
     }))
-command_report start before after state modseq (commands.Copy asked) =
+command_report start before after state modseq (commands.Copy request) =
     report_if_selected state (λ view read_only. copy_report (mailbox_in start before view read_only)
-    (record { by_uid = asked.by_uid; messages = asked.messages; destination = asked.name })
-    (copy_target_in start before after asked.name))
-command_report start before after state modseq (commands.Move asked) =
+    (record { by_uid = request.by_uid; messages = request.messages; destination = request.name })
+    (copy_target_in start before after request.name))
+command_report start before after state modseq (commands.Move request) =
     report_if_selected state (λ view read_only. move_report (mailbox_in start before view read_only)
-    (record { by_uid = asked.by_uid; messages = asked.messages; destination = asked.name })
-    (copy_target_in start before after asked.name))
+    (record { by_uid = request.by_uid; messages = request.messages; destination = request.name })
+    (copy_target_in start before after request.name))
 command_report start before after state modseq _ = empty_report
 
 abbrev pub IsSearchReportIfSelected : Counters → List Op → State → List ℕ → SearchArgs
     → CommandReport → Type 0
-IsSearchReportIfSelected start ops (Selected view read_only) tag asked told =
-    IsSearchReport (mailbox_in start ops view read_only) tag asked told
-IsSearchReportIfSelected start ops _ tag asked told = told ≡ empty_report
+IsSearchReportIfSelected start ops (Selected view read_only) tag request report =
+    IsSearchReport (mailbox_in start ops view read_only) tag request report
+IsSearchReportIfSelected start ops _ tag request report = report ≡ empty_report
 
--- `told` is a command's own report. For SELECT, EXAMINE, LIST and SEARCH it is the one report that
+-- `report` is a command's own report; for SELECT, EXAMINE, LIST and SEARCH, the only report that
 -- their rules allow.
 abbrev pub IsCommandReport : Counters → List Op → List Op → State → Bool → List ℕ → Command
     → CommandReport → Type 0
-IsCommandReport start before after state modseq tag (commands.Select name condstore) told =
+IsCommandReport start before after state modseq tag (commands.Select name condstore) report =
     IsSelectReport (is_selected state) false name (counters_of start name after)
-    (listing start name after) told
-IsCommandReport start before after state modseq tag (commands.Examine name condstore) told =
+    (listing start name after) report
+IsCommandReport start before after state modseq tag (commands.Examine name condstore) report =
     IsSelectReport (is_selected state) true name (counters_of start name after)
-    (listing start name after) told
-IsCommandReport start before after state modseq tag (commands.ListNames asked) told =
+    (listing start name after) report
+IsCommandReport start before after state modseq tag (commands.ListNames request) report =
     IsListReport
     (record {
-      subscribed_only = asked.subscribed_only;
-      return_subscribed = asked.return_subscribed;
+      subscribed_only = request.subscribed_only;
+      return_subscribed = request.return_subscribed;
     })
-    asked.reference asked.pattern (folders_of before) (subscribed_names_of before) told
-IsCommandReport start before after state modseq tag (commands.Search asked) told =
+    request.reference request.pattern (folders_of before) (subscribed_names_of before) report
+IsCommandReport start before after state modseq tag (commands.Search request) report =
     IsSearchReportIfSelected start after state tag
-    (record { by_uid = asked.by_uid; options = asked.options; steps = asked.steps }) told
-IsCommandReport start before after state modseq tag command told =
-    told ≡ command_report start before after state modseq command
+    (record { by_uid = request.by_uid; options = request.options; steps = request.steps }) report
+IsCommandReport start before after state modseq tag command report =
+    report ≡ command_report start before after state modseq command
 
 -- The state after a command, before its answers are replayed. A newly selected mailbox shows no
 -- messages yet.
@@ -296,9 +301,9 @@ sync_of (commands.Examine name condstore) = None
 sync_of commands.Idle = None
 sync_of commands.Unselect = None
 sync_of commands.Close = None
-sync_of (commands.Search asked) = Some (sync_kind_by asked.by_uid)
-sync_of (commands.Fetch asked) = Some (sync_kind_by asked.by_uid)
-sync_of (commands.Store asked) = Some (sync_kind_by asked.by_uid)
+sync_of (commands.Search request) = Some (sync_kind_by request.by_uid)
+sync_of (commands.Fetch request) = Some (sync_kind_by request.by_uid)
+sync_of (commands.Store request) = Some (sync_kind_by request.by_uid)
 sync_of _ = Some Full
 
 -- The commands that turn mod-sequences on (RFC 7162, section 3.1).
@@ -307,9 +312,9 @@ is_enabling (commands.Enable names) = asks_condstore names
 is_enabling (commands.Select name condstore) = condstore
 is_enabling (commands.Examine name condstore) = condstore
 is_enabling (commands.Status name items) = status_asks_modseq items
-is_enabling (commands.Search asked) = search_asks_modseq asked.steps
-is_enabling (commands.Fetch asked) = fetch_asks_modseq asked.items asked.changed_since
-is_enabling (commands.Store asked) = is_some asked.unchanged_since
+is_enabling (commands.Search request) = search_asks_modseq request.steps
+is_enabling (commands.Fetch request) = fetch_asks_modseq request.items request.changed_since
+is_enabling (commands.Store request) = is_some request.unchanged_since
 is_enabling _ = false
 
 -- The commands that leave the selected mailbox even if they are refused (RFC 9051, section 6.3.2).
@@ -336,20 +341,20 @@ word_of (commands.Create name) = words.Create
 word_of (commands.Delete name) = words.Delete
 word_of (commands.Subscribe name) = words.Subscribe
 word_of (commands.Unsubscribe name) = words.Unsubscribe
-word_of (commands.ListNames asked) = words.List
+word_of (commands.ListNames request) = words.List
 word_of commands.Namespace = words.Namespace
 word_of (commands.Status name items) = words.Status
-word_of (commands.Append asked) = words.Append
+word_of (commands.Append request) = words.Append
 word_of commands.Idle = words.Idle
 word_of commands.Close = words.Close
 word_of commands.Unselect = words.Unselect
 word_of commands.Expunge = words.Expunge
 word_of (commands.UidExpunge uids) = words.UidExpunge
-word_of (commands.Search asked) = if asked.by_uid then words.UidSearch else words.Search
-word_of (commands.Fetch asked) = if asked.by_uid then words.UidFetch else words.Fetch
-word_of (commands.Store asked) = if asked.by_uid then words.UidStore else words.Store
-word_of (commands.Copy asked) = if asked.by_uid then words.UidCopy else words.Copy
-word_of (commands.Move asked) = if asked.by_uid then words.UidMove else words.Move
+word_of (commands.Search request) = if request.by_uid then words.UidSearch else words.Search
+word_of (commands.Fetch request) = if request.by_uid then words.UidFetch else words.Fetch
+word_of (commands.Store request) = if request.by_uid then words.UidStore else words.Store
+word_of (commands.Copy request) = if request.by_uid then words.UidCopy else words.Copy
+word_of (commands.Move request) = if request.by_uid then words.UidMove else words.Move
 
 -- ---- mod-sequences (RFC 7162, section 3.1)
 
@@ -357,7 +362,7 @@ word_of (commands.Move asked) = if asked.by_uid then words.UidMove else words.Mo
 abbrev pub highest_answer : ℕ → Option ℕ → ℕ → List Answer
 highest_answer uidvalidity None highest = []
 highest_answer uidvalidity (Some now) highest =
-    if now == uidvalidity then Tell (HighestModSeq highest) ∷ [] else []
+    if now == uidvalidity then UntaggedOk (HighestModSeq highest) ∷ [] else []
 
 abbrev pub highest_answer_of : Counters → List Op → State → List Answer
 highest_answer_of start ops (Selected view read_only) =
@@ -365,7 +370,7 @@ highest_answer_of start ops (Selected view read_only) =
     (highest_modseq_of view.name ops)
 highest_answer_of start ops _ = []
 
--- A command turns mod-sequences on that were off. SELECT and EXAMINE are left out, since they
+-- A command turns on mod-sequences that were off. SELECT and EXAMINE are left out, since they
 -- report HIGHESTMODSEQ anyway.
 abbrev pub enables_condstore : Bool → Command → Bool
 enables_condstore condstore command =

@@ -72,21 +72,21 @@ abbrev pub sync_result : Counters → List Op → Option SyncKind → Bool → S
     → List Answer → SyncResult
 sync_result start ops sync modseq (Selected view read_only) silent own =
     let rows = rows_for start ops view in
-    let seen = view_after_reply rows view.entries silent own in
+    let new_view = view_after_reply rows view.entries silent own in
     record {
-      answers = answers_of_sync sync modseq rows seen;
-      state = Selected (record view { entries = entries_after_sync sync rows seen }) read_only;
+      answers = answers_of_sync sync modseq rows new_view;
+      state = Selected (record view { entries = entries_after_sync sync rows new_view }) read_only;
     }
 sync_result start ops sync modseq state silent own = record { answers = []; state = state }
 
 abbrev pub sync_result_of : Counters → List Op → InputEffect → SyncResult
-sync_result_of start ops course =
-    sync_result start ops course.sync course.modseq course.state course.silent course.own
+sync_result_of start ops effect =
+    sync_result start ops effect.sync effect.modseq effect.state effect.silent effect.own
 
 -- All answers: the input's own, the sync's, and the last ones.
 abbrev pub answers_of_effect : Counters → List Op → InputEffect → List Answer
-answers_of_effect start ops course =
-    course.own ++ ((sync_result_of start ops course).answers ++ course.tail)
+answers_of_effect start ops effect =
+    effect.own ++ ((sync_result_of start ops effect).answers ++ effect.tail)
 
 -- What comes before a sync, and the kind of the sync: flags that are set silently, and a command's
 -- own answers.

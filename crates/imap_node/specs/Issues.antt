@@ -29,5 +29,5 @@ pub record Issues (old : NodeState) (ops : List Op) (new : NodeState) : Type 0 w
   pub kinds : List Kind
   pub next : AreNext old.start.replica old.applied kinds ops
   pub fresh : (op : Op) → IsIn op ops → IsFresh old.start.replica old.applied op
-  pub lasts : Exhausts old.start old.applied ops → ⊥
+  pub not_exhausted : Exhausts old.start old.applied ops → ⊥
   pub whole : IsApplied new.applied

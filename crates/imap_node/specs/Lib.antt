@@ -8,13 +8,13 @@ pub mod InputEffects
 pub mod Responses
 pub mod Printing
 pub mod Plans
-pub mod Resting
+pub mod SettledNoops
 pub mod Deliveries
 pub mod Replays
 pub mod SessionFeeds
 pub mod ChangeNotes
 pub mod SessionChanges
 pub mod Issues
-pub mod GoingBack
+pub mod OlderViews
 pub mod Replies
 pub mod Steps

@@ -73,8 +73,8 @@ HasLoggedOut node n =
     (session : Session) × (session_at node.sessions n ≡ Some session) × (session.state ≡ LoggedOut)
 
 -- The session is open and has not logged out.
-abbrev pub IsGoing : NodeState → ℕ → Type 0
-IsGoing node n =
+abbrev pub IsActive : NodeState → ℕ → Type 0
+IsActive node n =
     (session : Session)
     × (session_at node.sessions n ≡ Some session)
     × ((session.state ≡ LoggedOut) → ⊥)

@@ -33,28 +33,28 @@ pub record AreNext (replica : ℕ) (applied : List Op) (kinds : List Kind) (ops 
 
 -- The replica's own numbers, which end at 4,294,967,295, don't suffice for operations of these
 -- kinds.
-abbrev pub OwnNumbersEnd : ℕ → List Op → List Kind → Type 0
-OwnNumbersEnd replica applied kinds =
+abbrev pub ExceedsOwnNumbers : ℕ → List Op → List Kind → Type 0
+ExceedsOwnNumbers replica applied kinds =
     (clock : List (ℕ × ℕ))
     × IsClockOf id_of applied clock
     × (4294967295 < count_of clock replica + length kinds)
 
--- Operations of these kinds find a counter used up: the replica's own numbers, a folder's UIDs or
+-- Operations of these kinds exhaust a counter: the replica's own numbers, a folder's UIDs or
 -- the UIDVALIDITYs.
-abbrev pub IsUsedUp : Counters → List Op → List Kind → Type 0
-IsUsedUp start applied kinds =
-    OwnNumbersEnd start.replica applied kinds
+abbrev pub ExceedsCounters : Counters → List Op → List Kind → Type 0
+ExceedsCounters start applied kinds =
+    ExceedsOwnNumbers start.replica applied kinds
     ⊎ ((ops : List Op) × AreNext start.replica applied kinds ops × Exhausts start applied ops)
 
--- These operations can be applied after the list, and find no counter used up.
+-- These operations can be applied after the list, and exhaust no counter.
 pub record CanFollow (start : Counters) (applied ops : List Op) : Type 0 where
   pub causal : IsApplied (applied ++ ops)
-  pub lasts : Exhausts start applied ops → ⊥
+  pub not_exhausted : Exhausts start applied ops → ⊥
 
 -- Why operations of these kinds can't be made ready.
-abbrev pub IsNotReady : Counters → List Op → List Kind → Refusal → Type 0
-IsNotReady start applied kinds why =
-    (why ≡ NoMemory) ⊎ ((why ≡ NumberUsedUp) × IsUsedUp start applied kinds)
+abbrev pub IsReadyRefusal : Counters → List Op → List Kind → Refusal → Type 0
+IsReadyRefusal start applied kinds why =
+    (why ≡ NoMemory) ⊎ ((why ≡ NumberUsedUp) × ExceedsCounters start applied kinds)
 
 -- The replica may issue an operation of this kind: its name and flags are lawful, it doesn't delete
 -- INBOX, and it names only what was applied.

@@ -11,7 +11,7 @@ use Rattle.imap_commands.specs.declared.session.State.{State}
 use Rattle.imap_node.specs.declared.input.Input.{Input}
 use Rattle.imap_node.specs.declared.plan.PreparedReply.{PreparedReply}
 use Rattle.imap_node.specs.declared.plan.SessionStep.{SessionStep}
-use Rattle.imap_node.specs.declared.plan.SessionStep.TheVariants.{Goes, Leaves, Stays, Wakes}
+use Rattle.imap_node.specs.declared.plan.SessionStep.TheVariants.{Advances, Leaves, Stays, Wakes}
 use Rattle.imap_node.specs.declared.plan.Plan.{Plan}
 use Rattle.imap_node.specs.declared.plan.PreparedInput.{PreparedInput}
 use Rattle.imap_node.specs.declared.reply.Reply.TheVariants.{Done, Refused}
@@ -30,12 +30,12 @@ use Rattle.uid_projection.specs.Exhaustion.{Exhausts}
 -- The answers, the silent flags and the change of the session are those of an input's effect.
 pub record IsPreparedReply (start : Counters) (before after : List Op) (session : Session)
     (input : Input) (answered : PreparedReply) : Type 0 where
-  pub course : InputEffect
-  pub taken : IsInputEffect start before after session input course
-  pub answers : answered.answers ≡ answers_of_effect start after course
-  pub silent : answered.silent ≡ course.silent
-  pub becomes : changed_session session answered.going
-      ≡ session_after start after session input course
+  pub effect : InputEffect
+  pub taken : IsInputEffect start before after session input effect
+  pub answers : answered.answers ≡ answers_of_effect start after effect
+  pub silent : answered.silent ≡ effect.silent
+  pub becomes : changed_session session answered.update
+      ≡ session_after start after session input effect
 
 -- The input can be carried out, and this is its reply, with the operations that it issues.
 pub record IsPreparedInput (start : Counters) (applied : List Op) (session : Session)
@@ -43,9 +43,9 @@ pub record IsPreparedInput (start : Counters) (applied : List Op) (session : Ses
   pub stamp : List ℕ
   pub stamped : IsStamp input stamp
   pub kinds : List Kind
-  pub wanted : input_intent start applied stamp session.state input ≡ Ok kinds
+  pub intended : input_intent start applied stamp session.state input ≡ Ok kinds
   pub next : AreNext start.replica applied kinds prepared.ops
-  pub lasts : Exhausts start applied prepared.ops → ⊥
+  pub not_exhausted : Exhausts start applied prepared.ops → ⊥
   pub answered : IsPreparedReply start applied (applied ++ prepared.ops) session input
       prepared.answered
   pub copies : prepared.copies ≡ prepared.ops
@@ -55,7 +55,7 @@ abbrev pub session_after_step : Session → SessionStep → Session
 session_after_step session Stays = session
 session_after_step session Leaves = unselected session
 session_after_step session Wakes = without_idle session
-session_after_step session (Goes going) = changed_session session going
+session_after_step session (Advances update) = changed_session session update
 
 abbrev pub place_after_step : Option Session → SessionStep → Option Session
 place_after_step None next = None
@@ -63,7 +63,8 @@ place_after_step (Some session) next = Some (session_after_step session next)
 
 -- A session can take its next step after these operations.
 abbrev pub CanStep : Counters → List Op → Session → SessionStep → Type 0
-CanStep start ops session (Goes going) = CanChangeSession start ops session.state going.onward
+CanStep start ops session (Advances update) =
+    CanChangeSession start ops session.state update.state_change
 CanStep start ops session next = Unit {0}
 
 -- The plan can be committed: its session is open, its operations come next and have room if there
@@ -106,7 +107,7 @@ plan_of_prepared n p =
       reply = Done p.answered.answers p.answered.silent p.copies;
       ops = p.ops;
       change_notes = p.change_notes;
-      next = Goes p.answered.going;
+      next = Advances p.answered.update;
     }
 
 -- The plan for an outcome of `prepare_for`.

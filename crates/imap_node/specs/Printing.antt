@@ -4,7 +4,7 @@
 use Rattle.std.specs.Prelude.{◌≡◌, ℕ, ◌+◌, List, length, Some}
 use Rattle.crdt_ops.specs.declared.op.Op.{Op}
 use Rattle.imap_answers.specs.declared.answer.Answer.{Answer}
-use Rattle.imap_answers.specs.Printable.{Each, IsPrintable, IsTag, IsWide, Where}
+use Rattle.imap_answers.specs.Printable.{Each, IsPrintable, IsTag, IsWide, IfPresent}
 use Rattle.imap_commands.specs.Printing.{IsNumbered}
 use Rattle.imap_commands.specs.declared.session.Session.{Session}
 use Rattle.imap_commands.specs.declared.session.State.{State}
@@ -22,18 +22,18 @@ pub record IsPresentable (start : Counters) (ops : List Op) : Type 0 where
   pub count : IsWide (1 + length ops)
 
 -- The messages in the view have ascending UIDs of 32 bits.
-abbrev pub SeesNumbered : State → Type 0
-SeesNumbered (Selected view read_only) = IsNumbered view.entries
-SeesNumbered _ = Unit {0}
+abbrev pub HasNumberedView : State → Type 0
+HasNumberedView (Selected view read_only) = IsNumbered view.entries
+HasNumberedView _ = Unit {0}
 
 -- A session can be answered: the messages in its view can be numbered, and the IDLE that it is in
 -- has a tag.
 pub record IsAnswerableIn (session : Session) : Type 0 where
-  pub state : SeesNumbered session.state
-  pub idling : Where IsTag session.idling
+  pub state : HasNumberedView session.state
+  pub idling : IfPresent IsTag session.idling
 
 -- All answers can be printed, and the session afterwards can be answered again.
-pub record IsAnsweredWell (old : Places) (n : ℕ) (answers : List Answer) (new : Places) :
+pub record HasPrintableAnswers (old : Places) (n : ℕ) (answers : List Answer) (new : Places) :
     Type 0 where
   pub printable : Each IsPrintable answers
   pub next : Session

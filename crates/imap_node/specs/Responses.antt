@@ -34,7 +34,7 @@ use Rattle.imap_node.specs.Commands.{is_idle, is_selected, is_selecting, state_a
 use Rattle.imap_node.specs.Commands.{condstore_answer, sync_of, command_intent, word_of}
 use Rattle.imap_node.specs.InputEffects.{InputEffect, answers_of_effect, sync_result_of}
 use Rattle.imap_node.specs.Nodes.{NodeState}
-use Rattle.imap_node.specs.Operations.{AreNext, IsUsedUp, id_of}
+use Rattle.imap_node.specs.Operations.{AreNext, ExceedsCounters, id_of}
 use Rattle.imap_node.specs.Sessions.{Places, session_at, with_session}
 use Rattle.uid_projection.specs.declared.first_numbers.Counters.{Counters}
 use Rattle.uid_projection.specs.Exhaustion.{Exhausts}
@@ -87,30 +87,30 @@ tagged_lines_of_idle (Some tag) = Completed tag None words.Idle ∷ []
 -- The effect of a command with this report, whose answers come after the answers `first`.
 abbrev pub report_effect : List Answer → CommandReport → State → Bool → List ℕ → Command
     → InputEffect
-report_effect first told state modseq tag command =
+report_effect first report state modseq tag command =
     record {
-      silent = told.silent;
-      own = first ++ told.own;
+      silent = report.silent;
+      own = first ++ report.own;
       sync = sync_of command;
       modseq = modseq;
       state = state;
-      tail = tagged_lines_of tag command told.code;
+      tail = tagged_lines_of tag command report.code;
     }
 
 -- The effect of a command, given its report.
 abbrev pub command_effect : Counters → List Op → Session → List ℕ → Command → CommandReport
     → InputEffect
-command_effect start ops session tag command told =
-    report_effect (condstore_answer start ops session.state session.condstore command) told
+command_effect start ops session tag command report =
+    report_effect (condstore_answer start ops session.state session.condstore command) report
     (state_after_command start ops session.state command) (condstore_is_on session command) tag
     command
 
 abbrev pub IsCommandEffect : Counters → List Op → List Op → Session → Tagged → InputEffect → Type 0
-IsCommandEffect start before after session tagged course =
-    (told : CommandReport)
+IsCommandEffect start before after session tagged effect =
+    (report : CommandReport)
     × IsCommandReport start before after session.state (condstore_is_on session tagged.command)
-    tagged.tag tagged.command told
-    × (course ≡ command_effect start after session tagged.tag tagged.command told)
+    tagged.tag tagged.command report
+    × (effect ≡ command_effect start after session tagged.tag tagged.command report)
 
 -- The effect of an input that is only a full sync, with `tail` sent after it.
 abbrev pub sync_effect : Session → List Answer → InputEffect
@@ -126,11 +126,11 @@ sync_effect session tail =
 
 -- The effect of an input, given the operations before it and those with its own.
 abbrev pub IsInputEffect : Counters → List Op → List Op → Session → Input → InputEffect → Type 0
-IsInputEffect start before after session (inputs.Command moment tagged) course =
-    IsCommandEffect start before after session tagged course
-IsInputEffect start before after session (inputs.Line line) course =
-    course ≡ sync_effect session (tagged_lines_of_idle session.idling)
-IsInputEffect start before after session inputs.Poll course = course ≡ sync_effect session []
+IsInputEffect start before after session (inputs.Command moment tagged) effect =
+    IsCommandEffect start before after session tagged effect
+IsInputEffect start before after session (inputs.Line line) effect =
+    effect ≡ sync_effect session (tagged_lines_of_idle session.idling)
+IsInputEffect start before after session inputs.Poll effect = effect ≡ sync_effect session []
 
 -- The tag of the IDLE that a command begins, if it begins one.
 abbrev pub tag_of_idle : Tagged → Option (List ℕ)
@@ -149,9 +149,9 @@ condstore_after session _ = session.condstore
 
 -- The session after an input that is carried out.
 abbrev pub session_after : Counters → List Op → Session → Input → InputEffect → Session
-session_after start ops session input course =
+session_after start ops session input effect =
     record {
-      state = (sync_result_of start ops course).state;
+      state = (sync_result_of start ops effect).state;
       condstore = condstore_after session input;
       idling = idling_after session input;
     }
@@ -191,7 +191,7 @@ IsRefused start ops state input why =
     ⊎ ((stamp : List ℕ) × IsStamp input stamp
     × ((input_intent start ops stamp state input ≡ Err why)
     ⊎ ((why ≡ NumberUsedUp) × (kinds : List Kind)
-    × (input_intent start ops stamp state input ≡ Ok kinds) × IsUsedUp start ops kinds)))
+    × (input_intent start ops stamp state input ≡ Ok kinds) × ExceedsCounters start ops kinds)))
 
 -- ---- the response
 
@@ -217,16 +217,16 @@ pub record CarriesOut (old : NodeState) (n : ℕ) (session : Session) (input : I
   pub stamp : List ℕ
   pub stamped : IsStamp input stamp
   pub kinds : List Kind
-  pub wanted : input_intent old.start old.applied stamp session.state input ≡ Ok kinds
+  pub intended : input_intent old.start old.applied stamp session.state input ≡ Ok kinds
   pub next : AreNext old.start.replica old.applied kinds issued
-  pub lasts : Exhausts old.start old.applied issued → ⊥
-  pub course : InputEffect
-  pub taken : IsInputEffect old.start old.applied (old.applied ++ issued) session input course
-  pub answers_are : answers ≡ answers_of_effect old.start (old.applied ++ issued) course
-  pub silent_is : silent ≡ course.silent
+  pub not_exhausted : Exhausts old.start old.applied issued → ⊥
+  pub effect : InputEffect
+  pub taken : IsInputEffect old.start old.applied (old.applied ++ issued) session input effect
+  pub answers_are : answers ≡ answers_of_effect old.start (old.applied ++ issued) effect
+  pub silent_is : silent ≡ effect.silent
   pub becomes : IsNodeAfter old issued
       (with_session old.sessions n
-      (Some (session_after old.start (old.applied ++ issued) session input course))) new
+      (Some (session_after old.start (old.applied ++ issued) session input effect))) new
 
 -- What a node replies to an input of a session, and the node after it.
 abbrev pub Replies : NodeState → ℕ → Session → Input → Reply → NodeState → Type 0

@@ -1,4 +1,4 @@
--- The room that a replica has for operations to come, so that applying them takes no memory.
+-- The room that a replica has for further operations, so that applying them doesn't allocate.
 
 use Rattle.std.specs.Prelude.{List}
 use Rattle.causal_inbox.specs.InboxState.{IsReadied, InboxRoom}

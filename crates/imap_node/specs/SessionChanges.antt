@@ -35,11 +35,11 @@ changed_state state (Stays change) = state_with state change
 
 -- A session after a change.
 abbrev pub changed_session : Session → SessionChange → Session
-changed_session session going =
+changed_session session update =
     record {
-      state = changed_state session.state going.onward;
-      condstore = going.condstore;
-      idling = going.idling;
+      state = changed_state session.state update.state_change;
+      condstore = update.condstore;
+      idling = update.idling;
     }
 
 -- The change of a view, if there is one, and of a state, can be made without further memory.
@@ -69,6 +69,6 @@ LeavesNoted start ops state (Stays change) = ChangeLeaves start ops state change
 
 -- A session can make this change after these operations.
 pub record CanChangeSession (start : Counters) (ops : List Op) (state : State)
-    (onward : StateChange) : Type 0 where
-  pub make : CanChangeState state onward
-  pub leaves : LeavesNoted start ops state onward
+    (state_change : StateChange) : Type 0 where
+  pub make : CanChangeState state state_change
+  pub leaves : LeavesNoted start ops state state_change

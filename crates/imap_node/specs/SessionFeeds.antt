@@ -71,15 +71,16 @@ NotesNameIn start before after name notes =
 
 -- The change notes name what differs between two moments in any mailbox.
 abbrev pub AreChangeNotes : Counters → List Op → List Op → List MailboxNotes → Type 0
-AreChangeNotes start before after news =
-    (name : List ℕ) → NotesNameIn start before after name (notes_in news name)
+AreChangeNotes start before after changes =
+    (name : List ℕ) → NotesNameIn start before after name (notes_in changes name)
 
 -- What a session must still be sent, before and after change notes are added: if it named what
 -- differed before the operations, it names what differs after them.
-pub record IsFeedAfterNotes (news : List MailboxNotes) (place : Option Session) (old new : Pending)
+pub record IsFeedAfterNotes (changes : List MailboxNotes) (place : Option Session)
+    (old new : Pending)
     : Type 0 where
   pub noted : (start : Counters) (before after : List Op) (view : ViewState)
-      → AreChangeNotes start before after news → view_in place ≡ Some view
+      → AreChangeNotes start before after changes → view_in place ≡ Some view
       → IsNotedFor start before old view
       → IsNotedFor start after new view
 
@@ -88,13 +89,13 @@ pub record UnsentChanges : Type 0 where
   pub pending : Pending
   pub change_notes : List MailboxNotes
 
--- Nothing is noted of a view's mailbox, neither unsent nor changed by the operations; the view's
+-- A view's mailbox has no notes, neither unsent nor from the operations; the view's
 -- UIDs ascend, as any view's do.
-pub record IsSettled (untold : UnsentChanges) (view : ViewState) : Type 0 where
+pub record IsSettled (unsent : UnsentChanges) (view : ViewState) : Type 0 where
   pub rising : AreRising 1 view.entries
-  pub found : untold.pending.missed ≡ false
-  pub told : untold.pending.notes ≡ []
-  pub unchanged : notes_in untold.change_notes view.name ≡ []
+  pub none_missed : unsent.pending.missed ≡ false
+  pub none_noted : unsent.pending.notes ≡ []
+  pub unchanged : notes_in unsent.change_notes view.name ≡ []
 
 -- The mailbox `name` is listed.
 abbrev pub is_named : List MailboxNotes → List ℕ → Bool

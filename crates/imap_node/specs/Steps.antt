@@ -39,5 +39,5 @@ abbrev pub ClosesAt : NodeState → ℕ → NodeState → Type 0
 ClosesAt old n new = IsOpen old.sessions n × (new ≡ with_session_closed old n)
 
 -- No session with this number is open, and nothing changes.
-abbrev pub IsAwayAt : NodeState → ℕ → NodeState → Type 0
-IsAwayAt old n new = ¬ IsOpen old.sessions n × (new ≡ old)
+abbrev pub IsNotOpenAt : NodeState → ℕ → NodeState → Type 0
+IsNotOpenAt old n new = ¬ IsOpen old.sessions n × (new ≡ old)

@@ -5,7 +5,7 @@ ghost use Rattle.crdt_ops.specs.declared.op.Op.{Op};
 ghost use Rattle.crdt_ops.specs.Tags.{name_of};
 ghost use Rattle.imap_node.specs.SessionFeeds.{AreChangeNotes, NotesNameIn, is_named, notes_in};
 ghost use Rattle.imap_node.specs.SessionFeeds.{with_all_differing};
-ghost use Rattle.imap_node.specs.ChangeNotes.{AreNotesSoFar, IsSnapshotOf, TellsOf};
+ghost use Rattle.imap_node.specs.ChangeNotes.{AreNotesSoFar, IsSnapshotOf, NamesTouched};
 ghost use Rattle.imap_node.specs.Nodes.{IsReady};
 ghost use Rattle.merge_laws.specs.Orders.{IsIn};
 ghost use Rattle.session_view.specs.NoteChanges.{is_noted};
@@ -195,7 +195,7 @@ fn notes_after(
     uidnext: u32,
     touched: &[u32],
 ) -> Result<Vec<Note>, AllocError>
-    ensures { IfOk result (λ notes. TellsOf before now first uidnext touched.now notes.items) }
+    ensures { IfOk result (λ notes. NamesTouched before now first uidnext touched.now notes.items) }
 {
     if !is_same(before, now) {
         return all_may_differ(alloc);

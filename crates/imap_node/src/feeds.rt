@@ -112,25 +112,25 @@ impl Feeds {
 
     /// Applies a change to an open session, and leaves in its feed what must still be sent after
     /// it. Takes no memory.
-    pub fn advance(&mut self, sessions: &mut Sessions, session: SessionNo, going: SessionChange)
+    pub fn advance(&mut self, sessions: &mut Sessions, session: SessionNo, update: SessionChange)
         requires opened { IsOpen sessions.old session }
         requires can { (s : Session)
             → session_at sessions.old session ≡ Some s
-            → CanChangeState s.state going.onward }
+            → CanChangeState s.state update.state_change }
         ensures sessions { sessions.new
-            ≡ with_changed sessions.old session (λ s. changed_session s going) }
+            ≡ with_changed sessions.old session (λ s. changed_session s update) }
         ensures noted { (start : Counters) (ops : List Op)
             → ((s : Session) → session_at sessions.old session ≡ Some s
-            → LeavesNoted start ops s.state going.onward)
+            → LeavesNoted start ops s.state update.state_change)
             → AreAllNoted start ops sessions.old self.old
             → AreAllNoted start ops sessions.new self.new }
     {
-        go_in(&mut sessions.places, &mut self.feeds, session, going);
+        advance_in(&mut sessions.places, &mut self.feeds, session, update);
     }
 }
 
 /// Whether a session in this state may have unsent changes: notes in its feed, or missed ones.
-pub fn may_be_told(state: &State, feed: &Feed) -> bool
+pub fn may_have_notes(state: &State, feed: &Feed) -> bool
     ensures missed { result ≡ false → (view : ViewState)
         → view_of state.now ≡ Some view
         → feed.now.pending.missed ≡ false }
@@ -232,21 +232,21 @@ fn note_one(place: &Option<Session>, change_notes: &ChangeNotes, feed: &mut Feed
     }
 }
 
-fn go_in(
+fn advance_in(
     places: &mut Vec<Option<Session>>,
     feeds: &mut Vec<Feed>,
     session: SessionNo,
-    going: SessionChange,
+    update: SessionChange,
 )
     requires opened { IsOpen places.old.items session }
     requires can { (s : Session)
         → session_at places.old.items session ≡ Some s
-        → CanChangeState s.state going.onward }
+        → CanChangeState s.state update.state_change }
     ensures sessions { places.new.items
-        ≡ with_changed places.old.items session (λ s. changed_session s going) }
+        ≡ with_changed places.old.items session (λ s. changed_session s update) }
     ensures noted { (start : Counters) (ops : List Op)
         → ((s : Session) → session_at places.old.items session ≡ Some s
-        → LeavesNoted start ops s.state going.onward)
+        → LeavesNoted start ops s.state update.state_change)
         → AreAllNoted start ops places.old.items feeds.old.items
         → AreAllNoted start ops places.new.items feeds.new.items }
 {
@@ -255,51 +255,51 @@ fn go_in(
         unreachable!()
     }
     if place < feeds.len() {
-        go(&mut places[place], &mut feeds[place], going);
+        advance_at(&mut places[place], &mut feeds[place], update);
     } else {
         let mut none = missed_feed(*feeds.allocator());
-        go(&mut places[place], &mut none, going);
+        advance_at(&mut places[place], &mut none, update);
     }
 }
 
 /// Applies a change to this session and its feed.
-fn go(place: &mut Option<Session>, feed: &mut Feed, going: SessionChange)
-    requires { (s : Session) → place.old ≡ Some s → CanChangeState s.state going.onward }
-    ensures place { place.new ≡ option_map (λ s. changed_session s going) place.old }
+fn advance_at(place: &mut Option<Session>, feed: &mut Feed, update: SessionChange)
+    requires { (s : Session) → place.old ≡ Some s → CanChangeState s.state update.state_change }
+    ensures place { place.new ≡ option_map (λ s. changed_session s update) place.old }
     ensures noted { (start : Counters) (ops : List Op) (s : Session) → place.old ≡ Some s
-        → LeavesNoted start ops s.state going.onward
+        → LeavesNoted start ops s.state update.state_change
         → ((view : ViewState) → view_of s.state ≡ Some view
         → IsNotedFor start ops feed.old.pending view) → (view : ViewState)
-        → view_of (changed_state s.state going.onward) ≡ Some view
+        → view_of (changed_state s.state update.state_change) ≡ Some view
         → IsNotedFor start ops feed.new.pending view }
 {
     match place {
         Some(session) => {
             let SessionChange {
-                onward,
+                state_change,
                 condstore,
                 idling,
-            } = going;
-            go_on(&mut session.state, feed, onward);
+            } = update;
+            advance_state(&mut session.state, feed, state_change);
             session.condstore = condstore;
             session.idling = idling;
         }
-        None => drop(going),
+        None => drop(update),
     }
 }
 
 /// Applies a change to a state, and leaves in the feed what must still be sent after it.
-fn go_on(state: &mut State, feed: &mut Feed, onward: StateChange)
-    requires { CanChangeState state.old onward }
-    ensures state { state.new ≡ changed_state state.old onward }
+fn advance_state(state: &mut State, feed: &mut Feed, state_change: StateChange)
+    requires { CanChangeState state.old state_change }
+    ensures state { state.new ≡ changed_state state.old state_change }
     ensures noted { (start : Counters) (ops : List Op)
-        → LeavesNoted start ops state.old onward
+        → LeavesNoted start ops state.old state_change
         → ((view : ViewState) → view_of state.old ≡ Some view
         → IsNotedFor start ops feed.old.pending view) → (view : ViewState)
         → view_of state.new ≡ Some view
         → IsNotedFor start ops feed.new.pending view }
 {
-    match onward {
+    match state_change {
         StateChange::Moves {
             state: next,
             shows_all,

@@ -69,21 +69,21 @@ pub fn draft_effect(
     made: Option<&Rows<'_>>,
     session: &Session,
     input: &Input,
-    found: &NamedMessages,
+    named: &NamedMessages,
 ) -> Result<EffectDraft, AllocError>
     requires ready { IsReady replica.now ops.now }
     requires made { IsListingFor replica.now.start (replica.now.applied ++ ops.now)
         session.now.state (option_map (λ rows. rows.now) made) }
-    requires found { found.now
+    requires named { named.now
         ≡ messages_named_by_input replica.now.start replica.now.applied session.now.state
         input.now }
-    ensures { IfOk result (λ course. IsInputEffect replica.now.start replica.now.applied
+    ensures { IfOk result (λ effect. IsInputEffect replica.now.start replica.now.applied
         (replica.now.applied ++ ops.now) session.now input.now
-        (effect_from session.now.state course)) }
+        (effect_from session.now.state effect)) }
 {
     match input {
         Input::Command { tagged, .. } => draft_command_effect(
-            alloc, replica, ops, made, session, tagged, found,
+            alloc, replica, ops, made, session, tagged, named,
         ),
         Input::Line { .. } => draft_sync_effect(alloc, session, idle_tail(alloc, &session.idling)?),
         Input::Poll => draft_sync_effect(alloc, session, Vec::new(alloc)),
@@ -97,7 +97,7 @@ fn draft_sync_effect(
     tail: Vec<Answer>,
 ) -> Result<EffectDraft, AllocError>
     ensures { IfOk result
-        (λ course. effect_from session.now.state course ≡ sync_effect session.now tail.items) }
+        (λ effect. effect_from session.now.state effect ≡ sync_effect session.now tail.items) }
 {
     Ok(EffectDraft {
         silent: Vec::new(alloc),
@@ -142,21 +142,21 @@ fn draft_command_effect(
     made: Option<&Rows<'_>>,
     session: &Session,
     tagged: &Tagged,
-    found: &NamedMessages,
+    named: &NamedMessages,
 ) -> Result<EffectDraft, AllocError>
     requires ready { IsReady replica.now ops.now }
     requires made { IsListingFor replica.now.start (replica.now.applied ++ ops.now)
         session.now.state (option_map (λ rows. rows.now) made) }
-    requires found { found.now
+    requires named { named.now
         ≡ messages_named_by_command replica.now.start replica.now.applied session.now.state
         tagged.now.command }
-    ensures { IfOk result (λ course. IsCommandEffect replica.now.start replica.now.applied
+    ensures { IfOk result (λ effect. IsCommandEffect replica.now.start replica.now.applied
         (replica.now.applied ++ ops.now) session.now tagged.now
-        (effect_from session.now.state course)) }
+        (effect_from session.now.state effect)) }
 {
     let modseq = is_on(session, &tagged.command);
     let first = notice(alloc, replica, ops, session, &tagged.command)?;
-    let told = command_report(
+    let report = command_report(
         alloc,
         replica,
         ops,
@@ -164,27 +164,27 @@ fn draft_command_effect(
         &session.state,
         modseq,
         tagged,
-        found,
+        named,
     )?;
     let moved = state_after_command(alloc, replica, ops, &tagged.command)?;
-    draft_report_effect(alloc, first, told, moved, modseq, tagged)
+    draft_report_effect(alloc, first, report, moved, modseq, tagged)
 }
 
 /// The effect of a command with this report, whose answers come after the answers `first`.
 fn draft_report_effect(
     alloc: Global,
     first: Vec<Answer>,
-    told: CommandReport,
+    report: CommandReport,
     moved: Option<State>,
     modseq: bool,
     tagged: &Tagged,
 ) -> Result<EffectDraft, AllocError>
-    ensures { IfOk result (λ course. (state : State)
-        → effect_from state course
-        ≡ report_effect first.items told (state_or state moved) modseq tagged.now.tag
+    ensures { IfOk result (λ effect. (state : State)
+        → effect_from state effect
+        ≡ report_effect first.items report (state_or state moved) modseq tagged.now.tag
         tagged.now.command) }
 {
-    let (own, silent, code) = told.into_parts();
+    let (own, silent, code) = report.into_parts();
     match effect_with_answers(alloc, first, own, code, tagged) {
         Ok((own, tail)) => Ok(EffectDraft {
             silent,
@@ -318,7 +318,7 @@ fn highest_answer(
     let mut first = Vec::with_capacity(alloc, 1)?;
     if let Some(now) = uidvalidity {
         if now == view.uidvalidity() {
-            first.push_reserved(Answer::Tell {
+            first.push_reserved(Answer::UntaggedOk {
                 notice: Notice::HighestModSeq { modseq },
             });
         }

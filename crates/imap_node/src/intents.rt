@@ -3,20 +3,20 @@
 ghost use Rattle.std.specs.Prelude.{◌≡◌, ◌++◌, ℕ, Bool, List, Result, [], true, Ok, Err, IfOk};
 ghost use Rattle.imap_answers.specs.declared.fixed_words.Refusal.{Refusal};
 ghost use Rattle.imap_answers.specs.declared.fixed_words.Refusal.TheVariants.{NotNow};
-ghost use Rattle.imap_commands.specs.Appending.{append_intent};
+ghost use Rattle.imap_commands.specs.AppendCommand.{append_intent};
 ghost use Rattle.imap_commands.specs.SimpleCommands.{status_intent};
 ghost use Rattle.imap_commands.specs.Login.{login_intent};
 ghost use Rattle.imap_commands.specs.NamedMessages.{no_messages_named};
-ghost use Rattle.imap_commands.specs.Gives.{GivesOrLacksMemory};
+ghost use Rattle.imap_commands.specs.MemoryFaults.{EqualsOrLacksMemory};
 ghost use Rattle.imap_commands.specs.Mailboxes.{create_intent, created_name, delete_intent};
 ghost use Rattle.imap_commands.specs.Mailboxes.{subscribe_intent, unsubscribe_intent};
-ghost use Rattle.imap_commands.specs.Searching.{search_intent};
-ghost use Rattle.imap_commands.specs.Selecting.{select_intent};
+ghost use Rattle.imap_commands.specs.SearchCommand.{search_intent};
+ghost use Rattle.imap_commands.specs.SelectCommand.{select_intent};
 ghost use Rattle.imap_commands.specs.declared.session.State.TheVariants.{Selected};
 ghost use Rattle.crdt_ops.specs.declared.kind.Kind.{Kind};
 ghost use Rattle.crdt_ops.specs.Sets.{delete_set_of, subscription_tags_of};
-ghost use Rattle.imap_node.specs.Commands.{asks_mailbox, messages_named_by_command, is_known};
-ghost use Rattle.imap_node.specs.Commands.{command_intent, when_known, when_new, when_selected};
+ghost use Rattle.imap_node.specs.Commands.{reads_mailbox, messages_named_by_command, is_logged_in};
+ghost use Rattle.imap_node.specs.Commands.{command_intent, if_logged_in, before_login, if_selected};
 ghost use Rattle.imap_node.specs.Mailboxes.{are_some, is_subscribed, mailbox_in};
 ghost use Rattle.imap_node.specs.Responses.{messages_named_by_input, input_intent};
 ghost use Rattle.session_view.specs.ViewState.{ViewState};
@@ -47,9 +47,9 @@ pub fn input_intent(
     state: &State,
     input: &Input,
 ) -> Result<Intent, Refusal>
-    ensures gives { GivesOrLacksMemory (λ wanted. wanted.kinds.items) result
+    ensures gives { EqualsOrLacksMemory (λ intended. intended.kinds.items) result
         (input_intent replica.now.start replica.now.applied stamp.now state.now input.now) }
-    ensures found { IfOk result (λ wanted. wanted.found
+    ensures named { IfOk result (λ intended. intended.named
         ≡ messages_named_by_input replica.now.start replica.now.applied state.now input.now) }
 {
     match input {
@@ -75,15 +75,15 @@ fn intent_without_messages(
     alloc: Global,
     kinds: Result<Vec<Kind>, Refusal>,
 ) -> Result<Intent, Refusal>
-    ensures gives { (want : Result (List Kind) Refusal)
-        → GivesOrLacksMemory (λ kinds. kinds.items) kinds want
-        → GivesOrLacksMemory (λ wanted. wanted.kinds.items) result want }
-    ensures found { IfOk result (λ wanted. wanted.found ≡ no_messages_named) }
+    ensures gives { (outcome : Result (List Kind) Refusal)
+        → EqualsOrLacksMemory (λ kinds. kinds.items) kinds outcome
+        → EqualsOrLacksMemory (λ intended. intended.kinds.items) result outcome }
+    ensures named { IfOk result (λ intended. intended.named ≡ no_messages_named) }
 {
     match kinds {
         Ok(kinds) => Ok(Intent {
             kinds,
-            found: NamedMessages::none(alloc),
+            named: NamedMessages::none(alloc),
         }),
         Err(why) => Err(why),
     }
@@ -97,9 +97,9 @@ fn command_intent(
     state: &State,
     command: &Command,
 ) -> Result<Intent, Refusal>
-    ensures gives { GivesOrLacksMemory (λ wanted. wanted.kinds.items) result
+    ensures gives { EqualsOrLacksMemory (λ intended. intended.kinds.items) result
         (command_intent replica.now.start replica.now.applied stamp.now state.now command.now) }
-    ensures found { IfOk result (λ wanted. wanted.found
+    ensures named { IfOk result (λ intended. intended.named
         ≡ messages_named_by_command replica.now.start replica.now.applied state.now command.now) }
 {
     match command {
@@ -142,7 +142,7 @@ fn command_intent(
             intent_to_status(alloc, replica, state, name),
         ),
         Command::Append(append) => {
-            let asked = AppendArgs {
+            let request = AppendArgs {
                 name: &append.name,
                 flags: &append.flags,
                 date: &append.date,
@@ -150,7 +150,7 @@ fn command_intent(
             };
             intent_without_messages(
                 alloc,
-                intent_to_append(alloc, replica, stamp, state, &asked),
+                intent_to_append(alloc, replica, stamp, state, &request),
             )
         }
         Command::Idle => intent_without_messages(alloc, no_kinds_if_known(alloc, state)),
@@ -170,17 +170,17 @@ fn command_intent(
 }
 
 /// Whether the session's user is known and has not logged out.
-fn is_known(state: &State) -> bool
-    ensures { result ≡ is_known state.now }
+fn is_logged_in(state: &State) -> bool
+    ensures { result ≡ is_logged_in state.now }
 {
     matches!(state, State::Authenticated | State::Selected { .. })
 }
 
 /// No operations, if the session's user is known.
 fn no_kinds_if_known(alloc: Global, state: &State) -> Result<Vec<Kind>, Refusal>
-    ensures { GivesOrLacksMemory (λ kinds. kinds.items) result (when_known state.now (Ok [])) }
+    ensures { EqualsOrLacksMemory (λ kinds. kinds.items) result (if_logged_in state.now (Ok [])) }
 {
-    if !is_known(state) {
+    if !is_logged_in(state) {
         return Err(Refusal::NotNow);
     }
     Ok(Vec::new(alloc))
@@ -188,8 +188,8 @@ fn no_kinds_if_known(alloc: Global, state: &State) -> Result<Vec<Kind>, Refusal>
 
 /// No operations, if a mailbox is selected.
 fn no_kinds_if_selected(alloc: Global, state: &State) -> Result<Vec<Kind>, Refusal>
-    ensures { GivesOrLacksMemory (λ kinds. kinds.items) result
-        (when_selected state.now (λ view read_only. Ok [])) }
+    ensures { EqualsOrLacksMemory (λ kinds. kinds.items) result
+        (if_selected state.now (λ view read_only. Ok [])) }
 {
     match state {
         State::Selected { .. } => Ok(Vec::new(alloc)),
@@ -203,8 +203,8 @@ fn intent_to_login(
     user: &Octets,
     password: &Octets,
 ) -> Result<Vec<Kind>, Refusal>
-    ensures { GivesOrLacksMemory (λ kinds. kinds.items) result
-        (when_new state.now (λ credentials. login_intent credentials user.now password.now)) }
+    ensures { EqualsOrLacksMemory (λ kinds. kinds.items) result
+        (before_login state.now (λ credentials. login_intent credentials user.now password.now)) }
 {
     match state {
         State::NotAuthenticated { credentials } => login_intent(alloc, credentials, user, password),
@@ -218,10 +218,10 @@ fn intent_to_select(
     state: &State,
     name: &Name,
 ) -> Result<Vec<Kind>, Refusal>
-    ensures { GivesOrLacksMemory (λ kinds. kinds.items) result
-        (when_known state.now (select_intent (folder_exists name.now replica.now.applied))) }
+    ensures { EqualsOrLacksMemory (λ kinds. kinds.items) result
+        (if_logged_in state.now (select_intent (folder_exists name.now replica.now.applied))) }
 {
-    if !is_known(state) {
+    if !is_logged_in(state) {
         return Err(Refusal::NotNow);
     }
     select_intent(alloc, replica.exists(name))
@@ -233,10 +233,10 @@ fn intent_to_status(
     state: &State,
     name: &Name,
 ) -> Result<Vec<Kind>, Refusal>
-    ensures { GivesOrLacksMemory (λ kinds. kinds.items) result
-        (when_known state.now (status_intent (folder_exists name.now replica.now.applied))) }
+    ensures { EqualsOrLacksMemory (λ kinds. kinds.items) result
+        (if_logged_in state.now (status_intent (folder_exists name.now replica.now.applied))) }
 {
-    if !is_known(state) {
+    if !is_logged_in(state) {
         return Err(Refusal::NotNow);
     }
     status_intent(alloc, replica.exists(name))
@@ -248,10 +248,10 @@ fn intent_to_create(
     state: &State,
     name: &Name,
 ) -> Result<Vec<Kind>, Refusal>
-    ensures { GivesOrLacksMemory (λ kinds. kinds.items) result (when_known state.now
+    ensures { EqualsOrLacksMemory (λ kinds. kinds.items) result (if_logged_in state.now
         (create_intent (folder_exists (created_name name.now) replica.now.applied) name.now)) }
 {
-    if !is_known(state) {
+    if !is_logged_in(state) {
         return Err(Refusal::NotNow);
     }
     let folder = created_name(alloc, name)?;
@@ -264,11 +264,11 @@ fn intent_to_delete(
     state: &State,
     name: &Name,
 ) -> Result<Vec<Kind>, Refusal>
-    ensures { GivesOrLacksMemory (λ kinds. kinds.items) result (when_known state.now
+    ensures { EqualsOrLacksMemory (λ kinds. kinds.items) result (if_logged_in state.now
         (delete_intent (folder_exists name.now replica.now.applied)
         (delete_set_of replica.now.applied name.now) name.now)) }
 {
-    if !is_known(state) {
+    if !is_logged_in(state) {
         return Err(Refusal::NotNow);
     }
     let seen = replica.delete_set(alloc, name)?;
@@ -281,10 +281,10 @@ fn intent_to_subscribe(
     state: &State,
     name: &Name,
 ) -> Result<Vec<Kind>, Refusal>
-    ensures { GivesOrLacksMemory (λ kinds. kinds.items) result (when_known state.now
+    ensures { EqualsOrLacksMemory (λ kinds. kinds.items) result (if_logged_in state.now
         (subscribe_intent (is_subscribed name.now replica.now.applied) name.now)) }
 {
-    if !is_known(state) {
+    if !is_logged_in(state) {
         return Err(Refusal::NotNow);
     }
     subscribe_intent(alloc, is_subscribed(alloc, replica, name)?, name)
@@ -312,10 +312,10 @@ fn intent_to_unsubscribe(
     state: &State,
     name: &Name,
 ) -> Result<Vec<Kind>, Refusal>
-    ensures { GivesOrLacksMemory (λ kinds. kinds.items) result (when_known state.now
+    ensures { EqualsOrLacksMemory (λ kinds. kinds.items) result (if_logged_in state.now
         (unsubscribe_intent (subscription_tags_of replica.now.applied name.now) name.now)) }
 {
-    if !is_known(state) {
+    if !is_logged_in(state) {
         return Err(Refusal::NotNow);
     }
     unsubscribe_intent(alloc, replica.subscription_tags(alloc, name)?, name)
@@ -326,15 +326,16 @@ fn intent_to_append(
     replica: &ReplicaState,
     stamp: &DateTime,
     state: &State,
-    asked: &AppendArgs<'_>,
+    request: &AppendArgs<'_>,
 ) -> Result<Vec<Kind>, Refusal>
-    ensures { GivesOrLacksMemory (λ kinds. kinds.items) result (when_known state.now
-        (append_intent (folder_exists asked.now.name replica.now.applied) stamp.now asked.now)) }
+    ensures { EqualsOrLacksMemory (λ kinds. kinds.items) result (if_logged_in state.now
+        (append_intent (folder_exists request.now.name replica.now.applied) stamp.now
+        request.now)) }
 {
-    if !is_known(state) {
+    if !is_logged_in(state) {
         return Err(Refusal::NotNow);
     }
-    append_intent(alloc, replica.exists(asked.name), stamp, asked)
+    append_intent(alloc, replica.exists(request.name), stamp, request)
 }
 
 fn intent_to_search(
@@ -342,8 +343,8 @@ fn intent_to_search(
     state: &State,
     steps: &[SearchStep],
 ) -> Result<Vec<Kind>, Refusal>
-    ensures { GivesOrLacksMemory (λ kinds. kinds.items) result
-        (when_selected state.now (λ view read_only. search_intent view.entries steps.now)) }
+    ensures { EqualsOrLacksMemory (λ kinds. kinds.items) result
+        (if_selected state.now (λ view read_only. search_intent view.entries steps.now)) }
 {
     let State::Selected { view, .. } = state else {
         return Err(Refusal::NotNow);
@@ -358,20 +359,20 @@ fn selected_intent(
     state: &State,
     command: &Command,
 ) -> Result<Intent, Refusal>
-    requires { asks_mailbox command.now ≡ true }
+    requires { reads_mailbox command.now ≡ true }
     ensures gives { (stamp : List ℕ)
-        → GivesOrLacksMemory (λ wanted. wanted.kinds.items) result
+        → EqualsOrLacksMemory (λ intended. intended.kinds.items) result
         (command_intent replica.now.start replica.now.applied stamp state.now command.now) }
-    ensures found { IfOk result (λ wanted. wanted.found
+    ensures named { IfOk result (λ intended. intended.named
         ≡ messages_named_by_command replica.now.start replica.now.applied state.now command.now) }
 {
     let State::Selected { view, read_only } = state else {
         return Err(Refusal::NotNow);
     };
     let mailbox = mailbox_before(alloc, replica, view, *read_only)?;
-    let wanted = mailbox_intent(alloc, replica, &mailbox, command);
+    let intended = mailbox_intent(alloc, replica, &mailbox, command);
     drop(mailbox);
-    wanted
+    intended
 }
 
 /// The intent of a command that depends on the selected mailbox, given that mailbox.
@@ -381,14 +382,15 @@ fn mailbox_intent(
     mailbox: &OpenMailbox<'_>,
     command: &Command,
 ) -> Result<Intent, Refusal>
-    requires { asks_mailbox command.now ≡ true }
+    requires { reads_mailbox command.now ≡ true }
     ensures gives { (stamp : List ℕ) (view : ViewState) (read_only : Bool)
         → mailbox.now ≡ mailbox_in replica.now.start replica.now.applied view read_only
-        → GivesOrLacksMemory (λ wanted. wanted.kinds.items) result (command_intent replica.now.start
+        → EqualsOrLacksMemory (λ intended. intended.kinds.items) result
+        (command_intent replica.now.start
         replica.now.applied stamp (Selected view read_only) command.now) }
-    ensures found { (view : ViewState) (read_only : Bool)
+    ensures named { (view : ViewState) (read_only : Bool)
         → mailbox.now ≡ mailbox_in replica.now.start replica.now.applied view read_only
-        → IfOk result (λ wanted. wanted.found
+        → IfOk result (λ intended. intended.named
         ≡ messages_named_by_command replica.now.start replica.now.applied (Selected view read_only)
         command.now) }
 {
@@ -397,39 +399,39 @@ fn mailbox_intent(
         Command::Expunge => intent_without_messages(alloc, expunge_intent(alloc, mailbox)),
         Command::UidExpunge { uids } => uid_expunge_intent(alloc, mailbox, uids),
         Command::Fetch(fetch) => {
-            let asked = FetchArgs {
+            let request = FetchArgs {
                 by_uid: fetch.by_uid,
                 messages: &fetch.messages,
                 items: fetch.items.as_slice(),
                 changed_since: fetch.changed_since,
             };
-            fetch_intent(alloc, mailbox, &asked)
+            fetch_intent(alloc, mailbox, &request)
         }
         Command::Store(store) => {
-            let asked = StoreArgs {
+            let request = StoreArgs {
                 by_uid: store.by_uid,
                 messages: &store.messages,
                 unchanged_since: store.unchanged_since,
                 action: store.action,
                 flags: &store.flags,
             };
-            store_intent(alloc, mailbox, &asked)
+            store_intent(alloc, mailbox, &request)
         }
         Command::Copy(transfer) => {
-            let asked = CopyArgs {
+            let request = CopyArgs {
                 by_uid: transfer.by_uid,
                 messages: &transfer.messages,
                 destination: &transfer.name,
             };
-            copy_intent(alloc, mailbox, &asked, replica.exists(&transfer.name))
+            copy_intent(alloc, mailbox, &request, replica.exists(&transfer.name))
         }
         Command::Move(transfer) => {
-            let asked = CopyArgs {
+            let request = CopyArgs {
                 by_uid: transfer.by_uid,
                 messages: &transfer.messages,
                 destination: &transfer.name,
             };
-            move_intent(alloc, mailbox, &asked, replica.exists(&transfer.name))
+            move_intent(alloc, mailbox, &request, replica.exists(&transfer.name))
         }
         _ => unreachable!(),
     }

@@ -7,7 +7,7 @@ ghost use Rattle.causal_inbox.specs.declared.delivery.Arrival.{Arrival};
 ghost use Rattle.crdt_ops.specs.declared.op.Op.{Op};
 ghost use Rattle.imap_answers.specs.declared.answer.Answer.{Answer};
 ghost use Rattle.imap_node.specs.Deliveries.{Delivers, Drains};
-ghost use Rattle.imap_node.specs.GoingBack.{AreOlderViews, tells_all};
+ghost use Rattle.imap_node.specs.OlderViews.{AreOlderViews, updates_view};
 ghost use Rattle.imap_node.specs.Issues.{Issues, issued_by};
 ghost use Rattle.imap_node.specs.Mailboxes.{rows_for};
 ghost use Rattle.imap_node.specs.Nodes.{NodeState, with_session_closed};
@@ -66,7 +66,7 @@ pub fn views_ascend()
         → ViewsAscend new }
     ensures closes { (old : NodeState) (n : ℕ) → IsOpen old.sessions n → ViewsAscend old.sessions
         → ViewsAscend (with_session_closed old n).sessions }
-    ensures deliveries { (old new : NodeState) (op : Op) (came : Arrival) → Delivers old op came new
+    ensures deliveries { (old new : NodeState) (op : Op) (how : Arrival) → Delivers old op how new
         → ViewsAscend old.sessions
         → ViewsAscend new.sessions }
     ensures drains { (old new : NodeState) (count : ℕ) → Drains old count new
@@ -74,10 +74,10 @@ pub fn views_ascend()
         → ViewsAscend new.sessions }
 {}
 
-/// Each session's view goes back to an earlier moment of its mailbox's incarnation, whatever
+/// Each session's view dates from an earlier moment of its mailbox's incarnation, whatever
 /// happens: messages that it lacks came after that moment. `grows`: the list of applied operations
 /// has grown, in any way.
-pub fn views_go_back()
+pub fn views_are_older()
     ensures begins { (start : Counters) → AreOlderViews start [] [] }
     ensures inputs { (old new : NodeState) (n : ℕ) (input : Input) (reply : Reply)
         → 1 ≤ old.start.uid → IsApplied old.applied → ViewsAscend old.sessions
@@ -96,8 +96,8 @@ pub fn views_go_back()
         → HasGrown old.applied new.applied → IsApplied new.applied
         → AreOlderViews old.start old.applied old.sessions
         → AreOlderViews new.start new.applied new.sessions }
-    ensures deliveries { (old new : NodeState) (op : Op) (came : Arrival) → IsApplied new.applied
-        → Delivers old op came new
+    ensures deliveries { (old new : NodeState) (op : Op) (how : Arrival) → IsApplied new.applied
+        → Delivers old op how new
         → AreOlderViews old.start old.applied old.sessions
         → AreOlderViews new.start new.applied new.sessions }
     ensures drains { (old new : NodeState) (count : ℕ) → IsApplied new.applied
@@ -114,12 +114,12 @@ pub fn full_syncs_show_listing()
         → IsApplied old.applied
         → ViewsAscend old.sessions
         → AreOlderViews old.start old.applied old.sessions
-        → Responds old n input (Done answers silent issued) new → tells_all input ≡ true
+        → Responds old n input (Done answers silent issued) new → updates_view input ≡ true
         → view_at new.sessions n ≡ Some view
         → view.entries ≡ entries_of (rows_for new.start new.applied view) }
 {}
 
-/// No operation that a node has applied found a counter used up: neither one that it issued, nor
+/// No operation that a node has applied exhausted a counter: neither one that it issued, nor
 /// one that a delivery or a drain released.
 pub fn counters_last()
     ensures begins { (start : Counters) → IsLasting start [] }
@@ -127,8 +127,8 @@ pub fn counters_last()
         → IsLasting old.start old.applied
         → Responds old n input reply new
         → IsLasting new.start new.applied }
-    ensures deliveries { (old new : NodeState) (op : Op) (came : Arrival) → IsApplied new.applied
-        → IsLasting old.start old.applied → Delivers old op came new
+    ensures deliveries { (old new : NodeState) (op : Op) (how : Arrival) → IsApplied new.applied
+        → IsLasting old.start old.applied → Delivers old op how new
         → IsLasting new.start new.applied }
     ensures drains { (old new : NodeState) (count : ℕ) → IsApplied new.applied
         → IsLasting old.start old.applied → Drains old count new

@@ -70,7 +70,7 @@ pub use imap_commands::{Credentials, Session, State};
 pub use input::Input;
 pub use laws::{
     counters_last, full_syncs_show_listing, issued_are_sound_and_new, other_sessions_stay,
-    replies_replay, views_ascend, views_go_back,
+    replies_replay, views_are_older, views_ascend,
 };
 pub use node::Node;
 pub use plan::Plan;

@@ -31,7 +31,7 @@ use crate::change_notes::{
     ChangeNotes, MailboxSnapshot, change_notes_of_delivery, coarse_change_notes, snapshot_of,
 };
 use crate::command_tables::{closes, ends_idling, leaves};
-use crate::feeds::{Feeds, may_be_told};
+use crate::feeds::{Feeds, may_have_notes};
 use crate::input::Input;
 use crate::plan::{Plan, PreparedInput, PreparedReply, SessionStep, prepare_for};
 use crate::ready_ops::ReadyOps;
@@ -143,7 +143,7 @@ impl Node {
         ensures { IsTrue result ↔ Idles self.now.state session }
     {
         match self.session(session) {
-            Some(found) => found.idling.is_some(),
+            Some(entry) => entry.idling.is_some(),
             None => false,
         }
     }
@@ -151,13 +151,13 @@ impl Node {
     /// Whether the session may have unsent changes of its mailbox. `false` only if its view agrees
     /// with the mailbox's listing in every message, or if it isn't open or has no mailbox selected.
     /// Cost: a look at its feed.
-    pub fn may_be_behind(&self, session: SessionNo) -> bool
+    pub fn may_have_unsent_changes(&self, session: SessionNo) -> bool
         ensures { result ≡ false → (view : ViewState)
             → view_at self.now.state.sessions session ≡ Some view
             → IsCurrent self.now.state.start self.now.state.applied view }
     {
         match self.session(session) {
-            Some(found) => may_be_told(&found.state, self.feeds.feed_of(session)),
+            Some(entry) => may_have_notes(&entry.state, self.feeds.feed_of(session)),
             None => false,
         }
     }
@@ -278,10 +278,10 @@ impl Node {
             input,
         );
         make_room(&mut self.feeds, &self.sessions, session, &outcome);
-        let Some(found) = self.sessions.get(session) else {
+        let Some(entry) = self.sessions.get(session) else {
             unreachable!()
         };
-        plan_by(alloc, session, &found.state, input, outcome)
+        plan_by(alloc, session, &entry.state, input, outcome)
     }
 
     /// Does what was planned, if the node is as the plan left it. Takes no memory.
@@ -309,7 +309,7 @@ impl Node {
     /// operations that waited for it, the least id first; it is held if it is early; or it was
     /// received before, and nothing changes. No session changes. An error leaves the node as it
     /// was: `Conflict` if another operation has its id, `HeldFull` if it is early and 65,536 are
-    /// held, `Exhausted` if it finds a counter used up, `NoMemory`.
+    /// held, `Exhausted` if it exhausts a counter, `NoMemory`.
     ///
     /// Cost: it looks through the operations received, and once through those held for each
     /// operation that it applies.
@@ -473,7 +473,7 @@ fn set_next(sessions: &mut Sessions, feeds: &mut Feeds, number: SessionNo, next:
         SessionStep::Stays => {}
         SessionStep::Leaves => sessions.leave(number),
         SessionStep::Wakes => sessions.wake(number),
-        SessionStep::Goes { going } => feeds.advance(sessions, number, going),
+        SessionStep::Advances { update } => feeds.advance(sessions, number, update),
     }
 }
 
@@ -575,7 +575,7 @@ fn plan_of_prepared(number: SessionNo, prepared: PreparedInput) -> Plan
     let PreparedReply {
         answers,
         silent,
-        going,
+        update,
     } = answered;
     Plan {
         number,
@@ -586,7 +586,7 @@ fn plan_of_prepared(number: SessionNo, prepared: PreparedInput) -> Plan
         },
         ops,
         change_notes: change_notes,
-        next: SessionStep::Goes { going },
+        next: SessionStep::Advances { update },
     }
 }
 

@@ -2,7 +2,7 @@
 
 ghost use Rattle.std.specs.Prelude.{◌≡◌, ◌++◌, ℕ, List, [], IfOk, IfErr, IsSome, Some};
 ghost use Rattle.causal_inbox.specs.Inbox.{AreIssued};
-ghost use Rattle.imap_commands.specs.Gives.{GivesOrLacksMemory};
+ghost use Rattle.imap_commands.specs.MemoryFaults.{EqualsOrLacksMemory};
 ghost use Rattle.imap_commands.specs.declared.session.Session.{Session};
 ghost use Rattle.std.specs.Option.{option_map};
 ghost use Rattle.imap_node.specs.InputEffects.{IsListingFor, answers_of_effect, effect_from};
@@ -12,7 +12,7 @@ ghost use Rattle.imap_node.specs.SessionChanges.{CanChangeSession, changed_state
 ghost use Rattle.imap_node.specs.Nodes.{IsReady};
 ghost use Rattle.imap_node.specs.Operations.{CanIssueAll, clock_of, id_of};
 ghost use Rattle.imap_node.specs.Plans.{IsPreparedReply, IsPreparedInput};
-ghost use Rattle.imap_node.specs.Resting.{IsAtRest, IsNoop, noop_at_rest};
+ghost use Rattle.imap_node.specs.SettledNoops.{IsSettledNoop, IsNoop, settled_noop_reply};
 ghost use Rattle.imap_node.specs.Replays.{view_in, view_of};
 ghost use Rattle.imap_node.specs.Responses.{IsRefused, IsStamp, IsStampFor};
 ghost use Rattle.imap_node.specs.Responses.{messages_named_by_input, input_intent};
@@ -58,7 +58,7 @@ pub enum SessionStep {
     /// It no longer idles.
     Wakes,
     /// Its input is carried out, which changes it so.
-    Goes { going: SessionChange },
+    Advances { update: SessionChange },
 }
 
 /// What a node will do with an input, with all the memory that this takes.
@@ -85,7 +85,7 @@ impl Plan {
 pub struct PreparedReply {
     pub answers: Answers,
     pub silent: Silents,
-    pub going: SessionChange,
+    pub update: SessionChange,
 }
 
 /// An input that can be carried out.
@@ -117,12 +117,12 @@ pub fn prepare_for(
     ensures room { IfOk result
         (λ p. (p.ops ≡ [] → ⊥) → HasRoomFor replica.new.applied replica.new.room p.ops) }
     ensures issued { IfOk result (λ p. AreIssued id_of clock_of replica.old.applied p.ops) }
-    ensures news { IfOk result (λ p. AreChangeNotes replica.old.start replica.old.applied
+    ensures changes { IfOk result (λ p. AreChangeNotes replica.old.start replica.old.applied
         (replica.old.applied ++ p.ops) p.change_notes) }
     ensures can { (s : Session)
         → session_at sessions.old number ≡ Some s
         → IfOk result (λ p. CanChangeSession replica.old.start (replica.old.applied ++ p.ops)
-        s.state p.answered.going.onward) }
+        s.state p.answered.update.state_change) }
     ensures ok { (s : Session)
         → session_at sessions.old number ≡ Some s
         → IfOk result (λ p. IsPreparedInput replica.old.start replica.old.applied s input.now p) }
@@ -164,11 +164,11 @@ fn prepare_at(
     ensures room { IfOk result
         (λ p. (p.ops ≡ [] → ⊥) → HasRoomFor replica.new.applied replica.new.room p.ops) }
     ensures issued { IfOk result (λ p. AreIssued id_of clock_of replica.old.applied p.ops) }
-    ensures news { IfOk result (λ p. AreChangeNotes replica.old.start replica.old.applied
+    ensures changes { IfOk result (λ p. AreChangeNotes replica.old.start replica.old.applied
         (replica.old.applied ++ p.ops) p.change_notes) }
     ensures can { (s : Session) → place.old ≡ Some s
         → IfOk result (λ p. CanChangeSession replica.old.start (replica.old.applied ++ p.ops)
-        s.state p.answered.going.onward) }
+        s.state p.answered.update.state_change) }
     ensures ok { (s : Session) → place.old ≡ Some s
         → IfOk result (λ p. IsPreparedInput replica.old.start replica.old.applied s input.now p) }
     ensures err { (s : Session) → place.old ≡ Some s
@@ -199,24 +199,24 @@ fn prepare(
     ensures room { IfOk result
         (λ p. (p.ops ≡ [] → ⊥) → HasRoomFor replica.new.applied replica.new.room p.ops) }
     ensures issued { IfOk result (λ p. AreIssued id_of clock_of replica.old.applied p.ops) }
-    ensures news { IfOk result (λ p. AreChangeNotes replica.old.start replica.old.applied
+    ensures changes { IfOk result (λ p. AreChangeNotes replica.old.start replica.old.applied
         (replica.old.applied ++ p.ops) p.change_notes) }
     ensures can { IfOk result (λ p. CanChangeSession replica.old.start
-        (replica.old.applied ++ p.ops) session.old.state p.answered.going.onward) }
+        (replica.old.applied ++ p.ops) session.old.state p.answered.update.state_change) }
     ensures ok { IfOk result
         (λ p. IsPreparedInput replica.old.start replica.old.applied session.old input.now p) }
     ensures err { IfErr result
         (λ why. IsRefused replica.old.start replica.old.applied session.old.state input.now why) }
 {
-    match tag_at_rest(alloc, session, feed, input) {
-        Some(tag) => Ok(noop_at_rest(alloc, session, tag)?),
+    match tag_of_settled_noop(alloc, session, feed, input) {
+        Some(tag) => Ok(settled_noop_reply(alloc, session, tag)?),
         None => prepare_any(alloc, replica, session, feed, input),
     }
 }
 
 /// The tag of a NOOP whose session has no unsent changes; `None` for any other input, and if the
 /// session may have some.
-fn tag_at_rest<'a>(
+fn tag_of_settled_noop<'a>(
     alloc: Global,
     session: &Session,
     feed: &Feed,
@@ -224,7 +224,7 @@ fn tag_at_rest<'a>(
 ) -> Option<&'a Octets>
     ensures { (tag : List ℕ)
         → option_map (λ t. t.now) result ≡ Some tag
-        → IsAtRest session.now.state feed.now.pending input.now tag }
+        → IsSettledNoop session.now.state feed.now.pending input.now tag }
 {
     let tag = noop_tag(input)?;
     let change_notes = ChangeNotes::none(alloc);
@@ -232,9 +232,9 @@ fn tag_at_rest<'a>(
         feed,
         change_notes: &change_notes,
     };
-    let rests = is_settled(&session.state, &unsent, Some(SyncKind::Full));
+    let is_rest = is_settled(&session.state, &unsent, Some(SyncKind::Full));
     drop(change_notes);
-    if rests { Some(tag) } else { None }
+    if is_rest { Some(tag) } else { None }
 }
 
 /// The tag of a NOOP.
@@ -252,8 +252,12 @@ fn noop_tag(input: &Input) -> Option<&Octets>
 
 /// The reply to a NOOP with this tag whose session has no unsent changes: only its tagged line,
 /// without a look at the replica.
-fn noop_at_rest(alloc: Global, session: &Session, tag: &Octets) -> Result<PreparedInput, AllocError>
-    ensures { IfOk result (λ prepared. prepared ≡ noop_at_rest session.now tag.now) }
+fn settled_noop_reply(
+    alloc: Global,
+    session: &Session,
+    tag: &Octets,
+) -> Result<PreparedInput, AllocError>
+    ensures { IfOk result (λ prepared. prepared ≡ settled_noop_reply session.now tag.now) }
 {
     let answers = Answers::new(completed_line(alloc, tag, None, CompletedWord::Noop)?)?;
     let silent = Silents::new(Vec::new(alloc))?;
@@ -262,8 +266,8 @@ fn noop_at_rest(alloc: Global, session: &Session, tag: &Octets) -> Result<Prepar
         answered: PreparedReply {
             answers,
             silent,
-            going: SessionChange {
-                onward: StateChange::Stays { change: None },
+            update: SessionChange {
+                state_change: StateChange::Stays { change: None },
                 condstore: session.condstore,
                 idling: None,
             },
@@ -292,19 +296,19 @@ fn prepare_any(
     ensures room { IfOk result
         (λ p. (p.ops ≡ [] → ⊥) → HasRoomFor replica.new.applied replica.new.room p.ops) }
     ensures issued { IfOk result (λ p. AreIssued id_of clock_of replica.old.applied p.ops) }
-    ensures news { IfOk result (λ p. AreChangeNotes replica.old.start replica.old.applied
+    ensures changes { IfOk result (λ p. AreChangeNotes replica.old.start replica.old.applied
         (replica.old.applied ++ p.ops) p.change_notes) }
     ensures can { IfOk result (λ p. CanChangeSession replica.old.start
-        (replica.old.applied ++ p.ops) session.old.state p.answered.going.onward) }
+        (replica.old.applied ++ p.ops) session.old.state p.answered.update.state_change) }
     ensures ok { IfOk result
         (λ p. IsPreparedInput replica.old.start replica.old.applied session.old input.now p) }
     ensures err { IfErr result
         (λ why. IsRefused replica.old.start replica.old.applied session.old.state input.now why) }
 {
     let stamp = stamp_of(input);
-    let Intent { kinds, found } = intent_within_numbers(alloc, replica, &stamp, session, input)?;
+    let Intent { kinds, named } = intent_within_numbers(alloc, replica, &stamp, session, input)?;
     let ops = ready_next_ops(alloc, replica, kinds)?;
-    Ok(prepared_reply(alloc, replica, session, feed, input, &found, ops)?)
+    Ok(prepared_reply(alloc, replica, session, feed, input, &named, ops)?)
 }
 
 /// The date-time that an input records.
@@ -335,12 +339,12 @@ fn intent_within_numbers(
     session: &Session,
     input: &Input,
 ) -> Result<Intent, Refusal>
-    ensures gives { GivesOrLacksMemory (λ wanted. wanted.kinds.items) result
+    ensures gives { EqualsOrLacksMemory (λ intended. intended.kinds.items) result
         (input_intent replica.now.start replica.now.applied stamp.now session.now.state input.now) }
-    ensures found { IfOk result (λ wanted. wanted.found
+    ensures named { IfOk result (λ intended. intended.named
         ≡ messages_named_by_input replica.now.start replica.now.applied session.now.state
         input.now) }
-    ensures can { IfOk result (λ wanted. CanIssueAll replica.now.applied wanted.kinds.items) }
+    ensures can { IfOk result (λ intended. CanIssueAll replica.now.applied intended.kinds.items) }
 {
     let _list = replica.op_list();
     input_intent(alloc, replica, stamp, &session.state, input)
@@ -354,11 +358,11 @@ fn prepared_reply(
     session: &mut Session,
     feed: &Feed,
     input: &Input,
-    found: &NamedMessages,
+    named: &NamedMessages,
     ops: Vec<SoundOp>,
 ) -> Result<PreparedInput, AllocError>
     requires ready { IsReady replica.now ops.items }
-    requires found { found.now
+    requires named { named.now
         ≡ messages_named_by_input replica.now.start replica.now.applied session.old.state
         input.now }
     requires noted { (view : ViewState)
@@ -368,10 +372,10 @@ fn prepared_reply(
     ensures answered { IfOk result (λ p. IsPreparedReply replica.now.start replica.now.applied
         (replica.now.applied ++ ops.items) session.old input.now p.answered) }
     ensures can { IfOk result (λ p. CanChangeSession replica.now.start
-        (replica.now.applied ++ ops.items) session.old.state p.answered.going.onward) }
+        (replica.now.applied ++ ops.items) session.old.state p.answered.update.state_change) }
     ensures ops { IfOk result (λ p. p.ops ≡ ops.items) }
     ensures copies { IfOk result (λ p. p.copies ≡ ops.items) }
-    ensures news { IfOk result (λ p. AreChangeNotes replica.now.start replica.now.applied
+    ensures changes { IfOk result (λ p. AreChangeNotes replica.now.start replica.now.applied
         (replica.now.applied ++ ops.items) p.change_notes) }
 {
     let ops = ReadyOps::new(ops);
@@ -387,7 +391,7 @@ fn prepared_reply(
         session,
         &unsent,
         input,
-        found,
+        named,
         ops.as_slice(),
     )?;
     Ok(PreparedInput {
@@ -414,32 +418,32 @@ fn answers_to(
     session: &mut Session,
     unsent: &UnsentChanges<'_>,
     input: &Input,
-    found: &NamedMessages,
+    named: &NamedMessages,
     ops: &[SoundOp],
 ) -> Result<PreparedReply, AllocError>
     requires ready { IsReady replica.now ops.now }
-    requires found { found.now
+    requires named { named.now
         ≡ messages_named_by_input replica.now.start replica.now.applied session.old.state
         input.now }
     requires noted { (view : ViewState)
         → view_of session.old.state ≡ Some view
         → IsNotedFor replica.now.start replica.now.applied unsent.now.pending view }
-    requires news { AreChangeNotes replica.now.start replica.now.applied
+    requires changes { AreChangeNotes replica.now.start replica.now.applied
         (replica.now.applied ++ ops.now) unsent.now.change_notes }
     ensures session { session.new ≡ session.old }
     ensures answered { IfOk result (λ a. IsPreparedReply replica.now.start replica.now.applied
         (replica.now.applied ++ ops.now) session.old input.now a) }
     ensures can { IfOk result (λ a. CanChangeSession replica.now.start
-        (replica.now.applied ++ ops.now) session.old.state a.going.onward) }
+        (replica.now.applied ++ ops.now) session.old.state a.update.state_change) }
 {
     let condstore = condstore_after(session, input);
     let idling = idling_after(alloc, session, input)?;
-    let made = listing_behind(alloc, replica, ops, &session.state, unsent.change_notes)?;
-    let course = draft_effect(alloc, replica, ops, made.as_ref(), session, input, found)?;
+    let made = listing_after(alloc, replica, ops, &session.state, unsent.change_notes)?;
+    let effect = draft_effect(alloc, replica, ops, made.as_ref(), session, input, named)?;
     let ReplyParts {
         answers,
         silent,
-        onward,
+        state_change,
     } = reply_of_effect(
         alloc,
         replica,
@@ -447,13 +451,13 @@ fn answers_to(
         made.as_ref(),
         &mut session.state,
         unsent,
-        course,
+        effect,
     )?;
     Ok(PreparedReply {
         answers,
         silent,
-        going: SessionChange {
-            onward,
+        update: SessionChange {
+            state_change,
             condstore,
             idling,
         },
@@ -462,7 +466,7 @@ fn answers_to(
 
 /// The listing of the selected mailbox after the operations, made once for all that read it; `None`
 /// if no mailbox is selected, or if the operations change nothing in it.
-fn listing_behind<'a>(
+fn listing_after<'a>(
     alloc: Global,
     replica: &'a ReplicaState,
     ops: &'a [SoundOp],
@@ -488,7 +492,7 @@ fn listing_behind<'a>(
 struct ReplyParts {
     answers: Answers,
     silent: Silents,
-    onward: StateChange,
+    state_change: StateChange,
 }
 
 /// The answers to an input with this effect, and the change of the state.
@@ -499,7 +503,7 @@ fn reply_of_effect(
     made: Option<&Rows<'_>>,
     state: &mut State,
     unsent: &UnsentChanges<'_>,
-    course: EffectDraft,
+    effect: EffectDraft,
 ) -> Result<ReplyParts, AllocError>
     requires ready { IsReady replica.now ops.now }
     requires made { IsListingFor replica.now.start (replica.now.applied ++ ops.now) state.old
@@ -507,18 +511,18 @@ fn reply_of_effect(
     requires noted { (view : ViewState)
         → view_of state.old ≡ Some view
         → IsNotedFor replica.now.start replica.now.applied unsent.now.pending view }
-    requires news { AreChangeNotes replica.now.start replica.now.applied
+    requires changes { AreChangeNotes replica.now.start replica.now.applied
         (replica.now.applied ++ ops.now) unsent.now.change_notes }
     ensures same { state.new ≡ state.old }
     ensures answers { IfOk result (λ t. t.answers
         ≡ answers_of_effect replica.now.start (replica.now.applied ++ ops.now)
-        (effect_from state.old course)) }
-    ensures silent { IfOk result (λ t. t.silent ≡ course.silent) }
-    ensures onward { IfOk result (λ t. changed_state state.old t.onward
+        (effect_from state.old effect)) }
+    ensures silent { IfOk result (λ t. t.silent ≡ effect.silent) }
+    ensures state_change { IfOk result (λ t. changed_state state.old t.state_change
         ≡ (sync_result_of replica.now.start (replica.now.applied ++ ops.now)
-        (effect_from state.old course)).state) }
+        (effect_from state.old effect)).state) }
     ensures can { IfOk result (λ t. CanChangeSession replica.now.start
-        (replica.now.applied ++ ops.now) state.old t.onward) }
+        (replica.now.applied ++ ops.now) state.old t.state_change) }
 {
     let EffectDraft {
         silent,
@@ -527,7 +531,7 @@ fn reply_of_effect(
         modseq,
         moved,
         tail,
-    } = course;
+    } = effect;
     let front = SyncInput {
         silent: &silent,
         own: &own,
@@ -535,15 +539,17 @@ fn reply_of_effect(
         modseq,
     };
     let applied = ReplicaAfter { replica, ops };
-    let (answers, onward) = sync_and_change(alloc, &applied, made, state, unsent, moved, &front)?;
+    let (answers, state_change) = sync_and_change(
+        alloc, &applied, made, state, unsent, moved, &front,
+    )?;
     match share_reply(own, answers, tail, silent) {
         Ok((answers, silent)) => Ok(ReplyParts {
             answers,
             silent,
-            onward,
+            state_change,
         }),
         Err(error) => {
-            drop(onward);
+            drop(state_change);
             Err(error)
         }
     }
@@ -597,7 +603,7 @@ fn sync_and_change(
         → view_of state.old ≡ Some view
         → IsNotedFor applied.now.replica.now.start applied.now.replica.now.applied
         unsent.now.pending view }
-    requires news { AreChangeNotes applied.now.replica.now.start applied.now.replica.now.applied
+    requires changes { AreChangeNotes applied.now.replica.now.start applied.now.replica.now.applied
         (applied.now.replica.now.applied ++ applied.now.ops.now) unsent.now.change_notes }
     ensures same { state.new ≡ state.old }
     ensures answers { IfOk result (λ e. e.0.items

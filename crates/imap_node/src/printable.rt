@@ -3,7 +3,7 @@
 ghost use Rattle.std.specs.Prelude.{ℕ, List, [], ◌∷◌, length};
 ghost use Rattle.crdt_ops.specs.declared.op.Op.{Op};
 ghost use Rattle.imap_answers.specs.declared.answer.Answer.{Answer};
-ghost use Rattle.imap_answers.specs.declared.answer.Answer.TheVariants.{Refused, Tell};
+ghost use Rattle.imap_answers.specs.declared.answer.Answer.TheVariants.{Refused, UntaggedOk};
 ghost use Rattle.imap_answers.specs.declared.codes.Notice.TheVariants.{Closed};
 ghost use Rattle.imap_answers.specs.declared.fixed_words.Refusal.{Refusal};
 ghost use Rattle.imap_answers.specs.Printable.{Each, IsPrintable, IsWide};
@@ -13,7 +13,7 @@ ghost use Rattle.imap_syntax.specs.declared.command.Tagged.{Tagged};
 ghost use Rattle.imap_syntax.specs.declared.idle.IdleLine.{IdleLine};
 ghost use Rattle.imap_commands.specs.Printing.{AreShowable};
 ghost use Rattle.imap_node.specs.Mailboxes.{rows_for};
-ghost use Rattle.imap_node.specs.Printing.{IsAnswerableIn, IsAnsweredWell, IsPresentable};
+ghost use Rattle.imap_node.specs.Printing.{IsAnswerableIn, HasPrintableAnswers, IsPresentable};
 ghost use Rattle.imap_node.specs.Nodes.{NodeState};
 ghost use Rattle.imap_node.specs.Responses.{CarriesOut, session_after_refusal};
 ghost use Rattle.imap_node.specs.declared.input.Input.{Input};
@@ -43,21 +43,21 @@ pub fn answers_are_printable()
         → (moment : ℕ) (tagged : Tagged) (octets : List ℕ) → IsSpelled tagged octets
         → IsWide (length octets)
         → CarriesOut old n session (inputs.Command moment tagged) answers silent issued new
-        → IsAnsweredWell old.sessions n answers new.sessions }
+        → HasPrintableAnswers old.sessions n answers new.sessions }
     ensures lines { (old new : NodeState) (n : ℕ) (session : Session) (answers : List Answer)
         (silent : List SilentFlags) (issued : List Op) → IsAnswerableIn session
         → IsPresentable old.start new.applied
         → (line : IdleLine)
         → CarriesOut old n session (inputs.Line line) answers silent issued new
-        → IsAnsweredWell old.sessions n answers new.sessions }
+        → HasPrintableAnswers old.sessions n answers new.sessions }
     ensures polls { (old new : NodeState) (n : ℕ) (session : Session) (answers : List Answer)
         (silent : List SilentFlags) (issued : List Op) → IsAnswerableIn session
         → IsPresentable old.start new.applied
         → CarriesOut old n session inputs.Poll answers silent issued new
-        → IsAnsweredWell old.sessions n answers new.sessions }
+        → HasPrintableAnswers old.sessions n answers new.sessions }
     ensures refusals { (tagged : Tagged) (octets : List ℕ) (why : Refusal) → IsSpelled tagged octets
         → IsWide (length octets)
-        → Each IsPrintable (Tell Closed ∷ Refused tagged.tag why ∷ []) }
+        → Each IsPrintable (UntaggedOk Closed ∷ Refused tagged.tag why ∷ []) }
     ensures left { (session : Session) (input : Input) (why : Refusal) → IsAnswerableIn session
         → IsAnswerableIn (session_after_refusal session input why) }
 {}

@@ -7,8 +7,8 @@ ghost use Rattle.crdt_ops.specs.Sound.{IsSound};
 ghost use Rattle.crdt_ops.specs.declared.kind.Kind.{Kind};
 ghost use Rattle.imap_answers.specs.declared.fixed_words.Refusal.TheVariants.{NoMemory};
 ghost use Rattle.imap_answers.specs.declared.fixed_words.Refusal.TheVariants.{NumberUsedUp};
-ghost use Rattle.imap_node.specs.Operations.{AreNext, CanIssueAll, CanIssueBy, IsNotReady};
-ghost use Rattle.imap_node.specs.Operations.{OwnNumbersEnd, id_of};
+ghost use Rattle.imap_node.specs.Operations.{AreNext, CanIssueAll, CanIssueBy, IsReadyRefusal};
+ghost use Rattle.imap_node.specs.Operations.{ExceedsOwnNumbers, id_of};
 ghost use Rattle.imap_node.specs.Nodes.{IsReady};
 ghost use Rattle.merge_laws.specs.Orders.{AreSound};
 ghost use Rattle.tags_clocks.specs.Clock.{count_of};
@@ -68,7 +68,7 @@ impl ReadyOps {
 }
 
 /// The replica's next operations, of these kinds, with the room to issue them if there are any. An
-/// error leaves what was received as it was: `NumberUsedUp` if one of them finds a counter used up,
+/// error leaves what was received as it was: `NumberUsedUp` if one of them exhausts a counter,
 /// `NoMemory`.
 pub fn ready_next_ops(
     alloc: Global,
@@ -83,7 +83,7 @@ pub fn ready_next_ops(
     ensures next { IfOk result
         (λ ops. AreNext replica.old.start.replica replica.old.applied kinds.items ops.items) }
     ensures err { IfErr result
-        (λ why. IsNotReady replica.old.start replica.old.applied kinds.items why) }
+        (λ why. IsReadyRefusal replica.old.start replica.old.applied kinds.items why) }
 {
     if !has_numbers(replica, kinds.len()) {
         drop(kinds);
@@ -128,7 +128,7 @@ fn has_numbers(replica: &ReplicaState, count: usize) -> bool
         → IsClockOf id_of replica.now.applied clock
         → count_of clock replica.now.start.replica + count ≤ 4294967295 }
     ensures no { result ≡ false → (kinds : List Kind) → count ≡ length kinds
-        → OwnNumbersEnd replica.now.start.replica replica.now.applied kinds }
+        → ExceedsOwnNumbers replica.now.start.replica replica.now.applied kinds }
 {
     let given = replica.clock().get(replica.id());
     count <= (u32::MAX - given) as usize

@@ -61,9 +61,9 @@ impl Model for ReplicaState {
     ghost coded = { Prim.hlevel (codes, hash_map_code, hash_set_code) };
 
     ghost view = { λ r. record {
-      start = r.inbox.seen.start;
-      applied = r.inbox.seen.applied;
-      held = r.inbox.seen.held;
+      start = r.inbox.received.start;
+      applied = r.inbox.received.applied;
+      held = r.inbox.received.held;
       room = r.inbox.room;
     } };
 }
@@ -131,7 +131,7 @@ impl ReplicaState {
     }
 
     /// Makes room to issue these operations, which come next. An error leaves what was received as
-    /// it was: `Exhausted` exactly if one of them finds a counter used up.
+    /// it was: `Exhausted` exactly if one of them exhausts a counter.
     pub fn ready(&mut self, alloc: Global, ops: &[SoundOp]) -> Result<(), IssueFault>
         ensures start { self.new.start ≡ self.old.start }
         ensures applied { self.new.applied ≡ self.old.applied }
@@ -226,7 +226,7 @@ impl ReplicaState {
         self.folders_now().messages(alloc, name)
     }
 
-    /// The names that are subscribed to, ascending and distinct; `Err` if memory runs out.
+    /// The subscribed names, ascending and distinct; `Err` if memory runs out.
     pub fn subscribed_names(&self, alloc: Global) -> Result<Vec<Name>, AllocError>
         ensures { IfOk result (λ names. names.items ≡ subscribed_names_of self.now.applied) }
     {

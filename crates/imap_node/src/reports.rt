@@ -4,13 +4,13 @@ ghost use Rattle.std.specs.Prelude.{◌≡◌, ◌++◌, List, true, IfOk, if◌
 ghost use Rattle.std.specs.Option.{option_map, unwrap_or};
 ghost use Rattle.crdt_ops.specs.Sets.{folders_of, subscribed_names_of};
 ghost use Rattle.imap_commands.specs.SimpleCommands.{IsListReport, status_report};
-ghost use Rattle.imap_commands.specs.Appending.{append_report};
-ghost use Rattle.imap_commands.specs.Copying.{copy_report, move_report};
-ghost use Rattle.imap_commands.specs.Expunging.{uid_expunge_report};
-ghost use Rattle.imap_commands.specs.Fetching.{fetch_report};
+ghost use Rattle.imap_commands.specs.AppendCommand.{append_report};
+ghost use Rattle.imap_commands.specs.CopyCommand.{copy_report, move_report};
+ghost use Rattle.imap_commands.specs.ExpungeCommand.{uid_expunge_report};
+ghost use Rattle.imap_commands.specs.FetchCommand.{fetch_report};
 ghost use Rattle.imap_commands.specs.NamedMessages.{messages_named_by, messages_stored_by};
-ghost use Rattle.imap_commands.specs.Selecting.{IsSelectReport};
-ghost use Rattle.imap_commands.specs.Storing.{store_report};
+ghost use Rattle.imap_commands.specs.SelectCommand.{IsSelectReport};
+ghost use Rattle.imap_commands.specs.StoreCommand.{store_report};
 ghost use Rattle.imap_node.specs.Commands.{IsSearchReportIfSelected, IsCommandReport};
 ghost use Rattle.imap_node.specs.Commands.{messages_named_by_command, messages_named_if_selected};
 ghost use Rattle.imap_node.specs.Commands.{is_selected, report_if_selected};
@@ -48,16 +48,17 @@ pub fn command_report(
     state: &State,
     modseq: bool,
     tagged: &Tagged,
-    found: &NamedMessages,
+    named: &NamedMessages,
 ) -> Result<CommandReport, AllocError>
     requires ready { IsReady replica.now ops.now }
     requires made { IsListingFor replica.now.start (replica.now.applied ++ ops.now) state.now
         (option_map (λ rows. rows.now) made) }
-    requires found { found.now
+    requires named { named.now
         ≡ messages_named_by_command replica.now.start replica.now.applied state.now
         tagged.now.command }
-    ensures { IfOk result (λ told. IsCommandReport replica.now.start replica.now.applied
-        (replica.now.applied ++ ops.now) state.now modseq tagged.now.tag tagged.now.command told) }
+    ensures { IfOk result (λ report. IsCommandReport replica.now.start replica.now.applied
+        (replica.now.applied ++ ops.now) state.now modseq tagged.now.tag tagged.now.command
+        report) }
 {
     let Tagged { tag, command } = tagged;
     match command {
@@ -91,49 +92,49 @@ pub fn command_report(
         Command::Close => Ok(CommandReport::empty(alloc)),
         Command::Unselect => Ok(CommandReport::empty(alloc)),
         Command::Expunge => Ok(CommandReport::empty(alloc)),
-        Command::UidExpunge { .. } => report_of_uid_expunge(alloc, replica, state, found),
+        Command::UidExpunge { .. } => report_of_uid_expunge(alloc, replica, state, named),
         Command::Search(search) => {
-            let asked = SearchArgs {
+            let request = SearchArgs {
                 by_uid: search.by_uid,
                 options: search.options.as_slice(),
                 steps: &search.steps,
             };
-            report_of_search(alloc, replica, ops, state, tag, &asked)
+            report_of_search(alloc, replica, ops, state, tag, &request)
         }
         Command::Fetch(fetch) => {
-            let asked = FetchArgs {
+            let request = FetchArgs {
                 by_uid: fetch.by_uid,
                 messages: &fetch.messages,
                 items: fetch.items.as_slice(),
                 changed_since: fetch.changed_since,
             };
-            report_of_fetch(alloc, replica, ops, made, state, modseq, &asked, found)
+            report_of_fetch(alloc, replica, ops, made, state, modseq, &request, named)
         }
         Command::Store(store) => {
-            let asked = StoreArgs {
+            let request = StoreArgs {
                 by_uid: store.by_uid,
                 messages: &store.messages,
                 unchanged_since: store.unchanged_since,
                 action: store.action,
                 flags: &store.flags,
             };
-            report_of_store(alloc, replica, ops, made, state, modseq, &asked, found)
+            report_of_store(alloc, replica, ops, made, state, modseq, &request, named)
         }
         Command::Copy(transfer) => {
-            let asked = CopyArgs {
+            let request = CopyArgs {
                 by_uid: transfer.by_uid,
                 messages: &transfer.messages,
                 destination: &transfer.name,
             };
-            report_of_transfer(alloc, replica, ops, state, false, &asked, found)
+            report_of_transfer(alloc, replica, ops, state, false, &request, named)
         }
         Command::Move(transfer) => {
-            let asked = CopyArgs {
+            let request = CopyArgs {
                 by_uid: transfer.by_uid,
                 messages: &transfer.messages,
                 destination: &transfer.name,
             };
-            report_of_transfer(alloc, replica, ops, state, true, &asked, found)
+            report_of_transfer(alloc, replica, ops, state, true, &request, named)
         }
     }
 }
@@ -201,7 +202,7 @@ fn copy_target_of<'a>(
     name: &Name,
 ) -> Result<CopyTarget<'a>, AllocError>
     requires { IsReady replica.now ops.now }
-    ensures { IfOk result (λ landing. landing
+    ensures { IfOk result (λ target. target
         ≡ copy_target_in replica.now.start replica.now.applied (replica.now.applied ++ ops.now)
         name.now) }
 {
@@ -254,13 +255,13 @@ fn report_of_select(
     name: &Name,
 ) -> Result<CommandReport, AllocError>
     requires { IsReady replica.now ops.now }
-    ensures { IfOk result (λ told. IsSelectReport (is_selected state.now) read_only name.now
+    ensures { IfOk result (λ report. IsSelectReport (is_selected state.now) read_only name.now
         (counters_of replica.now.start name.now (replica.now.applied ++ ops.now))
-        (listing replica.now.start name.now (replica.now.applied ++ ops.now)) told) }
+        (listing replica.now.start name.now (replica.now.applied ++ ops.now)) report) }
 {
     let rows = replica.rows_after(alloc, name, ops)?;
-    let marks = counters_after(replica, ops, name);
-    select_report(alloc, is_selected(state), read_only, name, marks, &rows)
+    let counters = counters_after(replica, ops, name);
+    select_report(alloc, is_selected(state), read_only, name, counters, &rows)
 }
 
 fn report_of_status(
@@ -271,14 +272,14 @@ fn report_of_status(
     items: &[StatusItem],
 ) -> Result<CommandReport, AllocError>
     requires { IsReady replica.now ops.now }
-    ensures { IfOk result (λ told. told
+    ensures { IfOk result (λ report. report
         ≡ status_report name.now items.now
         (counters_of replica.now.start name.now (replica.now.applied ++ ops.now))
         (listing replica.now.start name.now (replica.now.applied ++ ops.now))) }
 {
     let rows = replica.rows_after(alloc, name, ops)?;
-    let marks = counters_after(replica, ops, name);
-    status_report(alloc, name, items, marks, &rows)
+    let counters = counters_after(replica, ops, name);
+    status_report(alloc, name, items, counters, &rows)
 }
 
 fn report_of_append(
@@ -306,8 +307,8 @@ fn report_of_list(
     reference: &Octets,
     pattern: &Octets,
 ) -> Result<CommandReport, AllocError>
-    ensures { IfOk result (λ told. IsListReport mode reference.now pattern.now
-        (folders_of replica.now.applied) (subscribed_names_of replica.now.applied) told) }
+    ensures { IfOk result (λ report. IsListReport mode reference.now pattern.now
+        (folders_of replica.now.applied) (subscribed_names_of replica.now.applied) report) }
 {
     let folders = replica.folders(alloc)?;
     let subscriptions = replica.subscribed_names(alloc)?;
@@ -318,13 +319,13 @@ fn report_of_uid_expunge(
     alloc: Global,
     replica: &ReplicaState,
     state: &State,
-    found: &NamedMessages,
+    named: &NamedMessages,
 ) -> Result<CommandReport, AllocError>
     ensures { (uids : List SequenceRange)
-        → found.now
+        → named.now
         ≡ messages_named_if_selected state.now
         (λ view read_only. messages_named_by true uids view.entries)
-        → IfOk result (λ told. told
+        → IfOk result (λ report. report
         ≡ report_if_selected state.now (λ view read_only. uid_expunge_report
         (mailbox_in replica.now.start replica.now.applied view read_only) uids)) }
 {
@@ -332,7 +333,7 @@ fn report_of_uid_expunge(
         return Ok(CommandReport::empty(alloc));
     };
     let mailbox = mailbox_before(alloc, replica, view, *read_only)?;
-    Ok(uid_expunge_report(alloc, &mailbox, found))
+    Ok(uid_expunge_report(alloc, &mailbox, named))
 }
 
 fn report_of_search(
@@ -341,17 +342,17 @@ fn report_of_search(
     ops: &[SoundOp],
     state: &State,
     tag: &Octets,
-    asked: &SearchArgs<'_>,
+    request: &SearchArgs<'_>,
 ) -> Result<CommandReport, AllocError>
     requires { IsReady replica.now ops.now }
-    ensures { IfOk result (λ told. IsSearchReportIfSelected replica.now.start
-        (replica.now.applied ++ ops.now) state.now tag.now asked.now told) }
+    ensures { IfOk result (λ report. IsSearchReportIfSelected replica.now.start
+        (replica.now.applied ++ ops.now) state.now tag.now request.now report) }
 {
     let State::Selected { view, read_only } = state else {
         return Ok(CommandReport::empty(alloc));
     };
     let mailbox = mailbox_after(alloc, replica, ops, view, *read_only)?;
-    search_report(alloc, &mailbox, tag, asked)
+    search_report(alloc, &mailbox, tag, request)
 }
 
 fn report_of_fetch(
@@ -361,32 +362,32 @@ fn report_of_fetch(
     made: Option<&Rows<'_>>,
     state: &State,
     modseq: bool,
-    asked: &FetchArgs<'_>,
-    found: &NamedMessages,
+    request: &FetchArgs<'_>,
+    named: &NamedMessages,
 ) -> Result<CommandReport, AllocError>
     requires ready { IsReady replica.now ops.now }
     requires made { IsListingFor replica.now.start (replica.now.applied ++ ops.now) state.now
         (option_map (λ rows. rows.now) made) }
-    requires found { found.now
+    requires named { named.now
         ≡ messages_named_if_selected state.now
-        (λ view read_only. messages_named_by asked.now.by_uid asked.now.messages view.entries) }
-    ensures { IfOk result (λ told. told
+        (λ view read_only. messages_named_by request.now.by_uid request.now.messages view.entries) }
+    ensures { IfOk result (λ report. report
         ≡ report_if_selected state.now (λ view read_only. fetch_report
         (mailbox_in replica.now.start replica.now.applied view read_only)
-        (rows_for replica.now.start (replica.now.applied ++ ops.now) view) modseq asked.now)) }
+        (rows_for replica.now.start (replica.now.applied ++ ops.now) view) modseq request.now)) }
 {
     let State::Selected { view, read_only } = state else {
         return Ok(CommandReport::empty(alloc));
     };
     let mailbox = mailbox_before(alloc, replica, view, *read_only)?;
     if ops.is_empty() {
-        return fetch_report(alloc, &mailbox, None, modseq, asked, found);
+        return fetch_report(alloc, &mailbox, None, modseq, request, named);
     }
     if let Some(after) = made {
-        return fetch_report(alloc, &mailbox, Some(after), modseq, asked, found);
+        return fetch_report(alloc, &mailbox, Some(after), modseq, request, named);
     }
     let after = rows_after(alloc, replica, ops, view)?;
-    fetch_report(alloc, &mailbox, Some(&after), modseq, asked, found)
+    fetch_report(alloc, &mailbox, Some(&after), modseq, request, named)
 }
 
 fn report_of_store(
@@ -396,29 +397,29 @@ fn report_of_store(
     made: Option<&Rows<'_>>,
     state: &State,
     modseq: bool,
-    asked: &StoreArgs<'_>,
-    found: &NamedMessages,
+    request: &StoreArgs<'_>,
+    named: &NamedMessages,
 ) -> Result<CommandReport, AllocError>
     requires ready { IsReady replica.now ops.now }
     requires made { IsListingFor replica.now.start (replica.now.applied ++ ops.now) state.now
         (option_map (λ rows. rows.now) made) }
-    requires found { found.now
+    requires named { named.now
         ≡ messages_named_if_selected state.now (λ view read_only. messages_stored_by
-        (mailbox_in replica.now.start replica.now.applied view read_only) asked.now) }
-    ensures { IfOk result (λ told. told
+        (mailbox_in replica.now.start replica.now.applied view read_only) request.now) }
+    ensures { IfOk result (λ report. report
         ≡ report_if_selected state.now (λ view read_only. store_report
         (mailbox_in replica.now.start replica.now.applied view read_only)
-        (rows_for replica.now.start (replica.now.applied ++ ops.now) view) modseq asked.now)) }
+        (rows_for replica.now.start (replica.now.applied ++ ops.now) view) modseq request.now)) }
 {
     let State::Selected { view, read_only } = state else {
         return Ok(CommandReport::empty(alloc));
     };
     let mailbox = mailbox_before(alloc, replica, view, *read_only)?;
     if let Some(after) = made {
-        return store_report(alloc, &mailbox, after, modseq, asked, found);
+        return store_report(alloc, &mailbox, after, modseq, request, named);
     }
     let after = rows_after(alloc, replica, ops, view)?;
-    store_report(alloc, &mailbox, &after, modseq, asked, found)
+    store_report(alloc, &mailbox, &after, modseq, request, named)
 }
 
 fn report_of_transfer(
@@ -427,30 +428,30 @@ fn report_of_transfer(
     ops: &[SoundOp],
     state: &State,
     moves: bool,
-    asked: &CopyArgs<'_>,
-    found: &NamedMessages,
+    request: &CopyArgs<'_>,
+    named: &NamedMessages,
 ) -> Result<CommandReport, AllocError>
     requires ready { IsReady replica.now ops.now }
-    requires found { found.now
+    requires named { named.now
         ≡ messages_named_if_selected state.now
-        (λ view read_only. messages_named_by asked.now.by_uid asked.now.messages view.entries) }
-    ensures { IfOk result (λ told. told
+        (λ view read_only. messages_named_by request.now.by_uid request.now.messages view.entries) }
+    ensures { IfOk result (λ report. report
         ≡ report_if_selected state.now (λ view read_only. (if moves then move_report
         else copy_report) (mailbox_in replica.now.start replica.now.applied view read_only)
-        asked.now (copy_target_in replica.now.start replica.now.applied
-        (replica.now.applied ++ ops.now) asked.now.destination))) }
+        request.now (copy_target_in replica.now.start replica.now.applied
+        (replica.now.applied ++ ops.now) request.now.destination))) }
 {
     let State::Selected { view, read_only } = state else {
         return Ok(CommandReport::empty(alloc));
     };
     let mailbox = mailbox_before(alloc, replica, view, *read_only)?;
-    let landing = copy_target_of(alloc, replica, ops, asked.destination)?;
-    let told = if moves {
-        move_report(alloc, &mailbox, &landing, found)
+    let target = copy_target_of(alloc, replica, ops, request.destination)?;
+    let report = if moves {
+        move_report(alloc, &mailbox, &target, named)
     } else {
-        copy_report(alloc, &mailbox, &landing, found)
+        copy_report(alloc, &mailbox, &target, named)
     };
-    drop(landing);
+    drop(target);
     drop(mailbox);
-    told
+    report
 }

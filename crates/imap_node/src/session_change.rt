@@ -17,7 +17,7 @@ pub enum StateChange {
 #[derive(Drop)]
 pub struct SessionChange {
     /// The change of its state.
-    pub onward: StateChange,
+    pub state_change: StateChange,
     /// Whether mod-sequences are on afterwards.
     pub condstore: bool,
     /// The tag of the IDLE that it is in afterwards, if it idles.

@@ -200,7 +200,7 @@ fn leave_in(places: &mut Vec<Option<Session>>, session: SessionNo)
     }
 }
 
-/// Leaves the session without a selected mailbox; nothing else of it changes.
+/// Leaves the session without a selected mailbox; nothing else in it changes.
 fn unselect(place: &mut Option<Session>)
     ensures { place.new ≡ option_map unselected place.old }
 {
@@ -219,7 +219,7 @@ fn wake_in(places: &mut Vec<Option<Session>>, session: SessionNo)
     }
 }
 
-/// Ends the session's IDLE; nothing else of it changes.
+/// Ends the session's IDLE; nothing else in it changes.
 fn wake(place: &mut Option<Session>)
     ensures { place.new ≡ option_map without_idle place.old }
 {
@@ -255,14 +255,14 @@ fn vacant_place(places: &[Option<Session>]) -> usize
 fn open_in(
     places: &mut Vec<Option<Session>>,
     vacant: usize,
-    begun: Session,
+    opened: Session,
 ) -> Result<SessionNo, OpenFault>
     requires within { vacant ≤ length places.old.items }
     requires bound { vacant < MAX_SESSIONS }
     ensures number { IfOk result (λ session. session ≡ vacant + 1) }
     ensures ok { OnOk result ((k : ℕ)
         → slice_index_or places.new.items k None
-        ≡ (if k == vacant then Some begun else slice_index_or places.old.items k None)) }
+        ≡ (if k == vacant then Some opened else slice_index_or places.old.items k None)) }
     ensures bound { length places.new.items ≤ max (length places.old.items) (vacant + 1) }
     ensures err { IfErr result
         (λ fault. (fault ≡ NoMemory) × (places.new.items ≡ places.old.items)) }
@@ -271,10 +271,10 @@ fn open_in(
         unreachable!()
     };
     if vacant < places.len() {
-        places[vacant] = Some(begun);
+        places[vacant] = Some(opened);
         return Ok(session);
     }
-    push_place(places, Some(begun))?;
+    push_place(places, Some(opened))?;
     Ok(session)
 }
 

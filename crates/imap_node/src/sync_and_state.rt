@@ -163,14 +163,15 @@ pub fn sync_rebuilt_state(
     front: &SyncInput<'_>,
 ) -> Result<RebuiltState, AllocError>
     requires { IsReady replica.now ops.now }
-    ensures answers { IfOk result (λ anew. anew.answers.items
+    ensures answers { IfOk result (λ rebuilt. rebuilt.answers.items
         ≡ (sync_result_after replica.now.start (replica.now.applied ++ ops.now) state
         front.now).answers) }
-    ensures state { IfOk result (λ anew. anew.state
+    ensures state { IfOk result (λ rebuilt. rebuilt.state
         ≡ (sync_result_after replica.now.start (replica.now.applied ++ ops.now) state
         front.now).state) }
-    ensures shown { IfOk result (λ anew. ShowsAll replica.now.start (replica.now.applied ++ ops.now)
-        anew.state anew.shows_all) }
+    ensures shown { IfOk result
+        (λ rebuilt. ShowsAll replica.now.start (replica.now.applied ++ ops.now)
+        rebuilt.state rebuilt.shows_all) }
 {
     match state {
         State::Selected { view, read_only } => {
@@ -247,7 +248,7 @@ pub fn sync_in_place(
         → view_of state.old ≡ Some view
         → IsNotedFor applied.now.replica.now.start applied.now.replica.now.applied
         unsent.now.pending view }
-    requires news { AreChangeNotes applied.now.replica.now.start applied.now.replica.now.applied
+    requires changes { AreChangeNotes applied.now.replica.now.start applied.now.replica.now.applied
         (applied.now.replica.now.applied ++ applied.now.ops.now) unsent.now.change_notes }
     ensures same { state.new ≡ state.old }
     ensures answers { IfOk result (λ e. e.0.items
@@ -312,7 +313,7 @@ fn plan_sync_of_view(
         (applied.now.replica.now.applied ++ applied.now.ops.now) view.old }
     requires noted { IsNotedFor applied.now.replica.now.start applied.now.replica.now.applied
         unsent.now.pending view.old }
-    requires news { AreChangeNotes applied.now.replica.now.start applied.now.replica.now.applied
+    requires changes { AreChangeNotes applied.now.replica.now.start applied.now.replica.now.applied
         (applied.now.replica.now.applied ++ applied.now.ops.now) unsent.now.change_notes }
     ensures same { view.new ≡ view.old }
     ensures answers { IfOk result (λ plan. plan.answers.items
@@ -407,7 +408,7 @@ pub fn is_settled(state: &State, unsent: &UnsentChanges<'_>, sync: Option<SyncKi
     }
 }
 
-/// Whether nothing is noted of a view's mailbox.
+/// Whether a view's mailbox has no notes.
 fn shows_all(view: &View, unsent: &UnsentChanges<'_>) -> bool
     ensures { result ≡ true → IsSettled unsent.now view.now }
 {

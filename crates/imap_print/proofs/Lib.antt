@@ -1,8 +1,8 @@
 pub mod ListsLemmas
 pub mod ReadingLemmas
 pub mod CountLemmas
-pub mod Again
-pub mod AgainLists
-pub mod AgainItems
-pub mod AgainAnswers
+pub mod RoundTrips
+pub mod ListRoundTrips
+pub mod ItemRoundTrips
+pub mod AnswerRoundTrips
 pub mod LineLemmas

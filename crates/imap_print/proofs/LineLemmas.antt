@@ -7,7 +7,7 @@ use Rattle.imap_types.specs.declared.flags.Flags.{Flags}
 use Rattle.imap_answers.specs.declared.answer.Answer.TheVariants.{Completed, Fetch}
 use Rattle.imap_answers.specs.declared.fetch_items.FetchItems.{FetchItems}
 use Rattle.imap_answers.specs.declared.fixed_words.CompletedWord.{CompletedWord}
-use Rattle.imap_answers.specs.Printed.{line_of_answer, text_of_answer}
+use Rattle.imap_answers.specs.AnswerText.{line_of_answer, text_of_answer}
 use Rattle.imap_answers.specs.Strings.{crlf, separated_by}
 use Rattle.imap_answers.specs.Words.{command_text}
 use Rattle.imap_print.specs.Appending.{StartsWith}
@@ -21,7 +21,7 @@ unfolding line_of_answer
 flags_line_is number flags = ap (λ text. codes "* " ++ text) (sym (joined (decimal number) (codes " FETCH (") (codes "FLAGS (") (separated_by 32 (flag_texts flags)) (codes ")") crlf))
 
 pub line_is : (number : ℕ) (items : FetchItems) (end : List ℕ) → EndsFlags items end → numbered_line number end ≡ text_of_answer (Fetch number items)
-line_is number items end told = ap (numbered_line number) told.2 ∙ flags_line_is number told.0 ∙ ap (λ (i : FetchItems). text_of_answer (Fetch number i)) (sym told.1)
+line_is number items end parts = ap (numbered_line number) parts.2 ∙ flags_line_is number parts.0 ∙ ap (λ (i : FetchItems). text_of_answer (Fetch number i)) (sym parts.1)
 
 done_joined : (tag ok word end line : List ℕ) → (tag ++ ok ++ [] ++ word ++ end) ++ line ≡ tag ++ ok ++ word ++ (end ++ line)
 done_joined tag ok word end line = simp (append_assoc, append-nil)
@@ -35,10 +35,10 @@ done_line_is tag command = sym (done_joined tag (codes " OK ") (command_text com
 pub starts_same : (old new : List ℕ) → new ≡ old → StartsWith old new
 starts_same old new e = ap (take (length old)) e ∙ take_all (length old) old (omega arith)
 
-pub starts_behind : (old before text new : List ℕ) → StartsWith old before → new ≡ before ++ text → StartsWith old new
-starts_behind old before text new starts e =
+pub starts_after : (old before text new : List ℕ) → StartsWith old before → new ≡ before ++ text → StartsWith old new
+starts_after old before text new starts e =
     let short : length old ≤ length before = omega (arith, length-take (length old) before, ap length starts) in
     ap (take (length old)) e ∙ take-append-le (length old) before text short ∙ starts
 
 pub starts_line : (old line new : List ℕ) → new ≡ old ++ line → StartsWith old new
-starts_line old line new e = starts_behind old old line new (starts_same old old refl) e
+starts_line old line new e = starts_after old old line new (starts_same old old refl) e

@@ -18,36 +18,36 @@ has_none-append true [] ys = refl
 has_none-append true (x ∷ xs) ys = refl
 has_none-append false xs ys = refl
 
-pub goes_on : (f g h : Bool) (xs ys : List (List ℕ)) (a b c : List ℕ) → Lists f xs a b g → Lists g ys b c h → Lists f (xs ++ ys) a c h
-goes_on f g h xs ys a b c p q = record {
-  still_is = q.still_is ∙ ap (λ k. k && has_none ys) p.still_is ∙ sym (has_none-append f xs ys);
+pub lists_append : (f g h : Bool) (xs ys : List (List ℕ)) (a b c : List ℕ) → Lists f xs a b g → Lists g ys b c h → Lists f (xs ++ ys) a c h
+lists_append f g h xs ys a b c p q = record {
+  none_yet_is = q.none_yet_is ∙ ap (λ k. k && has_none ys) p.none_yet_is ∙ sym (has_none-append f xs ys);
   text =
       q.text ∙ ap (λ zs. zs ++ spaced g ys) p.text ∙ append_assoc a (spaced f xs) (spaced g ys)
-      ∙ ap (λ zs. a ++ zs) (ap (λ k. spaced f xs ++ spaced k ys) p.still_is ∙ sym (spaced-append f xs ys));
+      ∙ ap (λ zs. a ++ zs) (ap (λ k. spaced f xs ++ spaced k ys) p.none_yet_is ∙ sym (spaced-append f xs ys));
 }
 
 pub begins : (f : Bool) (a : List ℕ) → Lists f [] a a f
-begins true a = record { still_is = refl; text = sym (append_none a) }
-begins false a = record { still_is = refl; text = sym (append_none a) }
+begins true a = record { none_yet_is = refl; text = sym (append_none a) }
+begins false a = record { none_yet_is = refl; text = sym (append_none a) }
 
 -- one text after another
-pub behind : (a b c x y : List ℕ) → Appends a b x → Appends b c y → Appends a c (x ++ y)
-behind a b c x y p q = q ∙ ap (λ zs. zs ++ y) p ∙ append_assoc a x y
+pub appends_append : (a b c x y : List ℕ) → Appends a b x → Appends b c y → Appends a c (x ++ y)
+appends_append a b c x y p q = q ∙ ap (λ zs. zs ++ y) p ∙ append_assoc a x y
 
 -- one text of a list, after its space
 pub listed : (f : Bool) (a b c text : List ℕ) → Appends a b (cond f [] (32 ∷ [])) → Appends b c text → Lists f (text ∷ []) a c false
 listed true a b c text p q = record {
-  still_is = refl;
+  none_yet_is = refl;
   text = q ∙ ap (λ zs. zs ++ text) (p ∙ append_none a) ∙ ap (λ zs. a ++ zs) (sym (append_none text));
 }
 listed false a b c text p q = record {
-  still_is = refl;
+  none_yet_is = refl;
   text = q ∙ ap (λ zs. zs ++ text) p ∙ append_assoc a (32 ∷ []) text ∙ ap (λ zs. a ++ 32 ∷ zs) (sym (append_none text));
 }
 
 -- the step of a loop that appends the text of each element to a list
-pub lists_more : {X : Type 0} (f : X → List ℕ) (xs : List X) (i : ℕ) (x : X) (first still : Bool) (a b c : List ℕ) → i < length xs → x ≡ get_or xs i x → Lists first (map f (take i xs)) a b still → Lists still (f x ∷ []) b c false → Lists first (map f (take (i + 1) xs)) a c false
-lists_more {X} f xs i x first still a b c l e p q =
+pub lists_more : {X : Type 0} (f : X → List ℕ) (xs : List X) (i : ℕ) (x : X) (first none_yet : Bool) (a b c : List ℕ) → i < length xs → x ≡ get_or xs i x → Lists first (map f (take i xs)) a b none_yet → Lists none_yet (f x ∷ []) b c false → Lists first (map f (take (i + 1) xs)) a c false
+lists_more {X} f xs i x first none_yet a b c l e p q =
     let whole : take (i + 1) xs ≡ take i xs ++ x ∷ [] = take_more xs i x l ∙ ap (λ z. take i xs ++ z ∷ []) (sym e) in
     let texts : map f (take i xs) ++ f x ∷ [] ≡ map f (take (i + 1) xs) = sym (map-append f (take i xs) (x ∷ [])) ∙ ap (map f) (sym whole) in
-    subst (λ (zs : List (List ℕ)). Lists first zs a c false) texts (goes_on first still false _ _ a b c p q)
+    subst (λ (zs : List (List ℕ)). Lists first zs a c false) texts (lists_append first none_yet false _ _ a b c p q)

@@ -7,7 +7,7 @@ use Rattle.imap_print.specs.declared.fault.ReadFault.{ReadFault}
 use Rattle.imap_print.specs.declared.fault.ReadFault.TheVariants.{NoMemory, NotPrinted}
 use Rattle.imap_answers.specs.declared.fetch_items.SectionData.{SectionData}
 use Rattle.imap_print.specs.ReadingAnswers.{bodies_at, bodies_on, body_at, fields_at, fields_on, next_field_at}
-use Rattle.imap_print.specs.Reading.{◌>>=◌, Fails, after, counted, is_in, lead, run_at, runs_at, runs_on, span, with_front, words_at, words_on}
+use Rattle.imap_print.specs.Reading.{◌>>=◌, Fails, after, counted, is_in, lead, run_at, runs_at, runs_on, span, with_prefix, words_at, words_on}
 
 -- octets that end within a prefix don't begin with it
 pub after-missing : (i : ℕ) (ps bs : List ℕ) → i < length ps → length bs < 1 → after (drop i ps) bs ≡ None
@@ -16,90 +16,90 @@ after-missing zero (p ∷ ps) [] h l = refl
 after-missing zero (p ∷ ps) (b ∷ bs) h l = absurd (omega arith)
 after-missing (suc i) (p ∷ ps) bs h l = after-missing i ps bs (omega arith) l
 
-with_front-twice : {X : Type 0} (front : List X) (x : X) (read : Option (List X × List ℕ)) → with_front front (with_front (x ∷ []) read) ≡ with_front (front ++ x ∷ []) read
-with_front-twice front x None = refl
-with_front-twice front x (Some y) = λ k. Some (sym (append_assoc front (x ∷ []) y.0) k, y.1)
+with_prefix-twice : {X : Type 0} (front : List X) (x : X) (read : Option (List X × List ℕ)) → with_prefix front (with_prefix (x ∷ []) read) ≡ with_prefix (front ++ x ∷ []) read
+with_prefix-twice front x None = refl
+with_prefix-twice front x (Some y) = λ k. Some (sym (append_assoc front (x ∷ []) y.0) k, y.1)
 
 append_none : {X : Type 0} (xs : List X) → xs ++ [] ≡ xs
 append_none [] = refl
 append_none (x ∷ xs) = ap (λ ys. x ∷ ys) (append_none xs)
 
 -- the last run of a set
-pub runs-end : (i n : ℕ) (found : List Run) (rest : List ℕ) → i < n → after (codes ",") (run_at rest).1 ≡ None → with_front found (runs_at (n - i) rest) ≡ Some (found ++ (run_at rest).0 ∷ [], (run_at rest).1)
-runs-end i n found rest l h =
+pub runs-end : (i n : ℕ) (parsed : List Run) (rest : List ℕ) → i < n → after (codes ",") (run_at rest).1 ≡ None → with_prefix parsed (runs_at (n - i) rest) ≡ Some (parsed ++ (run_at rest).0 ∷ [], (run_at rest).1)
+runs-end i n parsed rest l h =
     let e : n - i ≡ suc (n - (i + 1)) = omega arith in
-    ap (λ k. with_front found (runs_at k rest)) e
-    ∙ ap (λ o. with_front found (runs_on (run_at rest).0 o (run_at rest).1 (runs_at (n - (i + 1))))) h
+    ap (λ k. with_prefix parsed (runs_at k rest)) e
+    ∙ ap (λ o. with_prefix parsed (runs_on (run_at rest).0 o (run_at rest).1 (runs_at (n - (i + 1))))) h
 
 -- a run with further runs after it
-pub runs-more : (i n : ℕ) (found : List Run) (rest more : List ℕ) → i < n → after (codes ",") (run_at rest).1 ≡ Some more → with_front found (runs_at (n - i) rest) ≡ with_front (found ++ (run_at rest).0 ∷ []) (runs_at (n - (i + 1)) more)
-runs-more i n found rest more l h =
+pub runs-more : (i n : ℕ) (parsed : List Run) (rest more : List ℕ) → i < n → after (codes ",") (run_at rest).1 ≡ Some more → with_prefix parsed (runs_at (n - i) rest) ≡ with_prefix (parsed ++ (run_at rest).0 ∷ []) (runs_at (n - (i + 1)) more)
+runs-more i n parsed rest more l h =
     let e : n - i ≡ suc (n - (i + 1)) = omega arith in
-    ap (λ k. with_front found (runs_at k rest)) e
-    ∙ ap (λ o. with_front found (runs_on (run_at rest).0 o (run_at rest).1 (runs_at (n - (i + 1))))) h
-    ∙ with_front-twice found (run_at rest).0 (runs_at (n - (i + 1)) more)
+    ap (λ k. with_prefix parsed (runs_at k rest)) e
+    ∙ ap (λ o. with_prefix parsed (runs_on (run_at rest).0 o (run_at rest).1 (runs_at (n - (i + 1))))) h
+    ∙ with_prefix-twice parsed (run_at rest).0 (runs_at (n - (i + 1)) more)
 
 -- a word with further words after it
-pub words-more : (i n : ℕ) (still : Bool) (found : List (List ℕ)) (rest behind : List ℕ) → i < n → after (lead still []) rest ≡ Some behind → eqb (length (span (is_in Atom) behind).0) 0 ≡ false → with_front found (words_at (n - i) still rest) ≡ with_front (found ++ (span (is_in Atom) behind).0 ∷ []) (words_at (n - (i + 1)) false (span (is_in Atom) behind).1)
-words-more i n still found rest behind l h f =
+pub words-more : (i n : ℕ) (none_yet : Bool) (parsed : List (List ℕ)) (rest unread : List ℕ) → i < n → after (lead none_yet []) rest ≡ Some unread → eqb (length (span (is_in Atom) unread).0) 0 ≡ false → with_prefix parsed (words_at (n - i) none_yet rest) ≡ with_prefix (parsed ++ (span (is_in Atom) unread).0 ∷ []) (words_at (n - (i + 1)) false (span (is_in Atom) unread).1)
+words-more i n none_yet parsed rest unread l h f =
     let e : n - i ≡ suc (n - (i + 1)) = omega arith in
-    let w = span (is_in Atom) behind in
-    ap (λ k. with_front found (words_at k still rest)) e
-    ∙ ap (λ o. with_front found (words_on o rest (words_at (n - (i + 1)) false))) h
-    ∙ ap (λ b. with_front found (cond b (Some ([], rest)) (with_front (w.0 ∷ []) (words_at (n - (i + 1)) false w.1)))) f
-    ∙ with_front-twice found w.0 (words_at (n - (i + 1)) false w.1)
+    let w = span (is_in Atom) unread in
+    ap (λ k. with_prefix parsed (words_at k none_yet rest)) e
+    ∙ ap (λ o. with_prefix parsed (words_on o rest (words_at (n - (i + 1)) false))) h
+    ∙ ap (λ b. with_prefix parsed (cond b (Some ([], rest)) (with_prefix (w.0 ∷ []) (words_at (n - (i + 1)) false w.1)))) f
+    ∙ with_prefix-twice parsed w.0 (words_at (n - (i + 1)) false w.1)
 
 -- names of header fields: the last, a fault, and a further one
-pub fields-end : (i n : ℕ) (still : Bool) (found : List (List ℕ)) (rest behind : List ℕ) (out : Option (List (List ℕ) × List ℕ)) → i < n → after (codes ")") rest ≡ Some behind → with_front found (fields_at (n - i) still rest) ≡ out → out ≡ Some (found, behind)
-fields-end i n still found rest behind out l h inv =
+pub fields-end : (i n : ℕ) (none_yet : Bool) (parsed : List (List ℕ)) (rest unread : List ℕ) (out : Option (List (List ℕ) × List ℕ)) → i < n → after (codes ")") rest ≡ Some unread → with_prefix parsed (fields_at (n - i) none_yet rest) ≡ out → out ≡ Some (parsed, unread)
+fields-end i n none_yet parsed rest unread out l h inv =
     let e : n - i ≡ suc (n - (i + 1)) = omega arith in
-    sym inv ∙ ap (λ k. with_front found (fields_at k still rest)) e
-    ∙ ap (λ o. with_front found (fields_on still o rest (fields_at (n - (i + 1)) false))) h
-    ∙ (λ k. Some (append_none found k, behind))
+    sym inv ∙ ap (λ k. with_prefix parsed (fields_at k none_yet rest)) e
+    ∙ ap (λ o. with_prefix parsed (fields_on none_yet o rest (fields_at (n - (i + 1)) false))) h
+    ∙ (λ k. Some (append_none parsed k, unread))
 
-fields-step : (i n : ℕ) (still : Bool) (found : List (List ℕ)) (rest : List ℕ) (out : Option (List (List ℕ) × List ℕ)) → i < n → after (codes ")") rest ≡ None → with_front found (fields_at (n - i) still rest) ≡ out → out ≡ with_front found (next_field_at still rest >>= λ name. with_front (name.0 ∷ []) (fields_at (n - (i + 1)) false name.1))
-fields-step i n still found rest out l h inv =
+fields-step : (i n : ℕ) (none_yet : Bool) (parsed : List (List ℕ)) (rest : List ℕ) (out : Option (List (List ℕ) × List ℕ)) → i < n → after (codes ")") rest ≡ None → with_prefix parsed (fields_at (n - i) none_yet rest) ≡ out → out ≡ with_prefix parsed (next_field_at none_yet rest >>= λ name. with_prefix (name.0 ∷ []) (fields_at (n - (i + 1)) false name.1))
+fields-step i n none_yet parsed rest out l h inv =
     let e : n - i ≡ suc (n - (i + 1)) = omega arith in
-    sym inv ∙ ap (λ k. with_front found (fields_at k still rest)) e
-    ∙ ap (λ o. with_front found (fields_on still o rest (fields_at (n - (i + 1)) false))) h
+    sym inv ∙ ap (λ k. with_prefix parsed (fields_at k none_yet rest)) e
+    ∙ ap (λ o. with_prefix parsed (fields_on none_yet o rest (fields_at (n - (i + 1)) false))) h
 
-pub fields-fail : (fault : ReadFault) (i n : ℕ) (still : Bool) (found : List (List ℕ)) (rest : List ℕ) (out : Option (List (List ℕ) × List ℕ)) → i < n → after (codes ")") rest ≡ None → with_front found (fields_at (n - i) still rest) ≡ out → Fails fault (next_field_at still rest) → Fails fault out
-fields-fail NoMemory i n still found rest out l h inv f = tt
-fields-fail NotPrinted i n still found rest out l h inv f =
-    fields-step i n still found rest out l h inv
-    ∙ ap (λ o. with_front found (o >>= λ name. with_front (name.0 ∷ []) (fields_at (n - (i + 1)) false name.1))) f
+pub fields-fail : (fault : ReadFault) (i n : ℕ) (none_yet : Bool) (parsed : List (List ℕ)) (rest : List ℕ) (out : Option (List (List ℕ) × List ℕ)) → i < n → after (codes ")") rest ≡ None → with_prefix parsed (fields_at (n - i) none_yet rest) ≡ out → Fails fault (next_field_at none_yet rest) → Fails fault out
+fields-fail NoMemory i n none_yet parsed rest out l h inv f = tt
+fields-fail NotPrinted i n none_yet parsed rest out l h inv f =
+    fields-step i n none_yet parsed rest out l h inv
+    ∙ ap (λ o. with_prefix parsed (o >>= λ name. with_prefix (name.0 ∷ []) (fields_at (n - (i + 1)) false name.1))) f
 
-pub fields-more : (i n : ℕ) (still : Bool) (found : List (List ℕ)) (rest : List ℕ) (out : Option (List (List ℕ) × List ℕ)) (name tail : List ℕ) → i < n → after (codes ")") rest ≡ None → with_front found (fields_at (n - i) still rest) ≡ out → next_field_at still rest ≡ Some (name, tail) → with_front (found ++ name ∷ []) (fields_at (n - (i + 1)) false tail) ≡ out
-fields-more i n still found rest out name tail l h inv f =
-    sym (fields-step i n still found rest out l h inv
-    ∙ ap (λ o. with_front found (o >>= λ name. with_front (name.0 ∷ []) (fields_at (n - (i + 1)) false name.1))) f
-    ∙ with_front-twice found name (fields_at (n - (i + 1)) false tail))
+pub fields-more : (i n : ℕ) (none_yet : Bool) (parsed : List (List ℕ)) (rest : List ℕ) (out : Option (List (List ℕ) × List ℕ)) (name tail : List ℕ) → i < n → after (codes ")") rest ≡ None → with_prefix parsed (fields_at (n - i) none_yet rest) ≡ out → next_field_at none_yet rest ≡ Some (name, tail) → with_prefix (parsed ++ name ∷ []) (fields_at (n - (i + 1)) false tail) ≡ out
+fields-more i n none_yet parsed rest out name tail l h inv f =
+    sym (fields-step i n none_yet parsed rest out l h inv
+    ∙ ap (λ o. with_prefix parsed (o >>= λ name. with_prefix (name.0 ∷ []) (fields_at (n - (i + 1)) false name.1))) f
+    ∙ with_prefix-twice parsed name (fields_at (n - (i + 1)) false tail))
 
 -- sections of a message: the last, a fault, and a further one
-pub bodies-end : (i n : ℕ) (still : Bool) (found : List SectionData) (rest : List ℕ) (out : Option (List SectionData × List ℕ)) → i < n → after (lead still (codes "BODY[")) rest ≡ None → with_front found (bodies_at (n - i) still rest) ≡ out → out ≡ Some (found, rest)
-bodies-end i n still found rest out l h inv =
+pub bodies-end : (i n : ℕ) (none_yet : Bool) (parsed : List SectionData) (rest : List ℕ) (out : Option (List SectionData × List ℕ)) → i < n → after (lead none_yet (codes "BODY[")) rest ≡ None → with_prefix parsed (bodies_at (n - i) none_yet rest) ≡ out → out ≡ Some (parsed, rest)
+bodies-end i n none_yet parsed rest out l h inv =
     let e : n - i ≡ suc (n - (i + 1)) = omega arith in
-    sym inv ∙ ap (λ k. with_front found (bodies_at k still rest)) e
-    ∙ ap (λ o. with_front found (bodies_on o rest (bodies_at (n - (i + 1)) false))) h
-    ∙ (λ k. Some (append_none found k, rest))
+    sym inv ∙ ap (λ k. with_prefix parsed (bodies_at k none_yet rest)) e
+    ∙ ap (λ o. with_prefix parsed (bodies_on o rest (bodies_at (n - (i + 1)) false))) h
+    ∙ (λ k. Some (append_none parsed k, rest))
 
-bodies-step : (i n : ℕ) (still : Bool) (found : List SectionData) (rest behind : List ℕ) (out : Option (List SectionData × List ℕ)) → i < n → after (lead still (codes "BODY[")) rest ≡ Some behind → with_front found (bodies_at (n - i) still rest) ≡ out → out ≡ with_front found (body_at behind >>= λ part. with_front (part.0 ∷ []) (bodies_at (n - (i + 1)) false part.1))
-bodies-step i n still found rest behind out l h inv =
+bodies-step : (i n : ℕ) (none_yet : Bool) (parsed : List SectionData) (rest unread : List ℕ) (out : Option (List SectionData × List ℕ)) → i < n → after (lead none_yet (codes "BODY[")) rest ≡ Some unread → with_prefix parsed (bodies_at (n - i) none_yet rest) ≡ out → out ≡ with_prefix parsed (body_at unread >>= λ part. with_prefix (part.0 ∷ []) (bodies_at (n - (i + 1)) false part.1))
+bodies-step i n none_yet parsed rest unread out l h inv =
     let e : n - i ≡ suc (n - (i + 1)) = omega arith in
-    sym inv ∙ ap (λ k. with_front found (bodies_at k still rest)) e
-    ∙ ap (λ o. with_front found (bodies_on o rest (bodies_at (n - (i + 1)) false))) h
+    sym inv ∙ ap (λ k. with_prefix parsed (bodies_at k none_yet rest)) e
+    ∙ ap (λ o. with_prefix parsed (bodies_on o rest (bodies_at (n - (i + 1)) false))) h
 
-pub bodies-fail : (fault : ReadFault) (i n : ℕ) (still : Bool) (found : List SectionData) (rest behind : List ℕ) (out : Option (List SectionData × List ℕ)) → i < n → after (lead still (codes "BODY[")) rest ≡ Some behind → with_front found (bodies_at (n - i) still rest) ≡ out → Fails fault (body_at behind) → Fails fault out
-bodies-fail NoMemory i n still found rest behind out l h inv f = tt
-bodies-fail NotPrinted i n still found rest behind out l h inv f =
-    bodies-step i n still found rest behind out l h inv
-    ∙ ap (λ o. with_front found (o >>= λ part. with_front (part.0 ∷ []) (bodies_at (n - (i + 1)) false part.1))) f
+pub bodies-fail : (fault : ReadFault) (i n : ℕ) (none_yet : Bool) (parsed : List SectionData) (rest unread : List ℕ) (out : Option (List SectionData × List ℕ)) → i < n → after (lead none_yet (codes "BODY[")) rest ≡ Some unread → with_prefix parsed (bodies_at (n - i) none_yet rest) ≡ out → Fails fault (body_at unread) → Fails fault out
+bodies-fail NoMemory i n none_yet parsed rest unread out l h inv f = tt
+bodies-fail NotPrinted i n none_yet parsed rest unread out l h inv f =
+    bodies-step i n none_yet parsed rest unread out l h inv
+    ∙ ap (λ o. with_prefix parsed (o >>= λ part. with_prefix (part.0 ∷ []) (bodies_at (n - (i + 1)) false part.1))) f
 
-pub bodies-more : (i n : ℕ) (still : Bool) (found : List SectionData) (rest behind : List ℕ) (out : Option (List SectionData × List ℕ)) (part : SectionData) (tail : List ℕ) → i < n → after (lead still (codes "BODY[")) rest ≡ Some behind → with_front found (bodies_at (n - i) still rest) ≡ out → body_at behind ≡ Some (part, tail) → with_front (found ++ part ∷ []) (bodies_at (n - (i + 1)) false tail) ≡ out
-bodies-more i n still found rest behind out part tail l h inv f =
-    sym (bodies-step i n still found rest behind out l h inv
-    ∙ ap (λ o. with_front found (o >>= λ part. with_front (part.0 ∷ []) (bodies_at (n - (i + 1)) false part.1))) f
-    ∙ with_front-twice found part (bodies_at (n - (i + 1)) false tail))
+pub bodies-more : (i n : ℕ) (none_yet : Bool) (parsed : List SectionData) (rest unread : List ℕ) (out : Option (List SectionData × List ℕ)) (part : SectionData) (tail : List ℕ) → i < n → after (lead none_yet (codes "BODY[")) rest ≡ Some unread → with_prefix parsed (bodies_at (n - i) none_yet rest) ≡ out → body_at unread ≡ Some (part, tail) → with_prefix (parsed ++ part ∷ []) (bodies_at (n - (i + 1)) false tail) ≡ out
+bodies-more i n none_yet parsed rest unread out part tail l h inv f =
+    sym (bodies-step i n none_yet parsed rest unread out l h inv
+    ∙ ap (λ o. with_prefix parsed (o >>= λ part. with_prefix (part.0 ∷ []) (bodies_at (n - (i + 1)) false part.1))) f
+    ∙ with_prefix-twice parsed part (bodies_at (n - (i + 1)) false tail))
 
 counted_by : (b : Bool) (bytes front rest : List ℕ) (n : ℕ) → leb n (length bytes) ≡ b → cond {A = Option (List ℕ × List ℕ)} b (Some (take n bytes, drop n bytes)) None ≡ Some (front, rest) → length front ≡ n
 counted_by false bytes front rest n e h = cc

@@ -23,8 +23,8 @@ abbrev pub spaced : Bool → List (List ℕ) → List ℕ
 spaced true texts = separated_by 32 texts
 spaced false texts = flat_map (λ next. 32 ∷ next) texts
 
--- The texts were appended as part of a list; `still` says whether the list is still empty.
-pub record Lists (is_first : Bool) (texts : List (List ℕ)) (old new : List ℕ) (still : Bool) :
+-- The texts were appended as part of a list; `none_yet` says whether the list is still empty.
+pub record Lists (is_first : Bool) (texts : List (List ℕ)) (old new : List ℕ) (none_yet : Bool) :
     Type 0 where
-  pub still_is : still ≡ (is_first && has_none texts)
+  pub none_yet_is : none_yet ≡ (is_first && has_none texts)
   pub text : new ≡ old ++ spaced is_first texts

@@ -7,7 +7,7 @@ use Rattle.std.specs.Prelude.{Some, None, Result, Ok, Err, if◌then◌else◌}
 use Rattle.imap_types.specs.DateTimes.{is_digit}
 use Rattle.imap_types.specs.Keywords.{is_astring_octet, is_atom_octet, is_tag_octet}
 use Rattle.imap_types.specs.Numbers.{are_runs_from, numbers_in}
-pub use Rattle.imap_types.specs.ReaderSteps.{◌>>=◌, GivesBy, after, with_front}
+pub use Rattle.imap_types.specs.ReaderSteps.{◌>>=◌, IsReadingBy, after, with_prefix}
 use Rattle.imap_types.specs.declared.number_set.Run.{Run}
 use Rattle.imap_print.specs.declared.fault.ReadFault.{ReadFault}
 use Rattle.imap_print.specs.declared.fault.ReadFault.TheVariants.{NoMemory, NotPrinted}
@@ -20,8 +20,8 @@ Fails NoMemory read = Unit {0}
 Fails NotPrinted read = read ≡ None
 
 -- The result of the code is that of a reading function, unless memory runs out.
-abbrev pub Gives : {X Y : Type 0} → (X → Y) → Result X ReadFault → Option Y → Type 0
-Gives = GivesBy Fails
+abbrev pub IsReading : {X Y : Type 0} → (X → Y) → Result X ReadFault → Option Y → Type 0
+IsReading = IsReadingBy Fails
 
 -- A value with the rest, if the text after it was skipped.
 abbrev pub followed : {A : Type 0} → A → Option (List ℕ) → Option (A × List ℕ)
@@ -125,8 +125,8 @@ run_at bytes =
 -- A run and the runs after it, if a comma was skipped, else only this run.
 abbrev pub runs_on : Run → Option (List ℕ) → List ℕ → (List ℕ → Option (List Run × List ℕ))
     → Option (List Run × List ℕ)
-runs_on run None rest go = Some (run ∷ [], rest)
-runs_on run (Some more) rest go = with_front (run ∷ []) (go more)
+runs_on run None rest reader = Some (run ∷ [], rest)
+runs_on run (Some more) rest reader = with_prefix (run ∷ []) (reader more)
 
 -- At most `fuel` runs separated by commas.
 abbrev pub runs_at : ℕ → List ℕ → Option (List Run × List ℕ)
@@ -135,14 +135,14 @@ runs_at (suc fuel) bytes =
     runs_on (run_at bytes).0 (after (codes ",") (run_at bytes).1) (run_at bytes).1 (runs_at fuel)
 
 -- The numbers of runs, if these are a set.
-abbrev pub numbers_where : Bool → List Run → List ℕ → Option (List ℕ × List ℕ)
-numbers_where is_set runs rest = if is_set then Some (numbers_in runs, rest) else None
+abbrev pub numbers_if : Bool → List Run → List ℕ → Option (List ℕ × List ℕ)
+numbers_if is_set runs rest = if is_set then Some (numbers_in runs, rest) else None
 
 -- A set of numbers.
 unfoldable pub set_at : List ℕ → Option (List ℕ × List ℕ)
 set_at bytes = do
   runs ← runs_at (length bytes) bytes
-  numbers_where (are_runs_from 1 runs.0) runs.0 runs.1
+  numbers_if (are_runs_from 1 runs.0) runs.0 runs.1
 
 -- A text of a list, after a space unless it is the first.
 abbrev pub lead : Bool → List ℕ → List ℕ
@@ -173,10 +173,10 @@ item_at is_first label bytes = item_or is_first (after (lead is_first label) byt
 -- The words of a list from the next one on, if there is one.
 abbrev pub words_on : Option (List ℕ) → List ℕ → (List ℕ → Option (List (List ℕ) × List ℕ))
     → Option (List (List ℕ) × List ℕ)
-words_on None bytes go = Some ([], bytes)
-words_on (Some rest) bytes go =
+words_on None bytes reader = Some ([], bytes)
+words_on (Some rest) bytes reader =
     if length (span (is_in Atom) rest).0 == 0 then Some ([], bytes)
-    else with_front ((span (is_in Atom) rest).0 ∷ []) (go (span (is_in Atom) rest).1)
+    else with_prefix ((span (is_in Atom) rest).0 ∷ []) (reader (span (is_in Atom) rest).1)
 
 -- Fewer than `fuel` words of a list, up to octets that are no word.
 abbrev pub words_at : ℕ → Bool → List ℕ → Option (List (List ℕ) × List ℕ)

@@ -23,7 +23,7 @@ use Rattle.imap_answers.specs.declared.mailbox.StatusItems.{StatusItems}
 use Rattle.imap_print.specs.declared.scanner.ScanClass.TheVariants.{Tag}
 use Rattle.imap_print.specs.Reading.{◌>>=◌, Listed, after, counted, field_at, flag_at, followed}
 use Rattle.imap_print.specs.Reading.{is_in, item_at, lead, literal_at, number_from, or_else, set_at}
-use Rattle.imap_print.specs.Reading.{small, span, string_at, with_front, within, word_at, words_at}
+use Rattle.imap_print.specs.Reading.{small, span, string_at, with_prefix, within, word_at, words_at}
 use Rattle.imap_answers.specs.Strings.{crlf}
 use Rattle.imap_print.specs.Tables.{all_attributes, bye_reasons, commands, continuations}
 use Rattle.imap_print.specs.Tables.{enabled_words, logins, refusals}
@@ -105,9 +105,9 @@ coded_at bytes = do
   Some ((number_from 0 bytes).0, rest)
 
 -- A reading after a prefix if that was skipped, else another reading.
-abbrev pub behind : {A : Type 0} → Option (List ℕ) → (List ℕ → Option A) → Option A → Option A
-behind None read other = other
-behind (Some rest) read other = read rest
+abbrev pub read_or : {A : Type 0} → Option (List ℕ) → (List ℕ → Option A) → Option A → Option A
+read_or None read other = other
+read_or (Some rest) read other = read rest
 
 -- The flags that can be changed permanently, and the bracket that ends their code.
 unfoldable pub permanent_notice_at : List ℕ → Option (Notice × List ℕ)
@@ -118,15 +118,15 @@ permanent_notice_at bytes = do
 -- The code of an untagged OK.
 unfoldable pub notice_at : List ℕ → Option (Notice × List ℕ)
 notice_at bytes =
-    behind (after (codes "[CLOSED]") bytes) (λ rest. Some (notice.Closed, rest))
-    (behind (after (codes "[UIDVALIDITY ") bytes)
+    read_or (after (codes "[CLOSED]") bytes) (λ rest. Some (notice.Closed, rest))
+    (read_or (after (codes "[UIDVALIDITY ") bytes)
     (λ rest. within (λ n. notice.UidValidity (small n)) (coded_at rest))
-    (behind (after (codes "[UIDNEXT ") bytes)
+    (read_or (after (codes "[UIDNEXT ") bytes)
     (λ rest. within (λ n. notice.UidNext (small n)) (coded_at rest))
-    (behind (after (codes "[HIGHESTMODSEQ ") bytes)
+    (read_or (after (codes "[HIGHESTMODSEQ ") bytes)
     (λ rest. within (λ n. notice.HighestModSeq n) (coded_at rest))
-    (behind (after (codes "[PERMANENTFLAGS ") bytes) (λ rest. permanent_notice_at rest)
-    (behind (after (codes "[COPYUID ") bytes)
+    (read_or (after (codes "[PERMANENTFLAGS ") bytes) (λ rest. permanent_notice_at rest)
+    (read_or (after (codes "[COPYUID ") bytes)
     (λ rest. within (λ c. notice.CopyUid c.0 c.1 c.2) (copied_at rest)) None)))))
 
 -- The UIDVALIDITY and the UID of APPENDUID.
@@ -145,14 +145,14 @@ modified_at bytes = do
 -- The code of a tagged OK.
 unfoldable pub code_at : List ℕ → Option (Code × List ℕ)
 code_at bytes =
-    behind (after (codes "[READ-WRITE]") bytes) (λ rest. Some (code.ReadWrite, rest))
-    (behind (after (codes "[READ-ONLY]") bytes) (λ rest. Some (code.ReadOnly, rest))
-    (behind (after (codes "[EXPUNGEISSUED]") bytes) (λ rest. Some (code.ExpungeIssued, rest))
-    (behind (after (codes "[APPENDUID ") bytes)
+    read_or (after (codes "[READ-WRITE]") bytes) (λ rest. Some (code.ReadWrite, rest))
+    (read_or (after (codes "[READ-ONLY]") bytes) (λ rest. Some (code.ReadOnly, rest))
+    (read_or (after (codes "[EXPUNGEISSUED]") bytes) (λ rest. Some (code.ExpungeIssued, rest))
+    (read_or (after (codes "[APPENDUID ") bytes)
     (λ rest. within (λ a. code.AppendUid a.0 a.1) (appended_at rest))
-    (behind (after (codes "[COPYUID ") bytes)
+    (read_or (after (codes "[COPYUID ") bytes)
     (λ rest. within (λ c. code.CopyUid c.0 c.1 c.2) (copied_at rest))
-    (behind (after (codes "[MODIFIED ") bytes) (λ rest. modified_at rest) None)))))
+    (read_or (after (codes "[MODIFIED ") bytes) (λ rest. modified_at rest) None)))))
 
 -- A code and a space if a bracket comes next, else none.
 abbrev pub code_or : Option (List ℕ) → List ℕ → Option (Option Code × List ℕ)
@@ -221,9 +221,9 @@ next_field_at is_first bytes = after (lead is_first []) bytes >>= field_at
 -- No further names if the parenthesis was skipped, else the next name and those after it.
 abbrev pub fields_on : Bool → Option (List ℕ) → List ℕ → (List ℕ → Option (List (List ℕ) × List ℕ))
     → Option (List (List ℕ) × List ℕ)
-fields_on is_first (Some rest) bytes go = Some ([], rest)
-fields_on is_first None bytes go =
-    next_field_at is_first bytes >>= λ name. with_front (name.0 ∷ []) (go name.1)
+fields_on is_first (Some rest) bytes reader = Some ([], rest)
+fields_on is_first None bytes reader =
+    next_field_at is_first bytes >>= λ name. with_prefix (name.0 ∷ []) (reader name.1)
 
 -- Fewer than `fuel` names of header fields, up to the closing parenthesis.
 abbrev pub fields_at : ℕ → Bool → List ℕ → Option (List (List ℕ) × List ℕ)
@@ -234,12 +234,12 @@ fields_at (suc fuel) is_first bytes =
 -- The name of a section.
 unfoldable pub section_at : List ℕ → Option (Section × List ℕ)
 section_at bytes =
-    behind (after (codes "HEADER.FIELDS (") bytes)
+    read_or (after (codes "HEADER.FIELDS (") bytes)
     (λ rest. within (λ names. section.Fields names) (fields_at (length rest + 1) true rest))
-    (behind (after (codes "HEADER.FIELDS.NOT (") bytes)
+    (read_or (after (codes "HEADER.FIELDS.NOT (") bytes)
     (λ rest. within (λ names. section.FieldsNot names) (fields_at (length rest + 1) true rest))
-    (behind (after (codes "HEADER") bytes) (λ rest. Some (section.Header, rest))
-    (behind (after (codes "TEXT") bytes) (λ rest. Some (section.Text, rest))
+    (read_or (after (codes "HEADER") bytes) (λ rest. Some (section.Header, rest))
+    (read_or (after (codes "TEXT") bytes) (λ rest. Some (section.Text, rest))
     (Some (section.Whole, bytes)))))
 
 -- The offset of a partial range if its `<` was skipped, else none.
@@ -262,14 +262,15 @@ data_at bytes = do
 unfoldable pub body_at : List ℕ → Option (SectionData × List ℕ)
 body_at bytes = do
   section ← section_at bytes
-  found ← data_at section.1
-  Some (record { section = section.0; origin = found.0.0; octets = found.0.1 }, found.1)
+  parsed ← data_at section.1
+  Some (record { section = section.0; origin = parsed.0.0; octets = parsed.0.1 }, parsed.1)
 
 -- A section and those after it if `BODY[` was skipped, else none.
 abbrev pub bodies_on : Option (List ℕ) → List ℕ → (List ℕ → Option (List SectionData × List ℕ))
     → Option (List SectionData × List ℕ)
-bodies_on None bytes go = Some ([], bytes)
-bodies_on (Some rest) bytes go = body_at rest >>= λ part. with_front (part.0 ∷ []) (go part.1)
+bodies_on None bytes reader = Some ([], bytes)
+bodies_on (Some rest) bytes reader =
+    body_at rest >>= λ part. with_prefix (part.0 ∷ []) (reader part.1)
 
 -- Fewer than `fuel` sections with their octets.
 abbrev pub bodies_at : ℕ → Bool → List ℕ → Option (List SectionData × List ℕ)
@@ -352,7 +353,7 @@ unfoldable pub search_at : List ℕ → Option (Answer × List ℕ)
 search_at bytes =
     if length (span (is_in Tag) bytes).0 == 0 then None
     else
-    behind (after (codes "\") UID") (span (is_in Tag) bytes).1)
+    read_or (after (codes "\") UID") (span (is_in Tag) bytes).1)
     (λ rest. search_from (span (is_in Tag) bytes).0 true rest)
     (after (codes "\")") (span (is_in Tag) bytes).1
     >>= λ rest. search_from (span (is_in Tag) bytes).0 false rest)
@@ -364,38 +365,39 @@ fetch_at number bytes = do
   followed (answer.Fetch number items.0) (after (codes ")") items.1)
 
 -- The code of an untagged OK, after the OK.
-unfoldable pub tell_at : List ℕ → Option (Answer × List ℕ)
-tell_at bytes = do
+unfoldable pub untagged_ok_at : List ℕ → Option (Answer × List ℕ)
+untagged_ok_at bytes = do
   notice ← notice_at bytes
-  followed (answer.Tell notice.0) (after (codes " ok") notice.1)
+  followed (answer.UntaggedOk notice.0) (after (codes " ok") notice.1)
 
 -- An untagged answer that is one fixed text.
 unfoldable pub fixed_at : List ℕ → Option (Answer × List ℕ)
 fixed_at bytes =
-    behind (after (codes "CAPABILITY IMAP4rev2 IDLE CONDSTORE") bytes)
+    read_or (after (codes "CAPABILITY IMAP4rev2 IDLE CONDSTORE") bytes)
     (λ rest. Some (answer.Capability, rest))
-    (behind (after (codes "NAMESPACE ((\"\" \"/\")) NIL NIL") bytes)
+    (read_or (after (codes "NAMESPACE ((\"\" \"/\")) NIL NIL") bytes)
     (λ rest. Some (answer.Namespace, rest))
-    (behind (after (codes "BAD no tag") bytes) (λ rest. Some (answer.NoTag, rest))
+    (read_or (after (codes "BAD no tag") bytes) (λ rest. Some (answer.NoTag, rest))
     (followed answer.LiteralTooLong (after (codes "NO [LIMIT] literal too long") bytes))))
 
 -- An untagged answer that begins with a word.
 unfoldable pub worded_at : List ℕ → Option (Answer × List ℕ)
 worded_at bytes =
-    behind (after (codes "OK ") bytes) (λ rest. tell_at rest)
-    (behind (after (codes "FLAGS ") bytes)
+    read_or (after (codes "OK ") bytes) (λ rest. untagged_ok_at rest)
+    (read_or (after (codes "FLAGS ") bytes)
     (λ rest. within (λ flags. answer.Flags flags) (flags_at rest))
-    (behind (after (codes "LIST ") bytes) (λ rest. list_at rest)
-    (behind (after (codes "STATUS ") bytes) (λ rest. status_at rest)
-    (behind (after (codes "ESEARCH (TAG \"") bytes) (λ rest. search_at rest)
+    (read_or (after (codes "LIST ") bytes) (λ rest. list_at rest)
+    (read_or (after (codes "STATUS ") bytes) (λ rest. status_at rest)
+    (read_or (after (codes "ESEARCH (TAG \"") bytes) (λ rest. search_at rest)
     (fixed_at bytes)))))
 
 -- An untagged answer that begins with a number, else one that begins with a word.
 abbrev pub numbered_at : ℕ → List ℕ → List ℕ → Option (Answer × List ℕ)
 numbered_at number rest bytes =
-    behind (after (codes " EXISTS") rest) (λ closed. Some (answer.Exists (small number), closed))
-    (behind (after (codes " EXPUNGE") rest) (λ closed. Some (answer.Expunge (small number), closed))
-    (behind (after (codes " FETCH (") rest) (λ items. fetch_at (small number) items)
+    read_or (after (codes " EXISTS") rest) (λ closed. Some (answer.Exists (small number), closed))
+    (read_or (after (codes " EXPUNGE") rest)
+    (λ closed. Some (answer.Expunge (small number), closed))
+    (read_or (after (codes " FETCH (") rest) (λ items. fetch_at (small number) items)
     (worded_at bytes)))
 
 -- An untagged answer, after its `* `.
@@ -434,7 +436,7 @@ completed_at tag bytes = do
 unfoldable pub tagged_at : List ℕ → List ℕ → Option (Answer × List ℕ)
 tagged_at tag bytes = do
   rest ← after (codes " ") bytes
-  behind (after (codes "OK ") rest) (λ more. completed_at tag more)
+  read_or (after (codes "OK ") rest) (λ more. completed_at tag more)
       (within (λ reason. answer.Refused tag reason) (word_at refusal_text refusals rest))
 
 -- An answer without its line end.
@@ -446,5 +448,5 @@ answer_at bytes =
 -- An answer with its line end.
 unfoldable pub line_at : List ℕ → Option (Answer × List ℕ)
 line_at bytes = do
-  found ← answer_at bytes
-  followed found.0 (after crlf found.1)
+  parsed ← answer_at bytes
+  followed parsed.0 (after crlf parsed.1)

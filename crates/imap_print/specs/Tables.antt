@@ -20,7 +20,7 @@ use Rattle.imap_print.specs.declared.fixed_texts.Attributes.{Attributes}
 -- The greetings.
 abbrev pub logins : List Login
 logins =
-    login.Wanted ∷ login.Given ∷ []
+    login.Required ∷ login.PreAuthenticated ∷ []
 
 -- The continuation requests.
 abbrev pub continuations : List Continuation
@@ -62,8 +62,8 @@ commands =
 -- The attributes of names in LIST.
 abbrev pub all_attributes : List Attributes
 all_attributes =
-    record { state = state.There; subscribed = false }
-    ∷ record { state = state.There; subscribed = true }
+    record { state = state.Selectable; subscribed = false }
+    ∷ record { state = state.Selectable; subscribed = true }
     ∷ record { state = state.NoSelect; subscribed = false }
     ∷ record { state = state.NoSelect; subscribed = true }
     ∷ record { state = state.NonExistent; subscribed = false }

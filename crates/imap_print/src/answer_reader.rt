@@ -2,7 +2,7 @@
 
 ghost use Rattle.std.specs.Prelude.{◌≡◌, ◌++◌, List, ℕ, drop, length, IfOk, IfSome};
 ghost use Rattle.imap_answers.specs.Printable.{IsPrintable};
-ghost use Rattle.imap_answers.specs.Printed.{text_of_answer};
+ghost use Rattle.imap_answers.specs.AnswerText.{text_of_answer};
 ghost use Rattle.imap_answers.specs.declared.answer.Answer.{Answer};
 
 use crate::fault::ReadFault;
@@ -17,7 +17,7 @@ use std::alloc::{AllocError, Global};
 /// that text in octets; `None` exactly if there is no such answer. `Err` if memory runs out.
 pub fn read(alloc: Global, text: &[u8]) -> Result<Option<(Answer, usize)>, AllocError>
     // The octets begin with the text of the answer that is read.
-    ensures found { IfOk result (λ read. IfSome read (λ x. (text.now
+    ensures printed { IfOk result (λ read. IfSome read (λ x. (text.now
         ≡ text_of_answer x.0 ++ drop x.1 text.now) × (x.1 ≡ length (text_of_answer x.0)))) }
     // The answer that is read may be sent.
     ensures printable { IfOk result (λ read. IfSome read (λ x. IsPrintable x.0)) }
@@ -46,7 +46,7 @@ fn printed_prefix(
     answer: Answer,
     text: &[u8],
 ) -> Result<Option<(Answer, usize)>, AllocError>
-    ensures found { IfOk result (λ read. IfSome read (λ x. (text.now
+    ensures printed { IfOk result (λ read. IfSome read (λ x. (text.now
         ≡ text_of_answer x.0 ++ drop x.1 text.now) × (x.1 ≡ length (text_of_answer x.0)))) }
     ensures same { IfOk result (λ read. IfSome read (λ x. x.0 ≡ answer)) }
     ensures only { (rest : List ℕ)
@@ -68,7 +68,7 @@ fn printed_prefix(
 
 /// The length of an answer's text, if the octets begin with that text.
 fn printed_length(alloc: Global, answer: &Answer, text: &[u8]) -> Result<Option<usize>, AllocError>
-    ensures found { IfOk result (λ read. IfSome read (λ size. (text.now
+    ensures printed { IfOk result (λ read. IfSome read (λ size. (text.now
         ≡ text_of_answer answer.now ++ drop size text.now)
         × (size ≡ length (text_of_answer answer.now)))) }
     ensures only { (rest : List ℕ)

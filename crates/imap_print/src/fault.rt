@@ -2,7 +2,7 @@
 
 use std::alloc::{AllocError, AllocFailed};
 
-/// Why a reader gives no value.
+/// Why a reader returns no value.
 #[derive(Clone, Copy)]
 pub enum ReadFault {
     /// Memory ran out.

@@ -101,7 +101,7 @@ impl FixedText for CompletedWord {
 pub fn login_word(bytes: &[u8]) -> Option<(Login, &[u8])>
     ensures { option_map (λ x. (x.0, x.1.now)) result ≡ word_at greeting_text logins bytes.now }
 {
-    let candidates = [Login::Wanted, Login::Given];
+    let candidates = [Login::Required, Login::PreAuthenticated];
     first_word(&candidates, bytes)
 }
 
@@ -219,11 +219,11 @@ pub fn attributes_word(bytes: &[u8]) -> Option<(Attributes, &[u8])>
 {
     let candidates = [
         Attributes {
-            state: MailboxState::There,
+            state: MailboxState::Selectable,
             subscribed: false,
         },
         Attributes {
-            state: MailboxState::There,
+            state: MailboxState::Selectable,
             subscribed: true,
         },
         Attributes {

@@ -2,7 +2,7 @@
 //! reader gives what it read, whether the text after that is still the first, and the rest.
 
 ghost use Rattle.std.specs.Prelude.{◌≡◌, true, codes, option_map};
-ghost use Rattle.imap_print.specs.Reading.{Gives, after, flag_at, item_at, lead};
+ghost use Rattle.imap_print.specs.Reading.{IsReading, after, flag_at, item_at, lead};
 ghost use Rattle.imap_print.specs.ReadingAnswers.{bodies_at, body_at, data_at, date_at, date_or};
 ghost use Rattle.imap_print.specs.ReadingAnswers.{fetch_items_at, fields_at, flags_at, flags_from};
 ghost use Rattle.imap_print.specs.ReadingAnswers.{flags_or, modseq_or, next_field_at, origin_or};
@@ -32,8 +32,8 @@ fn skip_text<'a>(is_first: bool, text: &[u8], bytes: &'a [u8]) -> Option<&'a [u8
 
 /// Whether a flag comes next.
 fn flag<'a>(is_first: bool, text: &[u8], bytes: &'a [u8]) -> (bool, bool, &'a [u8])
-    ensures there { result.0 ≡ (flag_at is_first text.now bytes.now).0 }
-    ensures still { result.1 ≡ (flag_at is_first text.now bytes.now).1 }
+    ensures present { result.0 ≡ (flag_at is_first text.now bytes.now).0 }
+    ensures none_yet { result.1 ≡ (flag_at is_first text.now bytes.now).1 }
     ensures rest { result.2.now ≡ (flag_at is_first text.now bytes.now).2 }
 {
     match skip_text(is_first, text, bytes) {
@@ -45,14 +45,14 @@ fn flag<'a>(is_first: bool, text: &[u8], bytes: &'a [u8]) -> (bool, bool, &'a [u
 /// Reads a label and its number, if the label comes next.
 pub fn item<'a>(is_first: bool, label: &[u8], bytes: &'a [u8]) -> (Option<u64>, bool, &'a [u8])
     ensures number { result.0 ≡ (item_at is_first label.now bytes.now).0 }
-    ensures still { result.1 ≡ (item_at is_first label.now bytes.now).1 }
+    ensures none_yet { result.1 ≡ (item_at is_first label.now bytes.now).1 }
     ensures rest { result.2.now ≡ (item_at is_first label.now bytes.now).2 }
 {
     match skip_text(is_first, label, bytes) {
         None => (None, is_first, bytes),
         Some(digits) => {
-            let (found, rest) = number(digits);
-            (Some(found), false, rest)
+            let (parsed, rest) = number(digits);
+            (Some(parsed), false, rest)
         }
     }
 }
@@ -67,19 +67,19 @@ pub fn narrow(number: Option<u64>) -> Option<u32>
     }
 }
 
-/// Reads the flags of a list, and gives whether there are none.
+/// Reads the flags of a list, and returns whether there are none.
 #[tactic(auto, unfolding(crate::specs::ReadingAnswers::flags_from))]
 fn flags_from(alloc: Global, bytes: &[u8]) -> Result<(Flags, bool, &[u8]), ReadFault>
-    ensures { Gives (λ x. (x.0, x.1, x.2.now)) result (flags_from bytes.now) }
+    ensures { IsReading (λ x. (x.0, x.1, x.2.now)) result (flags_from bytes.now) }
 {
-    let (answered, still, rest) = flag(true, b"\\Answered", bytes);
-    let (flagged, still, rest) = flag(still, b"\\Flagged", rest);
-    let (deleted, still, rest) = flag(still, b"\\Deleted", rest);
-    let (seen, still, rest) = flag(still, b"\\Seen", rest);
-    let (draft, still, rest) = flag(still, b"\\Draft", rest);
-    let (found, rest) = words(alloc, bytes.len() + 1, still, rest)?;
-    let has_none = found.is_empty();
-    match Keywords::new(found) {
+    let (answered, none_yet, rest) = flag(true, b"\\Answered", bytes);
+    let (flagged, none_yet, rest) = flag(none_yet, b"\\Flagged", rest);
+    let (deleted, none_yet, rest) = flag(none_yet, b"\\Deleted", rest);
+    let (seen, none_yet, rest) = flag(none_yet, b"\\Seen", rest);
+    let (draft, none_yet, rest) = flag(none_yet, b"\\Draft", rest);
+    let (parsed, rest) = words(alloc, bytes.len() + 1, none_yet, rest)?;
+    let has_none = parsed.is_empty();
+    match Keywords::new(parsed) {
         None => Err(ReadFault::NotPrinted),
         Some(keywords) => {
             let flags = Flags {
@@ -90,7 +90,7 @@ fn flags_from(alloc: Global, bytes: &[u8]) -> Result<(Flags, bool, &[u8]), ReadF
                 draft,
                 keywords,
             };
-            Ok((flags, still && has_none, rest))
+            Ok((flags, none_yet && has_none, rest))
         }
     }
 }
@@ -98,7 +98,7 @@ fn flags_from(alloc: Global, bytes: &[u8]) -> Result<(Flags, bool, &[u8]), ReadF
 /// Reads flags in parentheses.
 #[tactic(auto, unfolding(crate::specs::ReadingAnswers::flags_at))]
 pub fn flags(alloc: Global, bytes: &[u8]) -> Result<(Flags, &[u8]), ReadFault>
-    ensures { Gives (λ x. (x.0, x.1.now)) result (flags_at bytes.now) }
+    ensures { IsReading (λ x. (x.0, x.1.now)) result (flags_at bytes.now) }
 {
     let rest = expect(bytes, b"(")?;
     let (flags, _, rest) = flags_from(alloc, rest)?;
@@ -107,7 +107,7 @@ pub fn flags(alloc: Global, bytes: &[u8]) -> Result<(Flags, &[u8]), ReadFault>
 
 /// Reads the flags that can be changed permanently, in parentheses (RFC 9051, section 7.1).
 pub fn permanent_flags(alloc: Global, bytes: &[u8]) -> Result<(Option<Flags>, &[u8]), ReadFault>
-    ensures { Gives (λ x. (x.0, x.1.now)) result (permanent_at bytes.now) }
+    ensures { IsReading (λ x. (x.0, x.1.now)) result (permanent_at bytes.now) }
 {
     match skip(bytes, b"()") {
         Some(rest) => Ok((None, rest)),
@@ -121,10 +121,10 @@ pub fn permanent_flags(alloc: Global, bytes: &[u8]) -> Result<(Option<Flags>, &[
 /// Reads the flags that can be changed permanently, after the opening parenthesis.
 #[tactic(auto, unfolding(crate::specs::ReadingAnswers::permanent_from))]
 fn permanent_from(alloc: Global, bytes: &[u8]) -> Result<(Option<Flags>, &[u8]), ReadFault>
-    ensures { Gives (λ x. (x.0, x.1.now)) result (permanent_from bytes.now) }
+    ensures { IsReading (λ x. (x.0, x.1.now)) result (permanent_from bytes.now) }
 {
-    let (flags, still, rest) = flags_from(alloc, bytes)?;
-    match skip_text(still, b"\\*", rest) {
+    let (flags, none_yet, rest) = flags_from(alloc, bytes)?;
+    match skip_text(none_yet, b"\\*", rest) {
         None => {
             drop(flags);
             Err(ReadFault::NotPrinted)
@@ -139,13 +139,13 @@ pub fn status_items(bytes: &[u8]) -> (StatusItems, &[u8])
     ensures items { result.0 ≡ (status_items_at bytes.now).0 }
     ensures rest { result.1.now ≡ (status_items_at bytes.now).1 }
 {
-    let (messages, still, rest) = item(true, b"MESSAGES ", bytes);
-    let (uidnext, still, rest) = item(still, b"UIDNEXT ", rest);
-    let (uidvalidity, still, rest) = item(still, b"UIDVALIDITY ", rest);
-    let (unseen, still, rest) = item(still, b"UNSEEN ", rest);
-    let (deleted, still, rest) = item(still, b"DELETED ", rest);
-    let (size, still, rest) = item(still, b"SIZE ", rest);
-    let (highest_modseq, _, rest) = item(still, b"HIGHESTMODSEQ ", rest);
+    let (messages, none_yet, rest) = item(true, b"MESSAGES ", bytes);
+    let (uidnext, none_yet, rest) = item(none_yet, b"UIDNEXT ", rest);
+    let (uidvalidity, none_yet, rest) = item(none_yet, b"UIDVALIDITY ", rest);
+    let (unseen, none_yet, rest) = item(none_yet, b"UNSEEN ", rest);
+    let (deleted, none_yet, rest) = item(none_yet, b"DELETED ", rest);
+    let (size, none_yet, rest) = item(none_yet, b"SIZE ", rest);
+    let (highest_modseq, _, rest) = item(none_yet, b"HIGHESTMODSEQ ", rest);
     let items = StatusItems {
         messages: narrow(messages),
         uidnext: narrow(uidnext),
@@ -160,19 +160,19 @@ pub fn status_items(bytes: &[u8]) -> (StatusItems, &[u8])
 
 /// Reads fewer than `count` names of header fields, up to the closing parenthesis.
 fn fields(alloc: Global, count: usize, bytes: &[u8]) -> Result<(FieldNames, &[u8]), ReadFault>
-    ensures { Gives (λ x. (x.0, x.1.now)) result (fields_at count true bytes.now) }
+    ensures { IsReading (λ x. (x.0, x.1.now)) result (fields_at count true bytes.now) }
 {
     let mut names = Vec::new(alloc);
-    let mut still = true;
+    let mut none_yet = true;
     let mut rest = bytes;
     for _index in 0..count {
         match skip(rest, b")") {
-            Some(behind) => return Ok((FieldNames::new(names), behind)),
+            Some(unread) => return Ok((FieldNames::new(names), unread)),
             None => {}
         }
-        let (name, tail) = next_field(alloc, still, rest)?;
+        let (name, tail) = next_field(alloc, none_yet, rest)?;
         names.push(name)?;
-        still = false;
+        none_yet = false;
         rest = tail;
     }
     Err(ReadFault::NotPrinted)
@@ -180,7 +180,7 @@ fn fields(alloc: Global, count: usize, bytes: &[u8]) -> Result<(FieldNames, &[u8
 
 /// Reads the next name of a header field.
 fn next_field(alloc: Global, is_first: bool, bytes: &[u8]) -> Result<(Octets, &[u8]), ReadFault>
-    ensures { Gives (λ x. (x.0, x.1.now)) result (next_field_at is_first bytes.now) }
+    ensures { IsReading (λ x. (x.0, x.1.now)) result (next_field_at is_first bytes.now) }
 {
     let rest = expect(bytes, lead(is_first))?;
     field(alloc, rest)
@@ -189,7 +189,7 @@ fn next_field(alloc: Global, is_first: bool, bytes: &[u8]) -> Result<(Octets, &[
 /// Reads the name of a section (RFC 9051, section 9, section-spec).
 #[tactic(auto, unfolding(crate::specs::ReadingAnswers::section_at))]
 fn section(alloc: Global, bytes: &[u8]) -> Result<(Section, &[u8]), ReadFault>
-    ensures { Gives (λ x. (x.0, x.1.now)) result (section_at bytes.now) }
+    ensures { IsReading (λ x. (x.0, x.1.now)) result (section_at bytes.now) }
 {
     if let Some(rest) = skip(bytes, b"HEADER.FIELDS (") {
         let (names, rest) = fields(alloc, rest.len() + 1, rest)?;
@@ -210,15 +210,15 @@ fn section(alloc: Global, bytes: &[u8]) -> Result<(Section, &[u8]), ReadFault>
 
 /// Reads the offset of a partial range, if any.
 fn origin(bytes: &[u8]) -> Result<(Option<u32>, &[u8]), ReadFault>
-    ensures { Gives (λ x. (x.0, x.1.now)) result
+    ensures { IsReading (λ x. (x.0, x.1.now)) result
         (origin_or (after (codes "<") bytes.now) bytes.now) }
 {
     match skip(bytes, b"<") {
         None => Ok((None, bytes)),
         Some(digits) => {
-            let (found, rest) = number(digits);
+            let (parsed, rest) = number(digits);
             let rest = expect(rest, b">")?;
-            Ok((Some(small(found)), rest))
+            Ok((Some(small(parsed)), rest))
         }
     }
 }
@@ -226,10 +226,10 @@ fn origin(bytes: &[u8]) -> Result<(Option<u32>, &[u8]), ReadFault>
 /// Reads a section with its octets, after `BODY[`.
 #[tactic(auto, unfolding(crate::specs::ReadingAnswers::body_at))]
 fn body(alloc: Global, bytes: &[u8]) -> Result<(SectionData, &[u8]), ReadFault>
-    ensures { Gives (λ x. (x.0, x.1.now)) result (body_at bytes.now) }
+    ensures { IsReading (λ x. (x.0, x.1.now)) result (body_at bytes.now) }
 {
     let (section, rest) = section(alloc, bytes)?;
-    match octets_behind(alloc, rest) {
+    match octets_after(alloc, rest) {
         Err(fault) => {
             drop(section);
             Err(fault)
@@ -247,8 +247,8 @@ fn body(alloc: Global, bytes: &[u8]) -> Result<(SectionData, &[u8]), ReadFault>
 
 /// Reads what follows the name of a section: its offset, if any, and its octets.
 #[tactic(auto, unfolding(crate::specs::ReadingAnswers::data_at))]
-fn octets_behind(alloc: Global, bytes: &[u8]) -> Result<((Option<u32>, Text), &[u8]), ReadFault>
-    ensures { Gives (λ x. (x.0, x.1.now)) result (data_at bytes.now) }
+fn octets_after(alloc: Global, bytes: &[u8]) -> Result<((Option<u32>, Text), &[u8]), ReadFault>
+    ensures { IsReading (λ x. (x.0, x.1.now)) result (data_at bytes.now) }
 {
     let rest = expect(bytes, b"]")?;
     let (origin, rest) = origin(rest)?;
@@ -264,19 +264,19 @@ fn bodies(
     is_first: bool,
     bytes: &[u8],
 ) -> Result<(Sections, &[u8]), ReadFault>
-    ensures { Gives (λ x. (x.0, x.1.now)) result (bodies_at count is_first bytes.now) }
+    ensures { IsReading (λ x. (x.0, x.1.now)) result (bodies_at count is_first bytes.now) }
 {
     let mut parts = Vec::new(alloc);
-    let mut still = is_first;
+    let mut none_yet = is_first;
     let mut rest = bytes;
     for _index in 0..count {
-        let behind = match skip_text(still, b"BODY[", rest) {
+        let unread = match skip_text(none_yet, b"BODY[", rest) {
             None => return Ok((Sections::new(parts), rest)),
-            Some(behind) => behind,
+            Some(unread) => unread,
         };
-        let (part, tail) = body(alloc, behind)?;
+        let (part, tail) = body(alloc, unread)?;
         parts.push(part)?;
-        still = false;
+        none_yet = false;
         rest = tail;
     }
     Err(ReadFault::NotPrinted)
@@ -288,7 +288,7 @@ fn flags_item(
     is_first: bool,
     bytes: &[u8],
 ) -> Result<(Option<Flags>, bool, &[u8]), ReadFault>
-    ensures { Gives (λ x. (x.0, x.1, x.2.now)) result
+    ensures { IsReading (λ x. (x.0, x.1, x.2.now)) result
         (flags_or is_first (after (lead is_first (codes "FLAGS ")) bytes.now) bytes.now) }
 {
     match skip_text(is_first, b"FLAGS ", bytes) {
@@ -303,7 +303,7 @@ fn flags_item(
 /// Reads a date-time of 28 octets.
 #[tactic(auto, unfolding(crate::specs::ReadingAnswers::date_at))]
 fn date(bytes: &[u8]) -> Result<(DateTime, &[u8]), ReadFault>
-    ensures { Gives (λ x. (x.0, x.1.now)) result (date_at bytes.now) }
+    ensures { IsReading (λ x. (x.0, x.1.now)) result (date_at bytes.now) }
 {
     let (front, rest) = counted_octets(28, bytes)?;
     let mut octets = [0u8; 28];
@@ -316,7 +316,7 @@ fn date(bytes: &[u8]) -> Result<(DateTime, &[u8]), ReadFault>
 
 /// Reads the internal date of a message, if it comes next.
 fn date_item(is_first: bool, bytes: &[u8]) -> Result<(Option<DateTime>, bool, &[u8]), ReadFault>
-    ensures { Gives (λ x. (x.0, x.1, x.2.now)) result
+    ensures { IsReading (λ x. (x.0, x.1, x.2.now)) result
         (date_or is_first (after (lead is_first (codes "INTERNALDATE ")) bytes.now) bytes.now) }
 {
     match skip_text(is_first, b"INTERNALDATE ", bytes) {
@@ -330,15 +330,15 @@ fn date_item(is_first: bool, bytes: &[u8]) -> Result<(Option<DateTime>, bool, &[
 
 /// Reads the mod-sequence of a message, if it comes next.
 fn modseq_item(is_first: bool, bytes: &[u8]) -> Result<(Option<u64>, bool, &[u8]), ReadFault>
-    ensures { Gives (λ x. (x.0, x.1, x.2.now)) result
+    ensures { IsReading (λ x. (x.0, x.1, x.2.now)) result
         (modseq_or is_first (after (lead is_first (codes "MODSEQ (")) bytes.now) bytes.now) }
 {
     match skip_text(is_first, b"MODSEQ (", bytes) {
         None => Ok((None, is_first, bytes)),
         Some(digits) => {
-            let (found, rest) = number(digits);
+            let (parsed, rest) = number(digits);
             let rest = expect(rest, b")")?;
-            Ok((Some(found), false, rest))
+            Ok((Some(parsed), false, rest))
         }
     }
 }
@@ -346,14 +346,14 @@ fn modseq_item(is_first: bool, bytes: &[u8]) -> Result<(Option<u64>, bool, &[u8]
 /// Reads the items of FETCH (RFC 9051, section 7.5.2).
 #[tactic(auto, unfolding(crate::specs::ReadingAnswers::fetch_items_at))]
 pub fn fetch_items(alloc: Global, bytes: &[u8]) -> Result<(FetchItems, &[u8]), ReadFault>
-    ensures { Gives (λ x. (x.0, x.1.now)) result (fetch_items_at bytes.now) }
+    ensures { IsReading (λ x. (x.0, x.1.now)) result (fetch_items_at bytes.now) }
 {
-    let (uid, still, rest) = item(true, b"UID ", bytes);
-    let (flags, still, rest) = flags_item(alloc, still, rest)?;
-    let (date, still, rest) = date_item(still, rest)?;
-    let (size, still, rest) = item(still, b"RFC822.SIZE ", rest);
-    let (modseq, still, rest) = modseq_item(still, rest)?;
-    let (sections, rest) = bodies(alloc, rest.len() + 1, still, rest)?;
+    let (uid, none_yet, rest) = item(true, b"UID ", bytes);
+    let (flags, none_yet, rest) = flags_item(alloc, none_yet, rest)?;
+    let (date, none_yet, rest) = date_item(none_yet, rest)?;
+    let (size, none_yet, rest) = item(none_yet, b"RFC822.SIZE ", rest);
+    let (modseq, none_yet, rest) = modseq_item(none_yet, rest)?;
+    let (sections, rest) = bodies(alloc, rest.len() + 1, none_yet, rest)?;
     let items = FetchItems {
         uid: narrow(uid),
         flags,

@@ -2,7 +2,7 @@
 //! octets after it.
 
 ghost use Rattle.std.specs.Prelude.{codes};
-ghost use Rattle.imap_print.specs.Reading.{Gives, after, within};
+ghost use Rattle.imap_print.specs.Reading.{IsReading, after, within};
 ghost use Rattle.imap_print.specs.ReadingAnswers.{all_or, answer_at, appended_at, code_at};
 ghost use Rattle.imap_print.specs.ReadingAnswers.{code_before_at, coded_at, completed_at};
 ghost use Rattle.imap_print.specs.ReadingAnswers.{copied_at, done_at, fetch_at, fixed_at, flags_at};
@@ -10,7 +10,8 @@ ghost use Rattle.imap_print.specs.ReadingAnswers.{last_set_at, line_at, list_at,
 ghost use Rattle.imap_print.specs.ReadingAnswers.{notice_at, permanent_notice_at, results_at};
 ghost use Rattle.imap_print.specs.ReadingAnswers.{search_at, search_from, sets_at, star_at};
 ghost use Rattle.imap_print.specs.ReadingAnswers.{status_at, status_list_at, tagged_at};
-ghost use Rattle.imap_print.specs.ReadingAnswers.{tagged_done_at, tell_at, untagged_at, worded_at};
+ghost use Rattle.imap_print.specs.ReadingAnswers.{tagged_done_at, untagged_ok_at, untagged_at};
+ghost use Rattle.imap_print.specs.ReadingAnswers.{worded_at};
 ghost use Rattle.imap_answers.specs.declared.answer.Answer.TheVariants.{Flags};
 ghost use Rattle.imap_answers.specs.declared.codes.Code.TheVariants as code;
 ghost use Rattle.imap_answers.specs.declared.codes.Notice.TheVariants as notice;
@@ -31,16 +32,16 @@ use std::alloc::Global;
 /// Reads an answer with its line end.
 #[tactic(auto, unfolding(crate::specs::ReadingAnswers::line_at))]
 pub fn line(alloc: Global, bytes: &[u8]) -> Result<(Answer, &[u8]), ReadFault>
-    ensures { Gives (λ x. (x.0, x.1.now)) result (line_at bytes.now) }
+    ensures { IsReading (λ x. (x.0, x.1.now)) result (line_at bytes.now) }
 {
-    let (found, rest) = answer(alloc, bytes)?;
-    value_before_text(found, rest, b"\r\n")
+    let (parsed, rest) = answer(alloc, bytes)?;
+    value_before_text(parsed, rest, b"\r\n")
 }
 
 /// Reads an answer without its line end.
 #[tactic(auto, unfolding(crate::specs::ReadingAnswers::answer_at))]
 fn answer(alloc: Global, bytes: &[u8]) -> Result<(Answer, &[u8]), ReadFault>
-    ensures { Gives (λ x. (x.0, x.1.now)) result (answer_at bytes.now) }
+    ensures { IsReading (λ x. (x.0, x.1.now)) result (answer_at bytes.now) }
 {
     let (tag, rest) = span(ScanClass::Tag, bytes);
     if tag.is_empty() {
@@ -53,7 +54,7 @@ fn answer(alloc: Global, bytes: &[u8]) -> Result<(Answer, &[u8]), ReadFault>
 /// Reads an answer without a tag.
 #[tactic(auto, unfolding(crate::specs::ReadingAnswers::star_at))]
 fn star(alloc: Global, bytes: &[u8]) -> Result<(Answer, &[u8]), ReadFault>
-    ensures { Gives (λ x. (x.0, x.1.now)) result (star_at bytes.now) }
+    ensures { IsReading (λ x. (x.0, x.1.now)) result (star_at bytes.now) }
 {
     if let Some((login, rest)) = login_word(bytes) {
         return Ok((Answer::Greeting { login }, rest));
@@ -74,13 +75,13 @@ fn star(alloc: Global, bytes: &[u8]) -> Result<(Answer, &[u8]), ReadFault>
 /// Reads an untagged answer after its `* `.
 #[tactic(auto, unfolding(crate::specs::ReadingAnswers::untagged_at))]
 fn untagged(alloc: Global, bytes: &[u8]) -> Result<(Answer, &[u8]), ReadFault>
-    ensures { Gives (λ x. (x.0, x.1.now)) result (untagged_at bytes.now) }
+    ensures { IsReading (λ x. (x.0, x.1.now)) result (untagged_at bytes.now) }
 {
-    let (found, rest) = number(bytes);
+    let (parsed, rest) = number(bytes);
     if let Some(rest) = skip(rest, b" EXISTS") {
         return Ok((
             Answer::Exists {
-                count: small(found),
+                count: small(parsed),
             },
             rest,
         ));
@@ -88,13 +89,13 @@ fn untagged(alloc: Global, bytes: &[u8]) -> Result<(Answer, &[u8]), ReadFault>
     if let Some(rest) = skip(rest, b" EXPUNGE") {
         return Ok((
             Answer::Expunge {
-                number: small(found),
+                number: small(parsed),
             },
             rest,
         ));
     }
     match skip(rest, b" FETCH (") {
-        Some(rest) => fetch(alloc, small(found), rest),
+        Some(rest) => fetch(alloc, small(parsed), rest),
         None => answer_of_word(alloc, bytes),
     }
 }
@@ -102,10 +103,10 @@ fn untagged(alloc: Global, bytes: &[u8]) -> Result<(Answer, &[u8]), ReadFault>
 /// Reads an untagged answer that begins with a word.
 #[tactic(auto, unfolding(crate::specs::ReadingAnswers::worded_at))]
 fn answer_of_word(alloc: Global, bytes: &[u8]) -> Result<(Answer, &[u8]), ReadFault>
-    ensures { Gives (λ x. (x.0, x.1.now)) result (worded_at bytes.now) }
+    ensures { IsReading (λ x. (x.0, x.1.now)) result (worded_at bytes.now) }
 {
     if let Some(rest) = skip(bytes, b"OK ") {
-        return tell(alloc, rest);
+        return untagged_ok(alloc, rest);
     }
     if let Some(rest) = skip(bytes, b"FLAGS ") {
         return mailbox_flags(alloc, rest);
@@ -125,7 +126,7 @@ fn answer_of_word(alloc: Global, bytes: &[u8]) -> Result<(Answer, &[u8]), ReadFa
 /// Reads an untagged answer that is one fixed text.
 #[tactic(auto, unfolding(crate::specs::ReadingAnswers::fixed_at))]
 fn fixed_answer(bytes: &[u8]) -> Result<(Answer, &[u8]), ReadFault>
-    ensures { Gives (λ x. (x.0, x.1.now)) result (fixed_at bytes.now) }
+    ensures { IsReading (λ x. (x.0, x.1.now)) result (fixed_at bytes.now) }
 {
     if let Some(rest) = skip(bytes, b"CAPABILITY IMAP4rev2 IDLE CONDSTORE") {
         return Ok((Answer::Capability, rest));
@@ -145,7 +146,7 @@ fn fixed_answer(bytes: &[u8]) -> Result<(Answer, &[u8]), ReadFault>
 
 /// Reads the flags of a mailbox.
 fn mailbox_flags(alloc: Global, bytes: &[u8]) -> Result<(Answer, &[u8]), ReadFault>
-    ensures { Gives (λ x. (x.0, x.1.now)) result
+    ensures { IsReading (λ x. (x.0, x.1.now)) result
         (within (λ flags. Flags flags) (flags_at bytes.now)) }
 {
     let (flags, rest) = flags(alloc, bytes)?;
@@ -153,18 +154,18 @@ fn mailbox_flags(alloc: Global, bytes: &[u8]) -> Result<(Answer, &[u8]), ReadFau
 }
 
 /// Reads the code of an untagged OK, after the OK.
-#[tactic(auto, unfolding(crate::specs::ReadingAnswers::tell_at))]
-fn tell(alloc: Global, bytes: &[u8]) -> Result<(Answer, &[u8]), ReadFault>
-    ensures { Gives (λ x. (x.0, x.1.now)) result (tell_at bytes.now) }
+#[tactic(auto, unfolding(crate::specs::ReadingAnswers::untagged_ok_at))]
+fn untagged_ok(alloc: Global, bytes: &[u8]) -> Result<(Answer, &[u8]), ReadFault>
+    ensures { IsReading (λ x. (x.0, x.1.now)) result (untagged_ok_at bytes.now) }
 {
     let (notice, rest) = notice(alloc, bytes)?;
-    value_before_text(Answer::Tell { notice }, rest, b" ok")
+    value_before_text(Answer::UntaggedOk { notice }, rest, b" ok")
 }
 
 /// Reads a name in LIST.
 #[tactic(auto, unfolding(crate::specs::ReadingAnswers::list_at))]
 fn list(alloc: Global, bytes: &[u8]) -> Result<(Answer, &[u8]), ReadFault>
-    ensures { Gives (λ x. (x.0, x.1.now)) result (list_at bytes.now) }
+    ensures { IsReading (λ x. (x.0, x.1.now)) result (list_at bytes.now) }
 {
     match attributes_word(bytes) {
         None => Err(ReadFault::NotPrinted),
@@ -184,7 +185,7 @@ fn list(alloc: Global, bytes: &[u8]) -> Result<(Answer, &[u8]), ReadFault>
 /// Reads a mailbox in STATUS.
 #[tactic(auto, unfolding(crate::specs::ReadingAnswers::status_at))]
 fn status(alloc: Global, bytes: &[u8]) -> Result<(Answer, &[u8]), ReadFault>
-    ensures { Gives (λ x. (x.0, x.1.now)) result (status_at bytes.now) }
+    ensures { IsReading (λ x. (x.0, x.1.now)) result (status_at bytes.now) }
 {
     let (name, rest) = string(alloc, bytes)?;
     match status_list(rest) {
@@ -202,7 +203,7 @@ fn status(alloc: Global, bytes: &[u8]) -> Result<(Answer, &[u8]), ReadFault>
 /// Reads the items of STATUS in parentheses.
 #[tactic(auto, unfolding(crate::specs::ReadingAnswers::status_list_at))]
 fn status_list(bytes: &[u8]) -> Result<(StatusItems, &[u8]), ReadFault>
-    ensures { Gives (λ x. (x.0, x.1.now)) result (status_list_at bytes.now) }
+    ensures { IsReading (λ x. (x.0, x.1.now)) result (status_list_at bytes.now) }
 {
     let rest = expect(bytes, b" (")?;
     let (items, rest) = status_items(rest);
@@ -212,7 +213,7 @@ fn status_list(bytes: &[u8]) -> Result<(StatusItems, &[u8]), ReadFault>
 /// Reads the results of a search, from its tag on.
 #[tactic(auto, unfolding(crate::specs::ReadingAnswers::search_at))]
 fn search(alloc: Global, bytes: &[u8]) -> Result<(Answer, &[u8]), ReadFault>
-    ensures { Gives (λ x. (x.0, x.1.now)) result (search_at bytes.now) }
+    ensures { IsReading (λ x. (x.0, x.1.now)) result (search_at bytes.now) }
 {
     let (tag, rest) = span(ScanClass::Tag, bytes);
     if tag.is_empty() {
@@ -234,7 +235,7 @@ fn search_from<'a>(
     by_uid: bool,
     bytes: &'a [u8],
 ) -> Result<(Answer, &'a [u8]), ReadFault>
-    ensures { Gives (λ x. (x.0, x.1.now)) result (search_from tag.now by_uid bytes.now) }
+    ensures { IsReading (λ x. (x.0, x.1.now)) result (search_from tag.now by_uid bytes.now) }
 {
     let (results, rest) = results(alloc, bytes)?;
     let search = Answer::Search {
@@ -248,7 +249,7 @@ fn search_from<'a>(
 /// Reads the results of a search, after its tag.
 #[tactic(auto, unfolding(crate::specs::ReadingAnswers::results_at))]
 fn results(alloc: Global, bytes: &[u8]) -> Result<(SearchResults, &[u8]), ReadFault>
-    ensures { Gives (λ x. (x.0, x.1.now)) result (results_at bytes.now) }
+    ensures { IsReading (λ x. (x.0, x.1.now)) result (results_at bytes.now) }
 {
     let (min, _, rest) = item(false, b"MIN ", bytes);
     let (max, _, rest) = item(false, b"MAX ", rest);
@@ -267,7 +268,7 @@ fn results(alloc: Global, bytes: &[u8]) -> Result<(SearchResults, &[u8]), ReadFa
 
 /// Reads all hits of a search, if they come next.
 fn all_hits(alloc: Global, bytes: &[u8]) -> Result<(NumberSet, &[u8]), ReadFault>
-    ensures { Gives (λ x. (x.0, x.1.now)) result
+    ensures { IsReading (λ x. (x.0, x.1.now)) result
         (all_or (after (codes " ALL ") bytes.now) bytes.now) }
 {
     match skip(bytes, b" ALL ") {
@@ -279,7 +280,7 @@ fn all_hits(alloc: Global, bytes: &[u8]) -> Result<(NumberSet, &[u8]), ReadFault
 /// Reads the items of the message with this number, and the closing parenthesis.
 #[tactic(auto, unfolding(crate::specs::ReadingAnswers::fetch_at))]
 fn fetch(alloc: Global, number: u32, bytes: &[u8]) -> Result<(Answer, &[u8]), ReadFault>
-    ensures { Gives (λ x. (x.0, x.1.now)) result (fetch_at number bytes.now) }
+    ensures { IsReading (λ x. (x.0, x.1.now)) result (fetch_at number bytes.now) }
 {
     let (items, rest) = fetch_items(alloc, bytes)?;
     value_before_text(Answer::Fetch { number, items }, rest, b")")
@@ -292,7 +293,7 @@ fn tagged_line<'a>(
     tag: &[u8],
     bytes: &'a [u8],
 ) -> Result<(Answer, &'a [u8]), ReadFault>
-    ensures { Gives (λ x. (x.0, x.1.now)) result (tagged_at tag.now bytes.now) }
+    ensures { IsReading (λ x. (x.0, x.1.now)) result (tagged_at tag.now bytes.now) }
 {
     let rest = expect(bytes, b" ")?;
     if let Some(rest) = skip(rest, b"OK ") {
@@ -314,9 +315,9 @@ fn completed_line<'a>(
     tag: &[u8],
     bytes: &'a [u8],
 ) -> Result<(Answer, &'a [u8]), ReadFault>
-    ensures { Gives (λ x. (x.0, x.1.now)) result (completed_at tag.now bytes.now) }
+    ensures { IsReading (λ x. (x.0, x.1.now)) result (completed_at tag.now bytes.now) }
 {
-    let (code, rest) = code_before(alloc, bytes)?;
+    let (code, rest) = code_prefix(alloc, bytes)?;
     match tagged_done(alloc, tag, rest) {
         Err(fault) => {
             drop(code);
@@ -326,13 +327,13 @@ fn completed_line<'a>(
     }
 }
 
-/// Reads the command's name and `completed`, and gives the tag with it.
+/// Reads the command's name and `completed`, and returns the tag with it.
 fn tagged_done<'a>(
     alloc: Global,
     tag: &[u8],
     bytes: &'a [u8],
 ) -> Result<((Octets, CompletedWord), &'a [u8]), ReadFault>
-    ensures { Gives (λ x. (x.0, x.1.now)) result (tagged_done_at tag.now bytes.now) }
+    ensures { IsReading (λ x. (x.0, x.1.now)) result (tagged_done_at tag.now bytes.now) }
 {
     let (command, rest) = completed_word(bytes)?;
     Ok(((Octets::from_slice(alloc, tag)?, command), rest))
@@ -341,7 +342,7 @@ fn tagged_done<'a>(
 /// Reads the name of a completed command, and `completed`.
 #[tactic(auto, unfolding(crate::specs::ReadingAnswers::done_at))]
 fn completed_word(bytes: &[u8]) -> Result<(CompletedWord, &[u8]), ReadFault>
-    ensures { Gives (λ x. (x.0, x.1.now)) result (done_at bytes.now) }
+    ensures { IsReading (λ x. (x.0, x.1.now)) result (done_at bytes.now) }
 {
     match command_word(bytes) {
         None => Err(ReadFault::NotPrinted),
@@ -352,11 +353,11 @@ fn completed_word(bytes: &[u8]) -> Result<(CompletedWord, &[u8]), ReadFault>
 /// Reads a number and the bracket that ends its code.
 #[tactic(auto, unfolding(crate::specs::ReadingAnswers::coded_at))]
 fn number_in_code(bytes: &[u8]) -> Result<(u64, &[u8]), ReadFault>
-    ensures { Gives (λ x. (x.0, x.1.now)) result (coded_at bytes.now) }
+    ensures { IsReading (λ x. (x.0, x.1.now)) result (coded_at bytes.now) }
 {
-    let (found, rest) = number(bytes);
+    let (parsed, rest) = number(bytes);
     let rest = expect(rest, b"]")?;
-    Ok((found, rest))
+    Ok((parsed, rest))
 }
 
 /// Reads a UIDVALIDITY, two sets, and the bracket that ends their code.
@@ -365,7 +366,7 @@ fn copyuid_code(
     alloc: Global,
     bytes: &[u8],
 ) -> Result<((u32, NumberSet, NumberSet), &[u8]), ReadFault>
-    ensures { Gives (λ x. (x.0, x.1.now)) result (copied_at bytes.now) }
+    ensures { IsReading (λ x. (x.0, x.1.now)) result (copied_at bytes.now) }
 {
     let (uidvalidity, rest) = number(bytes);
     let rest = expect(rest, b" ")?;
@@ -376,7 +377,7 @@ fn copyuid_code(
 /// Reads two sets and the bracket that ends their code.
 #[tactic(auto, unfolding(crate::specs::ReadingAnswers::sets_at))]
 fn sets(alloc: Global, bytes: &[u8]) -> Result<((NumberSet, NumberSet), &[u8]), ReadFault>
-    ensures { Gives (λ x. (x.0, x.1.now)) result (sets_at bytes.now) }
+    ensures { IsReading (λ x. (x.0, x.1.now)) result (sets_at bytes.now) }
 {
     let (source, rest) = set(alloc, bytes)?;
     match last_set(alloc, rest) {
@@ -391,7 +392,7 @@ fn sets(alloc: Global, bytes: &[u8]) -> Result<((NumberSet, NumberSet), &[u8]), 
 /// Reads a space, a set and the bracket that ends its code.
 #[tactic(auto, unfolding(crate::specs::ReadingAnswers::last_set_at))]
 fn last_set(alloc: Global, bytes: &[u8]) -> Result<(NumberSet, &[u8]), ReadFault>
-    ensures { Gives (λ x. (x.0, x.1.now)) result (last_set_at bytes.now) }
+    ensures { IsReading (λ x. (x.0, x.1.now)) result (last_set_at bytes.now) }
 {
     let rest = expect(bytes, b" ")?;
     let (copies, rest) = set(alloc, rest)?;
@@ -401,23 +402,23 @@ fn last_set(alloc: Global, bytes: &[u8]) -> Result<(NumberSet, &[u8]), ReadFault
 /// Reads the code of an untagged OK.
 #[tactic(auto, unfolding(crate::specs::ReadingAnswers::notice_at))]
 fn notice(alloc: Global, bytes: &[u8]) -> Result<(Notice, &[u8]), ReadFault>
-    ensures { Gives (λ x. (x.0, x.1.now)) result (notice_at bytes.now) }
+    ensures { IsReading (λ x. (x.0, x.1.now)) result (notice_at bytes.now) }
 {
     if let Some(rest) = skip(bytes, b"[CLOSED]") {
         return Ok((Notice::Closed, rest));
     }
     if let Some(rest) = skip(bytes, b"[UIDVALIDITY ") {
-        let (found, rest) = number_in_code(rest)?;
+        let (parsed, rest) = number_in_code(rest)?;
         return Ok((
             Notice::UidValidity {
-                value: small(found),
+                value: small(parsed),
             },
             rest,
         ));
     }
     if let Some(rest) = skip(bytes, b"[UIDNEXT ") {
-        let (found, rest) = number_in_code(rest)?;
-        return Ok((Notice::UidNext { uid: small(found) }, rest));
+        let (parsed, rest) = number_in_code(rest)?;
+        return Ok((Notice::UidNext { uid: small(parsed) }, rest));
     }
     if let Some(rest) = skip(bytes, b"[HIGHESTMODSEQ ") {
         let (modseq, rest) = number_in_code(rest)?;
@@ -435,7 +436,7 @@ fn notice(alloc: Global, bytes: &[u8]) -> Result<(Notice, &[u8]), ReadFault>
 /// Reads the flags of PERMANENTFLAGS, and the bracket that ends their code.
 #[tactic(auto, unfolding(crate::specs::ReadingAnswers::permanent_notice_at))]
 fn permanent_notice(alloc: Global, bytes: &[u8]) -> Result<(Notice, &[u8]), ReadFault>
-    ensures { Gives (λ x. (x.0, x.1.now)) result (permanent_notice_at bytes.now) }
+    ensures { IsReading (λ x. (x.0, x.1.now)) result (permanent_notice_at bytes.now) }
 {
     let (flags, rest) = permanent_flags(alloc, bytes)?;
     value_before_text(Notice::PermanentFlags { flags }, rest, b"]")
@@ -443,7 +444,7 @@ fn permanent_notice(alloc: Global, bytes: &[u8]) -> Result<(Notice, &[u8]), Read
 
 /// Reads the UIDs of COPYUID in an untagged OK.
 fn copied_notice(alloc: Global, bytes: &[u8]) -> Result<(Notice, &[u8]), ReadFault>
-    ensures { Gives (λ x. (x.0, x.1.now)) result
+    ensures { IsReading (λ x. (x.0, x.1.now)) result
         (within (λ c. notice.CopyUid c.0 c.1 c.2) (copied_at bytes.now)) }
 {
     let ((uidvalidity, source, copies), rest) = copyuid_code(alloc, bytes)?;
@@ -458,7 +459,7 @@ fn copied_notice(alloc: Global, bytes: &[u8]) -> Result<(Notice, &[u8]), ReadFau
 /// Reads a UIDVALIDITY, a UID, and the bracket that ends their code.
 #[tactic(auto, unfolding(crate::specs::ReadingAnswers::appended_at))]
 fn appenduid_code(bytes: &[u8]) -> Result<((u32, u32), &[u8]), ReadFault>
-    ensures { Gives (λ x. (x.0, x.1.now)) result (appended_at bytes.now) }
+    ensures { IsReading (λ x. (x.0, x.1.now)) result (appended_at bytes.now) }
 {
     let (uidvalidity, rest) = number(bytes);
     let rest = expect(rest, b" ")?;
@@ -469,7 +470,7 @@ fn appenduid_code(bytes: &[u8]) -> Result<((u32, u32), &[u8]), ReadFault>
 /// Reads the code of a tagged OK.
 #[tactic(auto, unfolding(crate::specs::ReadingAnswers::code_at))]
 fn code(alloc: Global, bytes: &[u8]) -> Result<(Code, &[u8]), ReadFault>
-    ensures { Gives (λ x. (x.0, x.1.now)) result (code_at bytes.now) }
+    ensures { IsReading (λ x. (x.0, x.1.now)) result (code_at bytes.now) }
 {
     if let Some(rest) = skip(bytes, b"[READ-WRITE]") {
         return Ok((Code::ReadWrite, rest));
@@ -495,7 +496,7 @@ fn code(alloc: Global, bytes: &[u8]) -> Result<(Code, &[u8]), ReadFault>
 
 /// Reads the UIDs of COPYUID in a tagged OK.
 fn copied_code(alloc: Global, bytes: &[u8]) -> Result<(Code, &[u8]), ReadFault>
-    ensures { Gives (λ x. (x.0, x.1.now)) result
+    ensures { IsReading (λ x. (x.0, x.1.now)) result
         (within (λ c. code.CopyUid c.0 c.1 c.2) (copied_at bytes.now)) }
 {
     let ((uidvalidity, source, copies), rest) = copyuid_code(alloc, bytes)?;
@@ -510,15 +511,15 @@ fn copied_code(alloc: Global, bytes: &[u8]) -> Result<(Code, &[u8]), ReadFault>
 /// Reads the set of MODIFIED, and the bracket that ends its code.
 #[tactic(auto, unfolding(crate::specs::ReadingAnswers::modified_at))]
 fn modified_set(alloc: Global, bytes: &[u8]) -> Result<(Code, &[u8]), ReadFault>
-    ensures { Gives (λ x. (x.0, x.1.now)) result (modified_at bytes.now) }
+    ensures { IsReading (λ x. (x.0, x.1.now)) result (modified_at bytes.now) }
 {
     let (refused, rest) = set(alloc, bytes)?;
     value_before_text(Code::Modified { refused }, rest, b"]")
 }
 
 /// Reads the code of a tagged OK and a space, if a bracket comes next.
-fn code_before(alloc: Global, bytes: &[u8]) -> Result<(Option<Code>, &[u8]), ReadFault>
-    ensures { Gives (λ x. (x.0, x.1.now)) result (code_before_at bytes.now) }
+fn code_prefix(alloc: Global, bytes: &[u8]) -> Result<(Option<Code>, &[u8]), ReadFault>
+    ensures { IsReading (λ x. (x.0, x.1.now)) result (code_before_at bytes.now) }
 {
     match skip(bytes, b"[") {
         None => Ok((None, bytes)),

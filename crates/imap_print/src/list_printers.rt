@@ -4,10 +4,10 @@
 
 ghost use Rattle.std.specs.Prelude.{◌≡◌, ◌++◌, [], ◌∷◌, codes, map, true, if◌then◌else◌, IfOk};
 ghost use Rattle.std.specs.Prelude.{OnOk};
-ghost use Rattle.imap_types.specs.Flags.{flag_texts, where_there};
+ghost use Rattle.imap_types.specs.Flags.{flag_texts, text_if_set};
 ghost use Rattle.imap_print.specs.Appending.{Appends, Lists};
-ghost use Rattle.imap_answers.specs.Printed.{body_text, date_item, fetch_texts, flags_item};
-ghost use Rattle.imap_answers.specs.Printed.{modseq_item, status_texts};
+ghost use Rattle.imap_answers.specs.AnswerText.{body_text, date_item, fetch_texts, flags_item};
+ghost use Rattle.imap_answers.specs.AnswerText.{modseq_item, status_texts};
 ghost use Rattle.imap_answers.specs.Strings.{item};
 
 use crate::part_printers::{push_body, push_date, push_flags, push_modseq};
@@ -30,7 +30,7 @@ fn push_space(is_first: bool, out: &mut Vec<u8>) -> Result<(), AllocError>
 /// Appends one text of a list.
 fn push_word(is_first: bool, text: &[u8], out: &mut Vec<u8>) -> Result<bool, AllocError>
     ensures { IfOk result
-        (λ still. Lists is_first (text.now ∷ []) out.old.items out.new.items still) }
+        (λ none_yet. Lists is_first (text.now ∷ []) out.old.items out.new.items none_yet) }
 {
     push_space(is_first, out)?;
     push_text(text, out)?;
@@ -45,7 +45,7 @@ fn push_item(
     out: &mut Vec<u8>,
 ) -> Result<bool, AllocError>
     ensures { IfOk result
-        (λ still. Lists is_first (item label.now number) out.old.items out.new.items still) }
+        (λ none_yet. Lists is_first (item label.now number) out.old.items out.new.items none_yet) }
 {
     match number {
         None => Ok(is_first),
@@ -60,14 +60,14 @@ fn push_item(
 /// Appends a system flag's text, if the flag is set.
 fn push_flag(
     is_first: bool,
-    is_there: bool,
+    is_set: bool,
     text: &[u8],
     out: &mut Vec<u8>,
 ) -> Result<bool, AllocError>
-    ensures { IfOk result (λ still. Lists is_first (where_there is_there text.now) out.old.items
-        out.new.items still) }
+    ensures { IfOk result (λ none_yet. Lists is_first (text_if_set is_set text.now) out.old.items
+        out.new.items none_yet) }
 {
-    if is_there {
+    if is_set {
         push_word(is_first, text, out)
     } else {
         Ok(is_first)
@@ -76,66 +76,67 @@ fn push_flag(
 
 /// Appends keywords.
 fn push_keywords(is_first: bool, keywords: &[Octets], out: &mut Vec<u8>) -> Result<bool, AllocError>
-    ensures { IfOk result (λ still. Lists is_first keywords.now out.old.items out.new.items still) }
+    ensures { IfOk result
+        (λ none_yet. Lists is_first keywords.now out.old.items out.new.items none_yet) }
 {
-    let mut still = is_first;
+    let mut none_yet = is_first;
     for keyword in keywords {
-        still = push_word(still, keyword.as_bytes(), out)?;
+        none_yet = push_word(none_yet, keyword.as_bytes(), out)?;
     }
-    Ok(still)
+    Ok(none_yet)
 }
 
-/// Appends flags in their order, and gives whether there are none.
+/// Appends flags in their order, and returns whether there are none.
 pub fn push_flag_texts(flags: &Flags, out: &mut Vec<u8>) -> Result<bool, AllocError>
     ensures { IfOk result
-        (λ still. Lists true (flag_texts flags.now) out.old.items out.new.items still) }
+        (λ none_yet. Lists true (flag_texts flags.now) out.old.items out.new.items none_yet) }
 {
-    let still = push_flag(true, flags.answered, b"\\Answered", out)?;
-    let still = push_flag(still, flags.flagged, b"\\Flagged", out)?;
-    let still = push_flag(still, flags.deleted, b"\\Deleted", out)?;
-    let still = push_flag(still, flags.seen, b"\\Seen", out)?;
-    let still = push_flag(still, flags.draft, b"\\Draft", out)?;
-    let still = push_keywords(still, flags.keywords.as_slice(), out)?;
-    Ok(still)
+    let none_yet = push_flag(true, flags.answered, b"\\Answered", out)?;
+    let none_yet = push_flag(none_yet, flags.flagged, b"\\Flagged", out)?;
+    let none_yet = push_flag(none_yet, flags.deleted, b"\\Deleted", out)?;
+    let none_yet = push_flag(none_yet, flags.seen, b"\\Seen", out)?;
+    let none_yet = push_flag(none_yet, flags.draft, b"\\Draft", out)?;
+    let none_yet = push_keywords(none_yet, flags.keywords.as_slice(), out)?;
+    Ok(none_yet)
 }
 
 /// Appends flags and then `\*`, the flag for any new keyword.
 pub fn push_flags_and_any(flags: &Flags, out: &mut Vec<u8>) -> Result<bool, AllocError>
-    ensures { IfOk result (λ still. Lists true (flag_texts flags.now ++ codes "\\*" ∷ [])
-        out.old.items out.new.items still) }
+    ensures { IfOk result (λ none_yet. Lists true (flag_texts flags.now ++ codes "\\*" ∷ [])
+        out.old.items out.new.items none_yet) }
 {
-    let still = push_flag_texts(flags, out)?;
-    let still = push_word(still, b"\\*", out)?;
-    Ok(still)
+    let none_yet = push_flag_texts(flags, out)?;
+    let none_yet = push_word(none_yet, b"\\*", out)?;
+    Ok(none_yet)
 }
 
 /// Appends the items of STATUS (RFC 9051, section 7.3.3).
 pub fn push_status_items(items: &StatusItems, out: &mut Vec<u8>) -> Result<bool, AllocError>
     ensures { IfOk result
-        (λ still. Lists true (status_texts items.now) out.old.items out.new.items still) }
+        (λ none_yet. Lists true (status_texts items.now) out.old.items out.new.items none_yet) }
 {
-    let still = push_item(true, b"MESSAGES ", wide(items.messages), out)?;
-    let still = push_item(still, b"UIDNEXT ", wide(items.uidnext), out)?;
-    let still = push_item(still, b"UIDVALIDITY ", wide(items.uidvalidity), out)?;
-    let still = push_item(still, b"UNSEEN ", wide(items.unseen), out)?;
-    let still = push_item(still, b"DELETED ", wide(items.deleted), out)?;
-    let still = push_item(still, b"SIZE ", items.size, out)?;
-    let still = push_item(still, b"HIGHESTMODSEQ ", items.highest_modseq, out)?;
-    Ok(still)
+    let none_yet = push_item(true, b"MESSAGES ", widen(items.messages), out)?;
+    let none_yet = push_item(none_yet, b"UIDNEXT ", widen(items.uidnext), out)?;
+    let none_yet = push_item(none_yet, b"UIDVALIDITY ", widen(items.uidvalidity), out)?;
+    let none_yet = push_item(none_yet, b"UNSEEN ", widen(items.unseen), out)?;
+    let none_yet = push_item(none_yet, b"DELETED ", widen(items.deleted), out)?;
+    let none_yet = push_item(none_yet, b"SIZE ", items.size, out)?;
+    let none_yet = push_item(none_yet, b"HIGHESTMODSEQ ", items.highest_modseq, out)?;
+    Ok(none_yet)
 }
 
 /// Appends the items of FETCH (RFC 9051, section 7.5.2).
 pub fn push_fetch_items(items: &FetchItems, out: &mut Vec<u8>) -> Result<bool, AllocError>
     ensures { IfOk result
-        (λ still. Lists true (fetch_texts items.now) out.old.items out.new.items still) }
+        (λ none_yet. Lists true (fetch_texts items.now) out.old.items out.new.items none_yet) }
 {
-    let still = push_item(true, b"UID ", wide(items.uid), out)?;
-    let still = push_flags_item(still, &items.flags, out)?;
-    let still = push_date_item(still, &items.date, out)?;
-    let still = push_item(still, b"RFC822.SIZE ", items.size, out)?;
-    let still = push_modseq_item(still, items.modseq, out)?;
-    let still = push_bodies(still, items.sections.parts(), out)?;
-    Ok(still)
+    let none_yet = push_item(true, b"UID ", widen(items.uid), out)?;
+    let none_yet = push_flags_item(none_yet, &items.flags, out)?;
+    let none_yet = push_date_item(none_yet, &items.date, out)?;
+    let none_yet = push_item(none_yet, b"RFC822.SIZE ", items.size, out)?;
+    let none_yet = push_modseq_item(none_yet, items.modseq, out)?;
+    let none_yet = push_bodies(none_yet, items.sections.parts(), out)?;
+    Ok(none_yet)
 }
 
 /// Appends the flags of a message, if any.
@@ -145,7 +146,7 @@ fn push_flags_item(
     out: &mut Vec<u8>,
 ) -> Result<bool, AllocError>
     ensures { IfOk result
-        (λ still. Lists is_first (flags_item flags.now) out.old.items out.new.items still) }
+        (λ none_yet. Lists is_first (flags_item flags.now) out.old.items out.new.items none_yet) }
 {
     match flags {
         None => Ok(is_first),
@@ -164,7 +165,7 @@ fn push_date_item(
     out: &mut Vec<u8>,
 ) -> Result<bool, AllocError>
     ensures { IfOk result
-        (λ still. Lists is_first (date_item date.now) out.old.items out.new.items still) }
+        (λ none_yet. Lists is_first (date_item date.now) out.old.items out.new.items none_yet) }
 {
     match date {
         None => Ok(is_first),
@@ -183,7 +184,7 @@ fn push_modseq_item(
     out: &mut Vec<u8>,
 ) -> Result<bool, AllocError>
     ensures { IfOk result
-        (λ still. Lists is_first (modseq_item modseq) out.old.items out.new.items still) }
+        (λ none_yet. Lists is_first (modseq_item modseq) out.old.items out.new.items none_yet) }
 {
     match modseq {
         None => Ok(is_first),
@@ -198,19 +199,20 @@ fn push_modseq_item(
 /// Appends sections with their octets.
 fn push_bodies(is_first: bool, parts: &[SectionData], out: &mut Vec<u8>) -> Result<bool, AllocError>
     ensures { IfOk result
-        (λ still. Lists is_first (map body_text parts.now) out.old.items out.new.items still) }
+        (λ none_yet. Lists is_first (map body_text parts.now) out.old.items out.new.items
+        none_yet) }
 {
-    let mut still = is_first;
+    let mut none_yet = is_first;
     for part in parts {
-        push_space(still, out)?;
+        push_space(none_yet, out)?;
         push_body(part, out)?;
-        still = false;
+        none_yet = false;
     }
-    Ok(still)
+    Ok(none_yet)
 }
 
 /// The number as 64 bits, if any.
-pub fn wide(number: Option<u32>) -> Option<u64>
+pub fn widen(number: Option<u32>) -> Option<u64>
     ensures { result ≡ number }
 {
     number.map(u64::from)

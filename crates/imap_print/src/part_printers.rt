@@ -4,12 +4,13 @@
 ghost use Rattle.std.specs.Prelude.{◌≡◌, ◌++◌, codes, decimal, map, OnOk};
 ghost use Rattle.imap_types.specs.Flags.{flag_texts};
 ghost use Rattle.imap_print.specs.Appending.{Appends};
-ghost use Rattle.imap_answers.specs.Printed.{all_text, appended_text, body_text, code_before};
-ghost use Rattle.imap_answers.specs.Printed.{code_text, copied_text, notice_text, origin_text};
-ghost use Rattle.imap_answers.specs.Printed.{permanent_text, results_text, section_text, sets_text};
+ghost use Rattle.imap_answers.specs.AnswerText.{all_text, appenduid_text, body_text, code_prefix};
+ghost use Rattle.imap_answers.specs.AnswerText.{code_text, copyuid_text, notice_text, origin_text};
+ghost use Rattle.imap_answers.specs.AnswerText.{permanent_text, results_text, section_text};
+ghost use Rattle.imap_answers.specs.AnswerText.{sets_text};
 ghost use Rattle.imap_answers.specs.Strings.{field_text, separated_by, set_text};
 
-use crate::list_printers::{push_flag_texts, push_flags_and_any, wide};
+use crate::list_printers::{push_flag_texts, push_flags_and_any, widen};
 use crate::strings::{
     TextWriter, push_field, push_label, push_labelled, push_literal, push_number, push_separated,
     push_set, push_text,
@@ -35,7 +36,7 @@ pub fn push_flags(
 }
 
 /// Appends the code PERMANENTFLAGS.
-fn push_permanent(flags: &Option<Flags>, out: &mut Vec<u8>) -> Result<(), AllocError>
+fn push_permanent_code(flags: &Option<Flags>, out: &mut Vec<u8>) -> Result<(), AllocError>
     ensures { OnOk result (Appends out.old.items out.new.items
         (codes "[PERMANENTFLAGS " ++ permanent_text flags.now ++ codes "]")) }
 {
@@ -67,7 +68,7 @@ pub fn push_notice(notice: &Notice, out: &mut Vec<u8>) -> Result<(), AllocError>
         Notice::Closed => push_text(b"[CLOSED]", out),
         Notice::UidValidity { value } => push_code(b"[UIDVALIDITY ", u64::from(*value), out),
         Notice::UidNext { uid } => push_code(b"[UIDNEXT ", u64::from(*uid), out),
-        Notice::PermanentFlags { flags } => push_permanent(flags, out),
+        Notice::PermanentFlags { flags } => push_permanent_code(flags, out),
         Notice::HighestModSeq { modseq } => push_code(b"[HIGHESTMODSEQ ", *modseq, out),
         Notice::CopyUid {
             uidvalidity,
@@ -94,7 +95,7 @@ fn push_copyuid(
     out: &mut Vec<u8>,
 ) -> Result<(), AllocError>
     ensures { OnOk result
-        (Appends out.old.items out.new.items (copied_text uidvalidity source.now copies.now)) }
+        (Appends out.old.items out.new.items (copyuid_text uidvalidity source.now copies.now)) }
 {
     push_label(b"[COPYUID ", u64::from(uidvalidity), out)?;
     push_text(b" ", out)?;
@@ -113,8 +114,8 @@ fn push_sets(source: &NumberSet, copies: &NumberSet, out: &mut Vec<u8>) -> Resul
 }
 
 /// Appends the code of a tagged OK and a space, if there is a code (RFC 9051, section 7.1).
-pub fn push_code_before(code: &Option<Code>, out: &mut Vec<u8>) -> Result<(), AllocError>
-    ensures { OnOk result (Appends out.old.items out.new.items (code_before code.now)) }
+pub fn push_code_prefix(code: &Option<Code>, out: &mut Vec<u8>) -> Result<(), AllocError>
+    ensures { OnOk result (Appends out.old.items out.new.items (code_prefix code.now)) }
 {
     match code {
         None => Ok(()),
@@ -155,7 +156,7 @@ fn push_modified(refused: &NumberSet, out: &mut Vec<u8>) -> Result<(), AllocErro
 
 /// Appends the code APPENDUID.
 fn push_appenduid(uidvalidity: u32, uid: u32, out: &mut Vec<u8>) -> Result<(), AllocError>
-    ensures { OnOk result (Appends out.old.items out.new.items (appended_text uidvalidity uid)) }
+    ensures { OnOk result (Appends out.old.items out.new.items (appenduid_text uidvalidity uid)) }
 {
     push_label(b"[APPENDUID ", u64::from(uidvalidity), out)?;
     push_text(b" ", out)?;
@@ -168,10 +169,10 @@ fn push_appenduid(uidvalidity: u32, uid: u32, out: &mut Vec<u8>) -> Result<(), A
 pub fn push_results(results: &SearchResults, out: &mut Vec<u8>) -> Result<(), AllocError>
     ensures { OnOk result (Appends out.old.items out.new.items (results_text results.now)) }
 {
-    push_labelled(b" MIN ", wide(results.min), out)?;
-    push_labelled(b" MAX ", wide(results.max), out)?;
+    push_labelled(b" MIN ", widen(results.min), out)?;
+    push_labelled(b" MAX ", widen(results.max), out)?;
     push_all(&results.all, out)?;
-    push_labelled(b" COUNT ", wide(results.count), out)?;
+    push_labelled(b" COUNT ", widen(results.count), out)?;
     push_labelled(b" MODSEQ ", results.modseq, out)?;
     Ok(())
 }

@@ -11,7 +11,8 @@ ghost use Rattle.imap_answers.specs.Printable.{AreFetchItems, AreFieldNames, Are
 ghost use Rattle.imap_answers.specs.Printable.{AreStatusItems, Each, IsAtom, IsCode, IsCopied};
 ghost use Rattle.imap_answers.specs.Printable.{IsFolded, IsModSeq, IsNonzero, IsNotice, IsPart};
 ghost use Rattle.imap_answers.specs.Printable.{IsPrintable, IsSection, IsSet, IsSmall, IsTag};
-ghost use Rattle.imap_answers.specs.Printable.{IsWide, Where, tells_of_mailbox, tells_of_message};
+ghost use Rattle.imap_answers.specs.Printable.{IsWide, IfPresent, has_mailbox_item};
+ghost use Rattle.imap_answers.specs.Printable.{has_message_item};
 ghost use Rattle.imap_print.specs.Reading.{is_in};
 
 use crate::scanner::ScanClass;
@@ -30,7 +31,7 @@ pub fn is_printable(answer: &Answer) -> bool
         }
         Answer::Expunge { number } => is_nonzero(*number),
         Answer::List { name, .. } => is_folded(name),
-        Answer::Tell { notice } => is_notice(notice),
+        Answer::UntaggedOk { notice } => is_notice(notice),
         Answer::Status { name, items } => is_folded(name) && are_status_items(items),
         Answer::Search { tag, results, .. } => is_tag(tag) && are_results(results),
         Answer::Fetch { number, items } => is_nonzero(*number) && are_fetch_items(items),
@@ -60,7 +61,7 @@ fn is_notice(notice: &Notice) -> bool
 
 /// Whether a code may be sent, or there is none.
 fn is_code_if_any(code: &Option<Code>) -> bool
-    ensures { IsTrue result ↔ Where IsCode code.now }
+    ensures { IsTrue result ↔ IfPresent IsCode code.now }
 {
     match code {
         None => true,
@@ -143,12 +144,12 @@ fn are_status_items(items: &StatusItems) -> bool
     if !is_modseq_if_any(items.highest_modseq) {
         return false;
     }
-    tells_of_mailbox(items)
+    has_mailbox_item(items)
 }
 
 /// Whether there is at least one item of a mailbox.
-fn tells_of_mailbox(items: &StatusItems) -> bool
-    ensures { result ≡ tells_of_mailbox items.now }
+fn has_mailbox_item(items: &StatusItems) -> bool
+    ensures { result ≡ has_mailbox_item items.now }
 {
     items.messages.is_some()
         || items.uidnext.is_some()
@@ -192,12 +193,12 @@ fn are_fetch_items(items: &FetchItems) -> bool
     if !are_parts(items.sections.parts()) {
         return false;
     }
-    tells_of_message(items)
+    has_message_item(items)
 }
 
 /// Whether there is at least one item of a message.
-fn tells_of_message(items: &FetchItems) -> bool
-    ensures { result ≡ tells_of_message items.now }
+fn has_message_item(items: &FetchItems) -> bool
+    ensures { result ≡ has_message_item items.now }
 {
     items.uid.is_some()
         || items.flags.is_some()
@@ -209,7 +210,7 @@ fn tells_of_message(items: &FetchItems) -> bool
 
 /// Whether the keywords of flags are atoms, or there are no flags.
 fn are_flags_if_any(flags: &Option<Flags>) -> bool
-    ensures { IsTrue result ↔ Where AreFlags flags.now }
+    ensures { IsTrue result ↔ IfPresent AreFlags flags.now }
 {
     match flags {
         None => true,
@@ -295,7 +296,7 @@ fn set_fits(set: &NumberSet)
 
 /// States that a date-time, if any, is well-formed.
 fn date_fits(date: &Option<DateTime>)
-    ensures { Where IsDateTime date.now }
+    ensures { IfPresent IsDateTime date.now }
 {
     if let Some(date) = date {
         let _octets = date.as_bytes();
@@ -374,7 +375,7 @@ fn is_nonzero(number: u32) -> bool
 
 /// Whether a number is from 1 on, or there is none.
 fn is_nonzero_if_any(number: Option<u32>) -> bool
-    ensures { IsTrue result ↔ Where IsNonzero number }
+    ensures { IsTrue result ↔ IfPresent IsNonzero number }
 {
     match number {
         None => true,
@@ -391,7 +392,7 @@ fn is_modseq(modseq: u64) -> bool
 
 /// Whether a mod-sequence is from 1 on, or there is none.
 fn is_modseq_if_any(modseq: Option<u64>) -> bool
-    ensures { IsTrue result ↔ Where IsModSeq modseq }
+    ensures { IsTrue result ↔ IfPresent IsModSeq modseq }
 {
     match modseq {
         None => true,
@@ -406,10 +407,10 @@ fn small_fits(number: u32)
 
 /// States that a number, if any, has 32 bits.
 fn small_fits_if_any(number: Option<u32>)
-    ensures { Where IsSmall number }
+    ensures { IfPresent IsSmall number }
 {}
 
 /// States that a number, if any, has 64 bits.
 fn wide_fits_if_any(number: Option<u64>)
-    ensures { Where IsWide number }
+    ensures { IfPresent IsWide number }
 {}

@@ -5,12 +5,14 @@ ghost use Rattle.imap_print.specs.Appending.{Appends, StartsWith};
 ghost use Rattle.imap_print.specs.Lines.{EndsFlags, done_line, flags_end, numbered_line};
 ghost use Rattle.imap_print.specs.Lines.{only_flags};
 ghost use Rattle.imap_answers.specs.Words.{refusal_text};
-ghost use Rattle.imap_answers.specs.Printed.{line_of_answer, completed_text, fetch_text, list_text};
-ghost use Rattle.imap_answers.specs.Printed.{notice_text, text_of_answer, search_text, status_text};
-ghost use Rattle.imap_answers.specs.Printed.{uid_mark};
+ghost use Rattle.imap_answers.specs.AnswerText.{line_of_answer, completed_text, fetch_text};
+ghost use Rattle.imap_answers.specs.AnswerText.{list_text};
+ghost use Rattle.imap_answers.specs.AnswerText.{notice_text, text_of_answer, search_text};
+ghost use Rattle.imap_answers.specs.AnswerText.{status_text};
+ghost use Rattle.imap_answers.specs.AnswerText.{uid_label};
 
 use crate::list_printers::{push_fetch_items, push_status_items};
-use crate::part_printers::{push_code_before, push_flags, push_notice, push_results};
+use crate::part_printers::{push_code_prefix, push_flags, push_notice, push_results};
 use crate::strings::{push_label, push_name, push_text};
 use imap_answers::{
     Answer, Code, CompletedWord, FetchItems, MailboxState, Notice, Refusal, SearchResults,
@@ -124,7 +126,7 @@ fn flags_end(flags: &Flags) -> Option<&'static [u8]>
 }
 
 /// Appends a line from the number of its message and the text after that number.
-#[tactic(auto, using(crate::proofs::LineLemmas::starts_same, crate::proofs::LineLemmas::starts_behind))]
+#[tactic(auto, using(crate::proofs::LineLemmas::starts_same, crate::proofs::LineLemmas::starts_after))]
 fn push_numbered_line(number: u32, end: &[u8], out: &mut Vec<u8>) -> Result<(), AllocError>
     ensures ok { OnOk result (Appends out.old.items out.new.items (numbered_line number end.now)) }
     ensures err { OnErr result (StartsWith out.old.items out.new.items) }
@@ -138,7 +140,7 @@ fn push_numbered_line(number: u32, end: &[u8], out: &mut Vec<u8>) -> Result<(), 
 }
 
 /// Appends the line of a command that is completed without a code.
-#[tactic(auto, using(crate::proofs::LineLemmas::starts_same, crate::proofs::LineLemmas::starts_behind))]
+#[tactic(auto, using(crate::proofs::LineLemmas::starts_same, crate::proofs::LineLemmas::starts_after))]
 fn push_done_line(tag: &[u8], word: &[u8], out: &mut Vec<u8>) -> Result<(), AllocError>
     ensures ok { OnOk result (Appends out.old.items out.new.items (done_line tag.now word.now)) }
     ensures err { OnErr result (StartsWith out.old.items out.new.items) }
@@ -172,7 +174,7 @@ fn push_any_line(answer: &Answer, out: &mut Vec<u8>) -> Result<(), AllocError>
 }
 
 /// Appends an answer without its line end; an `Err` may leave part of it.
-#[tactic(auto, unfolding(imap_answers::specs::Printed::line_of_answer))]
+#[tactic(auto, unfolding(imap_answers::specs::AnswerText::line_of_answer))]
 fn push_answer(answer: &Answer, out: &mut Vec<u8>) -> Result<(), AllocError>
     ensures { OnOk result (Appends out.old.items out.new.items (line_of_answer answer.now)) }
 {
@@ -190,7 +192,7 @@ fn push_answer(answer: &Answer, out: &mut Vec<u8>) -> Result<(), AllocError>
             state,
             subscribed,
         } => push_list(name, *state, *subscribed, out),
-        Answer::Tell { notice } => push_notice_line(notice, out),
+        Answer::UntaggedOk { notice } => push_notice_line(notice, out),
         Answer::Status { name, items } => push_status(name, items, out),
         Answer::Search {
             tag,
@@ -276,14 +278,14 @@ fn push_search(
 {
     push_text(b"* ESEARCH (TAG \"", out)?;
     push_text(tag.as_bytes(), out)?;
-    push_text(uid_mark(by_uid), out)?;
+    push_text(uid_label(by_uid), out)?;
     push_results(results, out)?;
     Ok(())
 }
 
 /// The text after the tag in ESEARCH, by whether the hits are UIDs.
-fn uid_mark(by_uid: bool) -> &'static [u8]
-    ensures { result.now ≡ uid_mark by_uid }
+fn uid_label(by_uid: bool) -> &'static [u8]
+    ensures { result.now ≡ uid_label by_uid }
 {
     if by_uid { b"\") UID" } else { b"\")" }
 }
@@ -310,7 +312,7 @@ fn push_completed(
 {
     push_text(tag.as_bytes(), out)?;
     push_text(b" OK ", out)?;
-    push_code_before(code, out)?;
+    push_code_prefix(code, out)?;
     push_text(command.text(), out)?;
     push_text(b" completed", out)?;
     Ok(())

@@ -1,8 +1,9 @@
-//! Reading of strings, numbers and sets. Each reader gives what it read and the octets after it.
+//! Readers of strings, numbers and sets. Each returns its value and the octets after it.
 
 ghost use Rattle.std.specs.Prelude.{◌≡◌, false, [], option_map};
 ghost use Rattle.imap_types.specs.DateTimes.{is_digit};
-ghost use Rattle.imap_print.specs.Reading.{Gives, after, counted, field_at, followed, is_in, lead};
+ghost use Rattle.imap_print.specs.Reading.{IsReading, after, counted, field_at, followed, is_in};
+ghost use Rattle.imap_print.specs.Reading.{lead};
 ghost use Rattle.imap_print.specs.Reading.{literal_at, number_from, quoted_from, run_at, runs_at};
 ghost use Rattle.imap_print.specs.Reading.{set_at, small, span, string_at, words_at};
 
@@ -31,7 +32,7 @@ pub fn skip<'a>(bytes: &'a [u8], prefix: &[u8]) -> Option<&'a [u8]>
 
 /// The octets after a prefix; `NotPrinted` if they don't begin with it.
 pub fn expect<'a>(bytes: &'a [u8], prefix: &[u8]) -> Result<&'a [u8], ReadFault>
-    ensures { Gives (λ x. x.now) result (after prefix.now bytes.now) }
+    ensures { IsReading (λ x. x.now) result (after prefix.now bytes.now) }
 {
     match skip(bytes, prefix) {
         None => Err(ReadFault::NotPrinted),
@@ -39,21 +40,21 @@ pub fn expect<'a>(bytes: &'a [u8], prefix: &[u8]) -> Result<&'a [u8], ReadFault>
     }
 }
 
-/// The value `found`, if the octets begin with `text`, and the octets after that text.
+/// The value `parsed`, if the octets begin with `text`, and the octets after that text.
 pub fn value_before_text<'a, T: Drop>(
-    found: T,
+    parsed: T,
     bytes: &'a [u8],
     text: &[u8],
 ) -> Result<(T, &'a [u8]), ReadFault>
-    ensures { Gives (λ x. (x.0, x.1.now)) result (followed found (after text.now bytes.now)) }
+    ensures { IsReading (λ x. (x.0, x.1.now)) result (followed parsed (after text.now bytes.now)) }
 {
     match skip(bytes, text) {
         None => Err(ReadFault::NotPrinted),
-        Some(rest) => Ok((found, rest)),
+        Some(rest) => Ok((parsed, rest)),
     }
 }
 
-/// Reads the number that the leading digits write; 0 if there are none, the greatest `u64` if it is
+/// Reads the number spelled by the leading digits; 0 if there are none, the greatest `u64` if it is
 /// greater.
 pub fn number(bytes: &[u8]) -> (u64, &[u8])
     ensures value { result.0 ≡ (number_from 0 bytes.now).0 }
@@ -129,7 +130,7 @@ pub fn span(class: ScanClass, bytes: &[u8]) -> (&[u8], &[u8])
 
 /// Reads a string after its opening `"`, up to the closing one.
 fn quoted_string(alloc: Global, bytes: &[u8]) -> Result<(Octets, &[u8]), ReadFault>
-    ensures { Gives (λ x. (x.0, x.1.now)) result (quoted_from false bytes.now) }
+    ensures { IsReading (λ x. (x.0, x.1.now)) result (quoted_from false bytes.now) }
 {
     let mut string = Vec::new(alloc);
     let mut escaped = false;
@@ -151,7 +152,7 @@ fn quoted_string(alloc: Global, bytes: &[u8]) -> Result<(Octets, &[u8]), ReadFau
 
 /// Reads a string, with or without quotes.
 pub fn string(alloc: Global, bytes: &[u8]) -> Result<(Octets, &[u8]), ReadFault>
-    ensures { Gives (λ x. (x.0, x.1.now)) result (string_at bytes.now) }
+    ensures { IsReading (λ x. (x.0, x.1.now)) result (string_at bytes.now) }
 {
     match skip(bytes, b"\"") {
         Some(rest) => quoted_string(alloc, rest),
@@ -165,7 +166,7 @@ pub fn string(alloc: Global, bytes: &[u8]) -> Result<(Octets, &[u8]), ReadFault>
 /// Reads a literal.
 #[tactic(auto, unfolding(crate::specs::Reading::literal_at))]
 pub fn literal(alloc: Global, bytes: &[u8]) -> Result<(Octets, &[u8]), ReadFault>
-    ensures { Gives (λ x. (x.0, x.1.now)) result (literal_at bytes.now) }
+    ensures { IsReading (λ x. (x.0, x.1.now)) result (literal_at bytes.now) }
 {
     let digits = expect(bytes, b"{")?;
     let (count, rest) = number(digits);
@@ -176,7 +177,7 @@ pub fn literal(alloc: Global, bytes: &[u8]) -> Result<(Octets, &[u8]), ReadFault
 
 /// Splits the octets after the first `count`.
 pub fn counted_octets(count: u64, bytes: &[u8]) -> Result<(&[u8], &[u8]), ReadFault>
-    ensures { Gives (λ x. (x.0.now, x.1.now)) result (counted count bytes.now) }
+    ensures { IsReading (λ x. (x.0.now, x.1.now)) result (counted count bytes.now) }
 {
     if count > bytes.len() as u64 {
         return Err(ReadFault::NotPrinted);
@@ -187,10 +188,10 @@ pub fn counted_octets(count: u64, bytes: &[u8]) -> Result<(&[u8], &[u8]), ReadFa
 /// Reads the name of a header field.
 #[tactic(auto, unfolding(crate::specs::Reading::field_at))]
 pub fn field(alloc: Global, bytes: &[u8]) -> Result<(Octets, &[u8]), ReadFault>
-    ensures { Gives (λ x. (x.0, x.1.now)) result (field_at bytes.now) }
+    ensures { IsReading (λ x. (x.0, x.1.now)) result (field_at bytes.now) }
 {
     match literal(alloc, bytes) {
-        Ok(found) => Ok(found),
+        Ok(parsed) => Ok(parsed),
         Err(ReadFault::NoMemory) => Err(ReadFault::NoMemory),
         Err(ReadFault::NotPrinted) => string(alloc, bytes),
     }
@@ -223,15 +224,15 @@ fn run(bytes: &[u8]) -> (Run, &[u8])
 
 /// Reads at most `count` runs separated by commas.
 fn runs(alloc: Global, count: usize, bytes: &[u8]) -> Result<(Vec<Run>, &[u8]), ReadFault>
-    ensures { Gives (λ x. (x.0.items, x.1.now)) result (runs_at count bytes.now) }
+    ensures { IsReading (λ x. (x.0.items, x.1.now)) result (runs_at count bytes.now) }
 {
-    let mut found = Vec::new(alloc);
+    let mut parsed = Vec::new(alloc);
     let mut rest = bytes;
     for _index in 0..count {
         let (next, tail) = run(rest);
-        found.push(next)?;
+        parsed.push(next)?;
         match skip(tail, b",") {
-            None => return Ok((found, tail)),
+            None => return Ok((parsed, tail)),
             Some(more) => rest = more,
         }
     }
@@ -241,10 +242,10 @@ fn runs(alloc: Global, count: usize, bytes: &[u8]) -> Result<(Vec<Run>, &[u8]), 
 /// Reads a set of numbers.
 #[tactic(auto, unfolding(crate::specs::Reading::set_at))]
 pub fn set(alloc: Global, bytes: &[u8]) -> Result<(NumberSet, &[u8]), ReadFault>
-    ensures { Gives (λ x. (x.0, x.1.now)) result (set_at bytes.now) }
+    ensures { IsReading (λ x. (x.0, x.1.now)) result (set_at bytes.now) }
 {
-    let (found, rest) = runs(alloc, bytes.len(), bytes)?;
-    match NumberSet::from_runs(found) {
+    let (parsed, rest) = runs(alloc, bytes.len(), bytes)?;
+    match NumberSet::from_runs(parsed) {
         None => Err(ReadFault::NotPrinted),
         Some(set) => Ok((set, rest)),
     }
@@ -257,22 +258,22 @@ pub fn words(
     is_first: bool,
     bytes: &[u8],
 ) -> Result<(Vec<Octets>, &[u8]), ReadFault>
-    ensures { Gives (λ x. (x.0.items, x.1.now)) result (words_at count is_first bytes.now) }
+    ensures { IsReading (λ x. (x.0.items, x.1.now)) result (words_at count is_first bytes.now) }
 {
-    let mut found = Vec::new(alloc);
-    let mut still = is_first;
+    let mut parsed = Vec::new(alloc);
+    let mut none_yet = is_first;
     let mut rest = bytes;
     for _index in 0..count {
-        let behind = match skip(rest, lead(still)) {
-            None => return Ok((found, rest)),
-            Some(behind) => behind,
+        let unread = match skip(rest, lead(none_yet)) {
+            None => return Ok((parsed, rest)),
+            Some(unread) => unread,
         };
-        let (word, tail) = span(ScanClass::Atom, behind);
+        let (word, tail) = span(ScanClass::Atom, unread);
         if word.is_empty() {
-            return Ok((found, rest));
+            return Ok((parsed, rest));
         }
-        found.push(Octets::from_slice(alloc, word)?)?;
-        still = false;
+        parsed.push(Octets::from_slice(alloc, word)?)?;
+        none_yet = false;
         rest = tail;
     }
     Err(ReadFault::NotPrinted)

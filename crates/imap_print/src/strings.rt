@@ -128,7 +128,7 @@ pub trait TextWriter {
         ensures { OnOk result (Appends out.old.items out.new.items (text_of value.now)) };
 }
 
-/// Appends the texts of values, with an octet between each two.
+/// Appends the texts of values, joined by an octet.
 pub fn push_separated<W: TextWriter>(
     between: u8,
     values: &[W::Value],
@@ -139,13 +139,13 @@ pub fn push_separated<W: TextWriter>(
 {
     if let [first, rest @ ..] = values {
         W::push(first, out)?;
-        push_behind::<W>(between, rest, out)?;
+        push_after::<W>(between, rest, out)?;
     }
     Ok(())
 }
 
 /// Appends the texts of values, with an octet before each.
-fn push_behind<W: TextWriter>(
+fn push_after<W: TextWriter>(
     between: u8,
     values: &[W::Value],
     out: &mut Vec<u8>,

@@ -5,8 +5,8 @@ use Rattle.std.proofs.lemmas.Bool.Decides.{nat_tests}
 use Rattle.imap_syntax.specs.declared.fetch.FetchItem.{FetchItem}
 use Rattle.mailbox_rows.specs.ListedMessage.{ListedMessage}
 use Rattle.mailbox_rows.specs.RowViews.{AreRisingRows, changed_since, row_of}
-use Rattle.imap_query.specs.Fetching.{answer_of, fetch_answers, is_above_changed_since}
-use Rattle.imap_query.specs.declared.fetching.FetchMode.{FetchMode}
+use Rattle.imap_query.specs.FetchCommand.{answer_of, fetch_answers, is_above_changed_since}
+use Rattle.imap_query.specs.declared.fetch_command.FetchMode.{FetchMode}
 use Rattle.imap_query.specs.declared.viewed_message.ViewedMessage.{ViewedMessage}
 
 pub if_ok : {T E : Type 0} {P Q : T → Type 0} (r : Result T E) → ((x : T) → P x → Q x) → IfOk r P → IfOk r Q

@@ -15,11 +15,11 @@ use Rattle.mailbox_rows.specs.ListedMessage.{ListedHead, ListedMessage}
 use Rattle.mailbox_rows.specs.RowViews.{head_of, row_of}
 use Rattle.imap_answers.specs.declared.answer.Answer.{Answer}
 use Rattle.imap_answers.specs.declared.answer.Answer.TheVariants.{Fetch}
-use Rattle.imap_query.specs.Fetching.{answer_of, asks_part, fetch_answers, is_above_changed_since, is_seen_set, items_of, parts_of, sets_seen, tells_flags, tells_modseq, if_told}
-use Rattle.imap_query.specs.Heads.{are_of_heads, flag_key, head_answer, head_hit, head_items, is_kept_head}
+use Rattle.imap_query.specs.FetchCommand.{answer_of, asks_part, fetch_answers, is_above_changed_since, is_seen_set, items_of, parts_of, sets_seen, reports_flags, reports_modseq, if_reported}
+use Rattle.imap_query.specs.Heads.{heads_suffice, flag_key, head_answer, head_hit, head_items, is_head_above_changed_since}
 use Rattle.imap_query.specs.Search.{hit_of}
-use Rattle.imap_query.specs.declared.fetching.FetchMode.{FetchMode}
-use Rattle.imap_query.specs.declared.fetching.Part.TheVariants as part
+use Rattle.imap_query.specs.declared.fetch_command.FetchMode.{FetchMode}
+use Rattle.imap_query.specs.declared.fetch_command.Part.TheVariants as part
 use Rattle.imap_query.specs.declared.keys.FlagTest.{FlagTest}
 use Rattle.imap_query.specs.declared.viewed_message.ViewedMessage.{ViewedMessage}
 use Rattle.imap_query.proofs.HitLemmas.{drop_at}
@@ -38,46 +38,46 @@ none_marked true true sets e = refl
 none_marked true false sets e = e
 none_marked false seen sets e = refl
 
-kept_alike : (since : Option ℕ) (row : ListedMessage) → is_kept_head since (head_of row) ≡ is_above_changed_since since row
-kept_alike None row = refl
-kept_alike (Some modseq) row = refl
+head_above_same : (since : Option ℕ) (row : ListedMessage) → is_head_above_changed_since since (head_of row) ≡ is_above_changed_since since row
+head_above_same None row = refl
+head_above_same (Some modseq) row = refl
 
-flags_alike : (items : List FetchItem) (mode : FetchMode) (row : ListedMessage) → list_any sets_seen items ≡ false → asks_part part.Flags items ≡ tells_flags items mode row
+flags_alike : (items : List FetchItem) (mode : FetchMode) (row : ListedMessage) → list_any sets_seen items ≡ false → asks_part part.Flags items ≡ reports_flags items mode row
 flags_alike items mode row n = sym (ap (λ b. asks_part part.Flags items || b) (none_marked mode.writable row.flags.seen (list_any sets_seen items) n) ∙ or_none (asks_part part.Flags items))
 
-items_alike : (items : List FetchItem) (mode : FetchMode) (row : ListedMessage) → are_of_heads (parts_of items) ≡ true → head_items items mode (head_of row) ≡ items_of items mode row row
+items_alike : (items : List FetchItem) (mode : FetchMode) (row : ListedMessage) → heads_suffice (parts_of items) ≡ true → head_items items mode (head_of row) ≡ items_of items mode row row
 items_alike items mode row h =
     let date = and_parts (not (asks_part part.Date items)) _ h in
     let size = and_parts (not (asks_part part.Size items)) _ date.1 in
     let sections = and_parts (not (asks_part part.Section items)) _ size.1 in
-    let no_date : None ≡ if_told (asks_part part.Date items) row.date = ap (λ b. if_told b row.date) (sym (off (asks_part part.Date items) date.0)) in
-    let no_size : None ≡ if_told (asks_part part.Size items) (length row.text) = ap (λ b. if_told b (length row.text)) (sym (off (asks_part part.Size items) size.0)) in
+    let no_date : None ≡ if_reported (asks_part part.Date items) row.date = ap (λ b. if_reported b row.date) (sym (off (asks_part part.Date items) date.0)) in
+    let no_size : None ≡ if_reported (asks_part part.Size items) (length row.text) = ap (λ b. if_reported b (length row.text)) (sym (off (asks_part part.Size items) size.0)) in
     let none = no_sections row.text items (off (asks_part part.Section items) sections.0) in
     let flags = flags_alike items mode row (off (list_any sets_seen items) sections.1) in
     λ i. record {
-      uid = if_told (mode.by_uid || asks_part part.Uid items) row.uid;
-      flags = if_told (flags i) row.flags;
+      uid = if_reported (mode.by_uid || asks_part part.Uid items) row.uid;
+      flags = if_reported (flags i) row.flags;
       date = no_date i;
       size = no_size i;
-      modseq = if_told (tells_modseq items mode (flags i)) row.modseq;
+      modseq = if_reported (reports_modseq items mode (flags i)) row.modseq;
       sections = none i;
     }
 
-answer_alike : (items : List FetchItem) (mode : FetchMode) (shown : ViewedMessage) (o : Option ListedMessage) → are_of_heads (parts_of items) ≡ true → head_answer items mode shown (option_map head_of o) ≡ answer_of items mode shown o o
+answer_alike : (items : List FetchItem) (mode : FetchMode) (shown : ViewedMessage) (o : Option ListedMessage) → heads_suffice (parts_of items) ≡ true → head_answer items mode shown (option_map head_of o) ≡ answer_of items mode shown o o
 answer_alike items mode shown None h = refl
 answer_alike items mode shown (Some row) h =
-    λ i. if kept_alike mode.changed_since row i then Fetch shown.number (items_alike items mode row h i) ∷ [] else []
+    λ i. if head_above_same mode.changed_since row i then Fetch shown.number (items_alike items mode row h i) ∷ [] else []
 
 -- FETCH of one further message.
-pub answers_more : (items : List FetchItem) (mode : FetchMode) (rows : List ListedMessage) (named : List ViewedMessage) (k : ℕ) (d : ViewedMessage) (found new total : List Answer) → are_of_heads (parts_of items) ≡ true → k < length named
-    → new ≡ found ++ head_answer items mode (get_or named k d) (option_map head_of (row_of (get_or named k d).uid rows))
-    → found ++ fetch_answers items mode rows rows (drop k named) ≡ total → new ++ fetch_answers items mode rows rows (drop (k + 1) named) ≡ total
-answers_more items mode rows named k d found new total h l n i =
+pub answers_more : (items : List FetchItem) (mode : FetchMode) (rows : List ListedMessage) (named : List ViewedMessage) (k : ℕ) (d : ViewedMessage) (result new total : List Answer) → heads_suffice (parts_of items) ≡ true → k < length named
+    → new ≡ result ++ head_answer items mode (get_or named k d) (option_map head_of (row_of (get_or named k d).uid rows))
+    → result ++ fetch_answers items mode rows rows (drop k named) ≡ total → new ++ fetch_answers items mode rows rows (drop (k + 1) named) ≡ total
+answers_more items mode rows named k d result new total h l n i =
     let shown = get_or named k d in
     let rest = fetch_answers items mode rows rows (drop (k + 1) named) in
-    ap (λ xs. xs ++ rest) (n ∙ ap (λ xs. found ++ xs) (answer_alike items mode shown (row_of shown.uid rows) h))
-    ∙ append_assoc found (answer_of items mode shown (row_of shown.uid rows) (row_of shown.uid rows)) rest
-    ∙ ap (λ xs. found ++ fetch_answers items mode rows rows xs) (sym (drop_at named k d l))
+    ap (λ xs. xs ++ rest) (n ∙ ap (λ xs. result ++ xs) (answer_alike items mode shown (row_of shown.uid rows) h))
+    ∙ append_assoc result (answer_of items mode shown (row_of shown.uid rows) (row_of shown.uid rows)) rest
+    ∙ ap (λ xs. result ++ fetch_answers items mode rows rows xs) (sym (drop_at named k d l))
     ∙ i
 
 -- A hit by the head of a row is one by the row.
@@ -86,8 +86,8 @@ hit_alike by_uid test last shown None = refl
 hit_alike by_uid test last shown (Some row) = refl
 
 -- The steps of a flag test.
-pub flag_steps : (found : Option FlagTest) (test : FlagTest) (steps : List SearchStep) → found ≡ Some test → IfSome found (λ t. steps ≡ Test (System t.flag t.is_set) ∷ []) → steps ≡ Test (System test.flag test.is_set) ∷ []
-flag_steps found test steps e h = subst (λ (o : Option FlagTest). IfSome o (λ t. steps ≡ Test (System t.flag t.is_set) ∷ [])) e h
+pub flag_steps : (result : Option FlagTest) (test : FlagTest) (steps : List SearchStep) → result ≡ Some test → IfSome result (λ t. steps ≡ Test (System t.flag t.is_set) ∷ []) → steps ≡ Test (System test.flag test.is_set) ∷ []
+flag_steps result test steps e h = subst (λ (o : Option FlagTest). IfSome o (λ t. steps ≡ Test (System t.flag t.is_set) ∷ [])) e h
 
 -- The flags of one version without keywords.
 abbrev pub plain : Flags → Flags

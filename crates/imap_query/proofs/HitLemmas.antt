@@ -10,7 +10,7 @@ use Rattle.mailbox_rows.specs.ListedMessage.{ListedMessage}
 use Rattle.mailbox_rows.specs.RowViews.{row_of}
 use Rattle.imap_query.specs.Search.{asks_modseq, hit_of, hits_of_rows, last_hit, last_shown, number_or_uid}
 use Rattle.imap_query.specs.declared.viewed_message.ViewedMessage.{ViewedMessage}
-use Rattle.imap_query.specs.declared.searching.Hit.{Hit}
+use Rattle.imap_query.specs.declared.search_command.Hit.{Hit}
 
 abbrev numbers_of_hits : List Hit → List ℕ
 numbers_of_hits hits = map (λ (hit : Hit). hit.number) hits
@@ -39,9 +39,9 @@ rising_count low (hit ∷ hits) h =
     let rest : hit.number + length hits ≤ last_number hit.number hits = rising_count hit.number hits h.1 in
     omega arith
 
-pub greatest_more : (numbers : List ℕ) (n : ℕ) → greatest (numbers ++ n ∷ []) ≡ max (greatest numbers) n
-greatest_more [] n = omega arith
-greatest_more (m ∷ numbers) n = let e = greatest_more numbers n in ap (λ k. max m k) e ∙ omega arith
+pub greatest_append : (numbers : List ℕ) (n : ℕ) → greatest (numbers ++ n ∷ []) ≡ max (greatest numbers) n
+greatest_append [] n = omega arith
+greatest_append (m ∷ numbers) n = let e = greatest_append numbers n in ap (λ k. max m k) e ∙ omega arith
 
 -- laws of Booleans
 or_none : (a : Bool) → (a || false) ≡ a
@@ -108,7 +108,7 @@ pub number_above : (numbers new : List ℕ) (hits : List Hit) (k : ℕ) (d : Hit
     → AreRisingFrom (greatest numbers + 1) (numbers_of_hits (drop k hits)) → AreRisingFrom (greatest new + 1) (numbers_of_hits (drop (k + 1) hits))
 number_above numbers new hits k d l n i =
     let h : AreRisingFrom (greatest numbers + 1) ((get_or hits k d).number ∷ numbers_of_hits (drop (k + 1) hits)) = subst (λ xs. AreRisingFrom (greatest numbers + 1) (numbers_of_hits xs)) (drop_at hits k d l) i in
-    let g : greatest new ≡ max (greatest numbers) (get_or hits k d).number = ap greatest n ∙ greatest_more numbers (get_or hits k d).number in
+    let g : greatest new ≡ max (greatest numbers) (get_or hits k d).number = ap greatest n ∙ greatest_append numbers (get_or hits k d).number in
     let first : greatest numbers + 1 ≤ (get_or hits k d).number = h.0 in
     let e : (get_or hits k d).number + 1 ≡ greatest new + 1 = omega (arith, g) in
     subst (λ low. AreRisingFrom low (numbers_of_hits (drop (k + 1) hits))) e h.1
@@ -120,14 +120,14 @@ first_above numbers hits k d l i =
     omega arith
 
 -- one further message of the view
-pub hits_more : (by_uid : Bool) (key : Key) (last other : ViewedMessage) (rows : List ListedMessage) (view : List ViewedMessage) (k : ℕ) (d : ViewedMessage) (found new total : List Hit) → k < length view → last ≡ other
-    → new ≡ found ++ hit_of by_uid key last (get_or view k d) (row_of (get_or view k d).uid rows)
-    → found ++ hits_of_rows by_uid key other rows (drop k view) ≡ total → new ++ hits_of_rows by_uid key other rows (drop (k + 1) view) ≡ total
-hits_more by_uid key last other rows view k d found new total l e n i =
+pub hits_more : (by_uid : Bool) (key : Key) (last other : ViewedMessage) (rows : List ListedMessage) (view : List ViewedMessage) (k : ℕ) (d : ViewedMessage) (result new total : List Hit) → k < length view → last ≡ other
+    → new ≡ result ++ hit_of by_uid key last (get_or view k d) (row_of (get_or view k d).uid rows)
+    → result ++ hits_of_rows by_uid key other rows (drop k view) ≡ total → new ++ hits_of_rows by_uid key other rows (drop (k + 1) view) ≡ total
+hits_more by_uid key last other rows view k d result new total l e n i =
     let shown = get_or view k d in
-    ap (λ xs. xs ++ hits_of_rows by_uid key other rows (drop (k + 1) view)) (n ∙ ap (λ s. found ++ hit_of by_uid key s shown (row_of shown.uid rows)) e)
-    ∙ append_assoc found (hit_of by_uid key other shown (row_of shown.uid rows)) (hits_of_rows by_uid key other rows (drop (k + 1) view))
-    ∙ ap (λ xs. found ++ hits_of_rows by_uid key other rows xs) (sym (drop_at view k d l))
+    ap (λ xs. xs ++ hits_of_rows by_uid key other rows (drop (k + 1) view)) (n ∙ ap (λ s. result ++ hit_of by_uid key s shown (row_of shown.uid rows)) e)
+    ∙ append_assoc result (hit_of by_uid key other shown (row_of shown.uid rows)) (hits_of_rows by_uid key other rows (drop (k + 1) view))
+    ∙ ap (λ xs. result ++ hits_of_rows by_uid key other rows xs) (sym (drop_at view k d l))
     ∙ i
 
 pub names_more : (by_uid : Bool) (view : List ViewedMessage) (k : ℕ) (d : ViewedMessage) (old new : List ℕ) → k < length view → MayAdd (number_or_uid by_uid (get_or view k d)) old new

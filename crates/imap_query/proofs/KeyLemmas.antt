@@ -4,7 +4,7 @@ use Rattle.imap_syntax.specs.declared.search.SearchStep.{SearchStep}
 use Rattle.imap_syntax.specs.declared.search.SearchStep.TheVariants.{Test, Not, Or, And}
 use Rattle.imap_syntax.specs.declared.search.SearchTest.{SearchTest}
 use Rattle.imap_query.specs.KeyHits.{Key, Asks, Lacks, Either, Both, hits, steps_of}
-use Rattle.imap_query.specs.Runs.{run, built}
+use Rattle.imap_query.specs.Runs.{run, key_stack}
 
 -- the steps of one key, those of another and a last step, before the rest
 three : (these those : List SearchStep) (last : SearchStep) (rest : List SearchStep) → (these ++ those ++ last ∷ []) ++ rest ≡ these ++ (those ++ (last ∷ rest))
@@ -24,26 +24,26 @@ run-key holds (Both this that) rest results =
     ∙ run-key holds this (steps_of that ++ (And ∷ rest)) results
     ∙ run-key holds that (And ∷ rest) (hits holds this ∷ results)
 
-nil_behind : {A : Type 0} (xs : List A) → xs ++ [] ≡ xs
-nil_behind [] = refl
-nil_behind (x ∷ xs) = ap (λ ys. x ∷ ys) (nil_behind xs)
+append_nil : {A : Type 0} (xs : List A) → xs ++ [] ≡ xs
+append_nil [] = refl
+append_nil (x ∷ xs) = ap (λ ys. x ∷ ys) (append_nil xs)
 
 pub run-all : (holds : SearchTest → Bool) (key : Key) → run holds (steps_of key) [] ≡ hits holds key ∷ []
-run-all holds key = ap (λ xs. run holds xs []) (sym (nil_behind (steps_of key))) ∙ run-key holds key [] []
+run-all holds key = ap (λ xs. run holds xs []) (sym (append_nil (steps_of key))) ∙ run-key holds key [] []
 
 -- and the key itself, if keys are pushed
-pub built-key : (key : Key) (rest : List SearchStep) (keys : List Key) → built (steps_of key ++ rest) keys ≡ built rest (key ∷ keys)
-built-key (Asks test) rest keys = refl
-built-key (Lacks key) rest keys =
-    ap (λ xs. built xs keys) (append_assoc (steps_of key) (Not ∷ []) rest) ∙ built-key key (Not ∷ rest) keys
-built-key (Either this that) rest keys =
-    ap (λ xs. built xs keys) (three (steps_of this) (steps_of that) Or rest)
-    ∙ built-key this (steps_of that ++ (Or ∷ rest)) keys
-    ∙ built-key that (Or ∷ rest) (this ∷ keys)
-built-key (Both this that) rest keys =
-    ap (λ xs. built xs keys) (three (steps_of this) (steps_of that) And rest)
-    ∙ built-key this (steps_of that ++ (And ∷ rest)) keys
-    ∙ built-key that (And ∷ rest) (this ∷ keys)
+pub key_stack-key : (key : Key) (rest : List SearchStep) (keys : List Key) → key_stack (steps_of key ++ rest) keys ≡ key_stack rest (key ∷ keys)
+key_stack-key (Asks test) rest keys = refl
+key_stack-key (Lacks key) rest keys =
+    ap (λ xs. key_stack xs keys) (append_assoc (steps_of key) (Not ∷ []) rest) ∙ key_stack-key key (Not ∷ rest) keys
+key_stack-key (Either this that) rest keys =
+    ap (λ xs. key_stack xs keys) (three (steps_of this) (steps_of that) Or rest)
+    ∙ key_stack-key this (steps_of that ++ (Or ∷ rest)) keys
+    ∙ key_stack-key that (Or ∷ rest) (this ∷ keys)
+key_stack-key (Both this that) rest keys =
+    ap (λ xs. key_stack xs keys) (three (steps_of this) (steps_of that) And rest)
+    ∙ key_stack-key this (steps_of that ++ (And ∷ rest)) keys
+    ∙ key_stack-key that (And ∷ rest) (this ∷ keys)
 
 first_or : Key → List Key → Key
 first_or other [] = other
@@ -53,9 +53,9 @@ first_or other (key ∷ keys) = key
 pub one_key : (a b : Key) → steps_of a ≡ steps_of b → a ≡ b
 unfolding first_or
 one_key a b e =
-    let ea : built (steps_of a) [] ≡ a ∷ [] = ap (λ xs. built xs []) (sym (nil_behind (steps_of a))) ∙ built-key a [] [] in
-    let eb : built (steps_of b) [] ≡ b ∷ [] = ap (λ xs. built xs []) (sym (nil_behind (steps_of b))) ∙ built-key b [] [] in
-    ap (first_or a) (sym ea ∙ ap (λ xs. built xs []) e ∙ eb)
+    let ea : key_stack (steps_of a) [] ≡ a ∷ [] = ap (λ xs. key_stack xs []) (sym (append_nil (steps_of a))) ∙ key_stack-key a [] [] in
+    let eb : key_stack (steps_of b) [] ≡ b ∷ [] = ap (λ xs. key_stack xs []) (sym (append_nil (steps_of b))) ∙ key_stack-key b [] [] in
+    ap (first_or a) (sym ea ∙ ap (λ xs. key_stack xs []) e ∙ eb)
 
 -- the end of the steps
 drop-past : {A : Type 0} (n : ℕ) (xs : List A) → length xs ≤ n → drop n xs ≡ []

@@ -2,7 +2,7 @@ use Rattle.std.proofs.Common.{◌≡◌, ◌≢◌, ◌↔◌, ℕ, ◌==◌, �
 use Rattle.std.proofs.lemmas.Bool.Decides.{Decides-eqb, eqb_tells}
 use Rattle.std.specs.Prelude.{IfOk, Result, Ok, Err}
 use Rattle.std.specs.declared.alloc.AllocError.{AllocError}
-use Rattle.imap_query.specs.Patterns.{Matches, StandsFor}
+use Rattle.imap_query.specs.Patterns.{IsPatternMatch, IsOctetMatch}
 use Rattle.imap_query.specs.PatternRows.{after_octet, after_wildcard, is_match, is_wildcard, may_hold}
 use Rattle.imap_query.proofs.RowLemmas.{chosen_true, chosen_false, either_way}
 
@@ -33,8 +33,8 @@ which octet w = elim (or_cases (octet == 42) (octet == 37) w) [ inl a ↦ inl ((
 no_star : (octet : ℕ) → is_wildcard octet ≡ false → (octet ≢ 42) × (octet ≢ 37)
 no_star octet w = (λ e. let q : is_wildcard octet ≡ true = ap is_wildcard e in cc, λ e. let q : is_wildcard octet ≡ true = ap is_wildcard e in cc)
 
-stands_for_none : (octet : ℕ) → is_wildcard octet ≡ true → StandsFor octet []
-stands_for_none octet w = elim (which octet w) [ inl e ↦ inl e | inr e ↦ inr (inl (e, λ h. h)) ]
+octet_match_nil : (octet : ℕ) → is_wildcard octet ≡ true → IsOctetMatch octet []
+octet_match_nil octet w = elim (which octet w) [ inl e ↦ inl e | inr e ↦ inr (inl (e, λ h. h)) ]
 
 held : (octet letter : ℕ) → may_hold octet letter ≡ true → octet ≡ 37 → letter ≡ 47 → ⊥
 held octet letter h e f = let q : may_hold octet letter ≡ false = λ k. may_hold (e k) (f k) in cc
@@ -42,8 +42,8 @@ held octet letter h e f = let q : may_hold octet letter ≡ false = λ k. may_ho
 holds : (octet letter : ℕ) → (letter ≢ 47) → may_hold octet letter ≡ true
 holds octet letter h = elim (eqb_tells letter 47) [ inl t ↦ absurd (h t.1) | inr f ↦ or_right _ _ (ap not f.0) ]
 
-stands_for_more : (octet letter : ℕ) (text : List ℕ) → is_wildcard octet ≡ true → may_hold octet letter ≡ true → StandsFor octet text → StandsFor octet (letter ∷ text)
-stands_for_more octet letter text w h s =
+octet_match_cons : (octet letter : ℕ) (text : List ℕ) → is_wildcard octet ≡ true → may_hold octet letter ≡ true → IsOctetMatch octet text → IsOctetMatch octet (letter ∷ text)
+octet_match_cons octet letter text w h s =
     elim s [
       | inl e ↦ inl e
       | inr more ↦ elim more [
@@ -52,8 +52,8 @@ stands_for_more octet letter text w h s =
       ]
     ]
 
-stands_for_less : (octet letter : ℕ) (text : List ℕ) → is_wildcard octet ≡ true → StandsFor octet (letter ∷ text) → (may_hold octet letter ≡ true) × StandsFor octet text
-stands_for_less octet letter text w s =
+octet_match_tail : (octet letter : ℕ) (text : List ℕ) → is_wildcard octet ≡ true → IsOctetMatch octet (letter ∷ text) → (may_hold octet letter ≡ true) × IsOctetMatch octet text
+octet_match_tail octet letter text w s =
     elim s [
       | inl e ↦ (ap (λ o. may_hold o letter) e, inl e)
       | inr more ↦ elim more [
@@ -64,32 +64,32 @@ stands_for_less octet letter text w s =
 
 -- a piece that the octet matches, and a rest that a test accepts
 abbrev HasPiece : (List ℕ → Bool) → ℕ → List ℕ → Type 0
-HasPiece accepts octet name = (front : List ℕ) × (rest : List ℕ) × (name ≡ front ++ rest) × StandsFor octet front × (accepts rest ≡ true)
+HasPiece accepts octet name = (front : List ℕ) × (rest : List ℕ) × (name ≡ front ++ rest) × IsOctetMatch octet front × (accepts rest ≡ true)
 
-wildcard_takes : (accepts : List ℕ → Bool) (octet : ℕ) (name : List ℕ) → is_wildcard octet ≡ true → after_wildcard accepts octet name ≡ true → HasPiece accepts octet name
-wildcard_takes accepts octet [] w h = ([], [], refl, stands_for_none octet w, h)
-wildcard_takes accepts octet (letter ∷ name) w h =
+wildcard_sound : (accepts : List ℕ → Bool) (octet : ℕ) (name : List ℕ) → is_wildcard octet ≡ true → after_wildcard accepts octet name ≡ true → HasPiece accepts octet name
+wildcard_sound accepts octet [] w h = ([], [], refl, octet_match_nil octet w, h)
+wildcard_sound accepts octet (letter ∷ name) w h =
     elim (or_cases _ _ h) [
-      | inl now ↦ ([], letter ∷ name, refl, stands_for_none octet w, now)
+      | inl now ↦ ([], letter ∷ name, refl, octet_match_nil octet w, now)
       | inr later ↦
           let parts = both _ _ later in
-          let piece = wildcard_takes accepts octet name w parts.1 in
-          (letter ∷ piece.0, piece.1, ap (λ cs. letter ∷ cs) piece.2, stands_for_more octet letter piece.0 w parts.0 piece.3, piece.4)
+          let piece = wildcard_sound accepts octet name w parts.1 in
+          (letter ∷ piece.0, piece.1, ap (λ cs. letter ∷ cs) piece.2, octet_match_cons octet letter piece.0 w parts.0 piece.3, piece.4)
     ]
 
 wildcard_now : (accepts : List ℕ → Bool) (octet : ℕ) (name : List ℕ) → accepts name ≡ true → after_wildcard accepts octet name ≡ true
 wildcard_now accepts octet [] h = h
 wildcard_now accepts octet (letter ∷ name) h = or_left _ _ h
 
-wildcard_gives : (accepts : List ℕ → Bool) (octet : ℕ) (front rest : List ℕ) → is_wildcard octet ≡ true → StandsFor octet front → accepts rest ≡ true → after_wildcard accepts octet (front ++ rest) ≡ true
-wildcard_gives accepts octet [] rest w s h = wildcard_now accepts octet rest h
-wildcard_gives accepts octet (letter ∷ front) rest w s h =
-    let less = stands_for_less octet letter front w s in
-    or_right _ _ (joined _ _ less.0 (wildcard_gives accepts octet front rest w less.1 h))
+wildcard_complete : (accepts : List ℕ → Bool) (octet : ℕ) (front rest : List ℕ) → is_wildcard octet ≡ true → IsOctetMatch octet front → accepts rest ≡ true → after_wildcard accepts octet (front ++ rest) ≡ true
+wildcard_complete accepts octet [] rest w s h = wildcard_now accepts octet rest h
+wildcard_complete accepts octet (letter ∷ front) rest w s h =
+    let less = octet_match_tail octet letter front w s in
+    or_right _ _ (joined _ _ less.0 (wildcard_complete accepts octet front rest w less.1 h))
 
-octet_takes : (accepts : List ℕ → Bool) (octet : ℕ) (name : List ℕ) → is_wildcard octet ≡ false → after_octet accepts octet name ≡ true → HasPiece accepts octet name
-octet_takes accepts octet [] w h = cc
-octet_takes accepts octet (letter ∷ name) w h =
+octet_sound : (accepts : List ℕ → Bool) (octet : ℕ) (name : List ℕ) → is_wildcard octet ≡ false → after_octet accepts octet name ≡ true → HasPiece accepts octet name
+octet_sound accepts octet [] w h = cc
+octet_sound accepts octet (letter ∷ name) w h =
     let parts = both (letter == octet) (accepts name) h in
     let other = no_star octet w in
     let same : letter ≡ octet = (Decides-eqb letter octet).0 parts.0 in
@@ -98,8 +98,8 @@ octet_takes accepts octet (letter ∷ name) w h =
 octet_itself : (accepts : List ℕ → Bool) (octet : ℕ) (rest : List ℕ) → accepts rest ≡ true → after_octet accepts octet (octet ∷ rest) ≡ true
 octet_itself accepts octet rest h = elim (eqb_tells octet octet) [ inl t ↦ joined _ _ t.0 h | inr f ↦ absurd (f.1 refl) ]
 
-octet_gives : (accepts : List ℕ → Bool) (octet : ℕ) (front rest : List ℕ) → is_wildcard octet ≡ false → StandsFor octet front → accepts rest ≡ true → after_octet accepts octet (front ++ rest) ≡ true
-octet_gives accepts octet front rest w s h =
+octet_complete : (accepts : List ℕ → Bool) (octet : ℕ) (front rest : List ℕ) → is_wildcard octet ≡ false → IsOctetMatch octet front → accepts rest ≡ true → after_octet accepts octet (front ++ rest) ≡ true
+octet_complete accepts octet front rest w s h =
     let other = no_star octet w in
     elim s [
       | inl e ↦ absurd (other.0 e)
@@ -109,29 +109,29 @@ octet_gives accepts octet front rest w s h =
       ]
     ]
 
-pub match_takes : (pattern name : List ℕ) → is_match pattern name ≡ true → Matches pattern name
-match_takes [] [] h = refl
-match_takes [] (letter ∷ name) h = cc
-match_takes (octet ∷ pattern) name h =
+pub match_sound : (pattern name : List ℕ) → is_match pattern name ≡ true → IsPatternMatch pattern name
+match_sound [] [] h = refl
+match_sound [] (letter ∷ name) h = cc
+match_sound (octet ∷ pattern) name h =
     elim (either_way (is_wildcard octet)) [
-      | inl t ↦ let piece = wildcard_takes (is_match pattern) octet name t (sym (chosen_true (is_wildcard octet) _ _ t) ∙ h) in (piece.0, piece.1, piece.2, piece.3, match_takes pattern piece.1 piece.4)
-      | inr f ↦ let piece = octet_takes (is_match pattern) octet name f (sym (chosen_false (is_wildcard octet) _ _ f) ∙ h) in (piece.0, piece.1, piece.2, piece.3, match_takes pattern piece.1 piece.4)
+      | inl t ↦ let piece = wildcard_sound (is_match pattern) octet name t (sym (chosen_true (is_wildcard octet) _ _ t) ∙ h) in (piece.0, piece.1, piece.2, piece.3, match_sound pattern piece.1 piece.4)
+      | inr f ↦ let piece = octet_sound (is_match pattern) octet name f (sym (chosen_false (is_wildcard octet) _ _ f) ∙ h) in (piece.0, piece.1, piece.2, piece.3, match_sound pattern piece.1 piece.4)
     ]
 
-pub match_gives : (pattern name : List ℕ) → Matches pattern name → is_match pattern name ≡ true
-match_gives [] name m = ap (is_match []) m
-match_gives (octet ∷ pattern) name m =
-    let rest : is_match pattern m.1 ≡ true = match_gives pattern m.1 m.4 in
+pub match_complete : (pattern name : List ℕ) → IsPatternMatch pattern name → is_match pattern name ≡ true
+match_complete [] name m = ap (is_match []) m
+match_complete (octet ∷ pattern) name m =
+    let rest : is_match pattern m.1 ≡ true = match_complete pattern m.1 m.4 in
     ap (is_match (octet ∷ pattern)) m.2
     ∙ elim (either_way (is_wildcard octet)) [
-      | inl t ↦ chosen_true (is_wildcard octet) _ _ t ∙ wildcard_gives (is_match pattern) octet m.0 m.1 t m.3 rest
-      | inr f ↦ chosen_false (is_wildcard octet) _ _ f ∙ octet_gives (is_match pattern) octet m.0 m.1 f m.3 rest
+      | inl t ↦ chosen_true (is_wildcard octet) _ _ t ∙ wildcard_complete (is_match pattern) octet m.0 m.1 t m.3 rest
+      | inr f ↦ chosen_false (is_wildcard octet) _ _ f ∙ octet_complete (is_match pattern) octet m.0 m.1 f m.3 rest
     ]
 
 -- the test agrees with the definition
-match_is : (pattern name : List ℕ) (answer : Bool) → answer ≡ is_match pattern name → (answer ≡ true) ↔ Matches pattern name
-match_is pattern name answer e = (λ t. match_takes pattern name (sym e ∙ t), λ m. e ∙ match_gives pattern name m)
+match_is : (pattern name : List ℕ) (answer : Bool) → answer ≡ is_match pattern name → (answer ≡ true) ↔ IsPatternMatch pattern name
+match_is pattern name answer e = (λ t. match_sound pattern name (sym e ∙ t), λ m. e ∙ match_complete pattern name m)
 
-pub answered : (pattern name : List ℕ) (result : Result Bool AllocError) → IfOk result (λ answer. answer ≡ is_match pattern name) → IfOk result (λ answer. (answer ≡ true) ↔ Matches pattern name)
+pub answered : (pattern name : List ℕ) (result : Result Bool AllocError) → IfOk result (λ answer. answer ≡ is_match pattern name) → IfOk result (λ answer. (answer ≡ true) ↔ IsPatternMatch pattern name)
 answered pattern name (Ok answer) h = match_is pattern name answer h
 answered pattern name (Err e) h = h

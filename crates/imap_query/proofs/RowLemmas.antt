@@ -65,12 +65,12 @@ octet_now : (m f b e g q : Bool) → ((m && f) || (((b && e) && g) || q)) ≡ ((
 octet_now m f true e g q = refl
 octet_now m f false e g q = refl
 
-nothing_more : (m b : Bool) → m ≡ (m || (b && false))
-nothing_more true b = refl
-nothing_more false true = refl
-nothing_more false false = refl
+or_and_false : (m b : Bool) → m ≡ (m || (b && false))
+or_and_false true b = refl
+or_and_false false true = refl
+or_and_false false false = refl
 
--- whether an answer is yes for a prefix of the name after which a test accepts the rest
+-- whether the row is true at a prefix of the name, and the test accepts the rest after it
 reaches : (List ℕ → Bool) → Bool → List ℕ → List Bool → Bool
 reaches accepts first [] row = first && accepts []
 reaches accepts first (letter ∷ name) [] = first && accepts (letter ∷ name)
@@ -99,7 +99,7 @@ reaches_wildcard accepts octet before made (letter ∷ name) (here ∷ row) t n 
 -- after another octet is read
 reaches_octet : (accepts : List ℕ → Bool) (octet : ℕ) (before made : Bool) (name : List ℕ) (row : List Bool) → is_wildcard octet ≡ false → length row ≡ length name → reaches accepts made name (cells octet before made row name) ≡ ((made && accepts name) || reaches (after_octet accepts octet) before name row)
 unfolding reaches
-reaches_octet accepts octet before made [] [] t n = nothing_more (made && accepts []) before
+reaches_octet accepts octet before made [] [] t n = or_and_false (made && accepts []) before
 reaches_octet accepts octet before made [] (here ∷ row) t n = absurd (omega arith)
 reaches_octet accepts octet before made (letter ∷ name) [] t n = absurd (omega arith)
 reaches_octet accepts octet before made (letter ∷ name) (here ∷ row) t n =
@@ -154,7 +154,7 @@ unfolding reaches
 reaches_all accepts [] = refl
 reaches_all accepts (letter ∷ name) = ap (λ q. accepts (letter ∷ name) || q) (reaches_none accepts name) ∙ or_false _
 
--- read from its first octet, the pattern answers as the test does
+-- the answer of a pattern, read from its first octet, is the test's answer
 pub answer_is : (pattern name : List ℕ) (row : List Bool) → row ≡ replicate (length name) false → length row ≡ length name → answer_after pattern true row name ≡ is_match pattern name
 answer_is pattern name row e n = answer_reaches pattern true row name n ∙ ap (reaches (is_match pattern) true name) e ∙ reaches_all (is_match pattern) name
 

@@ -4,7 +4,7 @@ use Rattle.std.specs.Prelude.{◌≡◌, ◌⊎◌, ℕ, Bool, false, List, [], 
 use Rattle.imap_syntax.specs.declared.search.SearchStep.{SearchStep}
 use Rattle.imap_syntax.specs.declared.search.SearchStep.TheVariants.{Test, Not, Or, And}
 use Rattle.imap_query.specs.Search.{names_modseq}
-use Rattle.imap_query.specs.declared.searching.Hit.{Hit}
+use Rattle.imap_query.specs.declared.search_command.Hit.{Hit}
 
 -- Whether a step is a MODSEQ test.
 abbrev pub step_names_modseq : SearchStep → Bool

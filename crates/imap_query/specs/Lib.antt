@@ -10,6 +10,6 @@ pub mod KeyHits
 pub mod Runs
 pub mod Search
 pub mod Tests
-pub mod Fetching
+pub mod FetchCommand
 pub mod ListNames
 pub mod Heads

@@ -3,22 +3,22 @@
 use Rattle.std.specs.Prelude.{◌≡◌, ℕ, true, false, ◌⊎◌, ◌↔◌, List, [], ◌∷◌, ◌++◌, map}
 use Rattle.imap_types.specs.Ascending.{AreAscending}
 use Rattle.imap_types.specs.Names.{fold_inbox}
-use Rattle.imap_query.specs.Patterns.{IsIn, IsMatched}
+use Rattle.imap_query.specs.Patterns.{IsIn, IsNameMatch}
 use Rattle.imap_query.specs.declared.list_entries.ListEntry.{ListEntry}
 
 -- A name is a superior level of another: the part before one of its separators `/` (47) (RFC 9051,
 -- section 5.1.1).
 abbrev pub IsSuperior : List ℕ → List ℕ → Type 0
-IsSuperior upper name = (rest : List ℕ) × (name ≡ upper ++ 47 ∷ rest)
+IsSuperior superior name = (rest : List ℕ) × (name ≡ superior ++ 47 ∷ rest)
 
 -- A name is a superior level of one of the folders; a level that spells INBOX in any case is INBOX.
 abbrev pub IsSuperiorLevel : List (List ℕ) → List ℕ → Type 0
 IsSuperiorLevel folders name =
-    (upper : List ℕ)
+    (superior : List ℕ)
     × (folder : List ℕ)
     × IsIn folder folders
-    × IsSuperior upper folder
-    × (name ≡ fold_inbox upper)
+    × IsSuperior superior folder
+    × (name ≡ fold_inbox superior)
 
 -- A pattern ends in `%` (37).
 abbrev pub EndsInPercent : List ℕ → Type 0
@@ -28,7 +28,7 @@ EndsInPercent pattern = (front : List ℕ) × (pattern ≡ front ++ 37 ∷ [])
 -- ends in `%`, a superior level of theirs that is no folder (RFC 9051, section 6.3.9).
 abbrev pub IsListEntry : List (List ℕ) → List ℕ → ListEntry → Type 0
 IsListEntry folders pattern entry =
-    IsMatched pattern entry.name
+    IsNameMatch pattern entry.name
     × (((entry.is_mailbox ≡ true) × IsIn entry.name folders)
     ⊎ ((entry.is_mailbox ≡ false) × EndsInPercent pattern × IsSuperiorLevel folders entry.name
     × (¬ IsIn entry.name folders)))
@@ -45,7 +45,7 @@ pub record AreListEntries (folders : List (List ℕ)) (pattern : List ℕ) (entr
 
 -- The entries that LIST shows: for an empty pattern only the empty name, which is no mailbox;
 -- otherwise those that reference and pattern, joined, list (RFC 9051, section 6.3.9).
-abbrev pub Lists : List ℕ → List ℕ → List (List ℕ) → List ListEntry → Type 0
-Lists reference [] folders entries = entries ≡ (record { name = []; is_mailbox = false }) ∷ []
-Lists reference (octet ∷ pattern) folders entries =
+abbrev pub AreShown : List ℕ → List ℕ → List (List ℕ) → List ListEntry → Type 0
+AreShown reference [] folders entries = entries ≡ (record { name = []; is_mailbox = false }) ∷ []
+AreShown reference (octet ∷ pattern) folders entries =
     AreListEntries folders (reference ++ octet ∷ pattern) entries

@@ -5,18 +5,18 @@ use Rattle.std.specs.Prelude.{if◌then◌else◌}
 use Rattle.imap_answers.specs.declared.answer.Answer.{Answer}
 use Rattle.imap_answers.specs.declared.answer.Answer.TheVariants.{List as ListAnswer}
 use Rattle.imap_answers.specs.declared.mailbox.MailboxState.{MailboxState}
-use Rattle.imap_answers.specs.declared.mailbox.MailboxState.TheVariants.{There, NoSelect}
+use Rattle.imap_answers.specs.declared.mailbox.MailboxState.TheVariants.{Selectable, NoSelect}
 use Rattle.imap_answers.specs.declared.mailbox.MailboxState.TheVariants.{NonExistent}
 use Rattle.imap_types.specs.Ascending.{AreAscending}
 use Rattle.imap_query.specs.ListEntries.{AreListEntries}
-use Rattle.imap_query.specs.Patterns.{IsIn, IsMatched, is_among}
+use Rattle.imap_query.specs.Patterns.{IsIn, IsNameMatch, is_among}
 use Rattle.imap_query.specs.declared.list_entries.ListEntry.{ListEntry}
 use Rattle.imap_query.specs.declared.list_answers.ListMode.{ListMode}
 
 -- The state of a name that LIST shows: a mailbox, or a level that can't be selected (RFC 9051,
 -- section 7.3.1).
 abbrev pub name_state : Bool → MailboxState
-name_state is_mailbox = if is_mailbox then There else NoSelect
+name_state is_mailbox = if is_mailbox then Selectable else NoSelect
 
 -- The answer for an entry, which reports its subscription if that is asked for.
 abbrev pub name_answer : Bool → List (List ℕ) → ListEntry → Answer
@@ -27,7 +27,7 @@ name_answer returned subscriptions entry =
 -- The state of a subscribed name: whether a mailbox of this name exists (RFC 9051,
 -- section 6.3.9.1).
 abbrev pub subscribed_state : Bool → MailboxState
-subscribed_state is_there = if is_there then There else NonExistent
+subscribed_state exists = if exists then Selectable else NonExistent
 
 -- The answer for a subscribed name.
 abbrev pub subscribed_answer : List (List ℕ) → List ℕ → Answer
@@ -38,7 +38,7 @@ pub record AreSubscribedNames (subscriptions : List (List ℕ)) (pattern : List 
     (names : List (List ℕ)) : Type 0 where
   pub ascending : AreAscending names
   pub exactly : (name : List ℕ)
-      → IsIn name names ↔ (IsMatched pattern name × IsIn name subscriptions)
+      → IsIn name names ↔ (IsNameMatch pattern name × IsIn name subscriptions)
 
 -- The answers to LIST with a pattern: only subscribed names, or mailboxes and superior levels.
 abbrev pub ListsMatching : Bool → Bool → List ℕ → List (List ℕ) → List (List ℕ) → List Answer

@@ -16,9 +16,9 @@ has_flag Seen flags = flags.seen
 has_flag Draft flags = flags.draft
 
 -- Whether a truth value is the expected one.
-abbrev pub is_as : Bool → Bool → Bool
-is_as wanted is = if wanted then is else not is
+abbrev pub agrees_with : Bool → Bool → Bool
+agrees_with expected is = if expected then is else not is
 
 -- Whether a message has a system flag, or lacks it, as `is_set` asks.
 abbrev pub is_flagged : SystemFlag → Bool → ListedMessage → Bool
-is_flagged flag is_set row = is_as is_set (has_flag flag row.flags)
+is_flagged flag is_set row = agrees_with is_set (has_flag flag row.flags)

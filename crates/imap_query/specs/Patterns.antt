@@ -17,22 +17,22 @@ is_among names name = list_any (λ other. bytes_eq other name) names
 
 -- An octet of a pattern matches a text: `*` (42) any text, `%` (37) any text without a separator
 -- `/` (47), any other octet only itself (RFC 9051, section 6.3.9).
-abbrev pub StandsFor : ℕ → List ℕ → Type 0
-StandsFor octet text =
+abbrev pub IsOctetMatch : ℕ → List ℕ → Type 0
+IsOctetMatch octet text =
     (octet ≡ 42)
     ⊎ (((octet ≡ 37) × (¬ IsIn 47 text))
     ⊎ ((octet ≢ 42) × (octet ≢ 37) × (text ≡ octet ∷ [])))
 
 -- A pattern matches a name: the name can be cut into pieces, one for each octet of the pattern,
 -- which that octet matches (RFC 9051, section 6.3.9).
-abbrev pub Matches : List ℕ → List ℕ → Type 0
-Matches [] name = name ≡ []
-Matches (octet ∷ pattern) name =
+abbrev pub IsPatternMatch : List ℕ → List ℕ → Type 0
+IsPatternMatch [] name = name ≡ []
+IsPatternMatch (octet ∷ pattern) name =
     (front : List ℕ)
     × (rest : List ℕ)
     × (name ≡ front ++ rest)
-    × StandsFor octet front
-    × Matches pattern rest
+    × IsOctetMatch octet front
+    × IsPatternMatch pattern rest
 
 -- The pattern that is compared with a name: in capitals if the name is INBOX, whose case doesn't
 -- count (RFC 9051, sections 5.1 and 6.3.9).
@@ -41,5 +41,5 @@ pattern_for name pattern = if is_inbox name then map to_ascii_uppercase pattern 
 
 -- A pattern matches a name, with INBOX as a whole name in any case (RFC 9051, sections 5.1 and
 -- 6.3.9).
-abbrev pub IsMatched : List ℕ → List ℕ → Type 0
-IsMatched pattern name = Matches (pattern_for name pattern) (fold_inbox name)
+abbrev pub IsNameMatch : List ℕ → List ℕ → Type 0
+IsNameMatch pattern name = IsPatternMatch (pattern_for name pattern) (fold_inbox name)

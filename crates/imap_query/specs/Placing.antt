@@ -11,22 +11,22 @@ use Rattle.imap_query.specs.PatternRows.{is_shown}
 use Rattle.imap_query.specs.declared.list_entries.ListEntry.{ListEntry}
 
 -- An entry inserted before another, left out as equal, or inserted after it.
-abbrev pub placed_by : Ordering → ListEntry → ListEntry → List ListEntry → List ListEntry
+abbrev pub insert_by : Ordering → ListEntry → ListEntry → List ListEntry → List ListEntry
     → List ListEntry
-placed_by Less entry other others behind = entry ∷ other ∷ others
-placed_by Equal entry other others behind = other ∷ others
-placed_by Greater entry other others behind = other ∷ behind
+insert_by Less entry other others tail = entry ∷ other ∷ others
+insert_by Equal entry other others tail = other ∷ others
+insert_by Greater entry other others tail = other ∷ tail
 
 -- The entries with one inserted by name, unless one with its name exists.
 abbrev pub insert_entry : ListEntry → List ListEntry → List ListEntry
 insert_entry entry [] = entry ∷ []
 insert_entry entry (other ∷ others) =
-    placed_by (octet_order entry.name other.name) entry other others (insert_entry entry others)
+    insert_by (octet_order entry.name other.name) entry other others (insert_entry entry others)
 
 -- The entries with others inserted, one after another.
-abbrev pub placed_all : List ListEntry → List ListEntry → List ListEntry
-placed_all [] entries = entries
-placed_all (entry ∷ more) entries = placed_all more (insert_entry entry entries)
+abbrev pub insert_all : List ListEntry → List ListEntry → List ListEntry
+insert_all [] entries = entries
+insert_all (entry ∷ more) entries = insert_all more (insert_entry entry entries)
 
 -- The entries of the mailboxes that a pattern matches.
 abbrev pub shown_mailboxes : List ℕ → List (List ℕ) → List ListEntry
@@ -38,17 +38,17 @@ shown_mailboxes pattern (folder ∷ folders) =
 
 -- The entry of a superior level, if a pattern matches it and it is no folder.
 abbrev pub shown_level : List ℕ → List (List ℕ) → List ℕ → List ListEntry
-shown_level pattern folders upper =
-    if is_among folders (fold_inbox upper) then []
-    else (if is_shown pattern (fold_inbox upper)
-    then (record { name = fold_inbox upper; is_mailbox = false }) ∷ []
+shown_level pattern folders superior =
+    if is_among folders (fold_inbox superior) then []
+    else (if is_shown pattern (fold_inbox superior)
+    then (record { name = fold_inbox superior; is_mailbox = false }) ∷ []
     else [])
 
 -- The entries of these superior levels, as far as they match and are no folders.
 abbrev pub shown_among : List ℕ → List (List ℕ) → List (List ℕ) → List ListEntry
 shown_among pattern folders [] = []
-shown_among pattern folders (upper ∷ uppers) =
-    shown_level pattern folders upper ++ shown_among pattern folders uppers
+shown_among pattern folders (superior ∷ uppers) =
+    shown_level pattern folders superior ++ shown_among pattern folders uppers
 
 -- The superior levels of a name that end in its rest, after the prefix already read.
 abbrev pub levels_from : List ℕ → List ℕ → List (List ℕ)
@@ -70,10 +70,10 @@ ends_in_percent (octet ∷ []) = octet == 37
 ends_in_percent (octet ∷ next ∷ rest) = ends_in_percent (next ∷ rest)
 
 -- The entries of superior levels, if the pattern ends in `%`.
-abbrev pub found_levels : List ℕ → List (List ℕ) → List ListEntry
-found_levels pattern folders =
+abbrev pub matched_levels : List ℕ → List (List ℕ) → List ListEntry
+matched_levels pattern folders =
     if ends_in_percent pattern then shown_levels pattern folders folders else []
 
 -- The entries that a pattern lists, in the order in which the code finds them.
-abbrev pub entries_found : List ℕ → List (List ℕ) → List ListEntry
-entries_found pattern folders = shown_mailboxes pattern folders ++ found_levels pattern folders
+abbrev pub matched_entries : List ℕ → List (List ℕ) → List ListEntry
+matched_entries pattern folders = shown_mailboxes pattern folders ++ matched_levels pattern folders

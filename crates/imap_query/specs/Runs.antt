@@ -24,18 +24,18 @@ run holds [] results = results
 run holds (step ∷ steps) results = run holds steps (after_step holds step results)
 
 -- The stack of keys after a step, the last key first: `after_step` with keys in place of results.
-abbrev pub built_step : SearchStep → List Key → List Key
-built_step (Test test) keys = Asks test ∷ keys
-built_step Not [] = []
-built_step Not (a ∷ keys) = Lacks a ∷ keys
-built_step Or [] = []
-built_step Or (b ∷ []) = []
-built_step Or (b ∷ a ∷ keys) = Either a b ∷ keys
-built_step And [] = []
-built_step And (b ∷ []) = []
-built_step And (b ∷ a ∷ keys) = Both a b ∷ keys
+abbrev pub key_step : SearchStep → List Key → List Key
+key_step (Test test) keys = Asks test ∷ keys
+key_step Not [] = []
+key_step Not (a ∷ keys) = Lacks a ∷ keys
+key_step Or [] = []
+key_step Or (b ∷ []) = []
+key_step Or (b ∷ a ∷ keys) = Either a b ∷ keys
+key_step And [] = []
+key_step And (b ∷ []) = []
+key_step And (b ∷ a ∷ keys) = Both a b ∷ keys
 
 -- The stack of keys after several steps.
-abbrev pub built : List SearchStep → List Key → List Key
-built [] keys = keys
-built (step ∷ steps) keys = built steps (built_step step keys)
+abbrev pub key_stack : List SearchStep → List Key → List Key
+key_stack [] keys = keys
+key_stack (step ∷ steps) keys = key_stack steps (key_step step keys)

@@ -13,7 +13,7 @@ use Rattle.mailbox_rows.specs.ListedMessage.{ListedMessage}
 use Rattle.mailbox_rows.specs.RowViews.{row_of}
 use Rattle.imap_query.specs.KeyHits.{Asks, Both, Either, Key, Lacks, hits}
 use Rattle.imap_query.specs.Tests.{test_holds}
-use Rattle.imap_query.specs.declared.searching.Hit.{Hit}
+use Rattle.imap_query.specs.declared.search_command.Hit.{Hit}
 use Rattle.imap_query.specs.declared.viewed_message.ViewedMessage.{ViewedMessage}
 
 -- The last message that a view shows, numbered 0 if the view is empty.
@@ -86,8 +86,8 @@ abbrev pub asks_all : List SearchOption → Bool
 asks_all options = (length options == 0) || asks_option All options
 
 -- Whether there are options, and each is MIN or MAX.
-abbrev pub asks_min_or_max_alone : List SearchOption → Bool
-asks_min_or_max_alone options = not (asks_all options) && not (asks_option Count options)
+abbrev pub asks_only_min_or_max : List SearchOption → Bool
+asks_only_min_or_max options = not (asks_all options) && not (asks_option Count options)
 
 -- The first hit.
 abbrev pub first_hit : List Hit → Option Hit
@@ -111,27 +111,27 @@ modseq_in None = 0
 modseq_in (Some hit) = hit.modseq
 
 -- A value, if it is asked for.
-abbrev pub number_where_asked : {A : Type 0} → Bool → Option A → Option A
-number_where_asked wanted found = if wanted then found else None
+abbrev pub if_requested : {A : Type 0} → Bool → Option A → Option A
+if_requested requested result = if requested then result else None
 
 -- The mod-sequence of the results: the greatest among the hits that MIN and MAX name, if only these
 -- are asked for, and among all hits otherwise (RFC 7162, section 3.1.5).
 abbrev pub modseq_of_result : List SearchOption → List Hit → ℕ
 modseq_of_result options hits =
-    if asks_min_or_max_alone options
-    then greatest (modseq_in (number_where_asked (asks_option Min options) (first_hit hits))
-    ∷ modseq_in (number_where_asked (asks_option Max options) (last_hit hits)) ∷ [])
+    if asks_only_min_or_max options
+    then greatest (modseq_in (if_requested (asks_option Min options) (first_hit hits))
+    ∷ modseq_in (if_requested (asks_option Max options) (last_hit hits)) ∷ [])
     else greatest (map (λ hit. hit.modseq) hits)
 
 -- The results of SEARCH for its hits, which ascend; without hits at most their number (RFC 9051,
 -- section 6.4.4; RFC 7162, section 3.1.5).
 abbrev pub results_of : List SearchOption → Bool → List Hit → SearchResults
 results_of options with_modseq hits = record {
-  min = number_where_asked (asks_option Min options) (number_in (first_hit hits));
-  max = number_where_asked (asks_option Max options) (number_in (last_hit hits));
+  min = if_requested (asks_option Min options) (number_in (first_hit hits));
+  max = if_requested (asks_option Max options) (number_in (last_hit hits));
   all = if asks_all options then map (λ hit. hit.number) hits else [];
-  count = number_where_asked (asks_option Count options) (Some (length hits));
+  count = if_requested (asks_option Count options) (Some (length hits));
   modseq =
-      number_where_asked (with_modseq && not (length hits == 0))
+      if_requested (with_modseq && not (length hits == 0))
       (Some (modseq_of_result options hits));
 }

@@ -39,12 +39,12 @@ size_of row = length row.text
 -- once; the sum of all messages' octets stops at the greatest number of 64 bits (RFC 9051,
 -- section 6.3.11; RFC 7162, section 3.1.7).
 abbrev pub status_of : List StatusItem → MailboxCounters → List ListedMessage → StatusItems
-status_of items marks rows = record {
+status_of items counters rows = record {
   messages = if_asked Messages items (length rows);
-  uidnext = if_asked UidNext items marks.uidnext;
-  uidvalidity = if_asked UidValidity items marks.uidvalidity;
+  uidnext = if_asked UidNext items counters.uidnext;
+  uidvalidity = if_asked UidValidity items counters.uidvalidity;
   unseen = if_asked Unseen items (length (filter (is_flagged Seen false) rows));
   deleted = if_asked DeletedItem items (length (filter (is_flagged Deleted true) rows));
   size = if_asked Size items (min (sum_by size_of rows) 18446744073709551615);
-  highest_modseq = if_asked HighestModSeq items marks.highest_modseq;
+  highest_modseq = if_asked HighestModSeq items counters.highest_modseq;
 }

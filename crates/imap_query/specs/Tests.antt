@@ -13,8 +13,8 @@ use Rattle.imap_syntax.specs.declared.search.TextPlace.TheVariants as places
 use Rattle.mailbox_rows.specs.ListedMessage.{ListedMessage}
 use Rattle.mail_text.specs.Civil.{written_day}
 use Rattle.mail_text.specs.HeaderAndBody.{body_of}
-use Rattle.mail_text.specs.TextSearch.{any_field_holds, holds}
-use Rattle.imap_query.specs.Messages.{has_flag, is_as}
+use Rattle.mail_text.specs.TextSearch.{any_field_holds, occurs_in}
+use Rattle.imap_query.specs.Messages.{has_flag, agrees_with}
 use Rattle.imap_query.specs.declared.viewed_message.ViewedMessage.{ViewedMessage}
 
 -- Whether a text contains a word in a place: a header field, the body or the whole text (RFC 9051,
@@ -25,8 +25,8 @@ holds_in places.Cc word text = any_field_holds (codes "Cc") word text
 holds_in places.From word text = any_field_holds (codes "From") word text
 holds_in places.Subject word text = any_field_holds (codes "Subject") word text
 holds_in places.To word text = any_field_holds (codes "To") word text
-holds_in places.Body word text = holds word (body_of text)
-holds_in places.Text word text = holds word text
+holds_in places.Body word text = occurs_in word (body_of text)
+holds_in places.Text word text = occurs_in word text
 
 -- A number for a day that rises with the calendar.
 abbrev pub rank : Day → ℕ
@@ -42,9 +42,9 @@ is_date_related Since day date = nat_le (rank day) (rank (written_day date))
 -- (RFC 9051, section 6.4.4; RFC 7162, section 3.1.5).
 abbrev pub test_holds : ViewedMessage → ViewedMessage → ListedMessage → SearchTest → Bool
 test_holds last shown row tests.All = true
-test_holds last shown row (tests.System flag is_set) = is_as is_set (has_flag flag row.flags)
+test_holds last shown row (tests.System flag is_set) = agrees_with is_set (has_flag flag row.flags)
 test_holds last shown row (tests.Keyword keyword is_set) =
-    is_as is_set (has_keyword keyword row.flags.keywords)
+    agrees_with is_set (has_keyword keyword row.flags.keywords)
 test_holds last shown row (tests.Holds place word) = holds_in place word row.text
 test_holds last shown row (tests.Header name word) = any_field_holds name word row.text
 test_holds last shown row (tests.Dated order day) = is_date_related order day row.date

@@ -3,20 +3,21 @@
 ghost use Rattle.std.specs.Prelude.{◌≡◌, ◌++◌, ◌∷◌, [], map, true, IfOk, IfSome, OnOk, option_map};
 ghost use Rattle.imap_types.specs.Numbers.{AreRisingFrom};
 ghost use Rattle.imap_types.specs.Unions.{united_flags};
-ghost use Rattle.imap_query.specs.Fetching.{fetch_answers, parts_of, if_told};
-ghost use Rattle.imap_query.specs.Heads.{are_of_heads, flag_key, head_answer, head_hit, head_items};
-ghost use Rattle.imap_query.specs.Heads.{is_kept_head};
+ghost use Rattle.imap_query.specs.FetchCommand.{fetch_answers, parts_of, if_reported};
+ghost use Rattle.imap_query.specs.Heads.{heads_suffice, flag_key, head_answer, head_hit};
+ghost use Rattle.imap_query.specs.Heads.{head_items};
+ghost use Rattle.imap_query.specs.Heads.{is_head_above_changed_since};
 ghost use Rattle.imap_query.specs.Hits.{MayAdd};
 ghost use Rattle.imap_query.specs.Search.{hits_in, number_or_uid};
 ghost use Rattle.mailbox_rows.specs.RowViews.{head_of, listed_head, row_of};
 
 use crate::answer_room::make_room;
-use crate::fetching::{
-    FetchParts, FetchSpec, answers_at_once, push_fetch, tells_modseq, tells_uid,
+use crate::fetch_command::{
+    FetchParts, FetchSpec, answers_at_once, push_fetch, reports_modseq, reports_uid,
 };
 use crate::keys::FlagTest;
-use crate::messages::{has_flag, is_as};
-use crate::searching::{Hit, name_of};
+use crate::messages::{agrees_with, has_flag};
+use crate::search_command::{Hit, shown_number};
 use crate::viewed_message::ViewedMessage;
 use imap_answers::{Answer, FetchItems, Sections};
 use imap_types::{Flags, Keywords, Version, Versions};
@@ -25,7 +26,7 @@ use std::alloc::{AllocError, Global};
 
 /// Whether the heads of rows hold all that these parts ask for.
 pub(crate) fn are_answerable_by_heads(parts: FetchParts) -> bool
-    ensures { result ≡ are_of_heads parts }
+    ensures { result ≡ heads_suffice parts }
 {
     !parts.date && !parts.size && !parts.sections && !parts.seen
 }
@@ -39,7 +40,7 @@ pub(crate) fn fetch_heads(
     asked: FetchSpec<'_>,
 ) -> Result<Vec<Answer>, AllocError>
     requires parts { asked.parts ≡ parts_of asked.items.now }
-    requires heads { are_of_heads asked.parts ≡ true }
+    requires heads { heads_suffice asked.parts ≡ true }
     ensures { IfOk result (λ answers. answers.items
         ≡ fetch_answers asked.entry.items.now asked.entry.mode rows.now rows.now named.now) }
 {
@@ -68,11 +69,11 @@ fn push_answer(
     match rows.head_near(shown.place(), shown.uid) {
         None => Ok(()),
         Some(head) => {
-            if !is_kept(asked.mode.changed_since, &head) {
+            if !head_has_changed_since(asked.mode.changed_since, &head) {
                 return Ok(());
             }
-            let told = items_of(alloc, asked, &head)?;
-            push_fetch(answers, shown.number, told)
+            let reported = items_of(alloc, asked, &head)?;
+            push_fetch(answers, shown.number, reported)
         }
     }
 }
@@ -80,8 +81,8 @@ fn push_answer(
 /// Whether a message's mod-sequence is above that of CHANGEDSINCE, if one is given (RFC 7162,
 /// section 3.1.4.1).
 #[inline(always)]
-fn is_kept(changed_since: Option<u64>, head: &RowHead<'_>) -> bool
-    ensures { result ≡ is_kept_head changed_since (listed_head head.now) }
+fn head_has_changed_since(changed_since: Option<u64>, head: &RowHead<'_>) -> bool
+    ensures { result ≡ is_head_above_changed_since changed_since (listed_head head.now) }
 {
     match changed_since {
         None => true,
@@ -98,29 +99,31 @@ fn items_of(
 ) -> Result<FetchItems, AllocError>
     requires { asked.parts ≡ parts_of asked.items.now }
     ensures { IfOk result
-        (λ told. told ≡ head_items asked.entry.items.now asked.entry.mode (listed_head head.now)) }
+        (λ reported. reported
+        ≡ head_items asked.entry.items.now asked.entry.mode (listed_head head.now)) }
 {
-    let flags = flags_where(alloc, asked.parts.flags, head.versions)?;
+    let flags = flags_if_reported(alloc, asked.parts.flags, head.versions)?;
     Ok(FetchItems {
-        uid: tells_uid(asked).then_some(head.uid),
+        uid: reports_uid(asked).then_some(head.uid),
         flags,
         date: None,
         size: None,
-        modseq: tells_modseq(asked, asked.parts.flags).then_some(head.modseq),
+        modseq: reports_modseq(asked, asked.parts.flags).then_some(head.modseq),
         sections: Sections::new(Vec::new(alloc)),
     })
 }
 
 /// The union of a message's flags, if they are reported.
 #[inline(always)]
-fn flags_where(
+fn flags_if_reported(
     alloc: Global,
-    told: bool,
+    reported: bool,
     versions: Versions<'_>,
 ) -> Result<Option<Flags>, AllocError>
-    ensures { IfOk result (λ flags. flags ≡ if_told told (united_flags versions.entry.list.now)) }
+    ensures { IfOk result
+        (λ flags. flags ≡ if_reported reported (united_flags versions.entry.list.now)) }
 {
-    if !told {
+    if !reported {
         return Ok(None);
     }
     match plain_flags(alloc, versions.as_slice()) {
@@ -180,24 +183,24 @@ fn push_flagged(
     by_uid: bool,
     test: FlagTest,
     shown: ViewedMessage,
-    found: &mut Vec<Hit>,
+    all_hits: &mut Vec<Hit>,
 ) -> Result<(), AllocError>
-    ensures hits { OnOk result (found.new.items
-        ≡ found.old.items
+    ensures hits { OnOk result (all_hits.new.items
+        ≡ all_hits.old.items
         ++ head_hit by_uid test shown (option_map head_of (row_of shown.uid rows.now))) }
     ensures numbers { OnOk result (MayAdd (number_or_uid by_uid shown)
-        (map (λ hit. hit.number) found.old.items) (map (λ hit. hit.number) found.new.items)) }
+        (map (λ hit. hit.number) all_hits.old.items) (map (λ hit. hit.number) all_hits.new.items)) }
 {
     match rows.head_near(shown.place(), shown.uid) {
         None => Ok(()),
         Some(head) => {
-            if !is_as(test.is_set, has_flag(test.flag, head.versions)) {
+            if !agrees_with(test.is_set, has_flag(test.flag, head.versions)) {
                 return Ok(());
             }
             push_hit(
-                found,
+                all_hits,
                 Hit {
-                    number: name_of(by_uid, shown),
+                    number: shown_number(by_uid, shown),
                     modseq: head.modseq,
                 },
             )
@@ -207,10 +210,10 @@ fn push_flagged(
 
 /// Adds a hit; `Err` if memory runs out.
 #[inline(always)]
-pub(crate) fn push_hit(found: &mut Vec<Hit>, hit: Hit) -> Result<(), AllocError>
-    ensures { OnOk result (found.new.items ≡ found.old.items ++ hit ∷ []) }
+pub(crate) fn push_hit(all_hits: &mut Vec<Hit>, hit: Hit) -> Result<(), AllocError>
+    ensures { OnOk result (all_hits.new.items ≡ all_hits.old.items ++ hit ∷ []) }
 {
-    make_room(found)?;
-    found.push_reserved(hit);
+    make_room(all_hits)?;
+    all_hits.push_reserved(hit);
     Ok(())
 }

@@ -9,7 +9,7 @@ ghost use Rattle.imap_query.specs.Tests.{bound_of, holds_in, is_date_related, te
 ghost use Rattle.imap_query.specs.Tests.{range_names, rank, set_names};
 ghost use Rattle.mailbox_rows.specs.RowViews.{listed_message};
 
-use crate::messages::{is_as, is_flagged};
+use crate::messages::{agrees_with, is_flagged};
 use crate::viewed_message::ViewedMessage;
 use imap_syntax::{DateRelation, SearchStep, SearchTest, SystemFlag, TextPlace};
 use imap_types::{DateTime, Day, SequenceBound, SequenceRange};
@@ -131,7 +131,7 @@ fn test_holds(
     match test {
         SearchTest::All => Ok(true),
         SearchTest::System { flag, is_set } => Ok(is_flagged(row, *flag, *is_set)),
-        SearchTest::Keyword { keyword, is_set } => Ok(is_as(
+        SearchTest::Keyword { keyword, is_set } => Ok(agrees_with(
             *is_set,
             row.versions.has_keyword(keyword.as_bytes()),
         )),

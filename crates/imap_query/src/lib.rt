@@ -5,7 +5,7 @@
 //! of RFC 9051 and RFC 7162: `list` and `list_names` by the names that a pattern matches
 //! (`specs/Patterns`, `specs/ListEntries`, `specs/ListNames`), `status` by counts over the listing
 //! (`specs/Status`), `search` by the key that its steps spell (`specs/KeyHits`, `specs/Search`),
-//! and `fetch` by each named message before and after the command (`specs/Fetching`). An `Err`
+//! and `fetch` by each named message before and after the command (`specs/FetchCommand`). An `Err`
 //! always means that memory ran out, and leaves everything as it was.
 //!
 //! # Decided
@@ -17,7 +17,7 @@
 #![tactic(auto)]
 
 mod answer_room;
-mod fetching;
+mod fetch_command;
 mod heads;
 mod keys;
 mod laws;
@@ -26,15 +26,17 @@ mod list_entries;
 mod mailbox_status;
 mod messages;
 mod pattern;
-mod searching;
+mod search_command;
 mod viewed_message;
 
 pub use answer_room::make_room;
-pub use fetching::{FetchMode, fetch, fetch_unchanged, is_kept, is_seen_set, set_seen};
+pub use fetch_command::{
+    FetchMode, any_sets_seen, fetch, fetch_unchanged, has_changed_since, is_seen_set,
+};
 pub use laws::{one_key, spelled_steps_are_a_key};
 pub use list_answers::{ListMode, list_names};
 pub use list_entries::{ListEntry, list, one_list};
 pub use mailbox_status::{MailboxCounters, status};
 pub use pattern::matches;
-pub use searching::{Hit, search};
+pub use search_command::{Hit, search};
 pub use viewed_message::ViewedMessage;

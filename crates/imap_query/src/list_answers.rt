@@ -8,7 +8,7 @@ ghost use Rattle.imap_query.specs.ListEntries.{names_of};
 ghost use Rattle.imap_query.specs.ListNames.{ListsNames, name_answer, name_state};
 ghost use Rattle.imap_query.specs.ListNames.{subscribed_answer, subscribed_state};
 ghost use Rattle.imap_query.specs.Patterns.{is_among};
-ghost use Rattle.imap_query.specs.Placing.{placed_all, shown_mailboxes};
+ghost use Rattle.imap_query.specs.Placing.{insert_all, shown_mailboxes};
 
 use crate::list_entries::{ListEntry, is_among, list, place_mailboxes};
 use crate::pattern::Pattern;
@@ -16,7 +16,7 @@ use imap_answers::{Answer, MailboxState};
 use imap_types::Name;
 use std::alloc::{AllocError, Global};
 
-/// How LIST asks (RFC 9051, sections 6.3.9.1 and 6.3.9.2).
+/// The form of a LIST (RFC 9051, sections 6.3.9.1 and 6.3.9.2).
 #[derive(Clone, Copy, Debug, PartialEq, Eq)]
 pub struct ListMode {
     /// The selection option SUBSCRIBED: only subscribed names are shown.
@@ -103,7 +103,7 @@ fn name_state(is_mailbox: bool) -> MailboxState
     ensures { result ≡ name_state is_mailbox }
 {
     if is_mailbox {
-        MailboxState::There
+        MailboxState::Selectable
     } else {
         MailboxState::NoSelect
     }
@@ -119,7 +119,7 @@ fn subscribed_names(
 ) -> Result<Vec<Answer>, AllocError>
     ensures { IfOk result (λ answers. answers.items
         ≡ map (subscribed_answer folders.now) (names_of
-        (placed_all (shown_mailboxes (reference.now ++ pattern.now) subscriptions.now) []))) }
+        (insert_all (shown_mailboxes (reference.now ++ pattern.now) subscriptions.now) []))) }
 {
     let joined = append_name(alloc, reference, pattern)?;
     let entries = matching_names(alloc, &joined, subscriptions)?;
@@ -141,7 +141,7 @@ fn matching_names(
     names: &[Name],
 ) -> Result<Vec<ListEntry>, AllocError>
     ensures { IfOk result
-        (λ entries. entries.items ≡ placed_all (shown_mailboxes pattern.now names.now) []) }
+        (λ entries. entries.items ≡ insert_all (shown_mailboxes pattern.now names.now) []) }
 {
     let pattern = &Pattern::new(alloc, pattern)?;
     let mut entries = Vec::new(alloc);
@@ -166,11 +166,11 @@ fn subscribed_answers(
     Ok(answers)
 }
 
-fn subscribed_state(is_there: bool) -> MailboxState
-    ensures { result ≡ subscribed_state is_there }
+fn subscribed_state(exists: bool) -> MailboxState
+    ensures { result ≡ subscribed_state exists }
 {
-    if is_there {
-        MailboxState::There
+    if exists {
+        MailboxState::Selectable
     } else {
         MailboxState::NonExistent
     }

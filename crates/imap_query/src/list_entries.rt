@@ -3,10 +3,10 @@
 ghost use Rattle.std.specs.Prelude.{◌≡◌, ℕ, ◌≤◌, false, List, [], ◌∷◌, ◌++◌, IfOk, OnOk};
 ghost use Rattle.std.specs.Prelude.{MatchOption, length};
 ghost use Rattle.std.specs.List.{insert};
-ghost use Rattle.imap_query.specs.ListEntries.{Lists};
+ghost use Rattle.imap_query.specs.ListEntries.{AreShown};
 ghost use Rattle.imap_query.specs.Patterns.{is_among};
-ghost use Rattle.imap_query.specs.Placing.{ends_in_percent, entries_found, found_levels};
-ghost use Rattle.imap_query.specs.Placing.{levels_from, insert_entry, placed_all, shown_among};
+ghost use Rattle.imap_query.specs.Placing.{ends_in_percent, matched_entries, matched_levels};
+ghost use Rattle.imap_query.specs.Placing.{levels_from, insert_entry, insert_all, shown_among};
 ghost use Rattle.imap_query.specs.Placing.{shown_level, shown_mailboxes};
 ghost use Rattle.imap_query.specs.declared.list_entries.ListEntry.{ListEntry};
 
@@ -38,7 +38,8 @@ pub fn list(
     pattern: &[u8],
     folders: &[Name],
 ) -> Result<Vec<ListEntry>, AllocError>
-    ensures { IfOk result (λ entries. Lists reference.now pattern.now folders.now entries.items) }
+    ensures { IfOk result
+        (λ entries. AreShown reference.now pattern.now folders.now entries.items) }
 {
     if pattern.is_empty() {
         return root(alloc);
@@ -52,8 +53,8 @@ pub fn list(
 pub fn one_list()
     ensures { (reference pattern : List ℕ) (folders : List (List ℕ))
         (entries others : List ListEntry)
-        → Lists reference pattern folders entries
-        → Lists reference pattern folders others
+        → AreShown reference pattern folders entries
+        → AreShown reference pattern folders others
         → entries ≡ others }
 {}
 
@@ -77,7 +78,7 @@ fn listed_entries(
     folders: &[Name],
 ) -> Result<Vec<ListEntry>, AllocError>
     ensures { IfOk result
-        (λ entries. entries.items ≡ placed_all (entries_found pattern.now folders.now) []) }
+        (λ entries. entries.items ≡ insert_all (matched_entries pattern.now folders.now) []) }
 {
     let pattern = &Pattern::new(alloc, pattern)?;
     let mut entries = Vec::new(alloc);
@@ -103,7 +104,7 @@ pub(crate) fn place_mailboxes(
     entries: &mut Vec<ListEntry>,
 ) -> Result<(), AllocError>
     ensures { OnOk result (entries.new.items
-        ≡ placed_all (shown_mailboxes pattern.now folders.now) entries.old.items) }
+        ≡ insert_all (shown_mailboxes pattern.now folders.now) entries.old.items) }
 {
     for folder in folders {
         if is_shown(alloc, pattern, folder)? {
@@ -128,7 +129,8 @@ fn place_levels(
     entries: &mut Vec<ListEntry>,
 ) -> Result<(), AllocError>
     ensures { OnOk result
-        (entries.new.items ≡ placed_all (found_levels pattern.now folders.now) entries.old.items) }
+        (entries.new.items
+        ≡ insert_all (matched_levels pattern.now folders.now) entries.old.items) }
 {
     if !ends_in_percent(pattern.written()) {
         return Ok(());
@@ -148,7 +150,7 @@ fn place_levels_of(
     entries: &mut Vec<ListEntry>,
 ) -> Result<(), AllocError>
     ensures { OnOk result (entries.new.items
-        ≡ placed_all (shown_among pattern.now folders.now (levels_from [] folder.now))
+        ≡ insert_all (shown_among pattern.now folders.now (levels_from [] folder.now))
         entries.old.items) }
 {
     for at in 0..folder.len() {
@@ -164,13 +166,13 @@ fn place_level(
     alloc: Global,
     pattern: &Pattern,
     folders: &[Name],
-    upper: &[u8],
+    superior: &[u8],
     entries: &mut Vec<ListEntry>,
 ) -> Result<(), AllocError>
     ensures { OnOk result (entries.new.items
-        ≡ placed_all (shown_level pattern.now folders.now upper.now) entries.old.items) }
+        ≡ insert_all (shown_level pattern.now folders.now superior.now) entries.old.items) }
 {
-    let name = Name::from_slice(alloc, upper)?.fold_inbox();
+    let name = Name::from_slice(alloc, superior)?.fold_inbox();
     if is_among(folders, name.as_bytes()) {
         return Ok(());
     }

@@ -25,13 +25,13 @@ pub struct MailboxCounters {
 /// The items that STATUS reports of a mailbox, each requested item once (RFC 9051, section 6.3.11;
 /// RFC 7162, section 3.1.7). The sum of all messages' octets stops at the greatest `u64`. Time is
 /// linear in the listing.
-pub fn status(rows: &Rows<'_>, items: &[StatusItem], marks: MailboxCounters) -> StatusItems
-    ensures { result ≡ status_of items.now marks rows.now }
+pub fn status(rows: &Rows<'_>, items: &[StatusItem], counters: MailboxCounters) -> StatusItems
+    ensures { result ≡ status_of items.now counters rows.now }
 {
     StatusItems {
         messages: is_asked(items, StatusItem::Messages).then_some(rows.count()),
-        uidnext: is_asked(items, StatusItem::UidNext).then_some(marks.uidnext),
-        uidvalidity: is_asked(items, StatusItem::UidValidity).then_some(marks.uidvalidity),
+        uidnext: is_asked(items, StatusItem::UidNext).then_some(counters.uidnext),
+        uidvalidity: is_asked(items, StatusItem::UidValidity).then_some(counters.uidvalidity),
         unseen: is_asked(items, StatusItem::Unseen).then_some(count(rows, SystemFlag::Seen, false)),
         deleted: is_asked(items, StatusItem::Deleted).then_some(count(
             rows,
@@ -39,7 +39,9 @@ pub fn status(rows: &Rows<'_>, items: &[StatusItem], marks: MailboxCounters) -> 
             true,
         )),
         size: is_asked(items, StatusItem::Size).then_some(size(rows)),
-        highest_modseq: is_asked(items, StatusItem::HighestModSeq).then_some(marks.highest_modseq),
+        highest_modseq: is_asked(items, StatusItem::HighestModSeq).then_some(
+            counters.highest_modseq,
+        ),
     }
 }
 

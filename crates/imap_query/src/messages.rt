@@ -1,7 +1,7 @@
 //! Tests of a single message's system flags.
 
 ghost use Rattle.std.specs.Prelude.{◌≡◌};
-ghost use Rattle.imap_query.specs.Messages.{has_flag, is_as, is_flagged};
+ghost use Rattle.imap_query.specs.Messages.{has_flag, agrees_with, is_flagged};
 ghost use Rattle.imap_types.specs.Unions.{united_flags};
 ghost use Rattle.mailbox_rows.specs.RowViews.{listed_message};
 
@@ -13,14 +13,14 @@ use mailbox_rows::Row;
 pub(crate) fn is_flagged(row: &Row<'_>, flag: SystemFlag, is_set: bool) -> bool
     ensures { result ≡ is_flagged flag is_set (listed_message row.now) }
 {
-    is_as(is_set, has_flag(flag, row.versions))
+    agrees_with(is_set, has_flag(flag, row.versions))
 }
 
 #[inline(always)]
-pub(crate) fn is_as(wanted: bool, is: bool) -> bool
-    ensures { result ≡ is_as wanted is }
+pub(crate) fn agrees_with(expected: bool, is: bool) -> bool
+    ensures { result ≡ agrees_with expected is }
 {
-    if wanted { is } else { !is }
+    if expected { is } else { !is }
 }
 
 #[inline(always)]

@@ -3,7 +3,7 @@
 ghost use Rattle.std.specs.Prelude.{◌≡◌, ◌&&◌, ◌↔◌, IfOk, IsTrue, OnOk, length, map, not};
 ghost use Rattle.std.specs.List.{list_all};
 ghost use Rattle.std.specs.Char.{to_ascii_uppercase};
-ghost use Rattle.imap_query.specs.Patterns.{Matches};
+ghost use Rattle.imap_query.specs.Patterns.{IsPatternMatch};
 ghost use Rattle.imap_query.specs.PatternRows.{answer_after, cell, cells, is_match, is_shown};
 ghost use Rattle.imap_query.specs.PatternRows.{is_unset, is_wildcard, last_of, may_hold};
 ghost use Rattle.imap_query.specs.Simpler.{Adds, AreAlike, IsAlike, ends_wild};
@@ -16,7 +16,7 @@ use std::marker::Model;
 /// (RFC 9051, section 6.3.9). Time is at most linear in the product of both lengths, memory in the
 /// name's length. `Err` if memory runs out.
 pub fn matches(alloc: Global, pattern: &[u8], name: &[u8]) -> Result<bool, AllocError>
-    ensures { IfOk result (λ yes. IsTrue yes ↔ Matches pattern.now name.now) }
+    ensures { IfOk result (λ yes. IsTrue yes ↔ IsPatternMatch pattern.now name.now) }
 {
     is_match(alloc, pattern, name)
 }

@@ -1,6 +1,6 @@
 use Rattle.std.proofs.Common.{ℕ, zero, suc, List, [], ◌∷◌, ◌++◌, ap, sym, ◌∙◌, inl, inr, subst}
 use Rattle.imap_syntax.specs.Keys.{all_of, and_all, key_over, key_within, search_keys}
-use Rattle.imap_syntax.specs.Languages.{each_behind, listed, never, sp}
+use Rattle.imap_syntax.specs.Languages.{each_after, listed, never, sp}
 use Rattle.imap_syntax.specs.declared.search.SearchStep.{SearchStep}
 use Rattle.imap_syntax.specs.declared.search.SearchStep.TheVariants.{Not, Or, And}
 use Rattle.imap_syntax.specs.SearchKeys.{Asks, Lacks, Either, Both, IsKey}
@@ -16,7 +16,7 @@ and_all-key steps (key ∷ keys) k ks =
     and_all-key (steps ++ key ++ And ∷ []) keys
     (record { key = Both k.key ks.0.key; steps_are = λ i. (k.steps_are i ++ ks.0.steps_are i) ++ And ∷ [] }) ks.1
 
-listed-keys : (inner : List SearchStep → List ℕ → Type 0) → ((steps : List SearchStep) (text : List ℕ) → inner steps text → IsKey steps) → (keys : List (List SearchStep)) (text : List ℕ) → each_behind sp inner keys text → AreKeys keys
+listed-keys : (inner : List SearchStep → List ℕ → Type 0) → ((steps : List SearchStep) (text : List ℕ) → inner steps text → IsKey steps) → (keys : List (List SearchStep)) (text : List ℕ) → each_after sp inner keys text → AreKeys keys
 unfolding AreKeys
 listed-keys inner f [] text h = tt
 listed-keys inner f (key ∷ keys) text h = let b = h.3 in (f key b.0 b.2, listed-keys inner f keys b.1 b.3)

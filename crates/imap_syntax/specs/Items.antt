@@ -48,18 +48,18 @@ item_word items.ModSeq = words.ModSeq
 item_word (items.Body peek this_section this_partial) = body_word peek
 
 -- What follows the word of each item.
-abbrev pub item_behind : FetchItem → List ℕ → Type 0
-item_behind items.Flags = nothing
-item_behind items.InternalDate = nothing
-item_behind items.Size = nothing
-item_behind items.Uid = nothing
-item_behind items.ModSeq = nothing
-item_behind (items.Body peek this_section this_partial) =
+abbrev pub item_tail : FetchItem → List ℕ → Type 0
+item_tail items.Flags = nothing
+item_tail items.InternalDate = nothing
+item_tail items.Size = nothing
+item_tail items.Uid = nothing
+item_tail items.ModSeq = nothing
+item_tail (items.Body peek this_section this_partial) =
     (exactly (codes "[") ⌢ section this_section ⌢ exactly (codes "]")) ⌢ partial this_partial
 
 -- An item of FETCH (RFC 9051, section 9, fetch-att).
 abbrev pub fetch_item : FetchItem → List ℕ → Type 0
-fetch_item item = word (fetch_word (item_word item)) ⌢ item_behind item
+fetch_item item = word (fetch_word (item_word item)) ⌢ item_tail item
 
 -- The items that FAST abbreviates (RFC 9051, section 6.4.5).
 abbrev pub fast_items : List FetchItem

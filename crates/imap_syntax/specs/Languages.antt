@@ -42,17 +42,17 @@ optional form None = nothing
 optional form (Some value) = sp ⌢ form value
 
 -- Values, each after a separator.
-abbrev pub each_behind : {A : Type 0} → (List ℕ → Type 0) → (A → List ℕ → Type 0) → List A → List ℕ
+abbrev pub each_after : {A : Type 0} → (List ℕ → Type 0) → (A → List ℕ → Type 0) → List A → List ℕ
     → Type 0
-each_behind separator form [] = nothing
-each_behind separator form (value ∷ values) =
-    separator ⌢ form value ⌢ each_behind separator form values
+each_after separator form [] = nothing
+each_after separator form (value ∷ values) =
+    separator ⌢ form value ⌢ each_after separator form values
 
--- One or more values, with a separator between each two.
+-- One or more values, with separators between them.
 abbrev pub listed : {A : Type 0} → (List ℕ → Type 0) → (A → List ℕ → Type 0) → List A → List ℕ
     → Type 0
 listed separator form [] = never
-listed separator form (value ∷ values) = form value ⌢ each_behind separator form values
+listed separator form (value ∷ values) = form value ⌢ each_after separator form values
 
 -- No values, or a list of them.
 abbrev pub maybe_listed : {A : Type 0} → (List ℕ → Type 0) → (A → List ℕ → Type 0) → List A → List ℕ

@@ -46,7 +46,7 @@ abbrev pub quoted : List ℕ → List ℕ → Type 0
 quoted value text =
     IsTrue (list_all is_quotable value) × (text ≡ codes "\"" ++ (quoted_escape value ++ codes "\""))
 
--- The number that decimal digits write after those of `so_far`.
+-- The number spelled by the digits of `so_far` and these digits.
 abbrev pub number_of : ℕ → List ℕ → ℕ
 number_of so_far [] = so_far
 number_of so_far (digit ∷ digits) = number_of (so_far * 10 + (digit - 48)) digits

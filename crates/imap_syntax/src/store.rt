@@ -11,7 +11,7 @@ pub enum StoreMode {
     Remove,
 }
 
-/// What the word of STORE says: the mode, and whether it is silent.
+/// The word of STORE: its mode, and whether it is silent.
 #[derive(Clone, Copy, Debug, PartialEq, Eq)]
 pub struct StoreAction {
     pub mode: StoreMode,

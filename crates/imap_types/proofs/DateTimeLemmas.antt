@@ -2,12 +2,12 @@ use Rattle.std.proofs.Common.{◌≡◌, ℕ, zero, suc, ◌<◌, ◌≤◌, tru
 use Rattle.std.proofs.lemmas.Bool.{and_parts, and_from, leb-true, le-leb}
 use Rattle.std.proofs.lemmas.Int.{ints}
 use Rattle.jiff.specs.Words.{IsDate, days_in_month}
-use Rattle.imap_types.specs.DateTimes.{fits_mark, date_time_picture, HasPicture, HasTime, IsDateTime, day_at, month_at, year_at}
+use Rattle.imap_types.specs.DateTimes.{fits_symbol, date_time_picture, HasPicture, HasTime, IsDateTime, day_at, month_at, year_at}
 use Rattle.imap_types.specs.DateTimeTests.{is_date_time, is_day, is_time, matches_picture}
 
-by_place : (mark octet : ℕ) (marks octets : List ℕ) → fits_mark mark octet ≡ true → ((k : ℕ) → k < length marks → IsTrue (fits_mark (get_or marks k 0) (get_or octets k 0))) → (k : ℕ) → k < length (mark ∷ marks) → IsTrue (fits_mark (get_or (mark ∷ marks) k 0) (get_or (octet ∷ octets) k 0))
-by_place mark octet marks octets e h zero l = e
-by_place mark octet marks octets e h (suc k) l = h k (omega arith)
+by_place : (symbol octet : ℕ) (symbols octets : List ℕ) → fits_symbol symbol octet ≡ true → ((k : ℕ) → k < length symbols → IsTrue (fits_symbol (get_or symbols k 0) (get_or octets k 0))) → (k : ℕ) → k < length (symbol ∷ symbols) → IsTrue (fits_symbol (get_or (symbol ∷ symbols) k 0) (get_or (octet ∷ octets) k 0))
+by_place symbol octet symbols octets e h zero l = e
+by_place symbol octet symbols octets e h (suc k) l = h k (omega arith)
 
 picture_takes : (ms bs : List ℕ) → matches_picture ms bs ≡ true → HasPicture ms bs
 picture_takes [] [] h = (refl, λ k l. absurd (omega arith))

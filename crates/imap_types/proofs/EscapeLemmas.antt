@@ -2,13 +2,13 @@ use Rattle.std.proofs.Common.{◌≡◌, ◌++◌, ◌+◌, ◌*◌, ◌/◌, �
 use Rattle.std.proofs.lemmas.Bool.{and_parts, and_from, cases_Bool}
 use Rattle.std.proofs.lemmas.Bool.Decides.{nat_tests}
 use Rattle.std.proofs.lemmas.Grind.{common_steps}
-use Rattle.imap_types.specs.Escape.{AreOctets, GivesRead, escape_text, escape_octet, hex_digit, hex_octet, hex_value, is_escape, is_hex, is_plain, unescape, with_octet_in_front}
+use Rattle.imap_types.specs.Escape.{AreOctets, IsReading, escape_text, escape_octet, hex_digit, hex_octet, hex_value, is_escape, is_hex, is_plain, unescape, with_octets_before}
 use Rattle.imap_types.specs.declared.escape.Escape.{Escape}
 use Rattle.imap_types.specs.declared.escape.EscapeFault.{EscapeFault}
 use Rattle.imap_types.specs.declared.escape.Escape.TheVariants.{Field, Text}
 
 -- an octet that stands for itself is read as itself
-pub unescaped_plain : (e : Escape) (b : ℕ) (rest : List ℕ) → is_plain e b ≡ true → unescape e (b ∷ rest) ≡ with_octet_in_front (b ∷ []) (unescape e rest)
+pub unescaped_plain : (e : Escape) (b : ℕ) (rest : List ℕ) → is_plain e b ≡ true → unescape e (b ∷ rest) ≡ with_octets_before (b ∷ []) (unescape e rest)
 unescaped_plain e b [] p = rw p refl
 unescaped_plain e b (c ∷ []) p = rw p refl
 unescaped_plain e b (c ∷ d ∷ rest) p = rw p refl
@@ -16,7 +16,7 @@ unescaped_plain e b (c ∷ d ∷ rest) p = rw p refl
 pub unescaped_none : (e : Escape) (b c : ℕ) → is_plain e b ≡ false → (unescape e (b ∷ []) ≡ None) × (unescape e (b ∷ c ∷ []) ≡ None)
 unescaped_none e b c p = (rw p refl, rw p refl)
 
-pub unescaped_pair : (e : Escape) (a b c : ℕ) (rest : List ℕ) → is_plain e a ≡ false → is_escape e a b c ≡ true → unescape e (a ∷ b ∷ c ∷ rest) ≡ with_octet_in_front (hex_octet b c ∷ []) (unescape e rest)
+pub unescaped_pair : (e : Escape) (a b c : ℕ) (rest : List ℕ) → is_plain e a ≡ false → is_escape e a b c ≡ true → unescape e (a ∷ b ∷ c ∷ rest) ≡ with_octets_before (hex_octet b c ∷ []) (unescape e rest)
 unescaped_pair e a b c rest p q = rw (p, q) refl
 
 pub unescaped_no_pair : (e : Escape) (a b c : ℕ) (rest : List ℕ) → is_plain e a ≡ false → is_escape e a b c ≡ false → unescape e (a ∷ b ∷ c ∷ rest) ≡ None
@@ -26,9 +26,9 @@ pub plain_small : (e : Escape) (b : ℕ) → is_plain e b ≡ true → b < 126
 plain_small Field b p = grind (arith, nat_tests)
 plain_small Text b p = grind (arith, nat_tests)
 
-mark_not_plain : (e : Escape) → is_plain e 126 ≡ false
-mark_not_plain Field = refl
-mark_not_plain Text = refl
+tilde_not_plain : (e : Escape) → is_plain e 126 ≡ false
+tilde_not_plain Field = refl
+tilde_not_plain Text = refl
 
 digit_back : (b : ℕ) → is_hex b ≡ true → (hex_digit (hex_value b) ≡ b) × (hex_value b < 16)
 digit_back b h = (grind (arith, nat_tests), grind (arith, nat_tests))
@@ -75,7 +75,7 @@ spells_escape e octet h p =
     let k : hex_octet (hex_digit (octet / 16)) (hex_digit (octet % 16)) ≡ octet = (λ i. b.1 i * 16 + c.1 i) ∙ back octet in
     (and_from _ _ b.0 (and_from _ _ c.0 (ap (λ n. not (is_plain e n)) k ∙ ap not p)), k)
 
-pub front_some : (front : List ℕ) (r : Option (List ℕ)) (x : List ℕ) → with_octet_in_front front r ≡ Some x → (y : List ℕ) × (r ≡ Some y) × (x ≡ front ++ y)
+pub front_some : (front : List ℕ) (r : Option (List ℕ)) (x : List ℕ) → with_octets_before front r ≡ Some x → (y : List ℕ) × (r ≡ Some y) × (x ≡ front ++ y)
 front_some front None x h = cc
 front_some front (Some y) x h = (y, refl, cc)
 
@@ -101,18 +101,18 @@ unescaped_takes e (a ∷ []) octets h =
       | inr f ↦ absurd (let k = f.1 in cc)
     ]
 unescaped_takes e (a ∷ b ∷ []) octets h =
-    elim (chosen (is_plain e a) (with_octet_in_front (a ∷ []) (unescape e (b ∷ []))) None (Some octets) h) [
+    elim (chosen (is_plain e a) (with_octets_before (a ∷ []) (unescape e (b ∷ []))) None (Some octets) h) [
       | inl t ↦
           let y = front_some (a ∷ []) (unescape e (b ∷ [])) octets t.1 in
           plain_taken e a (b ∷ []) octets y.0 t.0 y.2 (unescaped_takes e (b ∷ []) y.0 y.1)
       | inr f ↦ absurd (let k = f.1 in cc)
     ]
 unescaped_takes e (a ∷ b ∷ c ∷ rest) octets h =
-    elim (chosen (is_plain e a) (with_octet_in_front (a ∷ []) (unescape e (b ∷ c ∷ rest))) (cond (is_escape e a b c) (with_octet_in_front (hex_octet b c ∷ []) (unescape e rest)) None) (Some octets) h) [
+    elim (chosen (is_plain e a) (with_octets_before (a ∷ []) (unescape e (b ∷ c ∷ rest))) (cond (is_escape e a b c) (with_octets_before (hex_octet b c ∷ []) (unescape e rest)) None) (Some octets) h) [
       | inl t ↦
           let y = front_some (a ∷ []) (unescape e (b ∷ c ∷ rest)) octets t.1 in
           plain_taken e a (b ∷ c ∷ rest) octets y.0 t.0 y.2 (unescaped_takes e (b ∷ c ∷ rest) y.0 y.1)
-      | inr f ↦ elim (chosen (is_escape e a b c) (with_octet_in_front (hex_octet b c ∷ []) (unescape e rest)) None (Some octets) f.1) [
+      | inr f ↦ elim (chosen (is_escape e a b c) (with_octets_before (hex_octet b c ∷ []) (unescape e rest)) None (Some octets) f.1) [
         | inl t ↦
             let y = front_some (hex_octet b c ∷ []) (unescape e rest) octets t.1 in
             let s = escape_spells e a b c t.0 in
@@ -126,23 +126,23 @@ pub unescaped_again : (e : Escape) (octets : List ℕ) → AreOctets octets → 
 unescaped_again e [] a = refl
 unescaped_again e (octet ∷ octets) a =
     elim (cases_Bool (is_plain e octet)) [
-      | inl p ↦ ap (λ s. unescape e (s ++ escape_text e octets)) (escaped_plain e octet p) ∙ unescaped_plain e octet (escape_text e octets) p ∙ ap (with_octet_in_front (octet ∷ [])) (unescaped_again e octets a.1)
+      | inl p ↦ ap (λ s. unescape e (s ++ escape_text e octets)) (escaped_plain e octet p) ∙ unescaped_plain e octet (escape_text e octets) p ∙ ap (with_octets_before (octet ∷ [])) (unescaped_again e octets a.1)
       | inr p ↦
           let s = spells_escape e octet a.0 p in
           ap (λ s. unescape e (s ++ escape_text e octets)) (escaped_other e octet p)
-          ∙ unescaped_pair e 126 (hex_digit (octet / 16)) (hex_digit (octet % 16)) (escape_text e octets) (mark_not_plain e) s.0
-          ∙ (λ i. with_octet_in_front (s.1 i ∷ []) (unescaped_again e octets a.1 i))
+          ∙ unescaped_pair e 126 (hex_digit (octet / 16)) (hex_digit (octet % 16)) (escape_text e octets) (tilde_not_plain e) s.0
+          ∙ (λ i. with_octets_before (s.1 i ∷ []) (unescaped_again e octets a.1 i))
     ]
 
-pub found_by : (e : Escape) (text : List ℕ) (r : Result (List ℕ) EscapeFault) → GivesRead (λ o. o) r (unescape e text) → IfOk r (λ octets. AreOctets octets × (text ≡ escape_text e octets))
-found_by e text (Ok octets) g = unescaped_takes e text octets g
-found_by e text (Err f) g = tt
+pub spelling_of_read : (e : Escape) (text : List ℕ) (r : Result (List ℕ) EscapeFault) → IsReading (λ o. o) r (unescape e text) → IfOk r (λ octets. AreOctets octets × (text ≡ escape_text e octets))
+spelling_of_read e text (Ok octets) g = unescaped_takes e text octets g
+spelling_of_read e text (Err f) g = tt
 
-pub only_by : (e : Escape) (text : List ℕ) (r : Result (List ℕ) EscapeFault) → GivesRead (λ o. o) r (unescape e text) → (octets : List ℕ) → AreOctets octets → text ≡ escape_text e octets → GivesRead (λ o. o) r (Some octets)
-only_by e text r g octets a k = subst (GivesRead (λ o. o) r) (ap (unescape e) k ∙ unescaped_again e octets a) g
+pub only_by : (e : Escape) (text : List ℕ) (r : Result (List ℕ) EscapeFault) → IsReading (λ o. o) r (unescape e text) → (octets : List ℕ) → AreOctets octets → text ≡ escape_text e octets → IsReading (λ o. o) r (Some octets)
+only_by e text r g octets a k = subst (IsReading (λ o. o) r) (ap (unescape e) k ∙ unescaped_again e octets a) g
 
 -- one further octet was read
-pub front_more : (octets : List ℕ) (octet : ℕ) (r : Option (List ℕ)) → with_octet_in_front (octets ++ octet ∷ []) r ≡ with_octet_in_front octets (with_octet_in_front (octet ∷ []) r)
+pub front_more : (octets : List ℕ) (octet : ℕ) (r : Option (List ℕ)) → with_octets_before (octets ++ octet ∷ []) r ≡ with_octets_before octets (with_octets_before (octet ∷ []) r)
 front_more octets octet None = refl
 front_more octets octet (Some more) = ap (λ (os : List ℕ). Some os) (append_assoc octets (octet ∷ []) more)
 
@@ -150,9 +150,9 @@ front_whole : (rest : List ℕ) → 1 ≤ length rest → get_or rest 0 0 ∷ ta
 front_whole [] h = absurd (omega arith)
 front_whole (b ∷ bs) h = grind (arith, common_steps)
 
-pub read_more : (e : Escape) (text octets octets' rest behind : List ℕ) (octet : ℕ) → 1 ≤ length rest → with_octet_in_front octets (unescape e rest) ≡ unescape e text → octets' ≡ octets ++ octet ∷ [] → unescape e (get_or rest 0 0 ∷ take (length rest - 1) (drop 1 rest)) ≡ with_octet_in_front (octet ∷ []) (unescape e behind) → with_octet_in_front octets' (unescape e behind) ≡ unescape e text
-read_more e text octets octets' rest behind octet h inv o f =
-    ap (λ (os : List ℕ). with_octet_in_front os (unescape e behind)) o
-    ∙ front_more octets octet (unescape e behind)
-    ∙ ap (with_octet_in_front octets) (sym f ∙ ap (unescape e) (front_whole rest h))
+pub read_more : (e : Escape) (text octets octets' rest after : List ℕ) (octet : ℕ) → 1 ≤ length rest → with_octets_before octets (unescape e rest) ≡ unescape e text → octets' ≡ octets ++ octet ∷ [] → unescape e (get_or rest 0 0 ∷ take (length rest - 1) (drop 1 rest)) ≡ with_octets_before (octet ∷ []) (unescape e after) → with_octets_before octets' (unescape e after) ≡ unescape e text
+read_more e text octets octets' rest after octet h inv o f =
+    ap (λ (os : List ℕ). with_octets_before os (unescape e after)) o
+    ∙ front_more octets octet (unescape e after)
+    ∙ ap (with_octets_before octets) (sym f ∙ ap (unescape e) (front_whole rest h))
     ∙ inv

@@ -9,7 +9,7 @@ use Rattle.std.specs.Str.{bytes_eq}
 use Rattle.std.specs.Ordering.{is_lt, match_ordering, ordering_reverse}
 use Rattle.std.specs.declared.cmp.Ordering.{Ordering}
 use Rattle.std.specs.declared.cmp.Ordering.TheVariants.{Less, Equal, Greater}
-use Rattle.imap_types.specs.Ascending.{octet_order, ComesBefore, AreAscending}
+use Rattle.imap_types.specs.Ascending.{octet_order, IsBefore, AreAscending}
 use Rattle.imap_types.specs.Keywords.{to_lower_case, is_lower_case, has_keyword, with_word, are_ascending, are_keywords, AreKeywords}
 
 lower_again : (c : ℕ) → to_ascii_lowercase (to_ascii_lowercase c) ≡ to_ascii_lowercase c
@@ -31,19 +31,19 @@ all_with : (p : List ℕ → Bool) (w : List ℕ) (vs : List (List ℕ)) → p w
 all_with p w [] h i = and_from _ _ h refl
 all_with p w (v ∷ vs) h i = all_step p w v vs (with_word w vs) (octet_order w v) h i (all_with p w vs h (and_parts _ _ i).1)
 
-later : (w v : List ℕ) → octet_order w v ≡ Greater → ComesBefore v w
+later : (w v : List ℕ) → octet_order w v ≡ Greater → IsBefore v w
 later w v e = nat_list_cmp_total.antisymm v w ∙ ap ordering_reverse e
 
-chain_step : (a w v : List ℕ) (vs rest : List (List ℕ)) (o : Ordering) → octet_order w v ≡ o → ComesBefore a w → AreAscending (a ∷ v ∷ vs) → (ComesBefore v w → AreAscending (v ∷ rest)) → AreAscending (a ∷ match_ordering o (w ∷ v ∷ vs) (v ∷ vs) (v ∷ rest))
+chain_step : (a w v : List ℕ) (vs rest : List (List ℕ)) (o : Ordering) → octet_order w v ≡ o → IsBefore a w → AreAscending (a ∷ v ∷ vs) → (IsBefore v w → AreAscending (v ∷ rest)) → AreAscending (a ∷ match_ordering o (w ∷ v ∷ vs) (v ∷ vs) (v ∷ rest))
 chain_step a w v vs rest Less e b h t = (b, (e, h.1))
 chain_step a w v vs rest Equal e b h t = h
 chain_step a w v vs rest Greater e b h t = (h.0, t (later w v e))
 
-chained : (a w : List ℕ) (vs : List (List ℕ)) → ComesBefore a w → AreAscending (a ∷ vs) → AreAscending (a ∷ with_word w vs)
+chained : (a w : List ℕ) (vs : List (List ℕ)) → IsBefore a w → AreAscending (a ∷ vs) → AreAscending (a ∷ with_word w vs)
 chained a w [] b h = (b, tt)
 chained a w (v ∷ vs) b h = chain_step a w v vs (with_word w vs) (octet_order w v) refl b h (λ k. chained v w vs k h.1)
 
-first_step : (w v : List ℕ) (vs rest : List (List ℕ)) (o : Ordering) → octet_order w v ≡ o → AreAscending (v ∷ vs) → (ComesBefore v w → AreAscending (v ∷ rest)) → AreAscending (match_ordering o (w ∷ v ∷ vs) (v ∷ vs) (v ∷ rest))
+first_step : (w v : List ℕ) (vs rest : List (List ℕ)) (o : Ordering) → octet_order w v ≡ o → AreAscending (v ∷ vs) → (IsBefore v w → AreAscending (v ∷ rest)) → AreAscending (match_ordering o (w ∷ v ∷ vs) (v ∷ vs) (v ∷ rest))
 first_step w v vs rest Less e h t = (e, h)
 first_step w v vs rest Equal e h t = h
 first_step w v vs rest Greater e h t = t (later w v e)

@@ -10,7 +10,7 @@ use Rattle.std.specs.Ordering.{match_ordering, ordering_reverse}
 use Rattle.std.specs.Str.{bytes_eq}
 use Rattle.std.specs.declared.cmp.Ordering.{Ordering}
 use Rattle.std.specs.declared.cmp.Ordering.TheVariants.{Less, Equal, Greater}
-use Rattle.imap_types.specs.Ascending.{AreAscending, ComesBefore, octet_order}
+use Rattle.imap_types.specs.Ascending.{AreAscending, IsBefore, octet_order}
 use Rattle.imap_types.specs.Keywords.{AreKeywords, is_lower_case, to_lower_case, with_word}
 use Rattle.imap_types.specs.Members.{holds}
 
@@ -54,19 +54,19 @@ any_folded p start (w ∷ ws) = any_folded p (with_word w start) ws ∙ ap (λ (
 
 -- ---- inserted words ascend
 
-later : (w v : List ℕ) → octet_order w v ≡ Greater → ComesBefore v w
+later : (w v : List ℕ) → octet_order w v ≡ Greater → IsBefore v w
 later w v e = nat_list_cmp_total.antisymm v w ∙ ap ordering_reverse e
 
-chain_step : (a w v : List ℕ) (vs rest : List (List ℕ)) (o : Ordering) → octet_order w v ≡ o → ComesBefore a w → AreAscending (a ∷ v ∷ vs) → (ComesBefore v w → AreAscending (v ∷ rest)) → AreAscending (a ∷ match_ordering o (w ∷ v ∷ vs) (v ∷ vs) (v ∷ rest))
+chain_step : (a w v : List ℕ) (vs rest : List (List ℕ)) (o : Ordering) → octet_order w v ≡ o → IsBefore a w → AreAscending (a ∷ v ∷ vs) → (IsBefore v w → AreAscending (v ∷ rest)) → AreAscending (a ∷ match_ordering o (w ∷ v ∷ vs) (v ∷ vs) (v ∷ rest))
 chain_step a w v vs rest Less e b h t = (b, (e, h.1))
 chain_step a w v vs rest Equal e b h t = h
 chain_step a w v vs rest Greater e b h t = (h.0, t (later w v e))
 
-chained : (a w : List ℕ) (vs : List (List ℕ)) → ComesBefore a w → AreAscending (a ∷ vs) → AreAscending (a ∷ with_word w vs)
+chained : (a w : List ℕ) (vs : List (List ℕ)) → IsBefore a w → AreAscending (a ∷ vs) → AreAscending (a ∷ with_word w vs)
 chained a w [] b h = (b, tt)
 chained a w (v ∷ vs) b h = chain_step a w v vs (with_word w vs) (octet_order w v) refl b h (λ k. chained v w vs k h.1)
 
-first_step : (w v : List ℕ) (vs rest : List (List ℕ)) (o : Ordering) → octet_order w v ≡ o → AreAscending (v ∷ vs) → (ComesBefore v w → AreAscending (v ∷ rest)) → AreAscending (match_ordering o (w ∷ v ∷ vs) (v ∷ vs) (v ∷ rest))
+first_step : (w v : List ℕ) (vs rest : List (List ℕ)) (o : Ordering) → octet_order w v ≡ o → AreAscending (v ∷ vs) → (IsBefore v w → AreAscending (v ∷ rest)) → AreAscending (match_ordering o (w ∷ v ∷ vs) (v ∷ vs) (v ∷ rest))
 first_step w v vs rest Less e h t = (e, h)
 first_step w v vs rest Equal e h t = h
 first_step w v vs rest Greater e h t = t (later w v e)
@@ -94,15 +94,15 @@ holds_first x xs = or_left (bytes_eq x x) (holds xs x) ((bytes_eq-Decides x x).1
 pub holds_rest : (z x : List ℕ) (xs : List (List ℕ)) → holds xs z ≡ true → holds (x ∷ xs) z ≡ true
 holds_rest z x xs i = or_right (bytes_eq z x) (holds xs z) i
 
-first_before : (x z : List ℕ) (xs : List (List ℕ)) → AreAscending (x ∷ xs) → holds xs z ≡ true → ComesBefore x z
+first_before : (x z : List ℕ) (xs : List (List ℕ)) → AreAscending (x ∷ xs) → holds xs z ≡ true → IsBefore x z
 first_before x z [] h i = absurd (false≢true i)
 first_before x z (y ∷ xs) h i =
     elim (holds_cases z y xs i) [
-      | inl e ↦ subst (ComesBefore x) (sym e) h.0
+      | inl e ↦ subst (IsBefore x) (sym e) h.0
       | inr t ↦ nat_list_cmp_total.trans x y z h.0 (first_before y z xs h.1 t)
     ]
 
-not_itself : (x : List ℕ) → ComesBefore x x → ⊥
+not_itself : (x : List ℕ) → IsBefore x x → ⊥
 not_itself x e = let k : Less ≡ Equal = sym e ∙ tied_itself nat_list_cmp_total x in cc
 
 ascending_rest : (x : List ℕ) (xs : List (List ℕ)) → AreAscending (x ∷ xs) → AreAscending xs
@@ -112,7 +112,7 @@ ascending_rest x (y ∷ xs) h = h.1
 tail_within : (x y : List ℕ) (xs ys : List (List ℕ)) → x ≡ y → AreAscending (x ∷ xs) → IsWithin (x ∷ xs) (y ∷ ys) → IsWithin xs ys
 tail_within x y xs ys e h f z i =
     elim (holds_cases z y ys (f z (holds_rest z x xs i))) [
-      | inl k ↦ absurd (not_itself x (subst (ComesBefore x) (k ∙ sym e) (first_before x z xs h i)))
+      | inl k ↦ absurd (not_itself x (subst (IsBefore x) (k ∙ sym e) (first_before x z xs h i)))
       | inr t ↦ t
     ]
 

@@ -12,11 +12,11 @@ abbrev pub octet_order : List ℕ → List ℕ → Ordering
 octet_order a b = slice_cmp nat_cmp a b
 
 -- The first octet string comes before the second.
-abbrev pub ComesBefore : List ℕ → List ℕ → Type 0
-ComesBefore a b = octet_order a b ≡ Less
+abbrev pub IsBefore : List ℕ → List ℕ → Type 0
+IsBefore a b = octet_order a b ≡ Less
 
 -- Octet strings that ascend strictly.
 abbrev pub AreAscending : List (List ℕ) → Type 0
 AreAscending [] = Unit {0}
 AreAscending (a ∷ []) = Unit {0}
-AreAscending (a ∷ b ∷ rest) = ComesBefore a b × AreAscending (b ∷ rest)
+AreAscending (a ∷ b ∷ rest) = IsBefore a b × AreAscending (b ∷ rest)

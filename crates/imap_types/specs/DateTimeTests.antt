@@ -2,7 +2,7 @@
 
 use Rattle.std.specs.Prelude.{ℕ, Bool, true, false, ◌&&◌, nat_le, List, [], ◌∷◌, pos}
 use Rattle.jiff.specs.Words.{days_in_month}
-use Rattle.imap_types.specs.DateTimes.{date_time_picture, day_at, fits_mark, month_at, two_digits}
+use Rattle.imap_types.specs.DateTimes.{date_time_picture, day_at, fits_symbol, month_at, two_digits}
 use Rattle.imap_types.specs.DateTimes.{year_at}
 
 -- Whether a text has the form of a picture, octet by octet.
@@ -10,7 +10,7 @@ abbrev pub matches_picture : List ℕ → List ℕ → Bool
 matches_picture [] [] = true
 matches_picture [] (b ∷ bs) = false
 matches_picture (m ∷ ms) [] = false
-matches_picture (m ∷ ms) (b ∷ bs) = fits_mark m b && matches_picture ms bs
+matches_picture (m ∷ ms) (b ∷ bs) = fits_symbol m b && matches_picture ms bs
 
 -- Whether the calendar has this day.
 abbrev pub is_day : ℕ → ℕ → ℕ → Bool

@@ -17,21 +17,21 @@ is_digit octet = not (nat_lt octet 48) && not (nat_lt 57 octet)
 abbrev pub date_time_picture : List ℕ
 date_time_picture = codes "\"99-mmm-9999 99:99:99 +9999\""
 
--- Whether an octet fits this mark of the picture: `9` is 57, `m` 109, `+` 43, `-` 45.
-abbrev pub fits_mark : ℕ → ℕ → Bool
-fits_mark mark octet =
-    if mark == 57 then is_digit octet
-    else (if mark == 109 then true
-    else (if mark == 43 then (octet == 43) || (octet == 45) else octet == mark))
+-- Whether an octet fits this symbol of the picture: `9` is 57, `m` 109, `+` 43, `-` 45.
+abbrev pub fits_symbol : ℕ → ℕ → Bool
+fits_symbol symbol octet =
+    if symbol == 57 then is_digit octet
+    else (if symbol == 109 then true
+    else (if symbol == 43 then (octet == 43) || (octet == 45) else octet == symbol))
 
 -- A text has the form of a picture, octet by octet.
 abbrev pub HasPicture : List ℕ → List ℕ → Type 0
 HasPicture picture text =
     (length text ≡ length picture)
     × ((k : ℕ) → k < length picture
-    → IsTrue (fits_mark (slice_index picture k) (slice_index text k)))
+    → IsTrue (fits_symbol (slice_index picture k) (slice_index text k)))
 
--- The number that the two digits at a place and after it write.
+-- The number spelled by the two digits at a place and after it.
 abbrev pub two_digits : List ℕ → ℕ → ℕ
 two_digits text place = (slice_index text place - 48) * 10 + (slice_index text (place + 1) - 48)
 

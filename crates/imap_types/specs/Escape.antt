@@ -42,30 +42,30 @@ is_hex octet =
 abbrev pub hex_value : ℕ → ℕ
 hex_value octet = if nat_lt octet 58 then octet - 48 else octet - 55
 
--- The octet that two hexadecimal digits write.
+-- The octet spelled by two hexadecimal digits.
 abbrev pub hex_octet : ℕ → ℕ → ℕ
 hex_octet high low = hex_value high * 16 + hex_value low
 
 -- Whether these three octets are the escape's spelling of one that doesn't stand for itself.
 abbrev pub is_escape : Escape → ℕ → ℕ → ℕ → Bool
-is_escape escape mark high low =
-    (mark == 126) && (is_hex high && (is_hex low && not (is_plain escape (hex_octet high low))))
+is_escape escape tilde high low =
+    (tilde == 126) && (is_hex high && (is_hex low && not (is_plain escape (hex_octet high low))))
 
 -- `front` before the octets that were read, if any.
-abbrev pub with_octet_in_front : List ℕ → Option (List ℕ) → Option (List ℕ)
-with_octet_in_front front None = None
-with_octet_in_front front (Some octets) = Some (front ++ octets)
+abbrev pub with_octets_before : List ℕ → Option (List ℕ) → Option (List ℕ)
+with_octets_before front None = None
+with_octets_before front (Some octets) = Some (front ++ octets)
 
 -- The octets that a text in the escape stands for; `None` if it is the spelling of none.
 abbrev pub unescape : Escape → List ℕ → Option (List ℕ)
 unescape escape [] = Some []
 unescape escape (a ∷ []) = if is_plain escape a then Some (a ∷ []) else None
 unescape escape (a ∷ b ∷ []) =
-    if is_plain escape a then with_octet_in_front (a ∷ []) (unescape escape (b ∷ [])) else None
+    if is_plain escape a then with_octets_before (a ∷ []) (unescape escape (b ∷ [])) else None
 unescape escape (a ∷ b ∷ c ∷ rest) =
-    if is_plain escape a then with_octet_in_front (a ∷ []) (unescape escape (b ∷ c ∷ rest))
+    if is_plain escape a then with_octets_before (a ∷ []) (unescape escape (b ∷ c ∷ rest))
     else (if is_escape escape a b c
-    then with_octet_in_front (hex_octet b c ∷ []) (unescape escape rest)
+    then with_octets_before (hex_octet b c ∷ []) (unescape escape rest)
     else None)
 
 -- A fault other than that of memory means that nothing can be read.
@@ -74,6 +74,6 @@ FailsToRead NoMemory read = Unit {0}
 FailsToRead NotEscaped read = read ≡ None
 
 -- A reader gives what can be read, or runs out of memory.
-abbrev pub GivesRead : {X Y : Type 0} → (X → Y) → Result X EscapeFault → Option Y → Type 0
-GivesRead view (Ok x) read = read ≡ Some (view x)
-GivesRead view (Err e) read = FailsToRead e read
+abbrev pub IsReading : {X Y : Type 0} → (X → Y) → Result X EscapeFault → Option Y → Type 0
+IsReading view (Ok x) read = read ≡ Some (view x)
+IsReading view (Err e) read = FailsToRead e read

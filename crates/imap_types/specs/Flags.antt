@@ -7,18 +7,18 @@ use Rattle.imap_types.specs.declared.flags.Flags.{Flags}
 use Rattle.imap_types.specs.Keywords.{is_lawful_keyword}
 
 -- The text if the flag is set, else nothing.
-abbrev pub where_there : Bool → List ℕ → List (List ℕ)
-where_there is_there text = if is_there then text ∷ [] else []
+abbrev pub text_if_set : Bool → List ℕ → List (List ℕ)
+text_if_set is_set text = if is_set then text ∷ [] else []
 
 -- The flags in printing order: the system flags, then the keywords by octets (RFC 9051, section
 -- 2.3.2).
 abbrev pub flag_texts : Flags → List (List ℕ)
 flag_texts flags =
-    where_there flags.answered (codes "\\Answered")
-    ++ where_there flags.flagged (codes "\\Flagged")
-    ++ where_there flags.deleted (codes "\\Deleted")
-    ++ where_there flags.seen (codes "\\Seen")
-    ++ where_there flags.draft (codes "\\Draft")
+    text_if_set flags.answered (codes "\\Answered")
+    ++ text_if_set flags.flagged (codes "\\Flagged")
+    ++ text_if_set flags.deleted (codes "\\Deleted")
+    ++ text_if_set flags.seen (codes "\\Seen")
+    ++ text_if_set flags.draft (codes "\\Draft")
     ++ flags.keywords
 
 -- Flags that a message may have: at most 32 keywords, each of 1 to 64 atom octets (these bounds are

@@ -13,18 +13,19 @@ None >>= f = None
 
 -- The code's result is what the reading function gives; `Fails` says what a fault means for the
 -- reading function.
-abbrev pub GivesBy : {X Y F : Type 0} → (F → Option Y → Type 0) → (X → Y) → Result X F → Option Y
+abbrev pub IsReadingBy : {X Y F : Type 0} → (F → Option Y → Type 0) → (X → Y) → Result X F
+    → Option Y
     → Type 0
-GivesBy Fails view (Ok x) read = read ≡ Some (view x)
-GivesBy Fails view (Err fault) read = Fails fault read
+IsReadingBy Fails view (Ok x) read = read ≡ Some (view x)
+IsReadingBy Fails view (Err fault) read = Fails fault read
 
 -- The octets that follow the given ones at the beginning of a text, if it begins with them.
 abbrev pub after : List ℕ → List ℕ → Option (List ℕ)
 after [] octets = Some octets
-after (wanted ∷ more) [] = None
-after (wanted ∷ more) (octet ∷ octets) = if octet == wanted then after more octets else None
+after (expected ∷ more) [] = None
+after (expected ∷ more) (octet ∷ octets) = if octet == expected then after more octets else None
 
 -- The list of a reading with `front` before it, if it could be read.
-abbrev pub with_front : {X Y : Type 0} → List X → Option (List X × Y) → Option (List X × Y)
-with_front front None = None
-with_front front (Some x) = Some (front ++ x.0, x.1)
+abbrev pub with_prefix : {X Y : Type 0} → List X → Option (List X × Y) → Option (List X × Y)
+with_prefix front None = None
+with_prefix front (Some x) = Some (front ++ x.0, x.1)

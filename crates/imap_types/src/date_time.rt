@@ -4,7 +4,7 @@ ghost use Rattle.std.specs.Prelude.{◌≡◌, ◌↔◌, ◌+◌, ◌<◌, ◌�
 ghost use Rattle.std.specs.Prelude.{codes, slice_index};
 ghost use Rattle.jiff.specs.Words.{IsDate};
 ghost use Rattle.imap_types.specs.DateTimes.{HasPicture, HasTime, IsDateTime, date_time_picture};
-ghost use Rattle.imap_types.specs.DateTimes.{day_at, is_digit, fits_mark, month_at, month_of};
+ghost use Rattle.imap_types.specs.DateTimes.{day_at, is_digit, fits_symbol, month_at, month_of};
 ghost use Rattle.imap_types.specs.DateTimes.{two_digits, year_at};
 
 use jiff::civil::Date;
@@ -102,21 +102,21 @@ fn has_form(picture: &[u8], octets: &[u8]) -> bool
         return false;
     }
     for i in 0..picture.len() {
-        if !matches_picture(picture[i], octets[i]) {
+        if !matches_symbol(picture[i], octets[i]) {
             return false;
         }
     }
     true
 }
 
-fn matches_picture(mark: u8, octet: u8) -> bool
-    ensures { result ≡ fits_mark mark octet }
+fn matches_symbol(symbol: u8, octet: u8) -> bool
+    ensures { result ≡ fits_symbol symbol octet }
 {
-    match mark {
+    match symbol {
         b'9' => is_digit(octet),
         b'm' => true,
         b'+' => octet == b'+' || octet == b'-',
-        _ => octet == mark,
+        _ => octet == symbol,
     }
 }
 

@@ -2,9 +2,9 @@
 
 ghost use Rattle.std.specs.Prelude.{◌≡◌, ◌++◌, ℕ, true, List, [], ◌∷◌, Option, Some, None, IfOk};
 ghost use Rattle.std.specs.Prelude.{OnErr, OnOk, ◌<◌, length};
-ghost use Rattle.imap_types.specs.Escape.{AreOctets, GivesRead, escape_text, escape_octet};
+ghost use Rattle.imap_types.specs.Escape.{AreOctets, IsReading, escape_text, escape_octet};
 ghost use Rattle.imap_types.specs.Escape.{hex_digit, hex_octet, is_escape, is_hex, is_plain};
-ghost use Rattle.imap_types.specs.Escape.{unescape, with_octet_in_front, hex_value};
+ghost use Rattle.imap_types.specs.Escape.{unescape, with_octets_before, hex_value};
 
 use crate::Octets;
 use std::alloc::{AllocError, AllocFailed, Global};
@@ -67,7 +67,7 @@ pub fn write_escaped(escape: Escape, octets: &[u8], out: &mut Vec<u8>) -> Result
 
 fn push_escaped(escape: Escape, octets: &[u8], out: &mut Vec<u8>) -> Result<(), AllocError>
     ensures ok { OnOk result (out.new.items ≡ out.old.items ++ escape_text escape octets.now) }
-    ensures kept { (more : List ℕ) × (out.new.items ≡ out.old.items ++ more) }
+    ensures extends { (more : List ℕ) × (out.new.items ≡ out.old.items ++ more) }
 {
     for octet in octets {
         push_octet(escape, *octet, out)?;
@@ -109,33 +109,33 @@ fn hex_digit(number: u8) -> u8
 /// The octets that a text in the escape stands for. `NotEscaped` exactly if the text is the
 /// spelling of no octets, and `NoMemory` if memory runs out.
 pub fn read_escaped(alloc: Global, escape: Escape, text: &[u8]) -> Result<Octets, EscapeFault>
-    ensures value { GivesRead (λ octets. octets) result (unescape escape text.now) }
-    ensures found { IfOk result
+    ensures value { IsReading (λ octets. octets) result (unescape escape text.now) }
+    ensures spelling { IfOk result
         (λ octets. AreOctets octets × (text.now ≡ escape_text escape octets)) }
     ensures only { (octets : List ℕ) → AreOctets octets
         → text.now ≡ escape_text escape octets
-        → GivesRead (λ o. o) result (Some octets) }
+        → IsReading (λ o. o) result (Some octets) }
 {
     unescape(alloc, escape, text)
 }
 
 fn unescape(alloc: Global, escape: Escape, text: &[u8]) -> Result<Octets, EscapeFault>
-    ensures { GivesRead (λ octets. octets) result (unescape escape text.now) }
+    ensures { IsReading (λ octets. octets) result (unescape escape text.now) }
 {
     let mut octets = Vec::new(alloc);
     let mut rest = text;
     while let [first, tail @ ..] = rest {
-        let (octet, behind) = first_octet(escape, *first, tail)?;
+        let (octet, after) = first_octet(escape, *first, tail)?;
         octets.push(octet)?;
-        rest = behind;
+        rest = after;
     }
     Ok(Octets::new(octets))
 }
 
 /// The first octet that the text stands for, and what follows its spelling.
 fn first_octet(escape: Escape, first: u8, tail: &[u8]) -> Result<(u8, &[u8]), EscapeFault>
-    ensures found { IfOk result (λ read. (unescape escape (first ∷ tail.now)
-        ≡ with_octet_in_front (read.0 ∷ []) (unescape escape read.1.now))
+    ensures spelling { IfOk result (λ read. (unescape escape (first ∷ tail.now)
+        ≡ with_octets_before (read.0 ∷ []) (unescape escape read.1.now))
         × (length read.1.now < length (first ∷ tail.now))) }
     ensures none { OnErr result (unescape escape (first ∷ tail.now) ≡ None) }
 {
@@ -143,20 +143,20 @@ fn first_octet(escape: Escape, first: u8, tail: &[u8]) -> Result<(u8, &[u8]), Es
         return Ok((first, tail));
     }
     match tail {
-        [high, low, behind @ ..] => {
+        [high, low, after @ ..] => {
             if !is_escape(escape, first, *high, *low) {
                 return Err(EscapeFault::NotEscaped);
             }
-            Ok((hex_value(*high) * 16 + hex_value(*low), behind))
+            Ok((hex_value(*high) * 16 + hex_value(*low), after))
         }
         _ => Err(EscapeFault::NotEscaped),
     }
 }
 
-fn is_escape(escape: Escape, mark: u8, high: u8, low: u8) -> bool
-    ensures { result ≡ is_escape escape mark high low }
+fn is_escape(escape: Escape, tilde: u8, high: u8, low: u8) -> bool
+    ensures { result ≡ is_escape escape tilde high low }
 {
-    mark == b'~'
+    tilde == b'~'
         && is_hex(high)
         && is_hex(low)
         && !is_plain(escape, hex_value(high) * 16 + hex_value(low))

@@ -30,7 +30,7 @@ pub struct Flags {
 }
 
 impl Flags {
-    /// No flags. It takes no memory.
+    /// No flags; doesn't allocate.
     pub fn none(alloc: Global) -> Flags
         ensures answered { result.answered ≡ false }
         ensures flagged { result.flagged ≡ false }

@@ -1,4 +1,4 @@
-//! Sets of keywords, and the octets of which they are made.
+//! Sets of keywords, and the octets that they are made of.
 
 ghost use Rattle.std.specs.Prelude.{◌≡◌, ◌↔◌, ◌≤◌, ◌==◌, [], length, if◌then◌else◌, IfErr, IfOk};
 ghost use Rattle.std.specs.Prelude.{IsTrue, OnErr, OnOk};
@@ -45,7 +45,7 @@ impl Model for Keywords {
 impl Keywords {
     ghost use Rattle.imap_types.specs.Keywords.{AreKeywords};
 
-    /// No keywords. It takes no memory.
+    /// No keywords; doesn't allocate.
     pub fn empty(alloc: Global) -> Keywords
         ensures { result ≡ [] }
     {
@@ -138,7 +138,7 @@ fn to_lower_case(alloc: Global, text: &[u8]) -> Result<Octets, AllocError>
 /// The place of the text among ascending ones, or `Err` with the place at which it would be
 /// inserted.
 fn place_of(texts: &[Octets], text: &[u8]) -> Result<usize, usize>
-    ensures there { IfOk result (λ place. with_word text.now texts.now ≡ texts.now) }
+    ensures present { IfOk result (λ place. with_word text.now texts.now ≡ texts.now) }
     ensures absent { IfErr result (λ place. (place ≤ length texts.now)
         × (with_word text.now texts.now ≡ insert texts.now place text.now)) }
 {

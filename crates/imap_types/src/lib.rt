@@ -1,4 +1,4 @@
-//! The values of which commands, answers and operations are made: octet strings, message texts,
+//! The values that commands, answers and operations are made of: octet strings, message texts,
 //! mailbox names, flags, date-times, days, moments, sets of numbers, sequence sets and sections. It
 //! also holds the versions of a message with the union of their flags, and the escape in which
 //! lines of text spell octets.
@@ -17,7 +17,7 @@
 //! - **A message's keywords are a `SmallVec` with room for one in itself**: most messages have none
 //!   or one. Elements of the toolchain's `SmallVec` are made with an allocator (`MadeWith`) where
 //!   Rust's are made by `Default`; `Octets` implements it. The versions of a message stay a `Vec`,
-//!   since callers borrow them as a slice beside those of other messages, and operations to come
+//!   since callers borrow them as a slice next to those of other messages, and later operations
 //!   give lists of their own.
 //! - The escape is one type with two rules: in a field a space is escaped, in a text that ends its
 //!   line it stands for itself.

@@ -13,9 +13,9 @@ pub enum Section {
     Header,
     /// What follows the header.
     Text,
-    /// The header fields of these names.
+    /// The header fields with these names.
     Fields { names: FieldNames },
-    /// The header fields of all other names.
+    /// All other header fields.
     FieldsNot { names: FieldNames },
 }
 
@@ -35,7 +35,7 @@ impl Drop for Section {
 impl Section {
     ghost use Rattle.std.specs.Prelude.{◌≡◌, ◌↔◌, IfOk, IsTrue};
 
-    /// Whether both are the same section, with names that are written alike.
+    /// Whether both are the same section, with names spelled alike.
     pub fn same(&self, other: &Section) -> bool
         ensures { IsTrue result ↔ (self.now ≡ other.now) }
     {
@@ -106,7 +106,7 @@ impl FieldNames {
         &self.names
     }
 
-    /// Whether both lists have the same names, written alike.
+    /// Whether both lists have the same names, spelled alike.
     pub fn same(&self, other: &FieldNames) -> bool
         ensures { IsTrue result ↔ (self.now ≡ other.now) }
     {

@@ -80,7 +80,7 @@ impl<'a> Versions<'a> {
         any_has_keyword(self.list, word)
     }
 
-    /// Whether the union of the versions' flags is exactly `flags`. It takes no memory.
+    /// Whether the union of the versions' flags is exactly `flags`. Doesn't allocate.
     pub fn has_flags(&self, flags: &Flags) -> bool
         ensures { IsTrue result ↔ (united_flags self.now.list.now ≡ flags.now) }
     {

@@ -1,9 +1,9 @@
 //! A caller of a replica, and its actions.
 
-use crate::deeds::{Deed, HOUR, Sign, Step};
-use crate::fixtures::{copies, open_one, say};
-use crate::mail::{Mail, Open};
-use crate::told::is_clock;
+use crate::actions::{Action, HOUR, Sign, Step};
+use crate::channels::{Channels, Open};
+use crate::fixtures::{copies, give, open_one};
+use crate::output::is_clock;
 use crdt_ops::SoundOp;
 use crossbeam_channel::{Receiver, unbounded};
 use imap_node::Reply;
@@ -22,15 +22,15 @@ const TURNS: u32 = 1_000_000;
 
 /// A replica as its callers see it.
 #[derive(Drop)]
-pub struct Station<'a, L: Ledger, R: Wait> {
+pub struct Replica<'a, L: Ledger, R: Wait> {
     /// The replica.
     pub shared: &'a Shared<L>,
     /// The links from it and to it.
-    pub mail: Mail<'a, R>,
+    pub channels: Channels<'a, R>,
 }
 
 /// The outcomes that a caller saw.
-pub struct Seen {
+pub struct SeenOutcomes {
     /// Its number.
     pub number: usize,
     /// Each place that it saw, with the outcome of its call.
@@ -38,7 +38,7 @@ pub struct Seen {
 }
 
 // By hand, so that its owners drop it whole.
-impl Drop for Seen {
+impl Drop for SeenOutcomes {
     fn drop(self) {
         let Self {
             number: _,
@@ -55,7 +55,7 @@ pub struct Caller<L: Ledger> {
     spare: Option<Pass<L>>,
     /// The passes of its link, one for each time that it received messages.
     links: Vec<Pass<L>>,
-    seen: Seen,
+    seen: SeenOutcomes,
 }
 
 // By hand, so that functions with several exits drop it whole.
@@ -70,19 +70,19 @@ impl<L: Ledger> Drop for Caller<L> {
     }
 }
 
-/// A gate that sets `Begun` when it is reached, and waits for `Over`, for `turns` turns at most.
+/// A gate that sets `Started` when it is reached, and waits for `Over`, for `turns` turns at most.
 #[derive(Drop)]
 struct Until<'a, R: Wait> {
-    mail: &'a Mail<'a, R>,
+    channels: &'a Channels<'a, R>,
     turns: u64,
     saw: bool,
 }
 
 impl<'a, R: Wait> Gate for Until<'a, R> {
     fn pass(&mut self, n: u64) {
-        self.mail.sign(Sign::Begun).store(n, Ordering::SeqCst);
+        self.channels.sign(Sign::Started).store(n, Ordering::SeqCst);
         for _ in 0..self.turns {
-            if self.mail.sign(Sign::Over).load(Ordering::SeqCst) != 0 {
+            if self.channels.sign(Sign::Over).load(Ordering::SeqCst) != 0 {
                 self.saw = true;
                 return;
             }
@@ -111,12 +111,12 @@ impl<L: Ledger> Caller<L> {
             pass,
             spare,
             links: Vec::new(alloc),
-            seen: Seen { number, places },
+            seen: SeenOutcomes { number, places },
         }
     }
 
     /// Appends its passes to others, and returns what it saw.
-    pub fn into_seen(self, passes: &mut Vec<Pass<L>>) -> Seen {
+    pub fn into_outcomes(self, passes: &mut Vec<Pass<L>>) -> SeenOutcomes {
         let Self {
             pass,
             spare,
@@ -134,76 +134,80 @@ impl<L: Ledger> Caller<L> {
     }
 
     /// Does the actions of its thread.
-    pub fn run<R: Wait + Clock>(self, station: &Station<'_, L, R>) -> Caller<L> {
+    pub fn run<R: Wait + Clock>(self, replica: &Replica<'_, L, R>) -> Caller<L> {
         let mut caller = self;
-        if let Some(deeds) = station.mail.threads.get(caller.seen.number) {
-            caller.act_all(station, deeds);
+        if let Some(actions) = replica.channels.threads.get(caller.seen.number) {
+            caller.act_all(replica, actions);
         }
         caller
     }
 
     /// Does one action after another.
-    pub fn act_all<R: Wait + Clock>(&mut self, station: &Station<'_, L, R>, deeds: &[Deed]) {
-        for deed in deeds {
-            self.act(station, *deed);
+    pub fn act_all<R: Wait + Clock>(&mut self, replica: &Replica<'_, L, R>, actions: &[Action]) {
+        for action in actions {
+            self.act(replica, *action);
         }
     }
 
     /// Does one action, and reports if it couldn't be done.
-    pub fn act<R: Wait + Clock>(&mut self, station: &Station<'_, L, R>, deed: Deed) {
-        let done = self.do_one(station, deed).unwrap_or(false);
+    pub fn act<R: Wait + Clock>(&mut self, replica: &Replica<'_, L, R>, action: Action) {
+        let done = self.do_one(replica, action).unwrap_or(false);
         if !done {
-            let _ = station
-                .mail
-                .tell_number("not done by", self.seen.number as u64);
+            let _ = replica
+                .channels
+                .report_number("not done by", self.seen.number as u64);
         }
     }
 
     /// Does one action, at its session or otherwise; false if it couldn't be done.
     fn do_one<R: Wait + Clock>(
         &mut self,
-        station: &Station<'_, L, R>,
-        deed: Deed,
+        replica: &Replica<'_, L, R>,
+        action: Action,
     ) -> Result<bool, AllocError> {
-        let (shared, rt, alloc) = (station.shared, station.mail.rt, station.mail.alloc);
-        match deed {
-            Deed::Opens => {
+        let (shared, rt, alloc) = (replica.shared, replica.channels.rt, replica.channels.alloc);
+        match action {
+            Action::Opens => {
                 let opened = open_one(rt, alloc, shared, &mut self.pass);
                 Ok(self.note(opened))
             }
-            Deed::Closes => {
+            Action::Closes => {
                 let closed = self.pass.session().is_some()
                     && shared.close(rt, alloc, &mut self.pass).is_ok();
                 Ok(self.note(closed))
             }
-            Deed::Does(line) => self.say(station, line),
-            Deed::Says(line) => Ok(self.say_and_send(station, line)? > 0),
-            Deed::Noops => self.say_noops(station),
-            Deed::Makes => self.make(station),
-            Deed::Feeds => Ok(self.feed(station)),
-            _ => self.do_other(station, deed),
+            Action::Gives(line) => self.give(replica, line),
+            Action::GivesAndSends(line) => Ok(self.give_and_send(replica, line)? > 0),
+            Action::Noops => self.give_noops(replica),
+            Action::Makes => self.make(replica),
+            Action::Feeds => Ok(self.feed(replica)),
+            _ => self.do_other(replica, action),
         }
     }
 
     /// Does one action that isn't done at its own session; false if it couldn't be done.
     fn do_other<R: Wait + Clock>(
         &mut self,
-        station: &Station<'_, L, R>,
-        deed: Deed,
+        replica: &Replica<'_, L, R>,
+        action: Action,
     ) -> Result<bool, AllocError> {
-        let (shared, mail) = (station.shared, &station.mail);
-        match deed {
-            Deed::Drains => Ok(shared.drain(mail.rt, mail.alloc, &mut self.pass).is_ok()),
-            Deed::Holds(turns) => hold(station, turns),
-            Deed::AwaitsChange(seen) => {
-                mail.tell_number("length", shared.wait_change(mail.rt, seen))
+        let (shared, channels) = (replica.shared, &replica.channels);
+        match action {
+            Action::Drains => Ok(
+                shared
+                    .drain(channels.rt, channels.alloc, &mut self.pass)
+                    .is_ok(),
+            ),
+            Action::Holds(turns) => hold(replica, turns),
+            Action::AwaitsChange(seen) => {
+                channels.report_number("length", shared.wait_change(channels.rt, seen))
             }
-            Deed::AwaitsClock(wanted) => Ok(comes_to(station, wanted)),
-            Deed::LosesPass(opens) => Ok(self.lose_pass(station, opens)),
-            Deed::Asks => self.take(station, &[], true),
-            Deed::Takes(steps) => self.take(station, steps, false),
-            Deed::Serves(rest) => Ok(self.hear(station, mail.letters(), false, rest)),
-            _ => mail.signal(deed),
+            Action::AwaitsClock(expected) => Ok(reaches_clock(replica, expected)),
+            Action::LosesPass(opens) => Ok(self.lose_pass(replica, opens)),
+            Action::Asks => self.take(replica, &[], true),
+            Action::Takes(steps) => self.take(replica, steps, false),
+            Action::Serves(rest) => Ok(self.receive(replica, channels.messages(), false, rest)),
+            _ => channels.signal(action),
         }
     }
 
@@ -219,20 +223,20 @@ impl<L: Ledger> Caller<L> {
     }
 
     /// Gives a command, and opens a session before it if there is none.
-    fn say<R: Wait>(
+    fn give<R: Wait>(
         &mut self,
-        station: &Station<'_, L, R>,
+        replica: &Replica<'_, L, R>,
         line: &str,
     ) -> Result<bool, AllocError> {
-        let (shared, mail) = (station.shared, &station.mail);
-        let frame = format!(in mail.alloc; "t {line}\r\n")?;
+        let (shared, channels) = (replica.shared, &replica.channels);
+        let frame = format!(in channels.alloc; "t {line}\r\n")?;
         let is_open = self.pass.session().is_some()
-            || open_one(mail.rt, mail.alloc, shared, &mut self.pass);
+            || open_one(channels.rt, channels.alloc, shared, &mut self.pass);
         Ok(
             is_open
-                && say(
-                    mail.rt,
-                    mail.alloc,
+                && give(
+                    channels.rt,
+                    channels.alloc,
                     shared,
                     &mut self.pass,
                     frame.as_bytes(),
@@ -241,67 +245,73 @@ impl<L: Ledger> Caller<L> {
     }
 
     /// Gives a command and sends the operations that it issued, and returns their number.
-    fn say_and_send<R: Wait>(
+    fn give_and_send<R: Wait>(
         &mut self,
-        station: &Station<'_, L, R>,
+        replica: &Replica<'_, L, R>,
         line: &str,
     ) -> Result<usize, AllocError> {
-        if !self.say(station, line)? {
+        if !self.give(replica, line)? {
             return Ok(0);
         }
-        let mail = &station.mail;
-        let ops = copies(mail.alloc, issued(&self.pass))?;
+        let channels = &replica.channels;
+        let ops = copies(channels.alloc, issued(&self.pass))?;
         let count = ops.len();
-        let sent = mail.send(mail.peer(), LinkMsg::Ops(ops))?;
+        let sent = channels.send(channels.peer(), LinkMsg::Ops(ops))?;
         Ok(if sent { count } else { 0 })
     }
 
     /// Gives a hundred NOOPs with tags of its own.
-    fn say_noops<R: Wait>(&mut self, station: &Station<'_, L, R>) -> Result<bool, AllocError> {
-        let (shared, mail) = (station.shared, &station.mail);
+    fn give_noops<R: Wait>(&mut self, replica: &Replica<'_, L, R>) -> Result<bool, AllocError> {
+        let (shared, channels) = (replica.shared, &replica.channels);
         let client = self.seen.number;
         let mut whole = true;
         for number in 0..100u8 {
-            let line = format!(in mail.alloc; "c{client}n{number} NOOP\r\n")?;
-            let said = say(mail.rt, mail.alloc, shared, &mut self.pass, line.as_bytes());
-            whole = self.note(said) && whole;
+            let line = format!(in channels.alloc; "c{client}n{number} NOOP\r\n")?;
+            let is_given = give(
+                channels.rt,
+                channels.alloc,
+                shared,
+                &mut self.pass,
+                line.as_bytes(),
+            );
+            whole = self.note(is_given) && whole;
         }
         Ok(whole)
     }
 
     /// Creates a mailbox or a message a thousand times, sends the operations, and reports their
     /// number.
-    fn make<R: Wait>(&mut self, station: &Station<'_, L, R>) -> Result<bool, AllocError> {
-        let mail = &station.mail;
-        let own = mail.own;
+    fn make<R: Wait>(&mut self, replica: &Replica<'_, L, R>) -> Result<bool, AllocError> {
+        let channels = &replica.channels;
+        let own = channels.own;
         let mut sent = 0u64;
         for number in 0..1_000u32 {
             let line = if number % 2 == 0 {
-                format!(in mail.alloc; "CREATE m{own}n{number}")?
+                format!(in channels.alloc; "CREATE m{own}n{number}")?
             } else {
-                format!(in mail.alloc; "APPEND INBOX {{3}}\r\nabc")?
+                format!(in channels.alloc; "APPEND INBOX {{3}}\r\nabc")?
             };
-            sent = sent.saturating_add(self.say_and_send(station, &line)? as u64);
+            sent = sent.saturating_add(self.give_and_send(replica, &line)? as u64);
         }
-        mail.tell_number("sent", sent)
+        channels.report_number("sent", sent)
     }
 
     /// Polls its session after each change that may have to be sent, until the scene is over.
-    fn feed<R: Wait>(&mut self, station: &Station<'_, L, R>) -> bool {
-        let (shared, mail) = (station.shared, &station.mail);
+    fn feed<R: Wait>(&mut self, replica: &Replica<'_, L, R>) -> bool {
+        let (shared, channels) = (replica.shared, &replica.channels);
         let mut seen = self.pass.seen();
-        for _ in mail.rt.forever() {
+        for _ in channels.rt.forever() {
             let Some(session) = self.pass.session() else {
                 return false;
             };
-            let Some(now) = shared.wait_session_change(mail.rt, session, seen) else {
+            let Some(now) = shared.wait_session_change(channels.rt, session, seen) else {
                 return false;
             };
-            if mail.sign(Sign::Over).load(Ordering::SeqCst) != 0 {
+            if channels.sign(Sign::Over).load(Ordering::SeqCst) != 0 {
                 return true;
             }
             if self.pass.session().is_some() {
-                let _ = shared.poll(mail.rt, mail.alloc, &mut self.pass);
+                let _ = shared.poll(channels.rt, channels.alloc, &mut self.pass);
             }
             seen = now;
         }
@@ -309,12 +319,13 @@ impl<L: Ledger> Caller<L> {
     }
 
     /// Cuts off a pass and drops it; first opens a session with it if `opens` is true.
-    fn lose_pass<R: Wait>(&mut self, station: &Station<'_, L, R>, opens: bool) -> bool {
-        let mail = &station.mail;
+    fn lose_pass<R: Wait>(&mut self, replica: &Replica<'_, L, R>, opens: bool) -> bool {
+        let channels = &replica.channels;
         match self.pass.cut() {
             Some(pass) => {
                 let mut pass = pass;
-                let done = !opens || open_one(mail.rt, mail.alloc, station.shared, &mut pass);
+                let done = !opens
+                    || open_one(channels.rt, channels.alloc, replica.shared, &mut pass);
                 drop(pass);
                 done
             }
@@ -325,52 +336,58 @@ impl<L: Ledger> Caller<L> {
     /// Takes steps of the link to its replica, and then receives only what these deliver.
     fn take<R: Wait + Clock>(
         &mut self,
-        station: &Station<'_, L, R>,
+        replica: &Replica<'_, L, R>,
         steps: &[Step],
         asks_first: bool,
     ) -> Result<bool, AllocError> {
-        let (to, come) = unbounded(station.mail.alloc)?;
-        let taken = station.mail.sift(steps, &to);
+        let (to, incoming) = unbounded(replica.channels.alloc)?;
+        let taken = replica.channels.sift(steps, &to);
         drop(to);
-        Ok(taken? && self.hear(station, &come, asks_first, HOUR))
+        Ok(taken? && self.receive(replica, &incoming, asks_first, HOUR))
     }
 
     /// Has the link's worker receive messages.
-    fn hear<R: Wait + Clock>(
+    fn receive<R: Wait + Clock>(
         &mut self,
-        station: &Station<'_, L, R>,
-        letters: &Receiver<PeerMsg>,
+        replica: &Replica<'_, L, R>,
+        messages: &Receiver<PeerMsg>,
         asks_first: bool,
         rest: u64,
     ) -> bool {
-        let found = match self.spare.take() {
+        let candidate = match self.spare.take() {
             Some(pass) => Some(pass),
             None => self.pass.cut(),
         };
-        let Some(pass) = found else {
+        let Some(pass) = candidate else {
             return false;
         };
         if pass.session().is_some() {
             drop(pass);
             return false;
         }
-        let mail = &station.mail;
-        let peers = [mail.peer()];
-        let inbox = LinkInput {
-            letters,
+        let channels = &replica.channels;
+        let peers = [channels.peer()];
+        let link_input = LinkInput {
+            messages,
             peers: &peers,
             asks_first,
             rest: Duration::from_millis(rest),
         };
-        let mut answers = Mail {
-            rt: mail.rt,
-            alloc: mail.alloc,
-            own: mail.own,
-            lines: mail.lines,
-            threads: mail.threads,
+        let mut answers = Channels {
+            rt: channels.rt,
+            alloc: channels.alloc,
+            own: channels.own,
+            lines: channels.lines,
+            threads: channels.threads,
         };
-        let mut taker = ReplicaTaker::new(mail.rt, mail.alloc, station.shared, pass);
-        link_worker(mail.rt, &mut Open, &inbox, &mut taker, &mut answers);
+        let mut taker = ReplicaTaker::new(channels.rt, channels.alloc, replica.shared, pass);
+        link_worker(
+            channels.rt,
+            &mut Open,
+            &link_input,
+            &mut taker,
+            &mut answers,
+        );
         self.links.push(taker.into_pass()).is_ok()
     }
 }
@@ -387,23 +404,23 @@ pub fn cut_callers<L: Ledger>(alloc: Global, count: usize, first: &mut Pass<L>) 
 }
 
 /// Holds the lock for this number of turns, or until the scene is over, and reports whether it was.
-fn hold<L: Ledger, R: Wait>(station: &Station<'_, L, R>, turns: u64) -> Result<bool, AllocError> {
-    let mail = &station.mail;
+fn hold<L: Ledger, R: Wait>(replica: &Replica<'_, L, R>, turns: u64) -> Result<bool, AllocError> {
+    let channels = &replica.channels;
     let mut gate = Until {
-        mail,
+        channels,
         turns,
         saw: false,
     };
-    station.shared.hold(mail.rt, &mut gate, 1);
-    mail.tell_number("over meanwhile", u64::from(gate.saw))
+    replica.shared.hold(channels.rt, &mut gate, 1);
+    channels.report_number("over meanwhile", u64::from(gate.saw))
 }
 
 /// Checks many times whether the clock of the replica is this one.
-fn comes_to<L: Ledger, R: Wait>(station: &Station<'_, L, R>, wanted: &str) -> bool {
-    let mail = &station.mail;
+fn reaches_clock<L: Ledger, R: Wait>(replica: &Replica<'_, L, R>, expected: &str) -> bool {
+    let channels = &replica.channels;
     for _ in 0..TURNS {
-        if let Ok(clock) = station.shared.clock(mail.rt, mail.alloc) {
-            if is_clock(mail.alloc, &clock, wanted) {
+        if let Ok(clock) = replica.shared.clock(channels.rt, channels.alloc) {
+            if is_clock(channels.alloc, &clock, expected) {
                 return true;
             }
         }

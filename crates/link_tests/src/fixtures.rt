@@ -40,7 +40,7 @@ pub fn open_one<L: Ledger, R: Wait>(
 
 /// Gives the pass's session the command that a line spells; false if there is no session or no such
 /// command.
-pub fn say<L: Ledger, R: Wait>(
+pub fn give<L: Ledger, R: Wait>(
     rt: &R,
     alloc: Global,
     shared: &Shared<L>,

@@ -2,12 +2,12 @@
 
 ghost use Rattle.std.specs.Prelude.{◌≡◌};
 
-use crate::caller::{Caller, Station};
-use crate::deeds::{Deed, Ending, Scene, Step};
+use crate::actions::{Action, FinalReport, Scene, Step};
+use crate::caller::{Caller, Replica};
+use crate::channels::{Channels, Lines};
 use crate::fixtures::{book_from, join, operations};
-use crate::mail::{Lines, Mail};
-use crate::scene::{told_of, wrong_scene};
-use crate::told::{tell_answers, tell_id};
+use crate::output::{write_answers, write_id};
+use crate::scene::{output_of, wrong_scene};
 use crdt_ops::SoundOp;
 use replica_lock::{Book, JoinFault, Shared};
 use std::alloc::{AllocError, Global};
@@ -20,7 +20,7 @@ use std::thread::Threads;
 use tags_clocks::ReplicaId;
 
 /// Appends the journal of a replica that joins with these operations, or why it doesn't join.
-fn tell_joined(
+fn write_joined(
     alloc: Global,
     text: &mut String,
     name: u32,
@@ -30,29 +30,29 @@ fn tell_joined(
         return text.push_str("no name\n");
     };
     match Book::join(alloc, id, ops) {
-        Ok(book) => tell_book(text, &book),
-        Err(fault) => tell_fault(text, fault),
+        Ok(book) => write_book(text, &book),
+        Err(fault) => write_fault(text, fault),
     }
 }
 
 /// Appends the outcome of each delivery, the number of entries, and the number of applied
 /// operations.
-fn tell_book(text: &mut String, book: &Book) -> Result<(), AllocError> {
-    tell_answers(text, book)?;
+fn write_book(text: &mut String, book: &Book) -> Result<(), AllocError> {
+    write_answers(text, book)?;
     let entries = book.len();
     let applied = book.node().op_list().len();
     write!(text, "{entries} entries, {applied} applied\n")
 }
 
-fn tell_fault(text: &mut String, fault: JoinFault) -> Result<(), AllocError> {
+fn write_fault(text: &mut String, fault: JoinFault) -> Result<(), AllocError> {
     match fault {
         JoinFault::Own { id } => {
             text.push_str("Own ")?;
-            tell_id(text, id)?;
+            write_id(text, id)?;
         }
         JoinFault::NotCausal { id } => {
             text.push_str("NotCausal ")?;
-            tell_id(text, id)?;
+            write_id(text, id)?;
         }
         JoinFault::Exhausted => text.push_str("Exhausted")?,
         JoinFault::NoMemory => text.push_str("NoMemory")?,
@@ -67,99 +67,99 @@ struct Case {
     /// The operations with which it joins.
     lines: &'static [&'static str],
     /// The expected text.
-    wanted: &'static str,
+    expected: &'static str,
 }
 
 const CASES: &[Case] = &[
     Case {
         name: 3,
         lines: &[],
-        wanted: "0 entries, 0 applied\n",
+        expected: "0 entries, 0 applied\n",
     },
     Case {
         name: 3,
         lines: &["1:1 - create a", "2:1 1=1 create b", "1:2 1=1 delete a 1:1"],
-        wanted: "1:1 Applied 1\n2:1 Applied 1\n1:2 Applied 1\n3 entries, 3 applied\n",
+        expected: "1:1 Applied 1\n2:1 Applied 1\n1:2 Applied 1\n3 entries, 3 applied\n",
     },
     Case {
         name: 2,
         lines: &["1:1 - create a", "2:2 1=1,2=1 create c", "2:1 1=1 create b"],
-        wanted: "Own 2:1\n",
+        expected: "Own 2:1\n",
     },
     Case {
         name: 1,
         lines: &["2:2 2=1 create x", "1:1 - create a"],
-        wanted: "Own 1:1\n",
+        expected: "Own 1:1\n",
     },
     Case {
         name: 2,
         lines: &["1:1 - create a", "2:1 1=1 create b"],
-        wanted: "Own 2:1\n",
+        expected: "Own 2:1\n",
     },
     Case {
         name: 3,
         lines: &["1:2 1=1 create b", "1:1 - create a"],
-        wanted: "NotCausal 1:2\n",
+        expected: "NotCausal 1:2\n",
     },
     Case {
         name: 3,
         lines: &["1:1 - create a", "2:2 2=1 create c", "1:3 1=2 create b"],
-        wanted: "NotCausal 2:2\n",
+        expected: "NotCausal 2:2\n",
     },
     Case {
         name: 3,
         lines: &["1:1 - create a", "1:1 - create a"],
-        wanted: "NotCausal 1:1\n",
+        expected: "NotCausal 1:1\n",
     },
     Case {
         name: 3,
         lines: &["1:1 - create a", "1:1 - create b"],
-        wanted: "NotCausal 1:1\n",
+        expected: "NotCausal 1:1\n",
     },
     Case {
         name: 3,
         lines: &["1:1 - create a", "2:1 3=1 create b"],
-        wanted: "NotCausal 2:1\n",
+        expected: "NotCausal 2:1\n",
     },
 ];
 
 /// The text of a case.
 fn case_text(alloc: Global, name: u32, lines: &[&str]) -> Result<String, AllocError> {
     let mut text = String::new(alloc);
-    let told = match operations(alloc, lines) {
-        Some(ops) => tell_joined(alloc, &mut text, name, &ops),
+    let output = match operations(alloc, lines) {
+        Some(ops) => write_joined(alloc, &mut text, name, &ops),
         None => text.push_str("no operations\n"),
     };
-    told?;
+    output?;
     Ok(text)
 }
 
-/// The place of the first case with another text than the expected one, with both texts; empty if
+/// The place of the first case whose text isn't the expected one, with both texts; empty if
 /// there is none.
 fn wrong_case(alloc: Global) -> Result<String, AllocError> {
     for (place, case) in CASES.iter().enumerate() {
         let text = case_text(alloc, case.name, case.lines)?;
-        if text.as_str() != case.wanted {
-            let wanted = case.wanted;
-            return format!(in alloc; "case {place}: not\n{wanted}but\n{text}");
+        if text.as_str() != case.expected {
+            let expected = case.expected;
+            return format!(in alloc; "case {place}: not\n{expected}but\n{text}");
         }
     }
     Ok(String::new(alloc))
 }
 
 #[test]
-fn who_joins_with_which_operations(rt: HostRuntime) -> Result<(), Fail> {
+fn joins_end_as_expected(rt: HostRuntime) -> Result<(), Fail> {
     let wrong = wrong_case(rt.alloc())?;
     assert_eq!(rt; wrong.as_str(), "");
     Ok(())
 }
 
 /// The actions at the first replica before the second joins.
-const WORK: &[Deed] = &[
-    Deed::Does("CREATE a"),
-    Deed::Does("DELETE a"),
-    Deed::Does("CREATE a"),
-    Deed::Does("APPEND a {1}\r\nx"),
+const WORK: &[Action] = &[
+    Action::Gives("CREATE a"),
+    Action::Gives("DELETE a"),
+    Action::Gives("CREATE a"),
+    Action::Gives("APPEND a {1}\r\nx"),
 ];
 
 /// A replica at which these actions were done, and one that joined with copies of its operations.
@@ -174,9 +174,9 @@ fn worked<L: Ledger, R: Wait + Clock>(
 {
     let (shared, pass) = Shared::<L>::new(blank, book);
     let mut caller = Caller::new(alloc, pass, None, 0);
-    let station = Station {
+    let replica = Replica {
         shared: &shared,
-        mail: Mail {
+        channels: Channels {
             rt,
             alloc,
             own: 0,
@@ -184,8 +184,8 @@ fn worked<L: Ledger, R: Wait + Clock>(
             threads: &[],
         },
     };
-    caller.act_all(&station, WORK);
-    drop(station);
+    caller.act_all(&replica, WORK);
+    drop(replica);
     let other = match shared.ops_copy(rt, alloc, &caller.pass) {
         Ok(ops) => {
             let other = join(alloc, 2, &ops);
@@ -195,7 +195,7 @@ fn worked<L: Ledger, R: Wait + Clock>(
         Err(_) => None,
     };
     let mut passes = Vec::new(alloc);
-    drop(caller.into_seen(&mut passes));
+    drop(caller.into_outcomes(&mut passes));
     shared.finish(passes).ok().zip(other)
 }
 
@@ -209,24 +209,24 @@ fn worked_two<R: Wait + Clock>(rt: &R, alloc: Global) -> Result<Option<(Book, Bo
     }
 }
 
-/// A message that comes before the joined replica receives messages is lost; it asks, and then
+/// A message sent before the joined replica receives messages is lost; it asks, and then
 /// issues an operation of its own.
 const JOINED: Scene = Scene {
     name: "one joins and asks",
     uid: 1,
-    deeds: &[
-        (0, Deed::Says("CREATE b")),
-        (1, Deed::Takes(&[Step::Lose(0)])),
-        (1, Deed::Asks),
-        (0, Deed::Takes(&[Step::Pass(0)])),
-        (1, Deed::Takes(&[Step::Pass(0)])),
-        (1, Deed::Says("DELETE a")),
-        (0, Deed::Takes(&[Step::Pass(0)])),
+    actions: &[
+        (0, Action::GivesAndSends("CREATE b")),
+        (1, Action::Takes(&[Step::Lose(0)])),
+        (1, Action::Asks),
+        (0, Action::Takes(&[Step::Pass(0)])),
+        (1, Action::Takes(&[Step::Pass(0)])),
+        (1, Action::GivesAndSends("DELETE a")),
+        (0, Action::Takes(&[Step::Pass(0)])),
     ],
     first: &[],
     second: &[],
-    ending: Ending::Answers,
-    wanted: "1 to 2: 1:5\n2 to 1: have 1=4\n1 to 2: 1:5\n2 to 1: 2:1\nat 1\n2:1 Applied 1\nat 2\n1:1 Applied 1\n1:2 Applied 1\n1:3 Applied 1\n1:4 Applied 1\n1:5 Applied 1\nagreed\n",
+    final_report: FinalReport::Answers,
+    expected: "1 to 2: 1:5\n2 to 1: have 1=4\n1 to 2: 1:5\n2 to 1: 2:1\nat 1\n2:1 Applied 1\nat 2\n1:1 Applied 1\n1:2 Applied 1\n1:3 Applied 1\n1:4 Applied 1\n1:5 Applied 1\nagreed\n",
 };
 
 /// The text of a replica that joined with copies of another one's operations, and of the scene in
@@ -235,9 +235,9 @@ fn joined<R: Threads + Wait + Clock + Sync>(rt: &R, alloc: Global) -> Result<Str
     let mut text = String::new(alloc);
     match worked_two(rt, alloc)? {
         Some((one, two)) => {
-            let told = tell_book(&mut text, &two);
-            let played = told_of(rt, alloc, (one, two), &JOINED);
-            told?;
+            let output = write_book(&mut text, &two);
+            let played = output_of(rt, alloc, (one, two), &JOINED);
+            output?;
             text.push_str(played?.as_str())?;
         }
         None => {}
@@ -247,10 +247,10 @@ fn joined<R: Threads + Wait + Clock + Sync>(rt: &R, alloc: Global) -> Result<Str
 
 #[test]
 fn one_joins_and_asks(rt: HostRuntime) -> Result<(), Fail> {
-    let told = joined(&rt, rt.alloc())?;
+    let output = joined(&rt, rt.alloc())?;
     let taken =
         "1:1 Applied 1\n1:2 Applied 1\n1:3 Applied 1\n1:4 Applied 1\n4 entries, 4 applied\n";
-    assert_eq!(rt; told.strip_prefix(taken).unwrap_or(""), JOINED.wanted);
+    assert_eq!(rt; output.strip_prefix(taken).unwrap_or(""), JOINED.expected);
     Ok(())
 }
 
@@ -259,15 +259,15 @@ fn one_joins_and_asks(rt: HostRuntime) -> Result<(), Fail> {
 const LACKING: &[Scene] = &[Scene {
     name: "passes that are lost",
     uid: 0,
-    deeds: &[(0, Deed::LosesPass(true)), (1, Deed::LosesPass(false))],
+    actions: &[(0, Action::LosesPass(true)), (1, Action::LosesPass(false))],
     first: &[],
-    second: &[&[Deed::Opens]],
-    ending: Ending::Entries,
-    wanted: "0 calls of 1\n3 entries\n",
+    second: &[&[Action::Opens]],
+    final_report: FinalReport::Entries,
+    expected: "0 calls of 1\n3 entries\n",
 }];
 
 #[test]
-fn a_journal_is_handed_out_for_all_its_calls(rt: HostRuntime) -> Result<(), Fail> {
+fn a_journal_is_returned_for_all_its_calls(rt: HostRuntime) -> Result<(), Fail> {
     let wrong = wrong_scene(&rt, rt.alloc(), LACKING)?;
     assert_eq!(rt; wrong.as_str(), "");
     Ok(())

@@ -10,24 +10,24 @@
 #![tactic(auto)]
 
 #[cfg(test)]
+mod actions;
+#[cfg(test)]
 mod caller;
 #[cfg(test)]
-mod deeds;
+mod channels;
 #[cfg(test)]
-mod ending;
+mod final_report;
 #[cfg(test)]
 mod fixtures;
 #[cfg(test)]
 mod joining;
 #[cfg(test)]
-mod losing;
+mod lost_messages;
 #[cfg(test)]
-mod mail;
+mod output;
 #[cfg(test)]
 mod scene;
 #[cfg(test)]
 mod scripted;
 #[cfg(test)]
 mod threads;
-#[cfg(test)]
-mod told;

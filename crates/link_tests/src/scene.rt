@@ -2,11 +2,11 @@
 
 ghost use Rattle.std.specs.Prelude.{◌≡◌};
 
-use crate::caller::{Caller, Station, cut_callers};
-use crate::deeds::Scene;
-use crate::ending::{Ended, tell_ending};
+use crate::actions::Scene;
+use crate::caller::{Caller, Replica, cut_callers};
+use crate::channels::{Channels, Lines};
+use crate::final_report::{Ended, with_final_report};
 use crate::fixtures::{book_from, join, operations};
-use crate::mail::{Lines, Mail};
 use replica_lock::{Book, Pass, Shared};
 use std::alloc::{AllocError, Global};
 use std::marker::Brand;
@@ -21,26 +21,30 @@ pub type Callers<L> = Result<Vec<Caller<L>>, AllocError>;
 
 /// Has the callers of one replica act, each in a thread.
 fn run_all<L: Ledger + Send + Sync, R: Threads + Wait + Clock + Sync>(
-    station: &Station<'_, L, R>,
+    replica: &Replica<'_, L, R>,
     first: &mut Pass<L>,
 ) -> Callers<L> {
-    let callers = cut_callers(station.mail.alloc, station.mail.threads.len(), first);
+    let callers = cut_callers(
+        replica.channels.alloc,
+        replica.channels.threads.len(),
+        first,
+    );
     thread::map_vec(
-        station.mail.rt,
+        replica.channels.rt,
         callers,
-        &|caller: Caller<L>| { caller.run(station) },
+        &|caller: Caller<L>| { caller.run(replica) },
     )
 }
 
 /// Has the callers of both replicas act, each in a thread.
 fn run_both<L: Ledger + Send + Sync, M: Ledger + Send + Sync, R: Threads + Wait + Clock + Sync>(
-    one: &Station<'_, L, R>,
-    other: &Station<'_, M, R>,
+    one: &Replica<'_, L, R>,
+    other: &Replica<'_, M, R>,
     first: &mut Pass<L>,
     far_first: &mut Pass<M>,
 ) -> (Callers<L>, Callers<M>) {
     thread::join(
-        one.mail.rt,
+        one.channels.rt,
         || run_all(one, first),
         || run_all(other, far_first),
     )
@@ -57,9 +61,9 @@ fn perform<'a, L: Ledger + Send + Sync, M: Ledger + Send + Sync, R: Threads + Wa
 ) -> (Callers<L>, Callers<M>) {
     let (shared, far_shared) = replicas;
     let (first, far_first) = firsts;
-    let one = Station {
+    let one = Replica {
         shared,
-        mail: Mail {
+        channels: Channels {
             rt,
             alloc,
             own: 0,
@@ -67,9 +71,9 @@ fn perform<'a, L: Ledger + Send + Sync, M: Ledger + Send + Sync, R: Threads + Wa
             threads: scene.first,
         },
     };
-    let other = Station {
+    let other = Replica {
         shared: far_shared,
-        mail: Mail {
+        channels: Channels {
             rt,
             alloc,
             own: 1,
@@ -77,18 +81,18 @@ fn perform<'a, L: Ledger + Send + Sync, M: Ledger + Send + Sync, R: Threads + Wa
             threads: scene.second,
         },
     };
-    for (place, deed) in scene.deeds {
+    for (place, action) in scene.actions {
         if *place == 0 {
-            first.act(&one, *deed);
+            first.act(&one, *action);
         } else {
-            far_first.act(&other, *deed);
+            far_first.act(&other, *action);
         }
     }
     run_both(&one, &other, &mut first.pass, &mut far_first.pass)
 }
 
-/// Takes the book out with all passes, and what the callers saw.
-fn finished<L: Ledger>(
+/// Takes the book out with all passes, and returns it with the callers' outcomes.
+fn finish_replica<L: Ledger>(
     alloc: Global,
     shared: Shared<L>,
     first: Caller<L>,
@@ -97,16 +101,16 @@ fn finished<L: Ledger>(
     requires { L.parts ≡ 4294967295 }
 {
     let mut passes = Vec::new(alloc);
-    let mut seen = Vec::new(alloc);
+    let mut outcomes = Vec::new(alloc);
     if let Ok(callers) = callers {
         for caller in callers {
-            let _ = seen.push(caller.into_seen(&mut passes));
+            let _ = outcomes.push(caller.into_outcomes(&mut passes));
         }
     }
-    drop(first.into_seen(&mut passes));
+    drop(first.into_outcomes(&mut passes));
     Ended {
         book: shared.finish(passes),
-        seen,
+        outcomes,
     }
 }
 
@@ -132,21 +136,27 @@ fn played<L: Ledger + Send + Sync, M: Ledger + Send + Sync, R: Threads + Wait + 
     let replicas = (&shared, &far_shared);
     let firsts = (&mut first, &mut far_first);
     let (callers, far_callers) = perform(rt, alloc, scene, lines, replicas, firsts);
-    let one = finished(alloc, shared, first, callers);
-    let other = finished(alloc, far_shared, far_first, far_callers);
-    tell_ending(alloc, lines.told(rt, alloc), scene.ending, one, other)
+    let one = finish_replica(alloc, shared, first, callers);
+    let other = finish_replica(alloc, far_shared, far_first, far_callers);
+    with_final_report(
+        alloc,
+        lines.output(rt, alloc),
+        scene.final_report,
+        one,
+        other,
+    )
 }
 
 /// The text of a scene at two replicas with these books. `Err` if memory runs out.
-pub fn told_of<R: Threads + Wait + Clock + Sync>(
+pub fn output_of<R: Threads + Wait + Clock + Sync>(
     rt: &R,
     alloc: Global,
     books: (Book, Book),
     scene: &Scene,
 ) -> Result<String, AllocError> {
     let whole = 4_294_967_295;
-    let tells = scene.first.is_empty() && scene.second.is_empty();
-    match Lines::new(alloc, tells) {
+    let reports_messages = scene.first.is_empty() && scene.second.is_empty();
+    match Lines::new(alloc, reports_messages) {
         Ok(lines) => played::<Brand, Brand, R>(
             rt,
             alloc,
@@ -176,7 +186,7 @@ fn books(alloc: Global, uid: u32) -> Option<(Book, Book)> {
     book_from(alloc, 1, 1).zip(second)
 }
 
-/// The first scene with another text than the expected one, with this text; empty if there is none.
+/// The first scene whose text isn't the expected one, with its text; empty if there is none.
 pub fn wrong_scene<R: Threads + Wait + Clock + Sync>(
     rt: &R,
     alloc: Global,
@@ -187,9 +197,9 @@ pub fn wrong_scene<R: Threads + Wait + Clock + Sync>(
         let Some(books) = books(alloc, scene.uid) else {
             return format!(in alloc; "{name}: no replicas\n");
         };
-        let told = told_of(rt, alloc, books, scene)?;
-        if !scene.is_wanted(&told) {
-            return format!(in alloc; "{name}:\n{told}");
+        let output = output_of(rt, alloc, books, scene)?;
+        if !scene.is_expected(&output) {
+            return format!(in alloc; "{name}:\n{output}");
         }
     }
     Ok(String::new(alloc))

@@ -1,8 +1,8 @@
 //! The order in which the worker of a link makes its calls.
 
-use crate::deeds::HOUR;
+use crate::actions::HOUR;
 use crate::fixtures::{operation, operations};
-use crate::told::{all_lines, with_clock};
+use crate::output::{all_lines, with_clock};
 use crdt_ops::SoundOp;
 use crossbeam_channel::{Receiver, Sender, unbounded};
 use merge_laws::Caused;
@@ -22,12 +22,12 @@ const TURNS: u32 = 1_000_000;
 
 /// The content of a message.
 #[derive(Clone, Copy)]
-enum Said {
+enum Content {
     /// These operations.
     Ops(&'static [&'static str]),
     /// The clock of this operation's causes, as a request for what it lacks.
     Have(&'static str),
-    /// No further message comes.
+    /// There are no further messages.
     Stop,
 }
 
@@ -53,13 +53,13 @@ struct Case {
     rest: u64,
     /// The time that each message takes, in milliseconds.
     takes: u64,
-    /// The messages that come, with the places of their senders.
-    letters: &'static [(usize, Said)],
+    /// The messages received, with the places of their senders.
+    messages: &'static [(usize, Content)],
     /// The number of calls after which one more message stops the worker; 0 for no such message.
     stops: usize,
     /// The text of the calls begins with the first of these parts, has the others after it in their
     /// order, and ends with the last.
-    wanted: &'static [&'static str],
+    expected: &'static [&'static str],
 }
 
 /// A scripted replica that notes each call; also a gate and the links to the others that do so.
@@ -100,7 +100,7 @@ impl<'a, R: Wait + rt::Clock> Taker for Scripted<'a, R> {
         self.given = place.saturating_add(1);
         match self.case.answers.get(place) {
             Some(took) => *took,
-            None => Took::nothing(),
+            None => Took::complete(),
         }
     }
 
@@ -129,7 +129,7 @@ impl<'a, R: Wait + rt::Clock> Taker for Scripted<'a, R> {
 impl<'a, R: Wait + rt::Clock> PeerLinks for Scripted<'a, R> {
     ghost asks = { λ p to clock q. Unit {0} };
 
-    ghost hands = { λ p to ops q. Unit {0} };
+    ghost sends = { λ p to ops q. Unit {0} };
 
     fn ask(&mut self, to: usize, clock: Clock) {
         self.note(with_clock(format!(in self.alloc; "ask {to} "), &clock));
@@ -152,13 +152,13 @@ impl<'a, R: Wait + rt::Clock> Gate for Scripted<'a, R> {
     }
 }
 
-fn letter(alloc: Global, from: usize, said: Said) -> Result<PeerMsg, AllocError> {
-    let message = match said {
-        Said::Ops(lines) => match operations(alloc, lines) {
+fn peer_msg(alloc: Global, from: usize, content: Content) -> Result<PeerMsg, AllocError> {
+    let message = match content {
+        Content::Ops(lines) => match operations(alloc, lines) {
             Some(ops) => LinkMsg::Ops(ops),
             None => LinkMsg::Stop,
         },
-        Said::Have(line) => match operation(alloc, line) {
+        Content::Have(line) => match operation(alloc, line) {
             Some(op) => {
                 let clock = op.clock().copy(alloc);
                 drop(op);
@@ -166,33 +166,33 @@ fn letter(alloc: Global, from: usize, said: Said) -> Result<PeerMsg, AllocError>
             }
             None => LinkMsg::Stop,
         },
-        Said::Stop => LinkMsg::Stop,
+        Content::Stop => LinkMsg::Stop,
     };
     Ok(PeerMsg { from, message })
 }
 
 /// The messages that a worker receives in a case.
-struct Heard<'a> {
-    letters: Receiver<PeerMsg>,
+struct CaseInput<'a> {
+    messages: Receiver<PeerMsg>,
     case: &'a Case,
 }
 
 // By hand, so that functions with several exits drop it whole.
-impl Drop for Heard<'_> {
+impl Drop for CaseInput<'_> {
     fn drop(self) {
         let Self {
-            letters: _,
+            messages: _,
             case: _,
         } = self;
     }
 }
 
 /// Runs a worker until it ends; its calls are noted.
-fn work<R: Wait + rt::Clock>(rt: &R, alloc: Global, sender: Sender<String>, heard: &Heard) {
+fn work<R: Wait + rt::Clock>(rt: &R, alloc: Global, sender: Sender<String>, input: &CaseInput) {
     let calls = &sender;
-    let case = heard.case;
-    let inbox = LinkInput {
-        letters: &heard.letters,
+    let case = input.case;
+    let link_input = LinkInput {
+        messages: &input.messages,
         peers: case.peers,
         asks_first: case.asks_first,
         rest: Duration::from_millis(case.rest),
@@ -212,7 +212,7 @@ fn work<R: Wait + rt::Clock>(rt: &R, alloc: Global, sender: Sender<String>, hear
         case,
         given,
     };
-    let mut post = Scripted {
+    let mut links = Scripted {
         rt,
         alloc,
         calls,
@@ -220,15 +220,15 @@ fn work<R: Wait + rt::Clock>(rt: &R, alloc: Global, sender: Sender<String>, hear
         given,
     };
     if case.only_asks {
-        ask_all(&taker, &mut post, case.peers);
+        ask_all(&taker, &mut links, case.peers);
     } else {
-        link_worker(rt, &mut gate, &inbox, &mut taker, &mut post);
+        link_worker(rt, &mut gate, &link_input, &mut taker, &mut links);
     }
 }
 
 /// Waits until `count` calls were made, for `TURNS` checks at most, and then stops the worker;
 /// sends nothing if `count` is 0.
-fn stop_behind<R: Wait>(rt: &R, calls: &Receiver<String>, count: usize, to: Sender<PeerMsg>) {
+fn stop_after<R: Wait>(rt: &R, calls: &Receiver<String>, count: usize, to: Sender<PeerMsg>) {
     if count > 0 {
         for _ in 0..TURNS {
             if calls.len() >= count {
@@ -251,16 +251,16 @@ fn calls_of<R: Threads + Wait + rt::Clock + Sync>(
     alloc: Global,
     case: &Case,
 ) -> Result<String, AllocError> {
-    let (to, letters) = unbounded(alloc)?;
+    let (to, messages) = unbounded(alloc)?;
     let (sender, calls) = unbounded(alloc)?;
-    for (from, said) in case.letters {
-        let _ = to.send(rt, letter(alloc, *from, *said)?);
+    for (from, content) in case.messages {
+        let _ = to.send(rt, peer_msg(alloc, *from, *content)?);
     }
-    let heard = Heard { letters, case };
+    let input = CaseInput { messages, case };
     thread::join(
         rt,
-        || work(rt, alloc, sender, &heard),
-        || stop_behind(rt, &calls, case.stops, to),
+        || work(rt, alloc, sender, &input),
+        || stop_after(rt, &calls, case.stops, to),
     );
     all_lines(rt, alloc, &calls)
 }
@@ -270,18 +270,18 @@ fn calls_of<R: Threads + Wait + rt::Clock + Sync>(
 fn fits(text: &str, parts: &[&str]) -> bool {
     let mut rest = text;
     for (place, part) in parts.iter().enumerate() {
-        let Some((front, behind)) = rest.split_once(*part) else {
+        let Some((before, after)) = rest.split_once(*part) else {
             return false;
         };
-        if place == 0 && !front.is_empty() {
+        if place == 0 && !before.is_empty() {
             return false;
         }
-        rest = behind;
+        rest = after;
     }
     rest.is_empty()
 }
 
-/// The first case with other calls than the expected ones, with these calls; empty if there is
+/// The first case whose calls aren't the expected ones, with its calls; empty if there is
 /// none.
 fn wrong_case<R: Threads + Wait + rt::Clock + Sync>(
     rt: &R,
@@ -289,7 +289,7 @@ fn wrong_case<R: Threads + Wait + rt::Clock + Sync>(
 ) -> Result<String, AllocError> {
     for case in CASES {
         let calls = calls_of(rt, alloc, case)?;
-        if !fits(&calls, case.wanted) {
+        if !fits(&calls, case.expected) {
             let name = case.name;
             return format!(in alloc; "{name}:\n{calls}");
         }
@@ -297,7 +297,7 @@ fn wrong_case<R: Threads + Wait + rt::Clock + Sync>(
     Ok(String::new(alloc))
 }
 
-const NOTHING: Took = Took {
+const NEITHER: Took = Took {
     lacking: false,
     stalled: false,
 };
@@ -332,7 +332,7 @@ const CASES: &[Case] = &[
     Case {
         name: "what becomes of each message",
         answers: &[
-            STALLED, LACKING, NOTHING, NOTHING, BOTH, BOTH, NOTHING, STALLED, NOTHING, NOTHING,
+            STALLED, LACKING, NEITHER, NEITHER, BOTH, BOTH, NEITHER, STALLED, NEITHER, NEITHER,
             LACKING,
         ],
         clock: 9,
@@ -342,19 +342,19 @@ const CASES: &[Case] = &[
         only_asks: false,
         rest: HOUR,
         takes: 0,
-        letters: &[
-            (4, Said::Ops(THREE)),
-            (2, Said::Ops(ONE)),
-            (3, Said::Ops(THREE)),
-            (5, Said::Ops(ONE)),
-            (6, Said::Ops(THREE)),
-            (7, Said::Ops(&[])),
-            (8, Said::Have("1:3 1=2,4=1 create d")),
-            (9, Said::Stop),
-            (2, Said::Ops(ONE)),
+        messages: &[
+            (4, Content::Ops(THREE)),
+            (2, Content::Ops(ONE)),
+            (3, Content::Ops(THREE)),
+            (5, Content::Ops(ONE)),
+            (6, Content::Ops(THREE)),
+            (7, Content::Ops(&[])),
+            (8, Content::Have("1:3 1=2,4=1 create d")),
+            (9, Content::Stop),
+            (2, Content::Ops(ONE)),
         ],
         stops: 0,
-        wanted: &[
+        expected: &[
             "pass 1\ndeliver 1:1\ndeliver 1:2\ndeliver 2:1\ndrain\nclock\nask 4 9=7\npass 2\ndeliver 1:1\npass 3\ndeliver 1:1\ndeliver 1:2\ndeliver 2:1\ndrain\nclock\nask 3 9=7\npass 4\ndeliver 1:1\ndrain\npass 5\ndeliver 1:1\ndeliver 1:2\ndeliver 2:1\nclock\nask 6 9=7\npass 6\npass 7\nsince 1=2,4=1\nhand 8 3\npass 8\n",
         ],
     },
@@ -368,9 +368,12 @@ const CASES: &[Case] = &[
         only_asks: false,
         rest: HOUR,
         takes: 0,
-        letters: &[(4, Said::Ops(ONE)), (8, Said::Have("1:3 1=2,4=1 create d"))],
+        messages: &[
+            (4, Content::Ops(ONE)),
+            (8, Content::Have("1:3 1=2,4=1 create d")),
+        ],
         stops: 0,
-        wanted: &["pass 1\ndeliver 1:1\ndrain\nclock\npass 2\nsince 1=2,4=1\n"],
+        expected: &["pass 1\ndeliver 1:1\ndrain\nclock\npass 2\nsince 1=2,4=1\n"],
     },
     Case {
         name: "nothing is handed where nothing lacks",
@@ -382,9 +385,9 @@ const CASES: &[Case] = &[
         only_asks: false,
         rest: HOUR,
         takes: 0,
-        letters: &[(8, Said::Have("1:1 - create d")), (8, Said::Stop)],
+        messages: &[(8, Content::Have("1:1 - create d")), (8, Content::Stop)],
         stops: 0,
-        wanted: &["pass 1\nsince -\npass 2\n"],
+        expected: &["pass 1\nsince -\npass 2\n"],
     },
     Case {
         name: "one that joined asks first",
@@ -396,9 +399,9 @@ const CASES: &[Case] = &[
         only_asks: false,
         rest: HOUR,
         takes: 0,
-        letters: &[(1, Said::Ops(ONE)), (2, Said::Stop)],
+        messages: &[(1, Content::Ops(ONE)), (2, Content::Stop)],
         stops: 0,
-        wanted: &["clock\nask 1 9=7\nclock\nask 2 9=7\npass 1\ndeliver 1:1\npass 2\n"],
+        expected: &["clock\nask 1 9=7\nclock\nask 2 9=7\npass 1\ndeliver 1:1\npass 2\n"],
     },
     Case {
         name: "one that joined asks nobody without memory",
@@ -410,9 +413,9 @@ const CASES: &[Case] = &[
         only_asks: false,
         rest: HOUR,
         takes: 0,
-        letters: &[(1, Said::Ops(ONE)), (2, Said::Stop)],
+        messages: &[(1, Content::Ops(ONE)), (2, Content::Stop)],
         stops: 0,
-        wanted: &["clock\nclock\npass 1\ndeliver 1:1\npass 2\n"],
+        expected: &["clock\nclock\npass 1\ndeliver 1:1\npass 2\n"],
     },
     Case {
         name: "all are asked",
@@ -424,9 +427,9 @@ const CASES: &[Case] = &[
         only_asks: true,
         rest: HOUR,
         takes: 0,
-        letters: &[],
+        messages: &[],
         stops: 0,
-        wanted: &[ROUND],
+        expected: &[ROUND],
     },
     Case {
         name: "nobody is asked without memory",
@@ -438,9 +441,9 @@ const CASES: &[Case] = &[
         only_asks: true,
         rest: HOUR,
         takes: 0,
-        letters: &[],
+        messages: &[],
         stops: 0,
-        wanted: &["clock\nclock\n"],
+        expected: &["clock\nclock\n"],
     },
     Case {
         name: "all are asked after each rest",
@@ -452,9 +455,9 @@ const CASES: &[Case] = &[
         only_asks: false,
         rest: 5,
         takes: 0,
-        letters: &[],
+        messages: &[],
         stops: 12,
-        wanted: &[ROUNDS, "pass 1\n"],
+        expected: &[ROUNDS, "pass 1\n"],
     },
     Case {
         name: "letters do not put off the asking",
@@ -466,14 +469,14 @@ const CASES: &[Case] = &[
         only_asks: false,
         rest: 20,
         takes: 40,
-        letters: &[
-            (4, Said::Ops(&[])),
-            (4, Said::Ops(&[])),
-            (4, Said::Ops(&[])),
-            (4, Said::Stop),
+        messages: &[
+            (4, Content::Ops(&[])),
+            (4, Content::Ops(&[])),
+            (4, Content::Ops(&[])),
+            (4, Content::Stop),
         ],
         stops: 0,
-        wanted: &[
+        expected: &[
             "",
             "pass 1\nclock\nask 1 9=7\n",
             "pass 2\nclock\nask 1 9=7\n",

@@ -17,11 +17,11 @@ use Rattle.merge_laws.specs.Orders.{AreSound, HasId, HaveSameElements, IdsDeterm
 use Rattle.subs_state.specs.Subscriptions.{Subscriptions, IsMadeBy as AreMadeBy, effect_of as subscribed_by, no_subscriptions}
 use Rattle.tags_clocks.specs.Clock.{IsCause}
 use Rattle.tags_clocks.specs.declared.id.OpId.{OpId}
-use Rattle.mail_audit.specs.DumpLines.{HoldsOnly, IsExpected, IsExpectedOf, StandsBehind}
+use Rattle.mail_audit.specs.DumpLines.{HasReceivedOnly, IsExpected, IsExpectedOf, IsAboveLast}
 use Rattle.crdt_ops.specs.DumpLines.{message_line, state_text}
 use Rattle.mail_audit.specs.Dumps.{AreOrdered, HasCauses}
 use Rattle.mail_audit.specs.declared.expected_lines.Expected.{Expected}
-use Rattle.mail_audit.specs.declared.expected_lines.Expected.TheVariants.{Lines, Stuck}
+use Rattle.mail_audit.specs.declared.expected_lines.Expected.TheVariants.{Lines, WrongOp}
 
 abbrev pub id_of : Op → OpId
 id_of op = op.id
@@ -32,18 +32,18 @@ clock_of op = op.clock
 -- ---- ascending operations
 
 -- one more after the last
-pub ordered_more : (ops : List Op) (op : Op) → StandsBehind ops op.id → AreOrdered ops → AreOrdered (ops ++ op ∷ [])
+pub ordered_more : (ops : List Op) (op : Op) → IsAboveLast ops op.id → AreOrdered ops → AreOrdered (ops ++ op ∷ [])
 ordered_more [] op s a = (tt, tt)
 ordered_more (x ∷ []) op s a = (s, (tt, tt))
 ordered_more (x ∷ y ∷ ops) op s a = (a.0, ordered_more (y ∷ ops) op s a.1)
 
 -- what comes after the last
-pub behind_last : (ops : List Op) (id : OpId) (op : Op) (n : ℕ) → length ops ≡ n + 1 → op ≡ get_or ops n op → (id_order op.id id ≡ Less) ↔ StandsBehind ops id
-behind_last [] id op n l e = absurd (omega (arith, l))
-behind_last (x ∷ []) id op zero l e = (λ t. subst (λ (o : Op). id_order o.id id ≡ Less) e t, λ t. subst (λ (o : Op). id_order o.id id ≡ Less) (sym e) t)
-behind_last (x ∷ []) id op (suc n) l e = absurd (omega (arith, l))
-behind_last (x ∷ y ∷ ops) id op zero l e = absurd (omega (arith, l))
-behind_last (x ∷ y ∷ ops) id op (suc n) l e = behind_last (y ∷ ops) id op n (omega (arith, l)) e
+pub above_last : (ops : List Op) (id : OpId) (op : Op) (n : ℕ) → length ops ≡ n + 1 → op ≡ get_or ops n op → (id_order op.id id ≡ Less) ↔ IsAboveLast ops id
+above_last [] id op n l e = absurd (omega (arith, l))
+above_last (x ∷ []) id op zero l e = (λ t. subst (λ (o : Op). id_order o.id id ≡ Less) e t, λ t. subst (λ (o : Op). id_order o.id id ≡ Less) (sym e) t)
+above_last (x ∷ []) id op (suc n) l e = absurd (omega (arith, l))
+above_last (x ∷ y ∷ ops) id op zero l e = absurd (omega (arith, l))
+above_last (x ∷ y ∷ ops) id op (suc n) l e = above_last (y ∷ ops) id op n (omega (arith, l)) e
 
 -- the first is below all others
 first_before : (x o : Op) (ops : List Op) → AreOrdered (x ∷ ops) → IsIn o ops → id_order x.id o.id ≡ Less
@@ -89,7 +89,7 @@ in_at (y ∷ xs) zero x l e = inl (sym e)
 in_at (y ∷ xs) (suc i) x l e = inr (in_at xs i x (omega (arith, l)) e)
 
 -- an inbox that has only such operations has only such after receiving one of them
-pub holds_more : {S : Type 0} (ops : List Op) (old new : ReceivedOps S Op) (op : Op) (i : ℕ) → i < length ops → op ≡ get_or ops i op → HoldsOnly ops old → ((o : Op) → IsReceived new o → IsReceived old o ⊎ (o ≡ op)) → HoldsOnly ops new
+pub holds_more : {S : Type 0} (ops : List Op) (old new : ReceivedOps S Op) (op : Op) (i : ℕ) → i < length ops → op ≡ get_or ops i op → HasReceivedOnly ops old → ((o : Op) → IsReceived new o → IsReceived old o ⊎ (o ≡ op)) → HasReceivedOnly ops new
 holds_more ops old new op i l is h grown o r =
     elim (grown o r) [
       | inl t ↦ h o t
@@ -112,30 +112,30 @@ same_state xs ys m = λ i.
     ++ flat_map (λ (name : List ℕ). codes "subscribed " ++ (name_text name ++ 32 ∷ (ids_text (m.subscription_tags name i) ++ 10 ∷ []))) (m.subscribed i)
 
 -- exactly the operations of the list were applied
-all_applied : {S : Type 0} (ops : List Op) (seen : ReceivedOps S Op) (clock : List (ℕ × ℕ)) → AreOrdered ops → HoldsOnly ops seen → IsClockOf id_of seen.applied clock → ((o : Op) → IsIn o ops → IsCause clock o.id) → HaveSameElements ops seen.applied
-all_applied ops seen clock a only counts all o = (
+all_applied : {S : Type 0} (ops : List Op) (received : ReceivedOps S Op) (clock : List (ℕ × ℕ)) → AreOrdered ops → HasReceivedOnly ops received → IsClockOf id_of received.applied clock → ((o : Op) → IsIn o ops → IsCause clock o.id) → HaveSameElements ops received.applied
+all_applied ops received clock a only counts all o = (
   λ h.
-      let found = element_of_id id_of o.id seen.applied ((counts o.id).0 (all o h)) in
-      subst (λ (p : Op). IsIn p seen.applied) (ordered_determine ops a found.0 o (only found.0 (inl found.1)) h found.2) found.1,
+      let element = element_of_id id_of o.id received.applied ((counts o.id).0 (all o h)) in
+      subst (λ (p : Op). IsIn p received.applied) (ordered_determine ops a element.0 o (only element.0 (inl element.1)) h element.2) element.1,
   λ h. only o (inl h),
 )
 
 -- an applied operation's causes were applied
-causes_there : (ops applied : List Op) → HaveSameElements ops applied → IsCausal id_of clock_of applied → HasCauses ops
-causes_there ops applied same causal op h cause c =
+has_causes : (ops applied : List Op) → HaveSameElements ops applied → IsCausal id_of clock_of applied → HasCauses ops
+has_causes ops applied same causal op h cause c =
     let s = split_at op applied ((same op).0 h) in
     let ripe = causal s.0 op s.1 s.2 in
-    let there : HasId id_of applied cause = subst (λ (os : List Op). HasId id_of os cause) (sym s.2) (id_in_front id_of cause s.0 (op ∷ s.1) (ripe.0 cause c)) in
-    let found = element_of_id id_of cause applied there in
-    subst (HasId id_of ops) found.2 (id_of_element id_of found.0 ops ((same found.0).1 found.1))
+    let has_id : HasId id_of applied cause = subst (λ (os : List Op). HasId id_of os cause) (sym s.2) (id_in_front id_of cause s.0 (op ∷ s.1) (ripe.0 cause c)) in
+    let element = element_of_id id_of cause applied has_id in
+    subst (HasId id_of ops) element.2 (id_of_element id_of element.0 ops ((same element.0).1 element.1))
 
 -- if all were applied, what follows is what the set defines
-pub expected_of : {S : Type 0} (one_set : (xs ys : List Op) → HaveSameElements xs ys → IdsDetermine id_of xs → MeansTheSame xs ys) {E : Type 0} (ops : List Op) (seen : ReceivedOps S Op) (clock : List (ℕ × ℕ)) (result : Result Expected E) → AreOrdered ops → HoldsOnly ops seen → IsClockOf id_of seen.applied clock → ((o : Op) → IsIn o ops → IsCause clock o.id) → IfOk result (IsExpectedOf seen.applied) → IfOk result (IsExpected ops)
-expected_of one_set ops seen clock (Err e) a only counts all h = tt
-expected_of one_set ops seen clock (Ok (Stuck place)) a only counts all h = absurd h
-expected_of one_set ops seen clock (Ok (Lines lines)) a only counts all h =
-    let same = all_applied ops seen clock a only counts all in (
-      causes_there ops seen.applied same h.1,
+pub expected_of : {S : Type 0} (one_set : (xs ys : List Op) → HaveSameElements xs ys → IdsDetermine id_of xs → MeansTheSame xs ys) {E : Type 0} (ops : List Op) (received : ReceivedOps S Op) (clock : List (ℕ × ℕ)) (result : Result Expected E) → AreOrdered ops → HasReceivedOnly ops received → IsClockOf id_of received.applied clock → ((o : Op) → IsIn o ops → IsCause clock o.id) → IfOk result (IsExpectedOf received.applied) → IfOk result (IsExpected ops)
+expected_of one_set ops received clock (Err e) a only counts all h = tt
+expected_of one_set ops received clock (Ok (WrongOp place)) a only counts all h = absurd h
+expected_of one_set ops received clock (Ok (Lines lines)) a only counts all h =
+    let same = all_applied ops received clock a only counts all in (
+      has_causes ops received.applied same h.1,
       λ o k. h.0 o ((same o).0 k),
-      h.2 ∙ ap (λ (t : List ℕ). t ++ (codes "end" ++ 10 ∷ [])) (sym (same_state ops seen.applied (one_set ops seen.applied same (ordered_determine ops a)))),
+      h.2 ∙ ap (λ (t : List ℕ). t ++ (codes "end" ++ 10 ∷ [])) (sym (same_state ops received.applied (one_set ops received.applied same (ordered_determine ops a)))),
     )

@@ -28,8 +28,8 @@ pub appends_none : (a : Option (List ℕ)) → Appends a a []
 appends_none None = tt
 appends_none (Some xs) = sym (append-nil xs)
 
-pub appends_kept : (a b c : Option (List ℕ)) (xs : List ℕ) → Appends a b xs → Keeps b c → Appends a c xs
-appends_kept a b c xs h k = subst (λ (zs : List ℕ). Appends a c zs) (append-nil xs) (appends_both a b c xs [] h (keeps_appends b c k))
+pub appends_keeps : (a b c : Option (List ℕ)) (xs : List ℕ) → Appends a b xs → Keeps b c → Appends a c xs
+appends_keeps a b c xs h k = subst (λ (zs : List ℕ). Appends a c zs) (append-nil xs) (appends_both a b c xs [] h (keeps_appends b c k))
 
 -- ---- lines of a text
 
@@ -44,7 +44,7 @@ pub advance_at_first : (front : List (List ℕ)) (audit : Audit) (text : List �
 advance_at_first front audit text s = record {
   done = [];
   lines = λ more. refl;
-  stands = subst (λ (ls : List (List ℕ)). HasTaken ls audit) (sym (append-nil front)) s;
+  has_taken = subst (λ (ls : List (List ℕ)). HasTaken ls audit) (sym (append-nil front)) s;
   fits = omega arith;
 }
 
@@ -59,18 +59,18 @@ module _ (front : List (List ℕ)) (old : Audit) (text : List ℕ) (mid : Audit)
       let n = cut_parts left line rest cut in
       let k = length-append (front ++ a.done) (line ∷ []) in
       let x : new.taken ≡ length ((front ++ a.done) ++ line ∷ []) = s.0 in
-      let y : mid.taken ≡ length (front ++ a.done) = a.stands.0 in
+      let y : mid.taken ≡ length (front ++ a.done) = a.has_taken.0 in
       let f = a.fits in
       record {
         done = a.done ++ line ∷ [];
         lines = λ more. lines_on more ∙ sym (append_assoc a.done (line ∷ []) (lines_of (rest ++ more)));
-        stands = subst (λ (ls : List (List ℕ)). HasTaken ls new) (append_assoc front a.done (line ∷ [])) s;
+        has_taken = subst (λ (ls : List (List ℕ)). HasTaken ls new) (append_assoc front a.done (line ∷ [])) s;
         fits = omega (arith, n, k, x, y, f);
       }
 
   -- the audit ends at that line
-  pub ends_there : (end : AuditEnd) → EndsAt (front ++ a.done) line end → EndsWithin front text end
-  ends_there end e more =
+  pub ends_within : (end : AuditEnd) → EndsAt (front ++ a.done) line end → EndsWithin front text end
+  ends_within end e more =
       subst (λ (ls : List (List ℕ)). Audits ls end)
       (append_assoc front a.done (line ∷ lines_of (rest ++ more)) ∙ ap (λ (ls : List (List ℕ)). front ++ ls) (sym (lines_on more)))
       (e (lines_of (rest ++ more)))
@@ -81,21 +81,21 @@ module _ (front : List (List ℕ)) (old : Audit) (text : List ℕ) (mid : Audit)
 
 -- ---- a reader's octets
 
--- How far an audit has come: the whole lines of what was read were taken, and the beginning of a
+-- The progress of an audit: the whole lines of what was read were taken, and the beginning of a
 -- line is left.
-pub record Came (start left : Option (List ℕ)) (audit : Audit) (text : List ℕ) : Type 0 where
+pub record HasRead (start left : Option (List ℕ)) (audit : Audit) (text : List ℕ) : Type 0 where
   pub read : List ℕ
   pub front : List (List ℕ)
   pub lines : (more : List ℕ) → lines_of (read ++ more) ≡ front ++ lines_of (text ++ more)
-  pub stands : HasTaken front audit
+  pub has_taken : HasTaken front audit
   pub known : (input : List ℕ) → start ≡ Some input → (rest : List ℕ) × (input ≡ read ++ rest) × (left ≡ Some rest)
 
-pub came_at_first : (start : Option (List ℕ)) (audit : Audit) (text : List ℕ) → HasTaken [] audit → text ≡ [] → Came start start audit text
-came_at_first start audit text s t = record {
+pub read_at_first : (start : Option (List ℕ)) (audit : Audit) (text : List ℕ) → HasTaken [] audit → text ≡ [] → HasRead start start audit text
+read_at_first start audit text s t = record {
   read = [];
   front = [];
   lines = λ more. ap (λ (zs : List ℕ). lines_of (zs ++ more)) (sym t);
-  stands = s;
+  has_taken = s;
   known = λ input e. (input, refl, e);
 }
 
@@ -107,52 +107,52 @@ consumes_known : (rest bs : List ℕ) (left : Option (List ℕ)) → Consumes (S
 consumes_known rest bs None k = absurd k
 consumes_known rest bs (Some more) k = (more, refl, k)
 
-module _ (start left : Option (List ℕ)) (audit : Audit) (text : List ℕ) (came : Came start left audit text) where
+module _ (start left : Option (List ℕ)) (audit : Audit) (text : List ℕ) (has_read : HasRead start left audit text) where
   -- a read that failed took nothing
-  pub came_kept : (left' : Option (List ℕ)) → Keeps left left' → Came start left' audit text
-  came_kept left' k = record {
-    read = came.read;
-    front = came.front;
-    lines = came.lines;
-    stands = came.stands;
-    known = λ input e. let q = came.known input e in (q.0, q.1, keeps_known q.0 left' (subst (λ (o : Option (List ℕ)). Keeps o left') q.2 k));
+  pub read_unchanged : (left' : Option (List ℕ)) → Keeps left left' → HasRead start left' audit text
+  read_unchanged left' k = record {
+    read = has_read.read;
+    front = has_read.front;
+    lines = has_read.lines;
+    has_taken = has_read.has_taken;
+    known = λ input e. let q = has_read.known input e in (q.0, q.1, keeps_known q.0 left' (subst (λ (o : Option (List ℕ)). Keeps o left') q.2 k));
   }
 
   -- octets that are read follow those read before
-  joined : (bs more : List ℕ) → lines_of ((came.read ++ bs) ++ more) ≡ came.front ++ lines_of ((text ++ bs) ++ more)
-  joined bs more = ap lines_of (append_assoc came.read bs more) ∙ came.lines (bs ++ more) ∙ ap (λ (zs : List ℕ). came.front ++ lines_of zs) (sym (append_assoc text bs more))
+  joined : (bs more : List ℕ) → lines_of ((has_read.read ++ bs) ++ more) ≡ has_read.front ++ lines_of ((text ++ bs) ++ more)
+  joined bs more = ap lines_of (append_assoc has_read.read bs more) ∙ has_read.lines (bs ++ more) ∙ ap (λ (zs : List ℕ). has_read.front ++ lines_of zs) (sym (append_assoc text bs more))
 
   -- the lines of the input after octets are read
-  behind : (bs : List ℕ) (left' : Option (List ℕ)) → Consumes left left' bs → (input : List ℕ) → start ≡ Some input → (more : List ℕ) × (left' ≡ Some more) × (input ≡ (came.read ++ bs) ++ more) × (lines_of input ≡ came.front ++ lines_of ((text ++ bs) ++ more))
-  behind bs left' k input e =
-      let q = came.known input e in
+  after : (bs : List ℕ) (left' : Option (List ℕ)) → Consumes left left' bs → (input : List ℕ) → start ≡ Some input → (more : List ℕ) × (left' ≡ Some more) × (input ≡ (has_read.read ++ bs) ++ more) × (lines_of input ≡ has_read.front ++ lines_of ((text ++ bs) ++ more))
+  after bs left' k input e =
+      let q = has_read.known input e in
       let p = consumes_known q.0 bs left' (subst (λ (o : Option (List ℕ)). Consumes o left' bs) q.2 k) in
-      let i : input ≡ (came.read ++ bs) ++ p.0 = q.1 ∙ ap (λ (zs : List ℕ). came.read ++ zs) p.2 ∙ sym (append_assoc came.read bs p.0) in
+      let i : input ≡ (has_read.read ++ bs) ++ p.0 = q.1 ∙ ap (λ (zs : List ℕ). has_read.read ++ zs) p.2 ∙ sym (append_assoc has_read.read bs p.0) in
       (p.0, p.1, i, ap lines_of i ∙ joined bs p.0)
 
   -- the lines of a piece that was read are taken
-  pub came_on : (bs : List ℕ) (left' : Option (List ℕ)) (audit' : Audit) (text' : List ℕ) → Consumes left left' bs → Advances came.front audit (text ++ bs) audit' text' → Came start left' audit' text'
-  came_on bs left' audit' text' k a = record {
-    read = came.read ++ bs;
-    front = came.front ++ a.done;
-    lines = λ more. joined bs more ∙ ap (λ (ls : List (List ℕ)). came.front ++ ls) (a.lines more) ∙ sym (append_assoc came.front a.done (lines_of (text' ++ more)));
-    stands = a.stands;
-    known = λ input e. let b = behind bs left' k input e in (b.0, b.2, b.1);
+  pub read_on : (bs : List ℕ) (left' : Option (List ℕ)) (audit' : Audit) (text' : List ℕ) → Consumes left left' bs → Advances has_read.front audit (text ++ bs) audit' text' → HasRead start left' audit' text'
+  read_on bs left' audit' text' k a = record {
+    read = has_read.read ++ bs;
+    front = has_read.front ++ a.done;
+    lines = λ more. joined bs more ∙ ap (λ (ls : List (List ℕ)). has_read.front ++ ls) (a.lines more) ∙ sym (append_assoc has_read.front a.done (lines_of (text' ++ more)));
+    has_taken = a.has_taken;
+    known = λ input e. let b = after bs left' k input e in (b.0, b.2, b.1);
   }
 
   -- the audit ends within a piece that was read
-  pub came_to_line : (bs : List ℕ) (left' : Option (List ℕ)) (end : AuditEnd) → Consumes left left' bs → EndsWithin came.front (text ++ bs) end → (input : List ℕ) → start ≡ Some input → Audits (lines_of input) end
-  came_to_line bs left' end k w input e =
-      let b = behind bs left' k input e in
+  pub read_to_line : (bs : List ℕ) (left' : Option (List ℕ)) (end : AuditEnd) → Consumes left left' bs → EndsWithin has_read.front (text ++ bs) end → (input : List ℕ) → start ≡ Some input → Audits (lines_of input) end
+  read_to_line bs left' end k w input e =
+      let b = after bs left' k input e in
       subst (λ (ls : List (List ℕ)). Audits ls end) (sym b.3) (w b.0)
 
   -- the input ends
-  pub came_to_end : (left' : Option (List ℕ)) (end : AuditEnd) → Consumes left left' [] → IsAtEnd left' → Audits (came.front ++ lines_of text) end → (input : List ℕ) → start ≡ Some input → Audits (lines_of input) end
-  came_to_end left' end k at w input e =
-      let b = behind [] left' k input e in
+  pub read_to_end : (left' : Option (List ℕ)) (end : AuditEnd) → Consumes left left' [] → IsAtEnd left' → Audits (has_read.front ++ lines_of text) end → (input : List ℕ) → start ≡ Some input → Audits (lines_of input) end
+  read_to_end left' end k at w input e =
+      let b = after [] left' k input e in
       let none : b.0 ≡ [] = subst (λ (o : Option (List ℕ)). IsAtEnd o) b.1 at in
       let t : (text ++ []) ++ b.0 ≡ text = ap (λ (zs : List ℕ). (text ++ []) ++ zs) none ∙ append-nil (text ++ []) ∙ append-nil text in
-      subst (λ (ls : List (List ℕ)). Audits ls end) (sym (b.3 ∙ ap (λ (zs : List ℕ). came.front ++ lines_of zs) t)) w
+      subst (λ (ls : List (List ℕ)). Audits ls end) (sym (b.3 ∙ ap (λ (zs : List ℕ). has_read.front ++ lines_of zs) t)) w
 
 -- ---- the last line
 

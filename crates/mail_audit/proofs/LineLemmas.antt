@@ -15,7 +15,7 @@ use Rattle.mail_audit.specs.Dumps.{dump_line}
 
 -- ---- the first line of a dump
 
-pub dump_of : (line digits : List ℕ) (found : Option ℕ) → line ≡ codes "dump " ++ digits → found ≡ replica_at digits → MatchOption found (IsDumpBegin line → ⊥) (λ replica. IsReplica replica × (line ≡ dump_line replica))
+pub dump_of : (line digits : List ℕ) (parsed : Option ℕ) → line ≡ codes "dump " ++ digits → parsed ≡ replica_at digits → MatchOption parsed (IsDumpBegin line → ⊥) (λ replica. IsReplica replica × (line ≡ dump_line replica))
 dump_of line digits None l e = λ d.
     let same : digits ≡ decimal d.0 = ap (λ (xs : List ℕ). drop 5 xs) (sym l ∙ d.2) in
     let k : ◌≡◌ {A = Option ℕ} None (Some d.0) = e ∙ ap replica_at same ∙ replica_again d.0 d.1 in
@@ -24,13 +24,13 @@ dump_of line digits (Some replica) l e = let t = replica_takes digits replica (s
 
 -- ---- a line of a transcript
 
-pub spoken_of : (line name said heard session octets : List ℕ) (speaker : Speaker) → Some (name, said) ≡ cut_at 32 line → session ≡ name → 32 ∷ said ≡ mark_of speaker ++ heard → heard ≡ escape_text Text octets → line ≡ spoken_line session speaker octets
-spoken_of line name said heard session octets speaker c n m e = cut_takes 32 line (name, said) (sym c) ∙ (λ i. sym n i ++ (m ∙ ap (λ (t : List ℕ). mark_of speaker ++ t) e) i)
+pub spoken_of : (line name sent audited session octets : List ℕ) (speaker : Speaker) → Some (name, sent) ≡ cut_at 32 line → session ≡ name → 32 ∷ sent ≡ mark_of speaker ++ audited → audited ≡ escape_text Text octets → line ≡ spoken_line session speaker octets
+spoken_of line name sent audited session octets speaker c n m e = cut_takes 32 line (name, sent) (sym c) ∙ (λ i. sym n i ++ (m ∙ ap (λ (t : List ℕ). mark_of speaker ++ t) e) i)
 
 -- it is cut after its session's name
-cut_spoken : (session : List ℕ) (speaker : Speaker) (text : List ℕ) → IsTrue (is_session_name session) → (said : List ℕ) × (cut_at 32 (spoken_line session speaker text) ≡ Some (session, said)) × (32 ∷ said ≡ mark_of speaker ++ escape_text Text text)
-cut_spoken session Client text n = let said = codes "C: " ++ escape_text Text text in (said, cut_again 32 session said (session_no_space session n), refl)
-cut_spoken session Server text n = let said = codes "S: " ++ escape_text Text text in (said, cut_again 32 session said (session_no_space session n), refl)
+cut_spoken : (session : List ℕ) (speaker : Speaker) (text : List ℕ) → IsTrue (is_session_name session) → (sent : List ℕ) × (cut_at 32 (spoken_line session speaker text) ≡ Some (session, sent)) × (32 ∷ sent ≡ mark_of speaker ++ escape_text Text text)
+cut_spoken session Client text n = let sent = codes "C: " ++ escape_text Text text in (sent, cut_again 32 session sent (session_no_space session n), refl)
+cut_spoken session Server text n = let sent = codes "S: " ++ escape_text Text text in (sent, cut_again 32 session sent (session_no_space session n), refl)
 
 pub not_cut : (line : List ℕ) → None ≡ cut_at 32 line → IsSpokenLine line → ⊥
 not_cut line e s =
@@ -45,21 +45,21 @@ same_text Client Server xs ys e = absurd (let k : 67 ≡ 83 = ap (λ (zs : List 
 same_text Server Client xs ys e = absurd (let k : 83 ≡ 67 = ap (λ (zs : List ℕ). get_or zs 1 0) e in omega (arith, k))
 same_text Server Server xs ys e = ap (λ (zs : List ℕ). drop 4 zs) e
 
-module _ (line name said : List ℕ) (cut : Some (name, said) ≡ cut_at 32 line) where
-  parts_of : (s : IsSpokenLine line) → (name ≡ s.0) × (32 ∷ said ≡ mark_of s.1 ++ escape_text Text s.2)
+module _ (line name sent : List ℕ) (cut : Some (name, sent) ≡ cut_at 32 line) where
+  parts_of : (s : IsSpokenLine line) → (name ≡ s.0) × (32 ∷ sent ≡ mark_of s.1 ++ escape_text Text s.2)
   parts_of s =
       let c = cut_spoken s.0 s.1 s.2 s.3 in
-      let k : ◌≡◌ {A = Option (List ℕ × List ℕ)} (Some (name, said)) (Some (s.0, c.0)) = cut ∙ ap (cut_at 32) s.5 ∙ c.1 in
-      let both : ◌≡◌ {A = List ℕ × List ℕ} (name, said) (s.0, c.0) = cc in
+      let k : ◌≡◌ {A = Option (List ℕ × List ℕ)} (Some (name, sent)) (Some (s.0, c.0)) = cut ∙ ap (cut_at 32) s.5 ∙ c.1 in
+      let both : ◌≡◌ {A = List ℕ × List ℕ} (name, sent) (s.0, c.0) = cc in
       (ap (λ (p : List ℕ × List ℕ). p.0) both, ap (λ (p : List ℕ × List ℕ). 32 ∷ p.1) both ∙ c.2)
 
   -- there is no speaker's mark
-  pub no_speech : ((speaker : Speaker) (text : List ℕ) → 32 ∷ said ≡ mark_of speaker ++ text → ⊥) → IsSpokenLine line → ⊥
+  pub no_speech : ((speaker : Speaker) (text : List ℕ) → 32 ∷ sent ≡ mark_of speaker ++ text → ⊥) → IsSpokenLine line → ⊥
   no_speech n s = n s.1 (escape_text Text s.2) (parts_of s).1
 
   -- the text isn't properly escaped
-  pub no_text : (speaker : Speaker) (heard : List ℕ) → 32 ∷ said ≡ mark_of speaker ++ heard → ((octets : List ℕ) → AreOctets octets → heard ≡ escape_text Text octets → ⊥) → IsSpokenLine line → ⊥
-  no_text speaker heard m n s = n s.2 s.4 (same_text speaker s.1 heard (escape_text Text s.2) (sym m ∙ (parts_of s).1))
+  pub no_text : (speaker : Speaker) (audited : List ℕ) → 32 ∷ sent ≡ mark_of speaker ++ audited → ((octets : List ℕ) → AreOctets octets → audited ≡ escape_text Text octets → ⊥) → IsSpokenLine line → ⊥
+  no_text speaker audited m n s = n s.2 s.4 (same_text speaker s.1 audited (escape_text Text s.2) (sym m ∙ (parts_of s).1))
 
   -- no session has the name
   pub no_name : (IsTrue (is_session_name name) → ⊥) → IsSpokenLine line → ⊥

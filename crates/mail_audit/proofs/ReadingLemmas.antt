@@ -16,7 +16,7 @@ use Rattle.tags_clocks.specs.declared.id.OpId.{OpId}
 use Rattle.text_fields.proofs.FieldLemmas.{bound, cut_again, decimal_lacks, id_again, id_lacks, number_again, replica_again}
 use Rattle.text_fields.specs.FieldReading.{◌>>=◌, cut_at, id_at, number_at, replica_at}
 use Rattle.mail_audit.specs.ResultReading.{agreed_at, applied_at, counted_at, counted_by, delivered_at, drained_at, fields_at, forged_at, join_result_at, join_result_by, joined_at, joined_plainly_at, outcome_at, plain_at, replicas_at, result_at, result_by, settle_result_at, settle_result_by, settled_at, settled_plainly_at, unsound_at, valued_at}
-use Rattle.mail_audit.specs.Results.{IsCount, IsDeliveryResult, IsJoinResult, IsPassedOver, IsResult, IsSettleResult}
+use Rattle.mail_audit.specs.Results.{IsCount, IsDeliveryResult, IsJoinResult, IsReportable, IsResult, IsSettleResult}
 use Rattle.mail_audit.specs.declared.results.AppliedCount.{AppliedCount}
 
 -- The text of an outcome is read as that outcome.
@@ -48,32 +48,32 @@ result_again Exhausted h = refl
 result_again NoMemoryForIt h = refl
 
 -- an id, a replica and a result, with the separators between them
-to_parts : (id : OpId) (r : ℕ) (told : List ℕ) → (id_text id ++ (32 ∷ (decimal r ++ codes ": "))) ++ told ≡ id_text id ++ 32 ∷ (decimal r ++ 58 ∷ 32 ∷ told)
-to_parts id r told = append_assoc (id_text id) (32 ∷ (decimal r ++ codes ": ")) told ∙ ap (λ (xs : List ℕ). id_text id ++ 32 ∷ xs) (append_assoc (decimal r) (codes ": ") told)
+to_parts : (id : OpId) (r : ℕ) (reported : List ℕ) → (id_text id ++ (32 ∷ (decimal r ++ codes ": "))) ++ reported ≡ id_text id ++ 32 ∷ (decimal r ++ 58 ∷ 32 ∷ reported)
+to_parts id r reported = append_assoc (id_text id) (32 ∷ (decimal r ++ codes ": ")) reported ∙ ap (λ (xs : List ℕ). id_text id ++ 32 ∷ xs) (append_assoc (decimal r) (codes ": ") reported)
 
 delivered_again : (id : OpId) (r : ℕ) (result : DeliveryResult) → IsId id → IsReplica r → IsDeliveryResult result → delivered_at ((id_text id ++ (32 ∷ (decimal r ++ codes ": "))) ++ result_text result) ≡ Some (Delivered id r result)
 unfolding delivered_at
 delivered_again id r result i s h =
-    let told = result_text result in
-    let tail = decimal r ++ 58 ∷ 32 ∷ told in
-    ap delivered_at (to_parts id r told)
+    let reported = result_text result in
+    let tail = decimal r ++ 58 ∷ 32 ∷ reported in
+    ap delivered_at (to_parts id r reported)
     ∙ bound (cut_at 32 (id_text id ++ 32 ∷ tail)) _ (id_text id, tail) (cut_again 32 (id_text id) tail (id_lacks 32 id refl refl i))
-    ∙ bound (cut_at 58 tail) _ (decimal r, 32 ∷ told) (cut_again 58 (decimal r) (32 ∷ told) (decimal_lacks 58 r refl (omega (arith, s.1))))
+    ∙ bound (cut_at 58 tail) _ (decimal r, 32 ∷ reported) (cut_again 58 (decimal r) (32 ∷ reported) (decimal_lacks 58 r refl (omega (arith, s.1))))
     ∙ bound (id_at (id_text id)) _ id (id_again id i)
     ∙ bound (replica_at (decimal r)) _ r (replica_again r s)
-    ∙ bound (result_at told) _ result (result_again result h)
+    ∙ bound (result_at reported) _ result (result_again result h)
 
 forged_again : (id : OpId) (r : ℕ) (result : DeliveryResult) → IsId id → IsReplica r → IsDeliveryResult result → forged_at ((id_text id ++ (32 ∷ (decimal r ++ codes ": "))) ++ result_text result) ≡ Some (Forged id r result)
 unfolding forged_at
 forged_again id r result i s h =
-    let told = result_text result in
-    let tail = decimal r ++ 58 ∷ 32 ∷ told in
-    ap forged_at (to_parts id r told)
+    let reported = result_text result in
+    let tail = decimal r ++ 58 ∷ 32 ∷ reported in
+    ap forged_at (to_parts id r reported)
     ∙ bound (cut_at 32 (id_text id ++ 32 ∷ tail)) _ (id_text id, tail) (cut_again 32 (id_text id) tail (id_lacks 32 id refl refl i))
-    ∙ bound (cut_at 58 tail) _ (decimal r, 32 ∷ told) (cut_again 58 (decimal r) (32 ∷ told) (decimal_lacks 58 r refl (omega (arith, s.1))))
+    ∙ bound (cut_at 58 tail) _ (decimal r, 32 ∷ reported) (cut_again 58 (decimal r) (32 ∷ reported) (decimal_lacks 58 r refl (omega (arith, s.1))))
     ∙ bound (id_at (id_text id)) _ id (id_again id i)
     ∙ bound (replica_at (decimal r)) _ r (replica_again r s)
-    ∙ bound (result_at told) _ result (result_again result h)
+    ∙ bound (result_at reported) _ result (result_again result h)
 
 drained_by : (r : ℕ) (value : List ℕ) (c : AppliedCount) → IsReplica r → counted_at value ≡ Some c → drained_at (decimal r ++ (codes ": " ++ (codes "Applied " ++ value))) ≡ Some (Drained r c.count c.stalled)
 unfolding drained_at
@@ -90,11 +90,11 @@ settled_again ExhaustedInIt h = refl
 settled_again NoMemoryToSettle h = refl
 
 -- two replicas and a result, with the separators between them
-pair_parts : (r s : ℕ) (told : List ℕ) → (decimal r ++ (32 ∷ (decimal s ++ codes ": "))) ++ told ≡ decimal r ++ 32 ∷ (decimal s ++ 58 ∷ 32 ∷ told)
-pair_parts r s told = append_assoc (decimal r) (32 ∷ (decimal s ++ codes ": ")) told ∙ ap (λ (xs : List ℕ). decimal r ++ 32 ∷ xs) (append_assoc (decimal s) (codes ": ") told)
+pair_parts : (r s : ℕ) (reported : List ℕ) → (decimal r ++ (32 ∷ (decimal s ++ codes ": "))) ++ reported ≡ decimal r ++ 32 ∷ (decimal s ++ 58 ∷ 32 ∷ reported)
+pair_parts r s reported = append_assoc (decimal r) (32 ∷ (decimal s ++ codes ": ")) reported ∙ ap (λ (xs : List ℕ). decimal r ++ 32 ∷ xs) (append_assoc (decimal s) (codes ": ") reported)
 
-agreed_by : (r s : ℕ) (told : List ℕ) → agreed_at ((decimal r ++ (32 ∷ (decimal s ++ codes ": "))) ++ told) ≡ agreed_at (decimal r ++ 32 ∷ (decimal s ++ 58 ∷ 32 ∷ told))
-agreed_by r s told = ap agreed_at (pair_parts r s told)
+agreed_by : (r s : ℕ) (reported : List ℕ) → agreed_at ((decimal r ++ (32 ∷ (decimal s ++ codes ": "))) ++ reported) ≡ agreed_at (decimal r ++ 32 ∷ (decimal s ++ 58 ∷ 32 ∷ reported))
+agreed_by r s reported = ap agreed_at (pair_parts r s reported)
 
 agreed_yes : (r s : ℕ) → IsReplica r → IsReplica s → agreed_at (decimal r ++ 32 ∷ (decimal s ++ 58 ∷ 32 ∷ codes "yes")) ≡ Some (Agreed r s true)
 unfolding agreed_at
@@ -122,16 +122,16 @@ join_result_again NoMemoryToJoin h = refl
 joined_again : (r s : ℕ) (result : JoinResult) → IsReplica r → IsReplica s → IsJoinResult result → joined_at ((decimal r ++ (32 ∷ (decimal s ++ codes ": "))) ++ join_text result) ≡ Some (Joined r s result)
 unfolding joined_at
 joined_again r s result i j h =
-    let told = join_text result in
-    let tail = decimal s ++ 58 ∷ 32 ∷ told in
-    ap joined_at (pair_parts r s told)
+    let reported = join_text result in
+    let tail = decimal s ++ 58 ∷ 32 ∷ reported in
+    ap joined_at (pair_parts r s reported)
     ∙ bound (cut_at 32 (decimal r ++ 32 ∷ tail)) _ (decimal r, tail) (cut_again 32 (decimal r) tail (decimal_lacks 32 r refl (omega (arith, i.1))))
-    ∙ bound (cut_at 58 tail) _ (decimal s, 32 ∷ told) (cut_again 58 (decimal s) (32 ∷ told) (decimal_lacks 58 s refl (omega (arith, j.1))))
+    ∙ bound (cut_at 58 tail) _ (decimal s, 32 ∷ reported) (cut_again 58 (decimal s) (32 ∷ reported) (decimal_lacks 58 s refl (omega (arith, j.1))))
     ∙ bound (replica_at (decimal r)) _ r (replica_again r i)
     ∙ bound (replica_at (decimal s)) _ s (replica_again s j)
-    ∙ bound (join_result_at told) _ result (join_result_again result h)
+    ∙ bound (join_result_at reported) _ result (join_result_again result h)
 
-pub outcome_again : (told : OutcomeLine) → IsPassedOver told → outcome_at (outcome_text told) ≡ Some told
+pub outcome_again : (reported : OutcomeLine) → IsReportable reported → outcome_at (outcome_text reported) ≡ Some reported
 unfolding outcome_at fields_at replicas_at unsound_at
 outcome_again (Delivered id r result) h = delivered_again id r result h.0 h.1 h.2
 outcome_again (Forged id r result) h = forged_again id r result h.0 h.1 h.2
@@ -152,13 +152,13 @@ outcome_again CannotRead h = absurd h
 outcome_again NoMemory h = absurd h
 
 -- if a line is read as an outcome, it reports a result exactly if it is that outcome's text
-pub result_where : {E : Type 0} (line : List ℕ) (told : OutcomeLine) (result : Result Bool E) → Some told ≡ outcome_at line → IsPassedOver told → IfOk result (λ tells. IsTrue tells ↔ (line ≡ outcome_text told)) → IfOk result (λ tells. IsTrue tells ↔ IsResult line)
-result_where line told (Err e) s p h = tt
-result_where line told (Ok tells) s p h = (
-  λ t. (told, p, h.0 t),
+pub result_if : {E : Type 0} (line : List ℕ) (reported : OutcomeLine) (result : Result Bool E) → Some reported ≡ outcome_at line → IsReportable reported → IfOk result (λ matches. IsTrue matches ↔ (line ≡ outcome_text reported)) → IfOk result (λ matches. IsTrue matches ↔ IsResult line)
+result_if line reported (Err e) s p h = tt
+result_if line reported (Ok matches) s p h = (
+  λ t. (reported, p, h.0 t),
   λ r.
-      let both : ◌≡◌ {A = Option OutcomeLine} (Some told) (Some r.0) = s ∙ ap outcome_at r.2 ∙ outcome_again r.0 r.1 in
-      let same : told ≡ r.0 = cc in
+      let both : ◌≡◌ {A = Option OutcomeLine} (Some reported) (Some r.0) = s ∙ ap outcome_at r.2 ∙ outcome_again r.0 r.1 in
+      let same : reported ≡ r.0 = cc in
       h.1 (r.2 ∙ ap outcome_text (sym same)),
 )
 

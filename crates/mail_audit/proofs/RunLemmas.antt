@@ -1,7 +1,7 @@
 use Rattle.std.proofs.Common.{◌≡◌, ℕ, zero, suc, ◌+◌, ◌-◌, ◌<◌, ◌≤◌, List, [], ◌∷◌, ◌++◌, length, get_or, take, drop, refl, ap, ◌∙◌, arith, append_assoc}
 use Rattle.std.proofs.Math.Seq.{drop-append-add, take-append-add}
-use Rattle.mail_audit.specs.Explained.{without}
-use Rattle.mail_audit.specs.Passing.{numbers_upward}
+use Rattle.mail_audit.specs.Explanations.{without}
+use Rattle.mail_audit.specs.EventPasses.{numbers_upward}
 
 pub length_upward : (from m : ℕ) → length (numbers_upward from m) ≡ m
 length_upward from zero = refl
@@ -29,14 +29,14 @@ get_upward from n zero ys l = absurd (omega (arith, l))
 get_upward from zero (suc m) ys l = let e : from ≡ from + zero = omega arith in e
 get_upward from (suc n) (suc m) ys l = get_upward (suc from) n m ys (omega (arith, l)) ∙ (let e : suc from + n ≡ from + suc n = omega arith in e)
 
-pub get_behind : (n : ℕ) (xs ys : List ℕ) → length xs ≤ n → get_or (xs ++ ys) n 0 ≡ get_or ys (n - length xs) 0
-get_behind n [] ys l = ap (λ (i : ℕ). get_or ys i 0) (let e : n ≡ n - zero = omega arith in e)
-get_behind zero (x ∷ xs) ys l = absurd (omega (arith, l))
-get_behind (suc n) (x ∷ xs) ys l = get_behind n xs ys (omega (arith, l)) ∙ ap (λ (i : ℕ). get_or ys i 0) (let e : n - length xs ≡ suc n - suc (length xs) = omega arith in e)
+pub get_after : (n : ℕ) (xs ys : List ℕ) → length xs ≤ n → get_or (xs ++ ys) n 0 ≡ get_or ys (n - length xs) 0
+get_after n [] ys l = ap (λ (i : ℕ). get_or ys i 0) (let e : n ≡ n - zero = omega arith in e)
+get_after zero (x ∷ xs) ys l = absurd (omega (arith, l))
+get_after (suc n) (x ∷ xs) ys l = get_after n xs ys (omega (arith, l)) ∙ ap (λ (i : ℕ). get_or ys i 0) (let e : n - length xs ≡ suc n - suc (length xs) = omega arith in e)
 
 -- without an element after the first part
-pub without_behind : (k : ℕ) (xs ys : List ℕ) → length xs < k → without k (xs ++ ys) ≡ xs ++ without (k - length xs) ys
-without_behind k xs ys l =
+pub without_after : (k : ℕ) (xs ys : List ℕ) → length xs < k → without k (xs ++ ys) ≡ xs ++ without (k - length xs) ys
+without_after k xs ys l =
     let n = k - length xs in
     let e : k - 1 ≡ length xs + (n - 1) = omega (arith, l) in
     let f : k ≡ length xs + n = omega (arith, l) in

@@ -2,19 +2,19 @@ use Rattle.std.proofs.Common.{◌≡◌, ◌↔◌, ℕ, ◌+◌, ◌-◌, ◌<�
 use Rattle.std.specs.Prelude.{nat_eq}
 use Rattle.std.specs.List.{insert}
 use Rattle.std.proofs.lemmas.Bool.Decides.{nat_tests}
-use Rattle.mail_audit.specs.Explained.{IsNumberOf, without}
+use Rattle.mail_audit.specs.Explanations.{IsNumberOf, without}
 use Rattle.mail_audit.specs.Gaps.{FitsAt, HasRoomFor, IsUidKnown, IsUidUnknown}
 use Rattle.mail_audit.specs.KnownUids.{AreKnownUids, places_from, slots_from}
-use Rattle.mail_audit.specs.Passing.{HasRoomAbove, MayBeUid, numbers_upward}
+use Rattle.mail_audit.specs.EventPasses.{HasRoomAbove, MayBeUid, numbers_upward}
 use Rattle.mail_audit.specs.SlotSteps.{SlotKnowledge, with_more}
 use Rattle.mail_audit.specs.declared.slots.KnownUid.{KnownUid}
-use Rattle.mail_audit.proofs.GoneLemmas.{AreBefore, gone_more, gone_with, place_behind, place_came, places_more as there_more, places_without}
-use Rattle.mail_audit.proofs.Stepping.{room_in_gaps}
-use Rattle.mail_audit.proofs.ToldLemmas.{gaps_for, gaps_low, gaps_with, length_slots, places_more, places_with, set_told, set_untold, slot_told, slot_untold, slots_more}
+use Rattle.mail_audit.proofs.ExpungedLemmas.{AreBefore, expunged_more, expunged_with, place_after, place_below_total, places_more as live_more, places_without}
+use Rattle.mail_audit.proofs.SlotStepLemmas.{room_in_gaps}
+use Rattle.mail_audit.proofs.KnownUidLemmas.{gaps_for, gaps_low, gaps_with, length_slots, places_more, places_with, set_known, set_unknown, slot_known, slot_unknown, slots_more}
 
 -- what is known, from what is stored
 abbrev pub known_by : List ℕ → List KnownUid → ℕ → SlotKnowledge
-known_by gone tolds came = record { there = places_from 0 gone came; slots = slots_from 0 tolds came }
+known_by expunged entries total = record { live = places_from 0 expunged total; slots = slots_from 0 entries total }
 
 -- a test's answer, by what it tests
 pub iff_at : (b d : Bool) {P Q : Type 0} → b ≡ d → (IsTrue b ↔ P) → (P ↔ Q) → IsTrue d ↔ Q
@@ -32,71 +32,71 @@ iff_true q = (λ t. q, λ x. search rules)
 pub iff_false : {Q : Type 0} → (Q → ⊥) → IsTrue false ↔ Q
 iff_false n = (λ t. absurd (search rules), λ q. absurd (n q))
 
-pub few : (gone : List ℕ) (tolds : List KnownUid) (came : ℕ) → AreKnownUids gone tolds came → came ≤ 4294967295
-few gone tolds came k = let l = gaps_low 0 0 tolds came k.places_ascend k.gaps in omega (arith, l)
+pub few : (expunged : List ℕ) (entries : List KnownUid) (total : ℕ) → AreKnownUids expunged entries total → total ≤ 4294967295
+few expunged entries total k = let l = gaps_low 0 0 entries total k.places_ascend k.gaps in omega (arith, l)
 
-pub slots_count : (gone : List ℕ) (tolds : List KnownUid) (came : ℕ) → AreKnownUids gone tolds came → length (slots_from 0 tolds came) ≡ came
-slots_count gone tolds came k = let l = length_slots 0 tolds came k.places_ascend in omega (arith, l)
+pub slots_count : (expunged : List ℕ) (entries : List KnownUid) (total : ℕ) → AreKnownUids expunged entries total → length (slots_from 0 entries total) ≡ total
+slots_count expunged entries total k = let l = length_slots 0 entries total k.places_ascend in omega (arith, l)
 
 -- ---- further messages
 
-pub add_fits : (gone : List ℕ) (tolds : List KnownUid) (came m : ℕ) → AreKnownUids gone tolds came → HasRoomFor 0 0 tolds (came + m) ↔ HasRoomAbove 0 (with_more (known_by gone tolds came) m).slots
-add_fits gone tolds came m k =
-    let e = slots_more 0 tolds came m k.places_ascend in
-    let r = room_in_gaps 0 0 tolds (came + m) (omega arith) in
-    let g = gaps_for 0 0 tolds came (came + m) k.gaps in
+pub add_fits : (expunged : List ℕ) (entries : List KnownUid) (total m : ℕ) → AreKnownUids expunged entries total → HasRoomFor 0 0 entries (total + m) ↔ HasRoomAbove 0 (with_more (known_by expunged entries total) m).slots
+add_fits expunged entries total m k =
+    let e = slots_more 0 entries total m k.places_ascend in
+    let r = room_in_gaps 0 0 entries (total + m) (omega arith) in
+    let g = gaps_for 0 0 entries total (total + m) k.gaps in
     (λ h. subst (HasRoomAbove 0) (sym e) (r.1 (g.1 h)), λ h. g.0 (r.0 (subst (HasRoomAbove 0) e h)))
 
-pub add_none : (gone : List ℕ) (tolds : List KnownUid) (came m : ℕ) → AreKnownUids gone tolds came → 4294967296 ≤ came + m → HasRoomAbove 0 (with_more (known_by gone tolds came) m).slots → ⊥
-add_none gone tolds came m k big h =
-    let e = slots_more 0 tolds came m k.places_ascend in
-    let r = (room_in_gaps 0 0 tolds (came + m) (omega arith)).0 (subst (HasRoomAbove 0) e h) in
-    let l = gaps_low 0 0 tolds (came + m) (places_more 0 tolds came m k.places_ascend) r in
+pub add_none : (expunged : List ℕ) (entries : List KnownUid) (total m : ℕ) → AreKnownUids expunged entries total → 4294967296 ≤ total + m → HasRoomAbove 0 (with_more (known_by expunged entries total) m).slots → ⊥
+add_none expunged entries total m k big h =
+    let e = slots_more 0 entries total m k.places_ascend in
+    let r = (room_in_gaps 0 0 entries (total + m) (omega arith)).0 (subst (HasRoomAbove 0) e h) in
+    let l = gaps_low 0 0 entries (total + m) (places_more 0 entries total m k.places_ascend) r in
     omega (arith, l, big)
 
-pub add_kept : (gone : List ℕ) (tolds : List KnownUid) (came m : ℕ) → AreKnownUids gone tolds came → HasRoomFor 0 0 tolds (came + m) → AreKnownUids gone tolds (came + m)
-add_kept gone tolds came m k h = record {
-  gone_ascend = gone_more 0 gone came m k.gone_ascend;
-  places_ascend = places_more 0 tolds came m k.places_ascend;
-  gaps = (gaps_for 0 0 tolds came (came + m) k.gaps).1 h;
+pub add_invariant : (expunged : List ℕ) (entries : List KnownUid) (total m : ℕ) → AreKnownUids expunged entries total → HasRoomFor 0 0 entries (total + m) → AreKnownUids expunged entries (total + m)
+add_invariant expunged entries total m k h = record {
+  expunged_ascend = expunged_more 0 expunged total m k.expunged_ascend;
+  places_ascend = places_more 0 entries total m k.places_ascend;
+  gaps = (gaps_for 0 0 entries total (total + m) k.gaps).1 h;
 }
 
-pub add_next : (gone : List ℕ) (tolds : List KnownUid) (came m : ℕ) → AreKnownUids gone tolds came → known_by gone tolds (came + m) ≡ with_more (known_by gone tolds came) m
-add_next gone tolds came m k =
-    let n = slots_count gone tolds came k in
-    let t = sym (there_more 0 gone came m k.gone_ascend) ∙ ap (λ (c : ℕ). places_from 0 gone came ++ numbers_upward c m) (sym n) in
-    let s = sym (slots_more 0 tolds came m k.places_ascend) in
-    λ i. record { there = t i; slots = s i }
+pub add_next : (expunged : List ℕ) (entries : List KnownUid) (total m : ℕ) → AreKnownUids expunged entries total → known_by expunged entries (total + m) ≡ with_more (known_by expunged entries total) m
+add_next expunged entries total m k =
+    let n = slots_count expunged entries total k in
+    let t = sym (live_more 0 expunged total m k.expunged_ascend) ∙ ap (λ (c : ℕ). places_from 0 expunged total ++ numbers_upward c m) (sym n) in
+    let s = sym (slots_more 0 entries total m k.places_ascend) in
+    λ i. record { live = t i; slots = s i }
 
 -- ---- an expunged message
 
-before_of : (k at : ℕ) (gone : List ℕ) → ((i : ℕ) → i < at → get_or gone i 0 ≤ k + i) → ((i : ℕ) → at ≤ i → i < length gone → k + i < get_or gone i 0) → AreBefore 0 k at gone
-before_of k at gone f b = (λ i l. let r = f i l in omega (arith, r), λ i l m. let r = b i l m in omega (arith, r))
+before_of : (k at : ℕ) (expunged : List ℕ) → ((i : ℕ) → i < at → get_or expunged i 0 ≤ k + i) → ((i : ℕ) → at ≤ i → i < length expunged → k + i < get_or expunged i 0) → AreBefore 0 k at expunged
+before_of k at expunged f b = (λ i l. let r = f i l in omega (arith, r), λ i l m. let r = b i l m in omega (arith, r))
 
-module _ (gone : List ℕ) (tolds : List KnownUid) (came n at : ℕ) (k : AreKnownUids gone tolds came) (number : IsNumberOf n (places_from 0 gone came)) (within : at ≤ length gone) (front : (i : ℕ) → i < at → get_or gone i 0 ≤ n - 1 + i) (behind : (i : ℕ) → at ≤ i → i < length gone → n - 1 + i < get_or gone i 0) where
-  inside : n - 1 < length (places_from 0 gone came)
+module _ (expunged : List ℕ) (entries : List KnownUid) (total n at : ℕ) (k : AreKnownUids expunged entries total) (number : IsNumberOf n (places_from 0 expunged total)) (within : at ≤ length expunged) (front : (i : ℕ) → i < at → get_or expunged i 0 ≤ n - 1 + i) (back : (i : ℕ) → at ≤ i → i < length expunged → n - 1 + i < get_or expunged i 0) where
+  inside : n - 1 < length (places_from 0 expunged total)
   inside = omega (arith, number.0, number.1)
 
-  pub out_place : n - 1 + at ≡ get_or (places_from 0 gone came) (n - 1) 0
-  out_place = let p = place_behind 0 (n - 1) at gone came k.gone_ascend within (before_of (n - 1) at gone front behind) inside in omega (arith, p)
+  pub out_place : n - 1 + at ≡ get_or (places_from 0 expunged total) (n - 1) 0
+  out_place = let p = place_after 0 (n - 1) at expunged total k.expunged_ascend within (before_of (n - 1) at expunged front back) inside in omega (arith, p)
 
-  pub out_came : n - 1 + at < came
-  out_came = let p = place_came 0 (n - 1) at gone came k.gone_ascend within (before_of (n - 1) at gone front behind) inside in omega (arith, p)
+  pub out_below_total : n - 1 + at < total
+  out_below_total = let p = place_below_total 0 (n - 1) at expunged total k.expunged_ascend within (before_of (n - 1) at expunged front back) inside in omega (arith, p)
 
   pub out_small : n - 1 + at < 4294967296
-  out_small = let p = out_came in let f = few gone tolds came k in omega (arith, p, f)
+  out_small = let p = out_below_total in let f = few expunged entries total k in omega (arith, p, f)
 
-  pub out_kept : AreKnownUids (insert gone at (n - 1 + at)) tolds came
-  out_kept = record {
-    gone_ascend = gone_with 0 (n - 1) at (n - 1 + at) gone came (omega arith) k.gone_ascend within (before_of (n - 1) at gone front behind) inside;
+  pub out_invariant : AreKnownUids (insert expunged at (n - 1 + at)) entries total
+  out_invariant = record {
+    expunged_ascend = expunged_with 0 (n - 1) at (n - 1 + at) expunged total (omega arith) k.expunged_ascend within (before_of (n - 1) at expunged front back) inside;
     places_ascend = k.places_ascend;
     gaps = k.gaps;
   }
 
-  pub out_next : known_by (insert gone at (n - 1 + at)) tolds came ≡ record (known_by gone tolds came) { there = without n (places_from 0 gone came) }
+  pub out_next : known_by (insert expunged at (n - 1 + at)) entries total ≡ record (known_by expunged entries total) { live = without n (places_from 0 expunged total) }
   out_next =
-      let p = places_without 0 n at (n - 1 + at) gone came (omega arith) number.0 k.gone_ascend within (before_of (n - 1) at gone front behind) number.1 in
-      λ i. record { there = p i; slots = slots_from 0 tolds came }
+      let p = places_without 0 n at (n - 1 + at) expunged total (omega arith) number.0 k.expunged_ascend within (before_of (n - 1) at expunged front back) number.1 in
+      λ i. record { live = p i; slots = slots_from 0 entries total }
 
 -- ---- a message whose UID is reported
 
@@ -106,51 +106,51 @@ same_number a b h = grind (arith, nat_tests)
 pub same_test : (a b : ℕ) → IsTrue (nat_eq a b) ↔ (a ≡ b)
 same_test a b = (λ t. search (rules, same_number), λ e. search rules)
 
-module _ (gone : List ℕ) (tolds : List KnownUid) (came at place uid : ℕ) (k : AreKnownUids gone tolds came) where
+module _ (expunged : List ℕ) (entries : List KnownUid) (total at place uid : ℕ) (k : AreKnownUids expunged entries total) where
   from_start : place - 0 ≡ place
   from_start = omega arith
 
-  room_now : HasRoomAbove 0 (slots_from 0 tolds came)
-  room_now = (room_in_gaps 0 0 tolds came (omega arith)).1 k.gaps
+  room_now : HasRoomAbove 0 (slots_from 0 entries total)
+  room_now = (room_in_gaps 0 0 entries total (omega arith)).1 k.gaps
 
-  pub tell_again : (known : ℕ) → IsUidKnown at place known tolds → (known ≡ uid) ↔ (MayBeUid (get_or (slots_from 0 tolds came) place None) uid × HasRoomAbove 0 (set (slots_from 0 tolds came) place (Some uid)))
-  tell_again known h =
-      let g : get_or (slots_from 0 tolds came) place None ≡ Some known = ap (λ (i : ℕ). get_or (slots_from 0 tolds came) i None) (sym from_start) ∙ slot_told 0 at place known tolds came k.places_ascend (omega arith) h in (
+  pub record_again : (known : ℕ) → IsUidKnown at place known entries → (known ≡ uid) ↔ (MayBeUid (get_or (slots_from 0 entries total) place None) uid × HasRoomAbove 0 (set (slots_from 0 entries total) place (Some uid)))
+  record_again known h =
+      let g : get_or (slots_from 0 entries total) place None ≡ Some known = ap (λ (i : ℕ). get_or (slots_from 0 entries total) i None) (sym from_start) ∙ slot_known 0 at place known entries total k.places_ascend (omega arith) h in (
         λ e.
-            let s : set (slots_from 0 tolds came) place (Some uid) ≡ slots_from 0 tolds came =
-            ap (λ (i : ℕ). set (slots_from 0 tolds came) i (Some uid)) (sym from_start) ∙ set_told 0 at place uid tolds came k.places_ascend (omega arith) (subst (λ (u : ℕ). IsUidKnown at place u tolds) e h) in
+            let s : set (slots_from 0 entries total) place (Some uid) ≡ slots_from 0 entries total =
+            ap (λ (i : ℕ). set (slots_from 0 entries total) i (Some uid)) (sym from_start) ∙ set_known 0 at place uid entries total k.places_ascend (omega arith) (subst (λ (u : ℕ). IsUidKnown at place u entries) e h) in
             (subst (λ (o : Option ℕ). MayBeUid o uid) (sym g) (sym e), subst (HasRoomAbove 0) (sym s) room_now),
         λ m. sym (subst (λ (o : Option ℕ). MayBeUid o uid) g m.0),
       )
 
-  pub tell_again_next : (known : ℕ) → IsUidKnown at place known tolds → known ≡ uid → known_by gone tolds came ≡ record (known_by gone tolds came) { slots = set (slots_from 0 tolds came) place (Some uid) }
-  tell_again_next known h e =
-      let s : set (slots_from 0 tolds came) place (Some uid) ≡ slots_from 0 tolds came =
-      ap (λ (i : ℕ). set (slots_from 0 tolds came) i (Some uid)) (sym from_start) ∙ set_told 0 at place uid tolds came k.places_ascend (omega arith) (subst (λ (u : ℕ). IsUidKnown at place u tolds) e h) in
-      λ i. record { there = places_from 0 gone came; slots = sym s i }
+  pub record_again_next : (known : ℕ) → IsUidKnown at place known entries → known ≡ uid → known_by expunged entries total ≡ record (known_by expunged entries total) { slots = set (slots_from 0 entries total) place (Some uid) }
+  record_again_next known h e =
+      let s : set (slots_from 0 entries total) place (Some uid) ≡ slots_from 0 entries total =
+      ap (λ (i : ℕ). set (slots_from 0 entries total) i (Some uid)) (sym from_start) ∙ set_known 0 at place uid entries total k.places_ascend (omega arith) (subst (λ (u : ℕ). IsUidKnown at place u entries) e h) in
+      λ i. record { live = places_from 0 expunged total; slots = sym s i }
 
-  module _ (untold : IsUidUnknown at place tolds) (small : uid ≤ 4294967295) (inside : place < came) where
+  module _ (unknown : IsUidUnknown at place entries) (small : uid ≤ 4294967295) (inside : place < total) where
     abbrev pub now : KnownUid
     now = record { place = place; uid = uid }
 
-    slots_then : set (slots_from 0 tolds came) place (Some uid) ≡ slots_from 0 (insert tolds at now) came
-    slots_then = ap (λ (i : ℕ). set (slots_from 0 tolds came) i (Some uid)) (sym from_start) ∙ set_untold 0 at now tolds came k.places_ascend (omega arith) inside untold
+    slots_then : set (slots_from 0 entries total) place (Some uid) ≡ slots_from 0 (insert entries at now) total
+    slots_then = ap (λ (i : ℕ). set (slots_from 0 entries total) i (Some uid)) (sym from_start) ∙ set_unknown 0 at now entries total k.places_ascend (omega arith) inside unknown
 
-    pub tell_first : FitsAt 0 0 at tolds now came ↔ (MayBeUid (get_or (slots_from 0 tolds came) place None) uid × HasRoomAbove 0 (set (slots_from 0 tolds came) place (Some uid)))
-    tell_first =
-        let g : get_or (slots_from 0 tolds came) place None ≡ None = ap (λ (i : ℕ). get_or (slots_from 0 tolds came) i None) (sym from_start) ∙ slot_untold 0 at place tolds came k.places_ascend (omega arith) untold in
-        let r = room_in_gaps 0 0 (insert tolds at now) came (omega arith) in
-        let w = gaps_with 0 0 at now tolds came small k.gaps untold in (
+    pub record_first : FitsAt 0 0 at entries now total ↔ (MayBeUid (get_or (slots_from 0 entries total) place None) uid × HasRoomAbove 0 (set (slots_from 0 entries total) place (Some uid)))
+    record_first =
+        let g : get_or (slots_from 0 entries total) place None ≡ None = ap (λ (i : ℕ). get_or (slots_from 0 entries total) i None) (sym from_start) ∙ slot_unknown 0 at place entries total k.places_ascend (omega arith) unknown in
+        let r = room_in_gaps 0 0 (insert entries at now) total (omega arith) in
+        let w = gaps_with 0 0 at now entries total small k.gaps unknown in (
           λ f. (subst (λ (o : Option ℕ). MayBeUid o uid) (sym g) tt, subst (HasRoomAbove 0) (sym slots_then) (r.1 (w.1 f))),
           λ m. w.0 (r.0 (subst (HasRoomAbove 0) slots_then m.1)),
         )
 
-    pub tell_kept : FitsAt 0 0 at tolds now came → AreKnownUids gone (insert tolds at now) came
-    tell_kept f = record {
-      gone_ascend = k.gone_ascend;
-      places_ascend = places_with 0 at now tolds came k.places_ascend (omega arith) inside untold;
-      gaps = (gaps_with 0 0 at now tolds came small k.gaps untold).1 f;
+    pub record_invariant : FitsAt 0 0 at entries now total → AreKnownUids expunged (insert entries at now) total
+    record_invariant f = record {
+      expunged_ascend = k.expunged_ascend;
+      places_ascend = places_with 0 at now entries total k.places_ascend (omega arith) inside unknown;
+      gaps = (gaps_with 0 0 at now entries total small k.gaps unknown).1 f;
     }
 
-    pub tell_next : known_by gone (insert tolds at now) came ≡ record (known_by gone tolds came) { slots = set (slots_from 0 tolds came) place (Some uid) }
-    tell_next = λ i. record { there = places_from 0 gone came; slots = sym slots_then i }
+    pub record_next : known_by expunged (insert entries at now) total ≡ record (known_by expunged entries total) { slots = set (slots_from 0 entries total) place (Some uid) }
+    record_next = λ i. record { live = places_from 0 expunged total; slots = sym slots_then i }

@@ -12,16 +12,16 @@ use Rattle.merge_laws.specs.Orders.{AreSound}
 use Rattle.text_fields.proofs.FieldLemmas.{cut_takes}
 use Rattle.text_fields.specs.FieldReading.{cut_at}
 use Rattle.mail_audit.specs.Audits.{IsNoEnd, ended_line, text_of}
-use Rattle.mail_audit.specs.DumpLines.{IsClosed, IsCompared, IsEarly, IsExpected, IsLonger, IsStep, IsStepBehind, OpsStand, PhaseStands, Takes}
+use Rattle.mail_audit.specs.DumpLines.{IsClosed, IsCompared, IsEarly, IsExpected, IsLonger, IsStep, IsMatchStep, AreOps, IsPhase, Takes}
 use Rattle.crdt_ops.specs.DumpLines.{op_line}
 use Rattle.mail_audit.specs.Dumps.{AreOrdered, inside_text}
 use Rattle.mail_audit.specs.declared.expected_lines.Expected.{Expected}
-use Rattle.mail_audit.specs.declared.expected_lines.Expected.TheVariants.{Lines, Stuck}
+use Rattle.mail_audit.specs.declared.expected_lines.Expected.TheVariants.{Lines, WrongOp}
 use Rattle.mail_audit.specs.declared.open_dump.Comparison.{Comparison}
 use Rattle.mail_audit.specs.declared.open_dump.DumpPhase.{DumpPhase}
 use Rattle.mail_audit.specs.declared.open_dump.DumpPhase.TheVariants.{State}
 use Rattle.mail_audit.specs.declared.open_dump.DumpStep.{DumpStep}
-use Rattle.mail_audit.specs.declared.open_dump.DumpStep.TheVariants.{GoesOn, Ends, Wrong, Unreadable}
+use Rattle.mail_audit.specs.declared.open_dump.DumpStep.TheVariants.{Continues, Ends, Wrong, Unreadable}
 use Rattle.mail_audit.specs.declared.op_lines.OpLines.{OpLines}
 
 -- lines with one more line
@@ -33,8 +33,8 @@ pub op_no_end : (line spelled : List ℕ) → line ≡ codes "op " ++ spelled �
 op_no_end line spelled e f = absurd (let k : ◌≡◌ {A = List ℕ} (111 ∷ 112 ∷ 32 ∷ spelled) (101 ∷ 110 ∷ 100 ∷ []) = sym e ∙ f in cc)
 
 -- one further op line
-pub longer_stands : (inside : List (List ℕ)) (line spelled : List ℕ) (old new : OpLines) (op : Op) → OpsStand inside old → line ≡ codes "op " ++ spelled → IsSpelled op spelled → IsLonger old op new → OpsStand (inside ++ line ∷ []) new
-longer_stands inside line spelled old new op s e p g =
+pub longer_ops : (inside : List (List ℕ)) (line spelled : List ℕ) (old new : OpLines) (op : Op) → AreOps inside old → line ≡ codes "op " ++ spelled → IsSpelled op spelled → IsLonger old op new → AreOps (inside ++ line ∷ []) new
+longer_ops inside line spelled old new op s e p g =
     let count : length (inside ++ line ∷ []) ≡ length inside + 1 = length-append inside (line ∷ []) in
     let fits : length old.ops.items ≤ length inside = s.0 in
     elim g [
@@ -69,18 +69,18 @@ longer_stands inside line spelled old new op s e p g =
 -- ---- the lines after the op lines
 
 -- if a line is the next expected one, what is left after it
-pub taken : (lines line rest : List ℕ) (came next : ℕ) → came ≤ length lines → drop came lines ≡ line ++ 10 ∷ rest → next ≡ came + (length line + 1) → (next ≤ length lines) × (drop came lines ≡ line ++ 10 ∷ drop next lines)
-taken lines line rest came next within is e =
-    let size : length (drop came lines) ≡ length line + (length rest + 1) = ap length is ∙ length-append line (10 ∷ rest) ∙ ap (λ (n : ℕ). length line + n) (omega arith) in
-    let long : length (drop came lines) ≡ length lines - came = length-drop came lines in
+pub taken : (lines line rest : List ℕ) (pos next : ℕ) → pos ≤ length lines → drop pos lines ≡ line ++ 10 ∷ rest → next ≡ pos + (length line + 1) → (next ≤ length lines) × (drop pos lines ≡ line ++ 10 ∷ drop next lines)
+taken lines line rest pos next within is e =
+    let size : length (drop pos lines) ≡ length line + (length rest + 1) = ap length is ∙ length-append line (10 ∷ rest) ∙ ap (λ (n : ℕ). length line + n) (omega arith) in
+    let long : length (drop pos lines) ≡ length lines - pos = length-drop pos lines in
     let left : drop next lines ≡ rest =
-    ap (λ (n : ℕ). drop n lines) e ∙ sym (drop-drop (length line + 1) came lines)
+    ap (λ (n : ℕ). drop n lines) e ∙ sym (drop-drop (length line + 1) pos lines)
     ∙ ap (drop (length line + 1)) (is ∙ sym (append_assoc line (10 ∷ []) rest))
     ∙ ap (λ (n : ℕ). drop n ((line ++ 10 ∷ []) ++ rest)) (sym (length-append line (10 ∷ [])))
     ∙ drop-append_seam (line ++ 10 ∷ []) rest in
     (omega arith, is ∙ ap (λ (xs : List ℕ). line ++ 10 ∷ xs) (sym left))
 
--- the lines that came, with the expected line that came next
+-- the lines so far, with the expected line that came next
 moved : (inside : List (List ℕ)) (line whole left more : List ℕ) → text_of inside ++ left ≡ whole → left ≡ line ++ 10 ∷ more → text_of (inside ++ line ∷ []) ++ more ≡ whole
 moved inside line whole left more e n =
     ap (λ (xs : List ℕ). xs ++ more) (text_more inside line)
@@ -89,39 +89,39 @@ moved inside line whole left more e n =
     ∙ e
 
 -- the effect of a line that is compared
-pub compared_step : (first : ℕ) (inside : List (List ℕ)) (line : List ℕ) (number : ℕ) (old new : Comparison) (step : DumpStep) → PhaseStands inside (State old) → number ≡ first + 1 + length inside → IsCompared old line number new step → IsStep first inside line (State new) step
-compared_step first inside line number old new GoesOn s n c =
-    let text : text_of (inside ++ line ∷ []) ++ drop new.came new.lines.items ≡ inside_text s.0 =
-    ap (λ (xs : List ℕ). text_of (inside ++ line ∷ []) ++ drop new.came xs) c.0.0
-    ∙ moved inside line (inside_text s.0) (drop old.came old.lines.items) (drop new.came old.lines.items) s.3 c.0.2 in
+pub compared_step : (first : ℕ) (inside : List (List ℕ)) (line : List ℕ) (number : ℕ) (old new : Comparison) (step : DumpStep) → IsPhase inside (State old) → number ≡ first + 1 + length inside → IsCompared old line number new step → IsStep first inside line (State new) step
+compared_step first inside line number old new Continues s n c =
+    let text : text_of (inside ++ line ∷ []) ++ drop new.pos new.lines.items ≡ inside_text s.0 =
+    ap (λ (xs : List ℕ). text_of (inside ++ line ∷ []) ++ drop new.pos xs) c.0.0
+    ∙ moved inside line (inside_text s.0) (drop old.pos old.lines.items) (drop new.pos old.lines.items) s.3 c.0.2 in
     ((s.0, s.1, c.0.1, text), c.1)
 compared_step first inside line number old new Ends s n c =
-    let none : drop new.came old.lines.items ≡ [] = ap (λ (xs : List ℕ). drop new.came xs) (sym c.0.0) ∙ drop_all new.came new.lines.items (omega (arith, c.1)) in (
+    let none : drop new.pos old.lines.items ≡ [] = ap (λ (xs : List ℕ). drop new.pos xs) (sym c.0.0) ∙ drop_all new.pos new.lines.items (omega (arith, c.1)) in (
       s.0,
       s.1,
       sym (append-nil (text_of (inside ++ line ∷ [])))
           ∙ ap (λ (xs : List ℕ). text_of (inside ++ line ∷ []) ++ xs) (sym none)
-          ∙ moved inside line (inside_text s.0) (drop old.came old.lines.items) (drop new.came old.lines.items) s.3 c.0.2,
+          ∙ moved inside line (inside_text s.0) (drop old.pos old.lines.items) (drop new.pos old.lines.items) s.3 c.0.2,
     )
-compared_step first inside line number old new (Wrong found) s n c = (omega (arith, n, c), omega (arith, n, c))
+compared_step first inside line number old new (Wrong named) s n c = (omega (arith, n, c), omega (arith, n, c))
 compared_step first inside line number old new Unreadable s n c = tt
 
 -- the effect of a line that can't be read while op lines may still come
-pub early_step : (first : ℕ) (inside : List (List ℕ)) (line : List ℕ) (lines : OpLines) (phase : DumpPhase) (step : DumpStep) → OpsStand inside lines → IsEarly first lines step → IsStep first inside line phase step
-early_step first inside line lines phase GoesOn s e = absurd e
+pub early_step : (first : ℕ) (inside : List (List ℕ)) (line : List ℕ) (lines : OpLines) (phase : DumpPhase) (step : DumpStep) → AreOps inside lines → IsEarly first lines step → IsStep first inside line phase step
+early_step first inside line lines phase Continues s e = absurd e
 early_step first inside line lines phase Ends s e = absurd e
 early_step first inside line lines phase (Wrong number) s e = (e.0, omega (arith, s.0, e.1))
 early_step first inside line lines phase Unreadable s e = tt
 
 -- ---- the end of the op lines
 
-pub not_bad : (b : Bool) (found : Option ℕ) → found ≡ None → (b ≡ true → IsSome found) → b ≡ false
-not_bad false found e h = refl
-not_bad true found e h = absurd (let k : IsSome {T = ℕ} None = subst IsSome e (h refl) in cc)
+pub not_bad : (b : Bool) (named : Option ℕ) → named ≡ None → (b ≡ true → IsSome named) → b ≡ false
+not_bad false named e h = refl
+not_bad true named e h = absurd (let k : IsSome {T = ℕ} None = subst IsSome e (h refl) in cc)
 
 -- the first op line that makes a dump wrong is one of its lines
-pub within_lines : (inside : List (List ℕ)) (lines : OpLines) (found : Option ℕ) (place : ℕ) → OpsStand inside lines → found ≡ Some place → IfSome found (λ place. place ≤ length lines.ops.items) → (lines.is_bad ≡ false → IfSome found (λ place. place < length lines.ops.items)) → place < length inside
-within_lines inside lines found place s e w f =
+pub within_lines : (inside : List (List ℕ)) (lines : OpLines) (named : Option ℕ) (place : ℕ) → AreOps inside lines → named ≡ Some place → IfSome named (λ place. place ≤ length lines.ops.items) → (lines.is_bad ≡ false → IfSome named (λ place. place < length lines.ops.items)) → place < length inside
+within_lines inside lines named place s e w f =
     let l : place ≤ length lines.ops.items = subst (λ (o : Option ℕ). IfSome o (λ place. place ≤ length lines.ops.items)) e w in
     elim (cases_Bool lines.is_bad) [
       | inl t ↦ let m = s.1 t in omega (arith, l, m)
@@ -132,9 +132,9 @@ within_lines inside lines found place s e w f =
     ]
 
 -- what follows good op lines
-pub closed_of : {E : Type 0} (inside : List (List ℕ)) (lines : OpLines) (result : Result Expected E) → OpsStand inside lines → lines.is_bad ≡ false → IfOk result (IsExpected lines.ops.items) → IfOk result (IsClosed inside)
+pub closed_of : {E : Type 0} (inside : List (List ℕ)) (lines : OpLines) (result : Result Expected E) → AreOps inside lines → lines.is_bad ≡ false → IfOk result (IsExpected lines.ops.items) → IfOk result (IsClosed inside)
 closed_of inside lines (Err e) s b h = tt
-closed_of inside lines (Ok (Stuck place)) s b h = omega (arith, s.0, h)
+closed_of inside lines (Ok (WrongOp place)) s b h = omega (arith, s.0, h)
 closed_of inside lines (Ok (Lines expected)) s b h =
     let good = s.2 b in (
       lines.ops.items,
@@ -144,9 +144,9 @@ closed_of inside lines (Ok (Lines expected)) s b h =
 
 -- ---- the beginning
 
--- no line has come
-pub none_stands : (lines : OpLines) → lines.ops.items ≡ [] → lines.is_bad ≡ false → OpsStand [] lines
-none_stands lines e b = (
+-- no lines yet
+pub no_ops : (lines : OpLines) → lines.ops.items ≡ [] → lines.is_bad ≡ false → AreOps [] lines
+no_ops lines e b = (
   omega (arith, ap length e),
   λ t. absurd (let k : true ≡ false = sym t ∙ b in cc),
   λ t. (sym (ap (flat_map op_line) e), subst (AreSound IsInForm) (sym e) (λ o h. absurd h)),
@@ -155,18 +155,18 @@ none_stands lines e b = (
 
 -- ---- the next expected line
 
-pub next_found : (text whole line : List ℕ) (came : ℕ) (parts : List ℕ × List ℕ) → text ≡ drop came whole → Some parts ≡ cut_at 10 text → parts.0 ≡ line → (rest : List ℕ) × (drop came whole ≡ line ++ 10 ∷ rest)
-next_found text whole line came parts t e q = (parts.1, sym t ∙ cut_takes 10 text parts (sym e) ∙ ap (λ (l : List ℕ). l ++ 10 ∷ parts.1) q)
+pub next_is : (text whole line : List ℕ) (pos : ℕ) (parts : List ℕ × List ℕ) → text ≡ drop pos whole → Some parts ≡ cut_at 10 text → parts.0 ≡ line → (rest : List ℕ) × (drop pos whole ≡ line ++ 10 ∷ rest)
+next_is text whole line pos parts t e q = (parts.1, sym t ∙ cut_takes 10 text parts (sym e) ∙ ap (λ (l : List ℕ). l ++ 10 ∷ parts.1) q)
 
 -- the effect of the next expected line
-pub behind_compared : (old new : Comparison) (line : List ℕ) (number : ℕ) (step : DumpStep) → Takes old line new → IsStepBehind new line number step → IsCompared old line number new step
-behind_compared old new line number GoesOn t s = (t, s)
-behind_compared old new line number Ends t s = (t, s)
-behind_compared old new line number (Wrong found) t s = s
-behind_compared old new line number Unreadable t s = tt
+pub match_compared : (old new : Comparison) (line : List ℕ) (number : ℕ) (step : DumpStep) → Takes old line new → IsMatchStep new line number step → IsCompared old line number new step
+match_compared old new line number Continues t s = (t, s)
+match_compared old new line number Ends t s = (t, s)
+match_compared old new line number (Wrong named) t s = s
+match_compared old new line number Unreadable t s = tt
 
 -- the comparison begins
-pub closed_stands : (inside : List (List ℕ)) (closed : Expected) (comparison : Comparison) → closed ≡ Lines comparison.lines → comparison.came ≡ 0 → IsClosed inside closed → PhaseStands inside (State comparison)
-closed_stands inside closed comparison is none h =
+pub closed_phase : (inside : List (List ℕ)) (closed : Expected) (comparison : Comparison) → closed ≡ Lines comparison.lines → comparison.pos ≡ 0 → IsClosed inside closed → IsPhase inside (State comparison)
+closed_phase inside closed comparison is none h =
     let c : IsClosed inside (Lines comparison.lines) = subst (IsClosed inside) is h in
     (c.0, c.1, omega (arith, none), ap (λ (n : ℕ). text_of inside ++ drop n comparison.lines.items) none ∙ c.2)

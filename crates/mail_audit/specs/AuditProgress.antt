@@ -1,27 +1,27 @@
--- How far an audit has come, line by line. The meaning of its verdicts is defined by `Audits`.
+-- The progress of an audit, line by line. The meaning of its verdicts is defined by `Audits`.
 
 use Rattle.std.specs.Prelude.{◌≡◌, ℕ, ◌+◌, ◌≤◌, List, ◌∷◌, ◌++◌, Option, Some, None, length}
 use Rattle.std.specs.List.{flat_map}
 use Rattle.crdt_ops.specs.Form.{IsReplica}
 use Rattle.mail_script.specs.Lines.{lines_of}
-use Rattle.mail_audit.specs.Audits.{Audits, Each, IsNoEnd, IsRightPart, Part, part_text, said_in}
+use Rattle.mail_audit.specs.Audits.{Audits, Each, IsNoEnd, IsRightPart, Part, part_text, sent_in}
 use Rattle.mail_audit.specs.Audits.{text_of}
-use Rattle.mail_audit.specs.DumpLines.{PhaseStands}
+use Rattle.mail_audit.specs.DumpLines.{IsPhase}
 use Rattle.mail_audit.specs.Dumps.{dump_line}
-use Rattle.mail_audit.specs.HeardSessions.{TakesAllSaid, nothing_known}
-use Rattle.mail_audit.specs.Sessions.{hearing_of}
+use Rattle.mail_audit.specs.KnownSessions.{TakesAllSent, nothing_known}
+use Rattle.mail_audit.specs.Sessions.{known_for}
 use Rattle.mail_audit.specs.declared.line_audit.Audit.{Audit}
 use Rattle.mail_audit.specs.declared.open_dump.OpenDump.{OpenDump}
 use Rattle.mail_audit.specs.Sessions.{Session}
 use Rattle.mail_audit.specs.declared.verdict.AuditEnd.{AuditEnd}
 
 -- The lines are the text of these parts, and this is what they say of the sessions.
-pub record AreHeard (lines : List (List ℕ)) (parts : List Part) (sessions : List Session) :
+pub record AreAudited (lines : List (List ℕ)) (parts : List Part) (sessions : List Session) :
     Type 0 where
   pub whole : text_of lines ≡ flat_map part_text parts
   pub right : Each IsRightPart parts
-  pub heard : (session : List ℕ)
-      → TakesAllSaid nothing_known (said_in session parts) (hearing_of session sessions)
+  pub audited : (session : List ℕ)
+      → TakesAllSent nothing_known (sent_in session parts) (known_for session sessions)
 
 -- After lines that make whole parts, a dump has begun and not ended.
 pub record IsOpen (lines : List (List ℕ)) (sessions : List Session) (dump : OpenDump) : Type 0 where
@@ -31,12 +31,12 @@ pub record IsOpen (lines : List (List ℕ)) (sessions : List Session) (dump : Op
   pub whole : lines ≡ front ++ dump_line dump.replica ∷ inside
   pub count : dump.first ≡ length front + 1
   pub named : IsReplica dump.replica
-  pub heard : AreHeard front parts sessions
-  pub going_on : Each IsNoEnd inside
-  pub phase : PhaseStands inside dump.phase
+  pub audited : AreAudited front parts sessions
+  pub not_ended : Each IsNoEnd inside
+  pub phase : IsPhase inside dump.phase
 
 abbrev pub HasTakenDump : List (List ℕ) → List Session → Option OpenDump → Type 0
-HasTakenDump lines sessions None = (parts : List Part) × AreHeard lines parts sessions
+HasTakenDump lines sessions None = (parts : List Part) × AreAudited lines parts sessions
 HasTakenDump lines sessions (Some dump) = IsOpen lines sessions dump
 
 -- The audit has taken these lines.
@@ -57,5 +57,5 @@ pub record Advances (front : List (List ℕ)) (old : Audit) (text : List ℕ) (n
     (left : List ℕ) : Type 0 where
   pub done : List (List ℕ)
   pub lines : (more : List ℕ) → lines_of (text ++ more) ≡ done ++ lines_of (left ++ more)
-  pub stands : HasTaken (front ++ done) new
+  pub has_taken : HasTaken (front ++ done) new
   pub fits : new.taken + length left ≤ old.taken + length text

@@ -15,7 +15,7 @@ use Rattle.mail_script.specs.Transcript.{mark_of}
 use Rattle.mail_script.specs.declared.transcript.Speaker.{Speaker}
 use Rattle.mail_audit.specs.Dumps.{IsRightDump, dump_line}
 use Rattle.mail_audit.specs.Results.{IsResult}
-use Rattle.mail_audit.specs.Transcripts.{IsExplainedTranscript, Said}
+use Rattle.mail_audit.specs.Transcripts.{IsExplainedTranscript, SentOctets}
 use Rattle.mail_audit.specs.declared.verdict.AuditEnd.{AuditEnd}
 use Rattle.mail_audit.specs.declared.verdict.AuditEnd.TheVariants.{Yes, No, Unreadable, ReadFailed}
 use Rattle.mail_audit.specs.declared.verdict.AuditEnd.TheVariants.{WriteFailed, NoMemory}
@@ -66,24 +66,24 @@ IsRightPart (Result line) = IsResult line
 IsRightPart (Dumped text) = IsRightDump text
 
 -- The octets that a line of a transcript shows, with their closing CRLF (13, 10).
-abbrev pub said_by : Speaker → List ℕ → Said
-said_by speaker text = record { speaker = speaker; octets = text ++ 13 ∷ 10 ∷ [] }
+abbrev pub sent_by : Speaker → List ℕ → SentOctets
+sent_by speaker text = record { speaker = speaker; octets = text ++ 13 ∷ 10 ∷ [] }
 
 -- What was sent in a session, in order.
-abbrev pub said_in : List ℕ → List Part → List Said
-said_in session [] = []
-said_in session (Spoken other speaker text ∷ parts) =
-    if bytes_eq session other then said_by speaker text ∷ said_in session parts
-    else said_in session parts
-said_in session (Result line ∷ parts) = said_in session parts
-said_in session (Dumped text ∷ parts) = said_in session parts
+abbrev pub sent_in : List ℕ → List Part → List SentOctets
+sent_in session [] = []
+sent_in session (Spoken other speaker text ∷ parts) =
+    if bytes_eq session other then sent_by speaker text ∷ sent_in session parts
+    else sent_in session parts
+sent_in session (Result line ∷ parts) = sent_in session parts
+sent_in session (Dumped text ∷ parts) = sent_in session parts
 
 -- The lines are the text of these parts, every dump is right, and every session's transcript is
 -- explained.
 pub record AreRight (lines : List (List ℕ)) (parts : List Part) : Type 0 where
   pub whole : text_of lines ≡ flat_map part_text parts
   pub right : Each IsRightPart parts
-  pub explained : (session : List ℕ) → IsExplainedTranscript (said_in session parts)
+  pub explained : (session : List ℕ) → IsExplainedTranscript (sent_in session parts)
 
 -- An input whose verdict is yes.
 abbrev pub IsRight : List (List ℕ) → Type 0
@@ -104,7 +104,7 @@ pub record IsUnexplained (lines : List (List ℕ)) (number : ℕ) : Type 0 where
   pub named : IsTrue (is_session_name session)
   pub octets : AreOctets text
   pub unexplained : ¬ IsExplainedTranscript
-      (said_in session (parts ++ Spoken session speaker text ∷ []))
+      (sent_in session (parts ++ Spoken session speaker text ∷ []))
 
 -- The line doesn't end a dump.
 abbrev pub IsNoEnd : List ℕ → Type 0
@@ -121,10 +121,10 @@ pub record IsInDump (lines : List (List ℕ)) (number : ℕ) : Type 0 where
   pub whole : lines ≡ front ++ dump_line replica ∷ (inside ++ back)
   pub named : IsReplica replica
   pub right : AreRight front parts
-  pub going_on : Each IsNoEnd inside
-  pub behind_first : length front + 1 < number
+  pub not_ended : Each IsNoEnd inside
+  pub after_first : length front + 1 < number
   pub at_most : number ≤ length front + length inside + 2
-  pub there : number ≤ length lines
+  pub within : number ≤ length lines
 
 -- A no at a line.
 abbrev pub IsNo : List (List ℕ) → ℕ → Type 0
@@ -155,10 +155,10 @@ pub record IsOfDump (lines : List (List ℕ)) (number : ℕ) : Type 0 where
   pub whole : lines ≡ front ++ dump_line replica ∷ (inside ++ back)
   pub named : IsReplica replica
   pub right : AreRight front parts
-  pub going_on : Each IsNoEnd inside
-  pub behind : length front < number
+  pub not_ended : Each IsNoEnd inside
+  pub after : length front < number
   pub at_most : number ≤ length front + length inside + 2
-  pub there : number ≤ length lines
+  pub within : number ≤ length lines
 
 -- A line that can't be read, or at which the input ends within a dump.
 abbrev pub IsUnreadable : List (List ℕ) → ℕ → Type 0

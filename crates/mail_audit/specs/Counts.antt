@@ -3,7 +3,7 @@
 use Rattle.std.specs.Prelude.{ℕ, ◌+◌, Bool, List, [], ◌∷◌, if◌then◌else◌}
 use Rattle.mail_audit.specs.declared.in_progress.RunningCommand.{RunningCommand}
 
--- The number of commands of which this is true.
-abbrev pub how_many : (RunningCommand → Bool) → List RunningCommand → ℕ
-how_many p [] = 0
-how_many p (command ∷ commands) = if p command then 1 + how_many p commands else how_many p commands
+-- The number of commands for which this is true.
+abbrev pub count_of : (RunningCommand → Bool) → List RunningCommand → ℕ
+count_of p [] = 0
+count_of p (command ∷ commands) = if p command then 1 + count_of p commands else count_of p commands

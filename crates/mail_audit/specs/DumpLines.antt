@@ -16,12 +16,12 @@ use Rattle.mail_audit.specs.Audits.{IsNoEnd, text_of}
 use Rattle.crdt_ops.specs.DumpLines.{op_line, state_text}
 use Rattle.mail_audit.specs.Dumps.{AreDumped, AreOrdered, HasCauses, inside_text}
 use Rattle.mail_audit.specs.declared.expected_lines.Expected.{Expected}
-use Rattle.mail_audit.specs.declared.expected_lines.Expected.TheVariants.{Lines, Stuck}
+use Rattle.mail_audit.specs.declared.expected_lines.Expected.TheVariants.{Lines, WrongOp}
 use Rattle.mail_audit.specs.declared.open_dump.Comparison.{Comparison}
 use Rattle.mail_audit.specs.declared.open_dump.DumpPhase.{DumpPhase}
 use Rattle.mail_audit.specs.declared.open_dump.DumpPhase.TheVariants.{Ops, State}
 use Rattle.mail_audit.specs.declared.open_dump.DumpStep.{DumpStep}
-use Rattle.mail_audit.specs.declared.open_dump.DumpStep.TheVariants.{GoesOn, Ends, Wrong}
+use Rattle.mail_audit.specs.declared.open_dump.DumpStep.TheVariants.{Continues, Ends, Wrong}
 use Rattle.mail_audit.specs.declared.open_dump.DumpStep.TheVariants.{Unreadable}
 use Rattle.mail_audit.specs.declared.line_forms.DumpLine.{DumpLine}
 use Rattle.mail_audit.specs.declared.line_forms.DumpLine.TheVariants as line
@@ -47,14 +47,14 @@ IsLonger old op new =
     ⊎ ((new.is_bad ≡ true) × (new.ops.items ≡ old.ops.items))
 
 -- The id is above that of the last operation.
-abbrev pub StandsBehind : List Op → OpId → Type 0
-StandsBehind [] id = Unit {0}
-StandsBehind (op ∷ []) id = id_order op.id id ≡ Less
-StandsBehind (op ∷ next ∷ ops) id = StandsBehind (next ∷ ops) id
+abbrev pub IsAboveLast : List Op → OpId → Type 0
+IsAboveLast [] id = Unit {0}
+IsAboveLast (op ∷ []) id = id_order op.id id ≡ Less
+IsAboveLast (op ∷ next ∷ ops) id = IsAboveLast (next ∷ ops) id
 
 -- The inbox has received none but these operations.
-abbrev pub HoldsOnly : {S : Type 0} → List Op → ReceivedOps S Op → Type 0
-HoldsOnly ops seen = (o : Op) → IsReceived seen o → IsIn o ops
+abbrev pub HasReceivedOnly : {S : Type 0} → List Op → ReceivedOps S Op → Type 0
+HasReceivedOnly ops received = (o : Op) → IsReceived received o → IsIn o ops
 
 -- What must follow op lines: the lines of what the set of them defines, if their causes are among
 -- them.
@@ -63,39 +63,39 @@ IsExpected ops (Lines lines) =
     HasCauses ops
     × AreSound IsSound ops
     × (lines.items ≡ state_text ops ++ (codes "end" ++ 10 ∷ []))
-IsExpected ops (Stuck place) = place < length ops
+IsExpected ops (WrongOp place) = place < length ops
 
 -- What must follow these applied operations.
 abbrev pub IsExpectedOf : List Op → Expected → Type 0
 IsExpectedOf applied (Lines lines) =
     AreSound IsSound applied × IsCausal id_of clock_of applied
     × (lines.items ≡ state_text applied ++ (codes "end" ++ 10 ∷ []))
-IsExpectedOf applied (Stuck place) = ⊥
+IsExpectedOf applied (WrongOp place) = ⊥
 
--- These op lines are the lines of a dump, after its first, that have come so far.
-abbrev pub OpsStand : List (List ℕ) → OpLines → Type 0
-OpsStand inside lines =
+-- These op lines are the lines of a dump so far, after its first.
+abbrev pub AreOps : List (List ℕ) → OpLines → Type 0
+AreOps inside lines =
     (length lines.ops.items ≤ length inside)
     × (lines.is_bad ≡ true → length lines.ops.items < length inside)
     × (lines.is_bad ≡ false
     → (text_of inside ≡ flat_map op_line lines.ops.items) × AreSound IsInForm lines.ops.items)
     × AreOrdered lines.ops.items
 
-abbrev pub PhaseStands : List (List ℕ) → DumpPhase → Type 0
-PhaseStands inside (Ops lines) = OpsStand inside lines
-PhaseStands inside (State comparison) =
-    (ops : List Op) × AreDumped ops × (comparison.came ≤ length comparison.lines.items)
-    × (text_of inside ++ drop comparison.came comparison.lines.items ≡ inside_text ops)
+abbrev pub IsPhase : List (List ℕ) → DumpPhase → Type 0
+IsPhase inside (Ops lines) = AreOps inside lines
+IsPhase inside (State comparison) =
+    (ops : List Op) × AreDumped ops × (comparison.pos ≤ length comparison.lines.items)
+    × (text_of inside ++ drop comparison.pos comparison.lines.items ≡ inside_text ops)
 
--- What must follow the op lines that have come, or the place where they are wrong.
+-- What must follow the op lines, or the place where they are wrong.
 abbrev pub IsClosed : List (List ℕ) → Expected → Type 0
 IsClosed inside (Lines lines) =
     (ops : List Op) × AreDumped ops × (text_of inside ++ lines.items ≡ inside_text ops)
-IsClosed inside (Stuck place) = place ≤ length inside
+IsClosed inside (WrongOp place) = place ≤ length inside
 
 -- The effect of a line that can't be read after op lines.
 abbrev pub IsEarly : ℕ → OpLines → DumpStep → Type 0
-IsEarly first lines GoesOn = ⊥
+IsEarly first lines Continues = ⊥
 IsEarly first lines Ends = ⊥
 IsEarly first lines (Wrong number) =
     (first < number) × (number ≤ first + 1 + length lines.ops.items)
@@ -104,7 +104,7 @@ IsEarly first lines Unreadable = Unit {0}
 -- The effect of a line of a dump whose first line has this number and is followed by the lines
 -- `inside`.
 abbrev pub IsStep : ℕ → List (List ℕ) → List ℕ → DumpPhase → DumpStep → Type 0
-IsStep first inside line phase GoesOn = PhaseStands (inside ++ line ∷ []) phase × IsNoEnd line
+IsStep first inside line phase Continues = IsPhase (inside ++ line ∷ []) phase × IsNoEnd line
 IsStep first inside line phase Ends =
     (ops : List Op) × AreDumped ops × (text_of (inside ++ line ∷ []) ≡ inside_text ops)
 IsStep first inside line phase (Wrong number) =
@@ -114,19 +114,19 @@ IsStep first inside line phase Unreadable = Unit {0}
 -- The next line was taken.
 abbrev pub Takes : Comparison → List ℕ → Comparison → Type 0
 Takes old line new =
-    (new.lines.items ≡ old.lines.items) × (new.came ≤ length new.lines.items)
-    × (drop old.came old.lines.items ≡ line ++ 10 ∷ drop new.came old.lines.items)
+    (new.lines.items ≡ old.lines.items) × (new.pos ≤ length new.lines.items)
+    × (drop old.pos old.lines.items ≡ line ++ 10 ∷ drop new.pos old.lines.items)
 
 -- The effect of a line, of this number, that is compared with the next expected one.
 abbrev pub IsCompared : Comparison → List ℕ → ℕ → Comparison → DumpStep → Type 0
-IsCompared old line number new GoesOn = Takes old line new × IsNoEnd line
-IsCompared old line number new Ends = Takes old line new × (new.came ≡ length new.lines.items)
-IsCompared old line number new (Wrong found) = found ≡ number
+IsCompared old line number new Continues = Takes old line new × IsNoEnd line
+IsCompared old line number new Ends = Takes old line new × (new.pos ≡ length new.lines.items)
+IsCompared old line number new (Wrong named) = named ≡ number
 IsCompared old line number new Unreadable = Unit {0}
 
 -- The effect of a line, of this number, that is the next expected one.
-abbrev pub IsStepBehind : Comparison → List ℕ → ℕ → DumpStep → Type 0
-IsStepBehind comparison line number GoesOn = IsNoEnd line
-IsStepBehind comparison line number Ends = comparison.came ≡ length comparison.lines.items
-IsStepBehind comparison line number (Wrong found) = found ≡ number
-IsStepBehind comparison line number Unreadable = ⊥
+abbrev pub IsMatchStep : Comparison → List ℕ → ℕ → DumpStep → Type 0
+IsMatchStep comparison line number Continues = IsNoEnd line
+IsMatchStep comparison line number Ends = comparison.pos ≡ length comparison.lines.items
+IsMatchStep comparison line number (Wrong named) = named ≡ number
+IsMatchStep comparison line number Unreadable = ⊥

@@ -25,8 +25,8 @@ abbrev pub AreIdsText : List ℕ → Type 0
 AreIdsText text = (ids : List OpId) × AreIds ids × (text ≡ ids_text ids)
 
 -- The texts of an origin and of a message's flags, date and text.
-abbrev pub AreLetterFields : List ℕ → List ℕ → Type 0
-AreLetterFields origin rest =
+abbrev pub AreAppendFields : List ℕ → List ℕ → Type 0
+AreAppendFields origin rest =
     (id : OpId) × (flags : Flags) × (date : List ℕ) × (text : List ℕ)
     × IsId id × HasWords flags × IsDateTime date × AreOctets text
     × (origin ≡ id_text id) × (rest ≡ flags_text flags ++ 32 ∷ (date ++ 32 ∷ text_field text))

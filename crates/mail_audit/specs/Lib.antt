@@ -2,13 +2,13 @@ pub mod Audits
 pub mod Counts
 pub mod DumpLines
 pub mod Dumps
-pub mod Explained
+pub mod Explanations
 pub mod Forms
 pub mod Gaps
-pub mod HeardSessions
+pub mod KnownSessions
 pub mod KnownUids
 pub mod NumberedCommands
-pub mod Passing
+pub mod EventPasses
 pub mod ResultReading
 pub mod Results
 pub mod Sessions

@@ -22,7 +22,7 @@ AreRising low high (command ∷ commands) =
     (low ≤ command.0) × AreRising (1 + command.0) high commands
 
 -- The numbers stored for this tag.
-abbrev pub kept_for : List ℕ → List (Vec ℕ × VecDeque ℕ Global) → List ℕ
-kept_for tag kept =
+abbrev pub stored_for : List ℕ → List (Vec ℕ × VecDeque ℕ Global) → List ℕ
+stored_for tag stored =
     option_map_or (λ (numbers : VecDeque ℕ Global). numbers.items)
-    (lookup (λ (key : Vec ℕ). bytes_eq tag key.items) kept) []
+    (lookup (λ (key : Vec ℕ). bytes_eq tag key.items) stored) []

@@ -79,10 +79,10 @@ unfoldable pub delivered_at : List ℕ → Option OutcomeLine
 delivered_at fields = do
   name ← cut_at 32 fields
   to ← cut_at 58 name.1
-  told ← cut_at 32 to.1
+  reported ← cut_at 32 to.1
   id ← id_at name.0
   replica ← replica_at to.0
-  result ← result_at told.1
+  result ← result_at reported.1
   Some (Delivered id replica result)
 
 -- The outcome after `forge`.
@@ -90,10 +90,10 @@ unfoldable pub forged_at : List ℕ → Option OutcomeLine
 forged_at fields = do
   name ← cut_at 32 fields
   to ← cut_at 58 name.1
-  told ← cut_at 32 to.1
+  reported ← cut_at 32 to.1
   id ← id_at name.0
   replica ← replica_at to.0
-  result ← result_at told.1
+  result ← result_at reported.1
   Some (Forged id replica result)
 
 -- The outcome after `forge:`.
@@ -110,8 +110,8 @@ unsound_at fields =
 unfoldable pub drained_at : List ℕ → Option OutcomeLine
 drained_at fields = do
   by ← cut_at 58 fields
-  told ← cut_at 32 by.1
-  value ← cut_at 32 told.1
+  reported ← cut_at 32 by.1
+  value ← cut_at 32 reported.1
   replica ← replica_at by.0
   counted ← counted_at value.1
   Some (Drained replica counted.count counted.stalled)
@@ -164,10 +164,10 @@ unfoldable pub joined_at : List ℕ → Option OutcomeLine
 joined_at fields = do
   one ← cut_at 32 fields
   other ← cut_at 58 one.1
-  told ← cut_at 32 other.1
+  reported ← cut_at 32 other.1
   replica ← replica_at one.0
   peer ← replica_at other.0
-  result ← join_result_at told.1
+  result ← join_result_at reported.1
   Some (Joined replica peer result)
 
 -- The outcome of an exchange, a comparison or a join.

@@ -38,18 +38,18 @@ IsJoinResult _ = Unit {0}
 
 -- The outcome of a delivery, a drain, an exchange, a comparison or a join, and not of a whole
 -- script; its ids, replicas and counts are in range.
-abbrev pub IsPassedOver : OutcomeLine → Type 0
-IsPassedOver (Delivered id replica result) = IsId id × IsReplica replica × IsDeliveryResult result
-IsPassedOver (Forged id replica result) = IsId id × IsReplica replica × IsDeliveryResult result
-IsPassedOver (Unsound rule) = Unit {0}
-IsPassedOver (Drained replica count stalled) = IsReplica replica × IsCount count
-IsPassedOver (Settled result) = IsSettleResult result
-IsPassedOver (Agreed first second same) = IsReplica first × IsReplica second
-IsPassedOver (Joined replica peer result) = IsReplica replica × IsReplica peer × IsJoinResult result
-IsPassedOver (BadScript line) = ⊥
-IsPassedOver CannotRead = ⊥
-IsPassedOver NoMemory = ⊥
+abbrev pub IsReportable : OutcomeLine → Type 0
+IsReportable (Delivered id replica result) = IsId id × IsReplica replica × IsDeliveryResult result
+IsReportable (Forged id replica result) = IsId id × IsReplica replica × IsDeliveryResult result
+IsReportable (Unsound rule) = Unit {0}
+IsReportable (Drained replica count stalled) = IsReplica replica × IsCount count
+IsReportable (Settled result) = IsSettleResult result
+IsReportable (Agreed first second same) = IsReplica first × IsReplica second
+IsReportable (Joined replica peer result) = IsReplica replica × IsReplica peer × IsJoinResult result
+IsReportable (BadScript line) = ⊥
+IsReportable CannotRead = ⊥
+IsReportable NoMemory = ⊥
 
 -- A line that reports the result of a delivery, a drain, an exchange, a comparison or a join.
 abbrev pub IsResult : List ℕ → Type 0
-IsResult line = (told : OutcomeLine) × IsPassedOver told × (line ≡ outcome_text told)
+IsResult line = (reported : OutcomeLine) × IsReportable reported × (line ≡ outcome_text reported)

@@ -3,7 +3,7 @@
 use Rattle.std.specs.Prelude.{ℕ, ◌+◌, List, [], ◌∷◌, if◌then◌else◌}
 use Rattle.std.specs.Str.{bytes_eq}
 use Rattle.std.specs.Global.{Vec}
-use Rattle.mail_audit.specs.HeardSessions.{SessionKnowledge, nothing_known}
+use Rattle.mail_audit.specs.KnownSessions.{SessionKnowledge, nothing_known}
 
 -- A session's name, and what is known of it.
 pub record Session : Type 0 where
@@ -13,13 +13,13 @@ pub record Session : Type 0 where
 -- The sessions stored by their names.
 abbrev pub sessions_of : List (Vec ℕ × SessionKnowledge) → List Session
 sessions_of [] = []
-sessions_of (kept ∷ rest) = record { name = kept.0.items; transcript = kept.1 } ∷ sessions_of rest
+sessions_of (pair ∷ rest) = record { name = pair.0.items; transcript = pair.1 } ∷ sessions_of rest
 
 -- What is known of the session with this name.
-abbrev pub hearing_of : List ℕ → List Session → SessionKnowledge
-hearing_of name [] = nothing_known
-hearing_of name (session ∷ sessions) =
-    if bytes_eq name session.name then session.transcript else hearing_of name sessions
+abbrev pub known_for : List ℕ → List Session → SessionKnowledge
+known_for name [] = nothing_known
+known_for name (session ∷ sessions) =
+    if bytes_eq name session.name then session.transcript else known_for name sessions
 
 -- The place of the first session with this name, or the number of sessions.
 abbrev pub place_or_end : List ℕ → List Session → ℕ

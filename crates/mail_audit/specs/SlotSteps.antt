@@ -4,50 +4,50 @@ use Rattle.std.specs.Prelude.{ℕ, ◌-◌, ◌≤◌, List, [], ◌∷◌, ◌+
 use Rattle.std.specs.Prelude.{set, replicate}
 use Rattle.mail_audit.specs.declared.event.SlotEvent.{SlotEvent}
 use Rattle.mail_audit.specs.declared.event.SlotEvent.TheVariants.{Selects, Exists, Expunge, Names}
-use Rattle.mail_audit.specs.declared.event.SlotEvent.TheVariants.{Tells, Passes}
-use Rattle.mail_audit.specs.Explained.{IsNumberOf, without}
-use Rattle.mail_audit.specs.Passing.{HasRoomAbove, MayBeUid, numbers_upward}
+use Rattle.mail_audit.specs.declared.event.SlotEvent.TheVariants.{ReportsUid, Passes}
+use Rattle.mail_audit.specs.Explanations.{IsNumberOf, without}
+use Rattle.mail_audit.specs.EventPasses.{HasRoomAbove, MayBeUid, numbers_upward}
 
 -- What is known: the places of the existing messages, and for each place its reported UID, if any.
 pub record SlotKnowledge : Type 0 where
-  pub there : List ℕ
+  pub live : List ℕ
   pub slots : List (Option ℕ)
 
--- Further messages came, as many as the number says.
+-- This number of further messages arrived.
 abbrev pub with_more : SlotKnowledge → ℕ → SlotKnowledge
 with_more known m =
     record {
-      there = known.there ++ numbers_upward (length known.slots) m;
+      live = known.live ++ numbers_upward (length known.slots) m;
       slots = known.slots ++ replicate m None;
     }
 
 -- The place of a message number.
 abbrev pub place_at : SlotKnowledge → ℕ → ℕ
-place_at known k = get_or known.there (k - 1) 0
+place_at known k = get_or known.live (k - 1) 0
 
-abbrev pub with_uid_told : SlotKnowledge → ℕ → ℕ → SlotKnowledge
-with_uid_told known k uid = record known { slots = set known.slots (place_at known k) (Some uid) }
+abbrev pub with_uid : SlotKnowledge → ℕ → ℕ → SlotKnowledge
+with_uid known k uid = record known { slots = set known.slots (place_at known k) (Some uid) }
 
 -- What is known after an event.
 abbrev pub after_event : SlotKnowledge → SlotEvent → SlotKnowledge
-after_event known Selects = record { there = []; slots = [] }
-after_event known (Exists n) = with_more known (n - length known.there)
-after_event known (Expunge k) = record known { there = without k known.there }
+after_event known Selects = record { live = []; slots = [] }
+after_event known (Exists n) = with_more known (n - length known.live)
+after_event known (Expunge k) = record known { live = without k known.live }
 after_event known (Names k) = known
-after_event known (Tells k uid) = with_uid_told known k uid
+after_event known (ReportsUid k uid) = with_uid known k uid
 after_event known Passes = known
 
 -- The event fits what is known.
 abbrev pub EventFits : SlotKnowledge → SlotEvent → Type 0
 EventFits known Selects = Unit {0}
 EventFits known (Exists n) =
-    (length known.there ≤ n) × HasRoomAbove 0 (with_more known (n - length known.there)).slots
-EventFits known (Expunge k) = IsNumberOf k known.there
-EventFits known (Names k) = IsNumberOf k known.there
-EventFits known (Tells k uid) =
-    IsNumberOf k known.there
+    (length known.live ≤ n) × HasRoomAbove 0 (with_more known (n - length known.live)).slots
+EventFits known (Expunge k) = IsNumberOf k known.live
+EventFits known (Names k) = IsNumberOf k known.live
+EventFits known (ReportsUid k uid) =
+    IsNumberOf k known.live
     × MayBeUid (get_or known.slots (place_at known k) None) uid
-    × HasRoomAbove 0 (with_uid_told known k uid).slots
+    × HasRoomAbove 0 (with_uid known k uid).slots
 EventFits known Passes = Unit {0}
 
 -- What is known after events.
@@ -56,4 +56,4 @@ after_events known [] = known
 after_events known (event ∷ events) = after_events (after_event known event) events
 
 abbrev pub no_slots : SlotKnowledge
-no_slots = record { there = []; slots = [] }
+no_slots = record { live = []; slots = [] }

@@ -12,14 +12,14 @@ use Rattle.imap_syntax.specs.declared.command.Tagged.{Tagged}
 use Rattle.imap_answers.specs.declared.answer.Answer.{Answer}
 use Rattle.imap_answers.specs.declared.answer.Answer.TheVariants as answer
 use Rattle.imap_answers.specs.Printable.{IsPrintable}
-use Rattle.imap_answers.specs.Printed.{text_of_answer}
+use Rattle.imap_answers.specs.AnswerText.{text_of_answer}
 use Rattle.mail_script.specs.declared.transcript.Speaker.{Speaker}
 use Rattle.mail_script.specs.declared.transcript.Speaker.TheVariants.{Client, Server}
 use Rattle.mail_audit.specs.declared.event.SlotEvent.{SlotEvent}
 use Rattle.mail_audit.specs.declared.event.SlotEvent.TheVariants.{Selects, Exists, Expunge, Names}
-use Rattle.mail_audit.specs.declared.event.SlotEvent.TheVariants.{Tells, Passes}
+use Rattle.mail_audit.specs.declared.event.SlotEvent.TheVariants.{ReportsUid, Passes}
 use Rattle.mail_audit.specs.declared.in_progress.RunningCommand.{RunningCommand}
-use Rattle.mail_audit.specs.Explained.{IsExplained}
+use Rattle.mail_audit.specs.Explanations.{IsExplained}
 
 -- EXPUNGE isn't sent while only FETCH, STORE or SEARCH by message numbers are in progress (RFC
 -- 9051, section 7.5.1).
@@ -54,8 +54,8 @@ Begins running frame tagged =
     IsFalse (list_any (λ (r : RunningCommand). r.idles) running) × IsSpelled tagged frame
 
 -- The effect of a client's frame on the commands in progress, and its event.
-abbrev pub IsAsked : List RunningCommand → List ℕ → List RunningCommand → SlotEvent → Type 0
-IsAsked running frame after event =
+abbrev pub IsFrameEffect : List RunningCommand → List ℕ → List RunningCommand → SlotEvent → Type 0
+IsFrameEffect running frame after event =
     ((tagged : Tagged) × Begins running frame tagged × (after ≡ running ++ running_by tagged ∷ [])
     × (event ≡ event_by tagged.command))
     ⊎ (((tagged : Tagged) → ¬ Begins running frame tagged) × (after ≡ running) × (event ≡ Passes))
@@ -74,7 +74,7 @@ running_after running _ = running
 
 abbrev pub event_of_uid : ℕ → Option ℕ → SlotEvent
 event_of_uid number None = Names number
-event_of_uid number (Some uid) = Tells number uid
+event_of_uid number (Some uid) = ReportsUid number uid
 
 -- The event of an answer.
 abbrev pub event_of : Answer → SlotEvent
@@ -84,39 +84,39 @@ event_of (answer.Fetch number items) = event_of_uid number items.uid
 event_of _ = Passes
 
 -- The answer may be sent while these commands are in progress.
-abbrev pub MayStand : List RunningCommand → Answer → Type 0
-MayStand running (answer.Expunge number) =
+abbrev pub MayBeSent : List RunningCommand → Answer → Type 0
+MayBeSent running (answer.Expunge number) =
     IsTrue (list_any (λ (r : RunningCommand). r.may_expunge) running)
-MayStand running _ = Unit {0}
+MayBeSent running _ = Unit {0}
 
 -- The octets are one printed answer, which may be sent here; its effect on the commands in
 -- progress, and its event.
-abbrev pub IsAnswered : List RunningCommand → List ℕ → List RunningCommand → SlotEvent → Type 0
-IsAnswered running octets after event =
-    (given : Answer) × IsPrintable given × (octets ≡ text_of_answer given) × MayStand running given
+abbrev pub IsAnswerEffect : List RunningCommand → List ℕ → List RunningCommand → SlotEvent → Type 0
+IsAnswerEffect running octets after event =
+    (given : Answer) × IsPrintable given × (octets ≡ text_of_answer given) × MayBeSent running given
     × (after ≡ running_after running given) × (event ≡ event_of given)
 
 -- A frame or answer, and who sent it.
-pub record Said : Type 0 where
+pub record SentOctets : Type 0 where
   pub speaker : Speaker
   pub octets : List ℕ
 
-abbrev pub IsHeard : List RunningCommand → Speaker → List ℕ → List RunningCommand → SlotEvent
+abbrev pub IsSentEffect : List RunningCommand → Speaker → List ℕ → List RunningCommand → SlotEvent
     → Type 0
-IsHeard running Client frame after event = IsAsked running frame after event
-IsHeard running Server octets after event = IsAnswered running octets after event
+IsSentEffect running Client frame after event = IsFrameEffect running frame after event
+IsSentEffect running Server octets after event = IsAnswerEffect running octets after event
 
 -- The events of a session's transcript: every answer is printed, and EXPUNGE is sent only when it
 -- may be.
-abbrev pub AreEvents : List RunningCommand → List Said → List SlotEvent → Type 0
+abbrev pub AreEvents : List RunningCommand → List SentOctets → List SlotEvent → Type 0
 AreEvents running [] events = events ≡ []
-AreEvents running (said ∷ more) events =
+AreEvents running (sent ∷ more) events =
     (after : List RunningCommand) × (event : SlotEvent) × (rest : List SlotEvent)
-    × IsHeard running said.speaker said.octets after event
+    × IsSentEffect running sent.speaker sent.octets after event
     × (events ≡ event ∷ rest)
     × AreEvents after more rest
 
 -- A session's transcript is explained.
-abbrev pub IsExplainedTranscript : List Said → Type 0
-IsExplainedTranscript said =
-    (events : List SlotEvent) × AreEvents [] said events × IsExplained events
+abbrev pub IsExplainedTranscript : List SentOctets → Type 0
+IsExplainedTranscript sent =
+    (events : List SlotEvent) × AreEvents [] sent events × IsExplained events

@@ -76,7 +76,7 @@ fn push_folder_line(
     push_name_line(alloc, b"folder ", name, &tags, text)
 }
 
-/// Appends the lines of the names that are subscribed to.
+/// Appends the lines of the subscribed names.
 fn push_subscriptions(alloc: Global, subs: &Subs, text: &mut Vec<u8>) -> Result<(), AllocError>
     ensures { (ops : List Op)
         → AreMadeBy (subscriptions_of subs.now) ops

@@ -13,7 +13,7 @@ pub enum SlotEvent {
     /// `* k FETCH (..)` without UID.
     Names(u32),
     /// `* k FETCH (UID uid ..)`.
-    Tells(u32, u32),
+    ReportsUid(u32, u32),
     /// Any other line.
     Passes,
 }

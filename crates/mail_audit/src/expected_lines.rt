@@ -6,7 +6,7 @@ ghost use Rattle.causal_inbox.specs.Inbox.{IsReceived};
 ghost use Rattle.tags_clocks.specs.Clock.{IsCause};
 ghost use Rattle.crdt_ops.specs.SortedSets.{IsAscending, id_order};
 ghost use Rattle.crdt_ops.specs.declared.op.Op.{Op};
-ghost use Rattle.mail_audit.specs.DumpLines.{HoldsOnly, IsExpected, IsExpectedOf};
+ghost use Rattle.mail_audit.specs.DumpLines.{HasReceivedOnly, IsExpected, IsExpectedOf};
 
 use crate::dump_state::state_lines;
 use causal_inbox::{DeliverFault, Inbox};
@@ -24,7 +24,7 @@ pub enum Expected {
     Lines(Vec<u8>),
     /// No lines can follow: the operation after this number of op lines can't be applied by any
     /// replica, whichever of the others it applied.
-    Stuck(usize),
+    WrongOp(usize),
 }
 
 /// The lines that must follow these op lines; `Err` if memory runs out.
@@ -40,7 +40,7 @@ pub fn expected_after(alloc: Global, ops: &[SoundOp]) -> Result<Expected, AllocE
     let mut inbox = Inbox::new(alloc, value, Unfollowed)?;
     apply_all(alloc, ops, &mut inbox)?;
     match first_unapplied(ops, inbox.clock()) {
-        Some(place) => Ok(Expected::Stuck(place)),
+        Some(place) => Ok(Expected::WrongOp(place)),
         None => lines_of(alloc, &inbox),
     }
 }
@@ -50,7 +50,7 @@ fn lines_of(
     alloc: Global,
     inbox: &Inbox<Pair<Folders, Subs>, Unfollowed>,
 ) -> Result<Expected, AllocError>
-    ensures { IfOk result (IsExpectedOf inbox.now.seen.applied) }
+    ensures { IfOk result (IsExpectedOf inbox.now.received.applied) }
 {
     let _list = inbox.op_list();
     let value = inbox.value();
@@ -64,8 +64,8 @@ fn apply_all(
     ops: &[SoundOp],
     inbox: &mut Inbox<Pair<Folders, Subs>, Unfollowed>,
 ) -> Result<(), AllocError>
-    requires { HoldsOnly ops.now inbox.old.seen }
-    ensures { HoldsOnly ops.now inbox.new.seen }
+    requires { HasReceivedOnly ops.now inbox.old.received }
+    ensures { HasReceivedOnly ops.now inbox.new.received }
 {
     for _round in 0..ops.len() {
         if !apply_ripe(alloc, ops, inbox)? {
@@ -81,8 +81,8 @@ fn apply_ripe(
     ops: &[SoundOp],
     inbox: &mut Inbox<Pair<Folders, Subs>, Unfollowed>,
 ) -> Result<bool, AllocError>
-    requires { HoldsOnly ops.now inbox.old.seen }
-    ensures { HoldsOnly ops.now inbox.new.seen }
+    requires { HasReceivedOnly ops.now inbox.old.received }
+    ensures { HasReceivedOnly ops.now inbox.new.received }
 {
     let mut has_applied = false;
     for op in ops {
@@ -105,7 +105,9 @@ fn apply(
     op: &SoundOp,
     inbox: &mut Inbox<Pair<Folders, Subs>, Unfollowed>,
 ) -> Result<(), AllocError>
-    ensures { (o : Op) → IsReceived inbox.new.seen o → IsReceived inbox.old.seen o ⊎ (o ≡ op.now) }
+    ensures { (o : Op)
+        → IsReceived inbox.new.received o
+        → IsReceived inbox.old.received o ⊎ (o ≡ op.now) }
 {
     causal_inbox::delivery_is_received::<Pair<Folders, Subs>, Unfollowed>();
     let copy = op.copy(alloc)?;

@@ -11,70 +11,70 @@ use tree_list::TreeList;
 const LAST_UID: u64 = 4_294_967_295;
 
 /// The number of known messages at lower places.
-pub fn known_before(tolds: &TreeList<KnownUid>, place: u32) -> usize
-    requires { (came : ℕ) × ArePlaces 0 tolds.now came }
-    ensures within { result ≤ length tolds.now }
-    ensures parts { SplitsAt place tolds.now result }
+pub fn known_before(entries: &TreeList<KnownUid>, place: u32) -> usize
+    requires { (total : ℕ) × ArePlaces 0 entries.now total }
+    ensures within { result ≤ length entries.now }
+    ensures parts { SplitsAt place entries.now result }
 {
-    tolds.partition_point(|_, told| told.place < place)
+    entries.partition_point(|_, entry| entry.place < place)
 }
 
-/// Whether UIDs are left for the messages after the last known one, `came` messages in all.
-pub fn has_room(tolds: &TreeList<KnownUid>, came: u32) -> bool
-    ensures { IsTrue result ↔ HasRoomFor 0 0 tolds.now came }
+/// Whether UIDs are left for the messages after the last known one, `total` messages in all.
+pub fn has_room(entries: &TreeList<KnownUid>, total: u32) -> bool
+    ensures { IsTrue result ↔ HasRoomFor 0 0 entries.now total }
 {
-    match tolds.last() {
+    match entries.last() {
         None => true,
-        Some(told) => has_room_behind(*told, came),
+        Some(entry) => has_room_after(*entry, total),
     }
 }
 
-/// Whether UIDs are left for the messages after a known one, `came` messages in all.
-fn has_room_behind(told: KnownUid, came: u32) -> bool
-    ensures { IsTrue result ↔ (told.uid + (came - (told.place + 1)) ≤ 4294967295) }
+/// Whether UIDs are left for the messages after a known one, `total` messages in all.
+fn has_room_after(entry: KnownUid, total: u32) -> bool
+    ensures { IsTrue result ↔ (entry.uid + (total - (entry.place + 1)) ≤ 4294967295) }
 {
-    let from = u64::from(told.place) + 1;
-    u64::from(told.uid) + u64::from(came).saturating_sub(from) <= LAST_UID
+    let from = u64::from(entry.place) + 1;
+    u64::from(entry.uid) + u64::from(total).saturating_sub(from) <= LAST_UID
 }
 
 /// Whether UIDs are left for the messages between two known ones.
-fn has_room_between(told: KnownUid, next: KnownUid) -> bool
-    ensures { IsTrue result ↔ (told.uid + (next.place - (told.place + 1)) < next.uid) }
+fn has_room_between(entry: KnownUid, next: KnownUid) -> bool
+    ensures { IsTrue result ↔ (entry.uid + (next.place - (entry.place + 1)) < next.uid) }
 {
-    let from = u64::from(told.place) + 1;
-    u64::from(told.uid) + u64::from(next.place).saturating_sub(from) < u64::from(next.uid)
+    let from = u64::from(entry.place) + 1;
+    u64::from(entry.uid) + u64::from(next.place).saturating_sub(from) < u64::from(next.uid)
 }
 
 /// Whether UIDs are left on either side of a reported UID, which follows the first `at` known ones.
-pub fn fits_between(tolds: &TreeList<KnownUid>, at: usize, told: KnownUid, came: u32) -> bool
-    requires { at ≤ length tolds.now }
-    ensures { IsTrue result ↔ FitsAt 0 0 at tolds.now told came }
+pub fn fits_between(entries: &TreeList<KnownUid>, at: usize, entry: KnownUid, total: u32) -> bool
+    requires { at ≤ length entries.now }
+    ensures { IsTrue result ↔ FitsAt 0 0 at entries.now entry total }
 {
-    fits_behind(tolds, at, told) && fits_in_front(tolds, at, told, came)
+    fits_after(entries, at, entry) && fits_before(entries, at, entry, total)
 }
 
 /// Whether UIDs are left for the messages between the previous known one and this one.
-fn fits_behind(tolds: &TreeList<KnownUid>, at: usize, told: KnownUid) -> bool
-    requires { at ≤ length tolds.now }
-    ensures { IsTrue result ↔ FitsAfter 0 0 at tolds.now told }
+fn fits_after(entries: &TreeList<KnownUid>, at: usize, entry: KnownUid) -> bool
+    requires { at ≤ length entries.now }
+    ensures { IsTrue result ↔ FitsAfter 0 0 at entries.now entry }
 {
     let Some(before) = at.checked_sub(1) else {
-        return told.place < told.uid;
+        return entry.place < entry.uid;
     };
-    match tolds.get(before) {
+    match entries.get(before) {
         None => unreachable!(),
-        Some(before) => has_room_between(*before, told),
+        Some(before) => has_room_between(*before, entry),
     }
 }
 
 /// Whether UIDs are left for the messages between this one and the next known one, or for all later
 /// ones if no known one follows.
-fn fits_in_front(tolds: &TreeList<KnownUid>, at: usize, told: KnownUid, came: u32) -> bool
-    requires { at ≤ length tolds.now }
-    ensures { IsTrue result ↔ FitsBefore told (drop at tolds.now) came }
+fn fits_before(entries: &TreeList<KnownUid>, at: usize, entry: KnownUid, total: u32) -> bool
+    requires { at ≤ length entries.now }
+    ensures { IsTrue result ↔ FitsBefore entry (drop at entries.now) total }
 {
-    match tolds.get(at) {
-        None => has_room_behind(told, came),
-        Some(next) => has_room_between(told, *next),
+    match entries.get(at) {
+        None => has_room_after(entry, total),
+        Some(next) => has_room_between(entry, *next),
     }
 }

@@ -5,7 +5,7 @@ ghost use Rattle.std.specs.Prelude.{IfNone, if◌then◌else◌};
 ghost use Rattle.std.specs.List.{list_any};
 ghost use Rattle.std.specs.Option.{option_to_list};
 ghost use Rattle.std.specs.Str.{bytes_eq};
-ghost use Rattle.mail_audit.specs.NumberedCommands.{kept_for};
+ghost use Rattle.mail_audit.specs.NumberedCommands.{stored_for};
 ghost use Rattle.mail_audit.specs.Transcripts.{without_ended};
 
 use imap_types::Octets;
@@ -14,7 +14,7 @@ use std::alloc::{AllocError, Global};
 use std::collections::{BTreeMap, VecDeque};
 use std::marker::Model;
 
-/// A command in progress: its tag, whether EXPUNGE may be sent meanwhile (RFC 9051, section 7.5.1),
+/// A command in progress: its tag, whether EXPUNGE may be sent during it (RFC 9051, section 7.5.1),
 /// and whether it is IDLE (RFC 2177).
 #[derive(Drop)]
 pub struct RunningCommand {
@@ -42,8 +42,8 @@ pub struct InProgress {
 impl Model for InProgress {
     ghost use Rattle.std.specs.Prelude.{◌≡◌, ℕ, List};
     ghost use Rattle.std.specs.Map.{values_of};
-    ghost use Rattle.mail_audit.specs.Counts.{how_many};
-    ghost use Rattle.mail_audit.specs.NumberedCommands.{AreRising, kept_for, numbers_of};
+    ghost use Rattle.mail_audit.specs.Counts.{count_of};
+    ghost use Rattle.mail_audit.specs.NumberedCommands.{AreRising, stored_for, numbers_of};
     ghost use Rattle.mail_audit.specs.declared.in_progress.RunningCommand.{RunningCommand};
 
     ghost Value = { List RunningCommand };
@@ -51,10 +51,10 @@ impl Model for InProgress {
     ghost view = { λ p. values_of p.commands.entries };
 
     ghost invariant = { λ p. (p.expunging
-        ≡ how_many (λ c. c.may_expunge) (values_of p.commands.entries))
-        × (p.idling ≡ how_many (λ c. c.idles) (values_of p.commands.entries))
+        ≡ count_of (λ c. c.may_expunge) (values_of p.commands.entries))
+        × (p.idling ≡ count_of (λ c. c.idles) (values_of p.commands.entries))
         × AreRising 0 p.next p.commands.entries
-        × ((tag : List ℕ) → numbers_of tag p.commands.entries ≡ kept_for tag p.numbers.entries) };
+        × ((tag : List ℕ) → numbers_of tag p.commands.entries ≡ stored_for tag p.numbers.entries) };
 }
 
 impl InProgress {
@@ -132,34 +132,34 @@ fn add(
     number: u64,
 ) -> Result<(), AllocError>
     ensures ok { OnOk result ((other : List ℕ)
-        → kept_for other numbers.new.entries
-        ≡ kept_for other numbers.old.entries
+        → stored_for other numbers.new.entries
+        ≡ stored_for other numbers.old.entries
         ++ (if bytes_eq other tag.items then number ∷ [] else [])) }
     ensures err { OnErr result ((other : List ℕ)
-        → kept_for other numbers.new.entries ≡ kept_for other numbers.old.entries) }
+        → stored_for other numbers.new.entries ≡ stored_for other numbers.old.entries) }
 {
-    if let Some(kept) = numbers.get_mut(&tag) {
-        kept.push_back(number)?;
+    if let Some(stored) = numbers.get_mut(&tag) {
+        stored.push_back(number)?;
         return Ok(());
     }
-    let mut kept = VecDeque::new(alloc);
-    kept.push_back(number)?;
-    numbers.insert(tag, kept)?;
+    let mut stored = VecDeque::new(alloc);
+    stored.push_back(number)?;
+    numbers.insert(tag, stored)?;
     Ok(())
 }
 
 /// Takes the first number out of a tag's list; `None` if it has none.
 fn take_first(numbers: &mut IndexMap<Vec<u8>, VecDeque<u64>>, tag: &[u8]) -> Option<u64>
-    ensures taken { kept_for tag.now numbers.old.entries
-        ≡ option_to_list result ++ kept_for tag.now numbers.new.entries }
-    ensures none { IfNone result (kept_for tag.now numbers.old.entries ≡ []) }
+    ensures taken { stored_for tag.now numbers.old.entries
+        ≡ option_to_list result ++ stored_for tag.now numbers.new.entries }
+    ensures none { IfNone result (stored_for tag.now numbers.old.entries ≡ []) }
     ensures others { (other : List ℕ)
         → bytes_eq other tag.now ≡ false
-        → kept_for other numbers.new.entries ≡ kept_for other numbers.old.entries }
+        → stored_for other numbers.new.entries ≡ stored_for other numbers.old.entries }
 {
-    let kept = numbers.get_mut(tag)?;
-    let number = kept.pop_front()?;
-    if kept.is_empty() {
+    let stored = numbers.get_mut(tag)?;
+    let number = stored.pop_front()?;
+    if stored.is_empty() {
         numbers.swap_remove(tag);
     }
     Some(number)

@@ -2,10 +2,10 @@
 
 ghost use Rattle.std.specs.Prelude.{◌↔◌, List, []};
 ghost use Rattle.mail_audit.specs.declared.event.SlotEvent.{SlotEvent};
-ghost use Rattle.mail_audit.specs.Explained.{IsExplained};
-ghost use Rattle.mail_audit.specs.Passing.{PassesFrom};
+ghost use Rattle.mail_audit.specs.Explanations.{IsExplained};
+ghost use Rattle.mail_audit.specs.EventPasses.{PassesFrom};
 
 /// Events are explained exactly if they pass one by one.
-pub fn explained_where_it_passes()
+pub fn explained_if_it_passes()
     ensures { (events : List SlotEvent) → IsExplained events ↔ PassesFrom [] [] events }
 {}

@@ -7,10 +7,10 @@
 //!
 //! The contract of `audit` says what each verdict means. After `Yes` the input consists of such
 //! parts; each session's transcript is explained: ascending UIDs of 32 bits can be assigned to all
-//! messages that came, expunged ones included, so that every answer fits; and each dump is right:
+//! messages, expunged ones included, so that every answer fits; and each dump is right:
 //! its op lines are sound operations, ascending, each with op lines for all its causes, followed by
 //! the lines that the set of them defines. After `No` or `Unreadable` everything before the named
-//! line, or before the dump that holds it, is right. `explained_where_it_passes` says that a
+//! line, or before the dump that holds it, is right. `explained_if_it_passes` says that a
 //! transcript is explained exactly if each event fits what was known before it.
 //!
 //! # Decided
@@ -40,21 +40,20 @@
 //!   messages, and of those whose UIDs were reported, both in order. So `* 4294967295 EXISTS` costs
 //!   no memory.
 //!
-//! - Both are held in a `tree_list`, and not in a vector, in which each message reported from the
+//! - Both are stored in a `tree_list`, and not in a vector, in which each message reported from the
 //!   last one down would move all later ones. std's maps can't say which entry is at a place, so
 //!   the tree is our own.
 //!
 //! - A session is found by its name in an `IndexMap`. Commands in progress are numbered as they
-//!   begin and stored by number in a `BTreeMap`, beside the numbers of each tag, so an answer finds
+//!   begin and stored by number in a `BTreeMap`, with the numbers of each tag, so an answer finds
 //!   the first command with its tag in logarithmic time.
 #![tactic(auto)]
 
-mod auditing;
 mod dump_state;
 mod event;
 mod expected_lines;
+mod expunged_places;
 mod gaps;
-mod gone_messages;
 mod in_progress;
 mod laws;
 mod line_audit;
@@ -62,12 +61,13 @@ mod line_forms;
 mod lines;
 mod op_lines;
 mod open_dump;
+mod reader_audit;
 mod results;
 mod sessions;
 mod slots;
 mod transcript;
 mod verdict;
 
-pub use auditing::{MAX_READS, audit};
-pub use laws::explained_where_it_passes;
+pub use laws::explained_if_it_passes;
+pub use reader_audit::{MAX_READS, audit};
 pub use verdict::AuditEnd;

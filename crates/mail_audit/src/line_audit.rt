@@ -5,7 +5,7 @@ ghost use Rattle.std.specs.Prelude.{MatchOption, None, length};
 ghost use Rattle.imap_types.specs.Escape.{AreOctets};
 ghost use Rattle.mail_script.specs.Fields.{is_session_name};
 ghost use Rattle.mail_audit.specs.Audits.{Audits, IsSpokenLine, Part, spoken_line};
-ghost use Rattle.mail_audit.specs.AuditProgress.{AreHeard, EndsAt, IsOpen, HasTaken};
+ghost use Rattle.mail_audit.specs.AuditProgress.{AreAudited, EndsAt, IsOpen, HasTaken};
 
 use crate::lines::{SpokenLine, read_spoken, replica_of_dump};
 use crate::open_dump::{DumpStep, OpenDump};
@@ -41,23 +41,23 @@ impl Audit {
     /// ran out, the audit can't be used.
     pub fn take(&mut self, alloc: Global, line: &[u8]) -> Result<Option<AuditEnd>, AllocError>
         requires room { self.old.taken + 1 < 2 ^ 64 }
-        requires stands { (lines : List (List ℕ)) × HasTaken lines self.old }
+        requires has_taken { (lines : List (List ℕ)) × HasTaken lines self.old }
         ensures { (lines : List (List ℕ)) → HasTaken lines self.old
             → IfOk result (λ end. MatchOption end (HasTaken (lines ++ line.now ∷ []) self.new)
             (EndsAt lines line.now)) }
     {
         self.taken += 1;
         match self.dump.take() {
-            Some(dump) => self.go_on(alloc, dump, line),
+            Some(dump) => self.take_in_dump(alloc, dump, line),
             None => match read_spoken(alloc, line)? {
-                Some(spoken) => self.hear(alloc, spoken),
-                None => self.pass(alloc, line),
+                Some(spoken) => self.accept(alloc, spoken),
+                None => self.take_other(alloc, line),
             },
         }
     }
 
     /// Takes a line of a dump.
-    fn go_on(
+    fn take_in_dump(
         &mut self,
         alloc: Global,
         dump: OpenDump,
@@ -75,7 +75,7 @@ impl Audit {
         let mut dump = dump;
         let step = dump.take(alloc, line, self.taken)?;
         match step {
-            DumpStep::GoesOn => {
+            DumpStep::Continues => {
                 self.dump = Some(dump);
                 Ok(None)
             }
@@ -86,9 +86,9 @@ impl Audit {
     }
 
     /// Takes a line of a transcript.
-    fn hear(&mut self, alloc: Global, spoken: SpokenLine) -> Result<Option<AuditEnd>, AllocError>
+    fn accept(&mut self, alloc: Global, spoken: SpokenLine) -> Result<Option<AuditEnd>, AllocError>
         ensures { (lines : List (List ℕ)) (parts : List Part)
-            → AreHeard lines parts self.old.sessions
+            → AreAudited lines parts self.old.sessions
             → self.old.taken ≡ length lines + 1 → self.old.dump ≡ None
             → IsTrue (is_session_name spoken.session)
             → AreOctets spoken.text
@@ -104,7 +104,7 @@ impl Audit {
         imap_grammar::one_reading();
         imap_print::one_reading();
         let octets = with_line_end(text)?;
-        if self.sessions.hear(alloc, session, speaker, &octets)? {
+        if self.sessions.accept(alloc, session, speaker, &octets)? {
             Ok(None)
         } else {
             Ok(Some(AuditEnd::No(self.taken)))
@@ -112,9 +112,9 @@ impl Audit {
     }
 
     /// Takes a line that belongs to no transcript and to no dump that began before it.
-    fn pass(&mut self, alloc: Global, line: &[u8]) -> Result<Option<AuditEnd>, AllocError>
+    fn take_other(&mut self, alloc: Global, line: &[u8]) -> Result<Option<AuditEnd>, AllocError>
         ensures { (lines : List (List ℕ)) (parts : List Part)
-            → AreHeard lines parts self.old.sessions
+            → AreAudited lines parts self.old.sessions
             → self.old.taken ≡ length lines + 1 → self.old.dump ≡ None
             → (IsSpokenLine line.now → ⊥)
             → IfOk result (λ end. MatchOption end (HasTaken (lines ++ line.now ∷ []) self.new)

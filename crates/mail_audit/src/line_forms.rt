@@ -5,7 +5,7 @@ ghost use Rattle.std.specs.List.{list_all};
 ghost use Rattle.crdt_ops.specs.Form.{IsSpelled};
 ghost use Rattle.crdt_ops.specs.declared.op.Op.{Op};
 ghost use Rattle.mail_audit.specs.DumpLines.{IsDumpLine};
-ghost use Rattle.mail_audit.specs.Forms.{AreIdsText, AreLetterFields, AreMessageFields};
+ghost use Rattle.mail_audit.specs.Forms.{AreIdsText, AreAppendFields, AreMessageFields};
 ghost use Rattle.mail_audit.specs.Forms.{AreTagFields, IsOtherLine, IsSpokenLine, IsStateLine};
 
 use crate::lines::{read_spoken, replica_of_dump};
@@ -48,7 +48,7 @@ fn operation(alloc: Global, text: &[u8]) -> Result<Option<Op>, AllocError>
 {
     match read_op(alloc, text) {
         Ok(op) => Ok(Some(op)),
-        Err(OpFault::NotTheForm) => Ok(None),
+        Err(OpFault::NotInForm) => Ok(None),
         Err(OpFault::NoMemory) => Err(AllocError),
     }
 }
@@ -120,16 +120,16 @@ fn are_unsubscribe_fields(alloc: Global, fields: &[u8]) -> Result<bool, AllocErr
 fn are_message_fields(alloc: Global, fields: &[u8]) -> Result<bool, AllocError>
     ensures { IfOk result (λ are. IsTrue are → AreMessageFields fields.now) }
 {
-    let Some((origin, behind)) = split(b' ', fields) else {
+    let Some((origin, after)) = split(b' ', fields) else {
         return Ok(false);
     };
-    let Some((versions, rest)) = split(b' ', behind) else {
+    let Some((versions, rest)) = split(b' ', after) else {
         return Ok(false);
     };
     if !are_ids(alloc, versions)? {
         return Ok(false);
     }
-    are_letter_fields(alloc, origin, rest)
+    are_append_fields(alloc, origin, rest)
 }
 
 /// Whether the text lists ids as a Delete does.
@@ -141,9 +141,9 @@ fn are_ids(alloc: Global, text: &[u8]) -> Result<bool, AllocError>
 
 /// Whether these are an id, and the flags, date and text that an Append with this id has after its
 /// folder.
-fn are_letter_fields(alloc: Global, id: &[u8], rest: &[u8]) -> Result<bool, AllocError>
+fn are_append_fields(alloc: Global, id: &[u8], rest: &[u8]) -> Result<bool, AllocError>
     requires { list_all (λ octet. not (octet == 32)) id.now ≡ true }
-    ensures { IfOk result (λ are. IsTrue are → AreLetterFields id.now rest.now) }
+    ensures { IfOk result (λ are. IsTrue are → AreAppendFields id.now rest.now) }
 {
     let mut front = id.to_vec(alloc)?;
     front.extend_from_slice(b" - append INBOX ")?;
@@ -162,7 +162,7 @@ fn is_spelled(alloc: Global, front: &[u8], fields: &[u8]) -> Result<bool, AllocE
             drop(op);
             Ok(true)
         }
-        Err(OpFault::NotTheForm) => Ok(false),
+        Err(OpFault::NotInForm) => Ok(false),
         Err(OpFault::NoMemory) => Err(AllocError),
     }
 }

@@ -2,7 +2,7 @@
 
 ghost use Rattle.std.specs.Prelude.{◌≡◌, ◌++◌, ◌∷◌, ℕ, List, IfOk, IsTrue, MatchOption};
 ghost use Rattle.imap_types.specs.Escape.{AreOctets, escape_text};
-ghost use Rattle.imap_types.specs.declared.escape.Escape.TheVariants.{Text as Kept};
+ghost use Rattle.imap_types.specs.declared.escape.Escape.TheVariants.{Text as TextEscape};
 ghost use Rattle.mail_script.specs.Fields.{IsReplica, is_session_name};
 ghost use Rattle.mail_script.specs.Transcript.{mark_of};
 ghost use Rattle.mail_script.specs.declared.transcript.Speaker.{Speaker};
@@ -26,14 +26,14 @@ pub struct SpokenLine {
 
 /// Reads a line of a transcript; `None` if it is none, and `Err` if memory runs out.
 pub fn read_spoken(alloc: Global, line: &[u8]) -> Result<Option<SpokenLine>, AllocError>
-    ensures { IfOk result (λ found. MatchOption found (IsSpokenLine line.now → ⊥)
+    ensures { IfOk result (λ parsed. MatchOption parsed (IsSpokenLine line.now → ⊥)
         (λ spoken. IsTrue (is_session_name spoken.session) × AreOctets spoken.text
         × (line.now ≡ spoken_line spoken.session spoken.speaker spoken.text))) }
 {
-    let Some((name, said)) = split(b' ', line) else {
+    let Some((name, sent)) = split(b' ', line) else {
         return Ok(None);
     };
-    let Some((speaker, text)) = speech(said) else {
+    let Some((speaker, text)) = speech(sent) else {
         return Ok(None);
     };
     let Some(text) = unescape_or_none(alloc, text)? else {
@@ -50,14 +50,14 @@ pub fn read_spoken(alloc: Global, line: &[u8]) -> Result<Option<SpokenLine>, All
 }
 
 /// The speaker, and the text after the speaker's mark.
-fn speech(said: &[u8]) -> Option<(Speaker, &[u8])>
+fn speech(sent: &[u8]) -> Option<(Speaker, &[u8])>
     ensures { MatchOption result
-        ((speaker : Speaker) (text : List ℕ) → 32 ∷ said.now ≡ mark_of speaker ++ text → ⊥)
-        (λ speech. 32 ∷ said.now ≡ mark_of speech.0 ++ speech.1.now) }
+        ((speaker : Speaker) (text : List ℕ) → 32 ∷ sent.now ≡ mark_of speaker ++ text → ⊥)
+        (λ speech. 32 ∷ sent.now ≡ mark_of speech.0 ++ speech.1.now) }
 {
-    match said.strip_prefix(b"C: ".as_slice()) {
+    match sent.strip_prefix(b"C: ".as_slice()) {
         Some(frame) => Some((Speaker::Client, frame)),
-        None => match said.strip_prefix(b"S: ".as_slice()) {
+        None => match sent.strip_prefix(b"S: ".as_slice()) {
             Some(answer) => Some((Speaker::Server, answer)),
             None => None,
         },
@@ -67,9 +67,9 @@ fn speech(said: &[u8]) -> Option<(Speaker, &[u8])>
 /// Undoes the escape that keeps spaces; `None` if the text isn't so escaped, and `Err` if memory
 /// runs out.
 fn unescape_or_none(alloc: Global, text: &[u8]) -> Result<Option<Octets>, AllocError>
-    ensures { IfOk result (λ found. MatchOption found
-        ((octets : List ℕ) → AreOctets octets → text.now ≡ escape_text Kept octets → ⊥)
-        (λ octets. AreOctets octets × (text.now ≡ escape_text Kept octets))) }
+    ensures { IfOk result (λ parsed. MatchOption parsed
+        ((octets : List ℕ) → AreOctets octets → text.now ≡ escape_text TextEscape octets → ⊥)
+        (λ octets. AreOctets octets × (text.now ≡ escape_text TextEscape octets))) }
 {
     match read_escaped(alloc, Escape::Text, text) {
         Ok(octets) => Ok(Some(octets)),

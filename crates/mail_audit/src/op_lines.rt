@@ -4,7 +4,7 @@ ghost use Rattle.std.specs.Prelude.{◌≡◌, ◌↔◌, ◌≤◌, ◌<◌, []
 ghost use Rattle.std.specs.Prelude.{IsTrue, OnOk, length};
 ghost use Rattle.std.specs.declared.cmp.Ordering.TheVariants.{Less};
 ghost use Rattle.crdt_ops.specs.SortedSets.{id_order};
-ghost use Rattle.mail_audit.specs.DumpLines.{IsLonger, StandsBehind};
+ghost use Rattle.mail_audit.specs.DumpLines.{IsLonger, IsAboveLast};
 
 use crdt_ops::{Op, SoundOp, into_sound_op};
 use merge_laws::Caused;
@@ -64,16 +64,16 @@ impl OpLines {
     /// The place of the first op line that makes the dump wrong, if any: it is bad, or has a cause
     /// that no op line has. If op lines may still come, a cause whose id is above that of the last
     /// line may come with them, and isn't missed. `Err` if memory runs out.
-    pub fn first_wrong(&self, alloc: Global, may_come: bool) -> Result<Option<usize>, AllocError>
+    pub fn first_wrong(&self, alloc: Global, may_follow: bool) -> Result<Option<usize>, AllocError>
         ensures within { IfOk result
-            (λ found. IfSome found (λ place. place ≤ length self.now.ops.items)) }
-        ensures bad { IfOk result (λ found. self.now.is_bad ≡ true → IsSome found) }
-        ensures at_end { IfOk result (λ found. self.now.is_bad ≡ false
-            → IfSome found (λ place. place < length self.now.ops.items)) }
+            (λ wrong. IfSome wrong (λ place. place ≤ length self.now.ops.items)) }
+        ensures bad { IfOk result (λ wrong. self.now.is_bad ≡ true → IsSome wrong) }
+        ensures at_end { IfOk result (λ wrong. self.now.is_bad ≡ false
+            → IfSome wrong (λ place. place < length self.now.ops.items)) }
     {
-        let there = self.clock(alloc)?;
-        let last = if may_come { self.last_id() } else { None };
-        Ok(match first_lacking(&self.ops, &there, &last) {
+        let live = self.clock(alloc)?;
+        let last = if may_follow { self.last_id() } else { None };
+        Ok(match first_lacking(&self.ops, &live, &last) {
             Some(place) => Some(place),
             None if self.is_bad => Some(self.ops.len()),
             None => None,
@@ -109,7 +109,7 @@ impl OpLines {
 
 /// Whether the id is above that of the last operation.
 fn is_above(ops: &[SoundOp], id: &OpId) -> bool
-    ensures { IsTrue result ↔ StandsBehind ops.now id.now }
+    ensures { IsTrue result ↔ IsAboveLast ops.now id.now }
 {
     match ops.last() {
         None => true,
@@ -126,11 +126,11 @@ fn is_below(op: &SoundOp, id: &OpId) -> bool
 
 /// The place of the first operation with a cause that isn't counted. If op lines may still come
 /// after the id `last`, only causes whose ids aren't above it are missed.
-fn first_lacking(ops: &[SoundOp], there: &Clock, last: &Option<OpId>) -> Option<usize>
+fn first_lacking(ops: &[SoundOp], live: &Clock, last: &Option<OpId>) -> Option<usize>
     ensures { IfSome result (λ place. place < length ops.now) }
 {
     for (place, op) in ops.iter().enumerate() {
-        if lacks(op.clock(), there, last) {
+        if lacks(op.clock(), live, last) {
             return Some(place);
         }
     }
@@ -139,9 +139,9 @@ fn first_lacking(ops: &[SoundOp], there: &Clock, last: &Option<OpId>) -> Option<
 
 /// Whether a cause isn't counted. If op lines may still come after the id `last`, only causes whose
 /// ids aren't above it are missed.
-fn lacks(clock: &Clock, there: &Clock, last: &Option<OpId>) -> bool {
+fn lacks(clock: &Clock, live: &Clock, last: &Option<OpId>) -> bool {
     for (replica, count) in clock.entries() {
-        let counted = there.get(*replica);
+        let counted = live.get(*replica);
         if counted < *count && is_missed(*replica, counted, last) {
             return true;
         }

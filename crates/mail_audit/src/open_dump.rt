@@ -3,8 +3,8 @@
 ghost use Rattle.std.specs.Prelude.{◌≡◌, ◌+◌, ◌≤◌, ◌<◌, ◌^◌, ℕ, List, [], ◌∷◌, ◌++◌, IfOk, IsTrue};
 ghost use Rattle.std.specs.Prelude.{drop, length};
 ghost use Rattle.mail_audit.specs.Audits.{Audits};
-ghost use Rattle.mail_audit.specs.DumpLines.{IsClosed, IsCompared, IsEarly, IsStep, IsStepBehind};
-ghost use Rattle.mail_audit.specs.DumpLines.{OpsStand, PhaseStands};
+ghost use Rattle.mail_audit.specs.DumpLines.{IsClosed, IsCompared, IsEarly, IsStep, IsMatchStep};
+ghost use Rattle.mail_audit.specs.DumpLines.{AreOps, IsPhase};
 ghost use Rattle.mail_audit.specs.Dumps.{AreOrdered};
 ghost use Rattle.mail_audit.specs.AuditProgress.{IsOpen};
 ghost use Rattle.mail_audit.specs.Sessions.{Session};
@@ -43,13 +43,13 @@ pub struct Comparison {
     /// The expected lines, each with its end.
     pub lines: Vec<u8>,
     /// The number of octets of the expected lines that have been matched.
-    pub came: usize,
+    pub pos: usize,
 }
 
 /// The effect of a line on a dump.
 pub enum DumpStep {
     /// The dump continues.
-    GoesOn,
+    Continues,
     /// The dump has ended, and is right.
     Ends,
     /// The dump is wrong at the line of this number.
@@ -63,7 +63,7 @@ impl OpenDump {
     pub fn new(alloc: Global, first: u64, replica: ReplicaId) -> OpenDump
         ensures { (result.first ≡ first)
             × (result.replica ≡ replica)
-            × PhaseStands [] result.phase }
+            × IsPhase [] result.phase }
     {
         OpenDump {
             first,
@@ -75,11 +75,11 @@ impl OpenDump {
     /// Takes the next line, which has this number; `Err` if memory runs out.
     pub fn take(&mut self, alloc: Global, line: &[u8], number: u64) -> Result<DumpStep, AllocError>
         requires { (inside : List (List ℕ))
-            × PhaseStands inside self.old.phase
+            × IsPhase inside self.old.phase
             × (number ≡ self.old.first + 1 + length inside) }
         ensures place { (self.new.first ≡ self.old.first) × (self.new.replica ≡ self.old.replica) }
         ensures step { (inside : List (List ℕ))
-            → PhaseStands inside self.old.phase
+            → IsPhase inside self.old.phase
             → number ≡ self.old.first + 1 + length inside
             → IfOk result (IsStep self.old.first inside line.now self.new.phase) }
     {
@@ -88,13 +88,13 @@ impl OpenDump {
             DumpPhase::Ops(lines) => match dump_line(alloc, line)? {
                 DumpLine::Op(op) => {
                     lines.push(op)?;
-                    Ok(DumpStep::GoesOn)
+                    Ok(DumpStep::Continues)
                 }
-                DumpLine::Unreadable => wrong_before(alloc, self.first, lines),
-                DumpLine::Other => match close(alloc, lines)? {
-                    Expected::Stuck(place) => Ok(DumpStep::Wrong(self.first + 1 + place as u64)),
+                DumpLine::Unreadable => step_if_unreadable(alloc, self.first, lines),
+                DumpLine::Other => match lines_after_ops(alloc, lines)? {
+                    Expected::WrongOp(place) => Ok(DumpStep::Wrong(self.first + 1 + place as u64)),
                     Expected::Lines(lines) => {
-                        let mut comparison = Comparison { lines, came: 0 };
+                        let mut comparison = Comparison { lines, pos: 0 };
                         let step = comparison.take(alloc, line, number)?;
                         self.phase = DumpPhase::State(comparison);
                         Ok(step)
@@ -125,20 +125,20 @@ impl OpenDump {
     }
 }
 
-/// The lines that must follow these op lines if other lines come now, or the place where the op
+/// The lines that must follow these op lines once they end, or the place where the op
 /// lines are wrong.
-fn close(alloc: Global, lines: &OpLines) -> Result<Expected, AllocError>
+fn lines_after_ops(alloc: Global, lines: &OpLines) -> Result<Expected, AllocError>
     requires { AreOrdered lines.now.ops.items }
-    ensures { (inside : List (List ℕ)) → OpsStand inside lines.now → IfOk result (IsClosed inside) }
+    ensures { (inside : List (List ℕ)) → AreOps inside lines.now → IfOk result (IsClosed inside) }
 {
     match lines.first_wrong(alloc, false)? {
-        Some(place) => Ok(Expected::Stuck(place)),
+        Some(place) => Ok(Expected::WrongOp(place)),
         None => expected_after(alloc, &lines.ops),
     }
 }
 
 /// The effect of a line that can't be read while op lines may still come.
-fn wrong_before(alloc: Global, first: u64, lines: &OpLines) -> Result<DumpStep, AllocError>
+fn step_if_unreadable(alloc: Global, first: u64, lines: &OpLines) -> Result<DumpStep, AllocError>
     requires { first + 1 + length lines.now.ops.items < 2 ^ 64 }
     ensures { IfOk result (IsEarly first lines.now) }
 {
@@ -151,12 +151,12 @@ fn wrong_before(alloc: Global, first: u64, lines: &OpLines) -> Result<DumpStep, 
 impl Comparison {
     /// Takes the next line, which has this number; `Err` if memory runs out.
     fn take(&mut self, alloc: Global, line: &[u8], number: u64) -> Result<DumpStep, AllocError>
-        requires { self.old.came ≤ length self.old.lines.items }
+        requires { self.old.pos ≤ length self.old.lines.items }
         ensures { IfOk result (IsCompared self.old line.now number self.new) }
     {
-        if self.has_next(line) {
-            self.came += line.len() + 1;
-            return Ok(self.step_behind(line, number));
+        if self.is_next_line(line) {
+            self.pos += line.len() + 1;
+            return Ok(self.match_step(line, number));
         }
         if is_other(alloc, line)? || is_op(alloc, line)? {
             Ok(DumpStep::Wrong(number))
@@ -166,24 +166,24 @@ impl Comparison {
     }
 
     /// Whether this is the next expected line.
-    fn has_next(&self, line: &[u8]) -> bool
-        requires { self.now.came ≤ length self.now.lines.items }
+    fn is_next_line(&self, line: &[u8]) -> bool
+        requires { self.now.pos ≤ length self.now.lines.items }
         ensures { IsTrue result
-            → (rest : List ℕ) × (drop self.now.came self.now.lines.items ≡ line.now ++ 10 ∷ rest) }
+            → (rest : List ℕ) × (drop self.now.pos self.now.lines.items ≡ line.now ++ 10 ∷ rest) }
     {
-        match split(b'\n', &self.lines[self.came..]) {
+        match split(b'\n', &self.lines[self.pos..]) {
             Some((next, _)) => next == line,
             None => false,
         }
     }
 
     /// The effect of the next expected line, which has this number.
-    fn step_behind(&self, line: &[u8], number: u64) -> DumpStep
-        ensures { IsStepBehind self.now line.now number result }
+    fn match_step(&self, line: &[u8], number: u64) -> DumpStep
+        ensures { IsMatchStep self.now line.now number result }
     {
         if line != b"end".as_slice() {
-            DumpStep::GoesOn
-        } else if self.came == self.lines.len() {
+            DumpStep::Continues
+        } else if self.pos == self.lines.len() {
             DumpStep::Ends
         } else {
             DumpStep::Wrong(number)

@@ -12,7 +12,7 @@ ghost use Rattle.mail_audit.specs.ResultReading.{join_result_at, joined_at, join
 ghost use Rattle.mail_audit.specs.ResultReading.{outcome_at, plain_at, replicas_at, result_at};
 ghost use Rattle.mail_audit.specs.ResultReading.{settle_result_at, settled_at, settled_plainly_at};
 ghost use Rattle.mail_audit.specs.ResultReading.{unsound_at, valued_at};
-ghost use Rattle.mail_audit.specs.Results.{IsCount, IsDeliveryResult, IsJoinResult, IsPassedOver};
+ghost use Rattle.mail_audit.specs.Results.{IsCount, IsDeliveryResult, IsJoinResult, IsReportable};
 ghost use Rattle.mail_audit.specs.Results.{IsResult, IsSettleResult};
 
 use mail_script::{
@@ -33,17 +33,17 @@ struct AppliedCount {
 /// Whether the line reports the result of a delivery, a drain, an exchange, a comparison or a join;
 /// `Err` if memory runs out.
 pub fn is_result(alloc: Global, line: &[u8]) -> Result<bool, AllocError>
-    ensures { IfOk result (λ tells. IsTrue tells ↔ IsResult line.now) }
+    ensures { IfOk result (λ matches. IsTrue matches ↔ IsResult line.now) }
 {
     match outcome(line) {
-        Some(outcome) => is_told(alloc, outcome, line),
+        Some(outcome) => is_outcome_text(alloc, outcome, line),
         None => Ok(false),
     }
 }
 
 /// Whether the line is exactly the text of this outcome; `Err` if memory runs out.
-fn is_told(alloc: Global, outcome: OutcomeLine, line: &[u8]) -> Result<bool, AllocError>
-    ensures { IfOk result (λ tells. IsTrue tells ↔ (line.now ≡ outcome_text outcome)) }
+fn is_outcome_text(alloc: Global, outcome: OutcomeLine, line: &[u8]) -> Result<bool, AllocError>
+    ensures { IfOk result (λ matches. IsTrue matches ↔ (line.now ≡ outcome_text outcome)) }
 {
     let mut text = Vec::new(alloc);
     write_outcome(outcome, &mut text)?;
@@ -79,7 +79,7 @@ fn replica(text: &[u8]) -> Option<ReplicaId>
 #[tactic(auto, unfolding(crate::specs::ResultReading::outcome_at))]
 fn outcome(line: &[u8]) -> Option<OutcomeLine>
     ensures read { result ≡ outcome_at line.now }
-    ensures range { IfSome result IsPassedOver }
+    ensures range { IfSome result IsReportable }
 {
     let (word, fields) = split(b' ', line)?;
     outcome_of(word, fields)
@@ -89,7 +89,7 @@ fn outcome(line: &[u8]) -> Option<OutcomeLine>
 #[tactic(auto, unfolding(crate::specs::ResultReading::fields_at))]
 fn outcome_of(word: &[u8], fields: &[u8]) -> Option<OutcomeLine>
     ensures read { result ≡ fields_at word.now fields.now }
-    ensures range { IfSome result IsPassedOver }
+    ensures range { IfSome result IsReportable }
 {
     if word == b"deliver".as_slice() {
         delivered_outcome(fields)
@@ -109,7 +109,7 @@ fn outcome_of(word: &[u8], fields: &[u8]) -> Option<OutcomeLine>
 #[tactic(auto, unfolding(crate::specs::ResultReading::replicas_at))]
 fn of_replicas(word: &[u8], fields: &[u8]) -> Option<OutcomeLine>
     ensures read { result ≡ replicas_at word.now fields.now }
-    ensures range { IfSome result IsPassedOver }
+    ensures range { IfSome result IsReportable }
 {
     if word == b"settle:".as_slice() {
         settled_outcome(fields)
@@ -126,14 +126,14 @@ fn of_replicas(word: &[u8], fields: &[u8]) -> Option<OutcomeLine>
 #[tactic(auto, unfolding(crate::specs::ResultReading::delivered_at))]
 fn delivered_outcome(fields: &[u8]) -> Option<OutcomeLine>
     ensures read { result ≡ delivered_at fields.now }
-    ensures range { IfSome result IsPassedOver }
+    ensures range { IfSome result IsReportable }
 {
     let (name, rest) = split(b' ', fields)?;
     let (number, text) = split(b':', rest)?;
-    let (_space, told) = split(b' ', text)?;
+    let (_space, reported) = split(b' ', text)?;
     let id = id(name)?;
     let replica = replica(number)?;
-    let result = delivery_result(told)?;
+    let result = delivery_result(reported)?;
     Some(OutcomeLine::Delivered {
         id,
         replica,
@@ -145,14 +145,14 @@ fn delivered_outcome(fields: &[u8]) -> Option<OutcomeLine>
 #[tactic(auto, unfolding(crate::specs::ResultReading::forged_at))]
 fn forged_outcome(fields: &[u8]) -> Option<OutcomeLine>
     ensures read { result ≡ forged_at fields.now }
-    ensures range { IfSome result IsPassedOver }
+    ensures range { IfSome result IsReportable }
 {
     let (name, rest) = split(b' ', fields)?;
     let (number, text) = split(b':', rest)?;
-    let (_space, told) = split(b' ', text)?;
+    let (_space, reported) = split(b' ', text)?;
     let id = id(name)?;
     let replica = replica(number)?;
-    let result = delivery_result(told)?;
+    let result = delivery_result(reported)?;
     Some(OutcomeLine::Forged {
         id,
         replica,
@@ -164,7 +164,7 @@ fn forged_outcome(fields: &[u8]) -> Option<OutcomeLine>
 #[tactic(auto, unfolding(crate::specs::ResultReading::unsound_at))]
 fn unsound_outcome(fields: &[u8]) -> Option<OutcomeLine>
     ensures read { result ≡ unsound_at fields.now }
-    ensures range { IfSome result IsPassedOver }
+    ensures range { IfSome result IsReportable }
 {
     if fields == b"Unsound U1".as_slice() {
         Some(broken_rule(BrokenRule::OwnEntry))
@@ -193,11 +193,11 @@ fn broken_rule(rule: BrokenRule) -> OutcomeLine
 #[tactic(auto, unfolding(crate::specs::ResultReading::drained_at))]
 fn drained_outcome(fields: &[u8]) -> Option<OutcomeLine>
     ensures read { result ≡ drained_at fields.now }
-    ensures range { IfSome result IsPassedOver }
+    ensures range { IfSome result IsReportable }
 {
     let (number, text) = split(b':', fields)?;
-    let (_space, told) = split(b' ', text)?;
-    let (_applied, value) = split(b' ', told)?;
+    let (_space, reported) = split(b' ', text)?;
+    let (_applied, value) = split(b' ', reported)?;
     let replica = replica(number)?;
     let counted = count_and_stall(value)?;
     Some(OutcomeLine::Drained {
@@ -302,7 +302,7 @@ fn count_and_stall(text: &[u8]) -> Option<AppliedCount>
 #[tactic(auto, unfolding(crate::specs::ResultReading::settled_at))]
 fn settled_outcome(fields: &[u8]) -> Option<OutcomeLine>
     ensures read { result ≡ settled_at fields.now }
-    ensures range { IfSome result IsPassedOver }
+    ensures range { IfSome result IsReportable }
 {
     let result = settle_result(fields)?;
     Some(OutcomeLine::Settled { result })
@@ -344,13 +344,13 @@ fn plain_settle_result(word: &[u8]) -> Option<SettleResult>
 #[tactic(auto, unfolding(crate::specs::ResultReading::agreed_at))]
 fn agreed_outcome(fields: &[u8]) -> Option<OutcomeLine>
     ensures read { result ≡ agreed_at fields.now }
-    ensures range { IfSome result IsPassedOver }
+    ensures range { IfSome result IsReportable }
 {
     let (one, rest) = split(b' ', fields)?;
-    let (other, told) = split(b':', rest)?;
+    let (other, reported) = split(b':', rest)?;
     let first = replica(one)?;
     let second = replica(other)?;
-    let same = told == b" yes".as_slice();
+    let same = reported == b" yes".as_slice();
     Some(OutcomeLine::Agreed {
         first,
         second,
@@ -362,14 +362,14 @@ fn agreed_outcome(fields: &[u8]) -> Option<OutcomeLine>
 #[tactic(auto, unfolding(crate::specs::ResultReading::joined_at))]
 fn joined_outcome(fields: &[u8]) -> Option<OutcomeLine>
     ensures read { result ≡ joined_at fields.now }
-    ensures range { IfSome result IsPassedOver }
+    ensures range { IfSome result IsReportable }
 {
     let (one, rest) = split(b' ', fields)?;
     let (other, text) = split(b':', rest)?;
-    let (_space, told) = split(b' ', text)?;
+    let (_space, reported) = split(b' ', text)?;
     let joining = replica(one)?;
     let peer = replica(other)?;
-    let result = join_result(told)?;
+    let result = join_result(reported)?;
     Some(OutcomeLine::Joined {
         replica: joining,
         peer,

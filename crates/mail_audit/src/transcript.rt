@@ -3,12 +3,12 @@
 ghost use Rattle.std.specs.Prelude.{◌≡◌, ◌≢◌, ◌↔◌, ℕ, List, [], ◌∷◌, ◌++◌, IfOk, IfSome, IsTrue};
 ghost use Rattle.std.specs.Prelude.{OnOk, Some};
 ghost use Rattle.imap_answers.specs.Printable.{IsPrintable};
-ghost use Rattle.imap_answers.specs.Printed.{text_of_answer};
+ghost use Rattle.imap_answers.specs.AnswerText.{text_of_answer};
 ghost use Rattle.imap_answers.specs.declared.answer.Answer.{Answer};
 ghost use Rattle.imap_grammar.specs.declared.fault.ParseFault.TheVariants.{NoMemory as NoMemoryToParse};
-ghost use Rattle.mail_audit.specs.HeardSessions.{TakesSaid, DecidesSaid, nothing_known};
+ghost use Rattle.mail_audit.specs.KnownSessions.{TakesSent, DecidesSent, nothing_known};
 ghost use Rattle.mail_audit.specs.SlotSteps.{EventFits, after_event};
-ghost use Rattle.mail_audit.specs.Transcripts.{MayStand, event_by, event_of, idles, may_expunge};
+ghost use Rattle.mail_audit.specs.Transcripts.{MayBeSent, event_by, event_of, idles, may_expunge};
 ghost use Rattle.mail_audit.specs.Transcripts.{running_after, running_by};
 ghost use Rattle.mail_script.specs.declared.transcript.Speaker.TheVariants.{Client as Asking};
 ghost use Rattle.mail_script.specs.declared.transcript.Speaker.TheVariants.{Server as Answering};
@@ -31,7 +31,7 @@ pub struct Transcript {
 }
 
 impl Model for Transcript {
-    ghost use Rattle.mail_audit.specs.HeardSessions.{SessionKnowledge};
+    ghost use Rattle.mail_audit.specs.KnownSessions.{SessionKnowledge};
 
     ghost Value = { SessionKnowledge };
 
@@ -51,18 +51,18 @@ impl Transcript {
 
     /// Takes a frame or answer, CRLF included; `false` if it can't follow what was sent before.
     /// `Err` if memory runs out.
-    pub fn hear(
+    pub fn accept(
         &mut self,
         alloc: Global,
         speaker: Speaker,
         octets: &[u8],
     ) -> Result<bool, AllocError>
-        ensures { IfOk result (λ heard. DecidesSaid self.old
-            (record { speaker = speaker; octets = octets.now }) heard self.new) }
+        ensures { IfOk result (λ audited. DecidesSent self.old
+            (record { speaker = speaker; octets = octets.now }) audited self.new) }
     {
         match speaker {
             Speaker::Client => {
-                self.ask(alloc, octets)?;
+                self.take_frame(alloc, octets)?;
                 Ok(true)
             }
             Speaker::Server => self.answer(alloc, octets),
@@ -70,9 +70,9 @@ impl Transcript {
     }
 
     /// Takes a client's frame.
-    fn ask(&mut self, alloc: Global, frame: &[u8]) -> Result<(), AllocError>
+    fn take_frame(&mut self, alloc: Global, frame: &[u8]) -> Result<(), AllocError>
         ensures { OnOk result
-            (TakesSaid self.old (record { speaker = Asking; octets = frame.now }) self.new) }
+            (TakesSent self.old (record { speaker = Asking; octets = frame.now }) self.new) }
     {
         if self.running.idles() {
             return Ok(());
@@ -105,8 +105,8 @@ impl Transcript {
 
     /// Takes the octets that a server sent.
     fn answer(&mut self, alloc: Global, octets: &[u8]) -> Result<bool, AllocError>
-        ensures { IfOk result (λ heard. DecidesSaid self.old
-            (record { speaker = Answering; octets = octets.now }) heard self.new) }
+        ensures { IfOk result (λ audited. DecidesSent self.old
+            (record { speaker = Answering; octets = octets.now }) audited self.new) }
     {
         match whole_answer(alloc, octets)? {
             None => Ok(false),
@@ -121,13 +121,13 @@ impl Transcript {
     /// Takes an answer.
     fn take(&mut self, alloc: Global, answer: &Answer) -> Result<bool, AllocError>
         ensures fits { IfOk result (λ taken. IsTrue taken
-            ↔ (MayStand self.old.running answer.now
+            ↔ (MayBeSent self.old.running answer.now
             × EventFits self.old.known (event_of answer.now))) }
         ensures taken { IfOk result (λ taken. IsTrue taken
             → (self.new.running ≡ running_after self.old.running answer.now)
             × (self.new.known ≡ after_event self.old.known (event_of answer.now))) }
     {
-        if !may_stand(&self.running, answer) {
+        if !may_be_sent(&self.running, answer) {
             return Ok(false);
         }
         if !self.slots.note(alloc, event_of(answer))? {
@@ -162,10 +162,10 @@ fn pass_over(fault: ParseFault) -> Result<(), AllocError>
 
 /// The answer whose text these octets are, if any; `Err` if memory runs out.
 fn whole_answer(alloc: Global, octets: &[u8]) -> Result<Option<Answer>, AllocError>
-    ensures found { IfOk result (λ found. IfSome found
+    ensures parsed { IfOk result (λ parsed. IfSome parsed
         (λ answer. IsPrintable answer × (octets.now ≡ text_of_answer answer))) }
-    ensures only { IfOk result (λ found. (answer : Answer) → IsPrintable answer
-        → octets.now ≡ text_of_answer answer → found ≡ Some answer) }
+    ensures only { IfOk result (λ parsed. (answer : Answer) → IsPrintable answer
+        → octets.now ≡ text_of_answer answer → parsed ≡ Some answer) }
 {
     match read(alloc, octets)? {
         None => Ok(None),
@@ -211,8 +211,8 @@ fn event_by(command: &Command) -> SlotEvent
 }
 
 /// Whether the answer may be sent while these commands are in progress.
-fn may_stand(running: &InProgress, answer: &Answer) -> bool
-    ensures { IsTrue result ↔ MayStand running.now answer.now }
+fn may_be_sent(running: &InProgress, answer: &Answer) -> bool
+    ensures { IsTrue result ↔ MayBeSent running.now answer.now }
 {
     match answer {
         Answer::Expunge { .. } => running.may_expunge(),
@@ -229,7 +229,7 @@ fn event_of(answer: &Answer) -> SlotEvent
         Answer::Expunge { number } => SlotEvent::Expunge(*number),
         Answer::Fetch { number, items } => match items.uid {
             None => SlotEvent::Names(*number),
-            Some(uid) => SlotEvent::Tells(*number, uid),
+            Some(uid) => SlotEvent::ReportsUid(*number, uid),
         },
         _ => SlotEvent::Passes,
     }

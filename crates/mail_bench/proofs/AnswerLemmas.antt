@@ -31,8 +31,8 @@ ends text e =
     let long : length text - (length text - 9) ≡ 9 = sym (length-drop (length text - 9) text) ∙ ap length is in
     (omega arith, sym (get_or-drop (length text - 9) text 6 0) ∙ ap (λ (l : List ℕ). get_or l 6 0) is)
 
-not_ending : (text : List ℕ) → ¬ (bytes_eq (drop (length text - 9) text) (codes " EXISTS\r\n") ≡ true) → front_of (codes " EXISTS\r\n") text ≡ None
-not_ending text other =
+no_exists_end : (text : List ℕ) → ¬ (bytes_eq (drop (length text - 9) text) (codes " EXISTS\r\n") ≡ true) → front_of (codes " EXISTS\r\n") text ≡ None
+no_exists_end text other =
     elim (cases_Bool (bytes_eq (drop (length text - 9) text) (codes " EXISTS\r\n"))) [
       | inl t ↦ absurd (other t)
       | inr f ↦ rw f refl
@@ -41,7 +41,7 @@ not_ending text other =
 -- it has an S (83) before its line end
 pub no_exists : (text : List ℕ) (place : ℕ) → place + 3 ≡ length text → get_or text place 0 ≢ 83 → front_of (codes " EXISTS\r\n") text ≡ None
 no_exists text place at other =
-    not_ending text (λ e. let so = ends text e in let same : length text - 9 + 6 ≡ place = omega arith in other (ap (λ (n : ℕ). get_or text n 0) (sym same) ∙ so.1))
+    no_exists_end text (λ e. let so = ends text e in let same : length text - 9 + 6 ≡ place = omega arith in other (ap (λ (n : ℕ). get_or text n 0) (sym same) ∙ so.1))
 
 pub too_short : (text : List ℕ) → length text < 3 → front_of (codes " EXISTS\r\n") text ≡ None
-too_short text short = not_ending text (λ e. let so = ends text e in absurd (omega arith))
+too_short text short = no_exists_end text (λ e. let so = ends text e in absurd (omega arith))

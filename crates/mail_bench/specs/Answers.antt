@@ -14,8 +14,8 @@ use Rattle.mail_bench.specs.declared.answers.Status.{Status}
 use Rattle.mail_bench.specs.declared.answers.Status.TheVariants.{Bad, Done, No}
 
 -- The part of a text after a beginning, and the part before an end, if the text has them.
-abbrev pub behind : List ℕ → List ℕ → Option (List ℕ)
-behind front text =
+abbrev pub tail_of : List ℕ → List ℕ → Option (List ℕ)
+tail_of front text =
     if bytes_eq (take (length front) text) front then Some (drop (length front) text) else None
 
 abbrev pub front_of : List ℕ → List ℕ → Option (List ℕ)
@@ -27,17 +27,17 @@ front_of end text =
 -- How a command ended (RFC 9051, section 7.1).
 abbrev pub status_of : List ℕ → Option Status
 status_of text =
-    if is_some (behind (codes "OK ") text) then Some Done
-    else if is_some (behind (codes "NO ") text) then Some No
-    else if is_some (behind (codes "BAD ") text) then Some Bad
+    if is_some (tail_of (codes "OK ") text) then Some Done
+    else if is_some (tail_of (codes "NO ") text) then Some No
+    else if is_some (tail_of (codes "BAD ") text) then Some Bad
     else None
 
 -- How a command ended, in a line that has the tag with this number: `b`, the number, a space.
 abbrev pub status_in : ℕ → List ℕ → Option Status
 status_in number line = do
-  rest ← behind (codes "b") line
-  rest ← behind (decimal number) rest
-  rest ← behind (codes " ") rest
+  rest ← tail_of (codes "b") line
+  rest ← tail_of (decimal number) rest
+  rest ← tail_of (codes " ") rest
   status_of rest
 
 -- The number that digits spell after this one.
@@ -55,16 +55,16 @@ number_of digits =
 -- The number of messages in the mailbox, if the line reports it (RFC 9051, section 7.4.1).
 abbrev pub exists_in : List ℕ → Option ℕ
 exists_in line = do
-  rest ← behind (codes "* ") line
+  rest ← tail_of (codes "* ") line
   digits ← front_of (codes " EXISTS\r\n") rest
   number_of digits
 
 -- The meaning of a line that doesn't have the awaited tag.
 abbrev pub plain_answer : List ℕ → Answer
 plain_answer line =
-    if is_some (behind (codes "* BYE") line) then Bye
-    else if is_some (behind (codes "* ") line) then Other
-    else if is_some (behind (codes "+") line) then Continue
+    if is_some (tail_of (codes "* BYE") line) then Bye
+    else if is_some (tail_of (codes "* ") line) then Other
+    else if is_some (tail_of (codes "+") line) then Continue
     else Unreadable
 
 abbrev pub untagged_answer : List ℕ → Option ℕ → Answer

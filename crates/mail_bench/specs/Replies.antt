@@ -46,25 +46,25 @@ next (Literal left) octet = at_literal (left - 1)
 next Ended octet = Ended
 
 -- Whether the octet at this stage is part of the line.
-abbrev pub is_kept : ReplyStage → Bool
-is_kept (Literal left) = false
-is_kept Ended = false
-is_kept stage = true
+abbrev pub is_text : ReplyStage → Bool
+is_text (Literal left) = false
+is_text Ended = false
+is_text stage = true
 
 -- The line after one further octet: the octets of literals aren't stored.
-abbrev pub kept : ReplyStage → List ℕ → ℕ → List ℕ
-kept stage line octet = if is_kept stage then line ++ octet ∷ [] else line
+abbrev pub line_after : ReplyStage → List ℕ → ℕ → List ℕ
+line_after stage line octet = if is_text stage then line ++ octet ∷ [] else line
 
 abbrev pub is_ended : ReplyStage → Bool
 is_ended Ended = true
 is_ended stage = false
 
 -- The result of reading octets: the stage, the line, and the octets after the answer's end.
-abbrev pub heard : ReplyStage → List ℕ → List ℕ → ReplyStage × List ℕ × List ℕ
-heard stage line [] = (stage, line, [])
-heard stage line (octet ∷ octets) =
+abbrev pub scan : ReplyStage → List ℕ → List ℕ → ReplyStage × List ℕ × List ℕ
+scan stage line [] = (stage, line, [])
+scan stage line (octet ∷ octets) =
     if is_ended stage then (stage, line, octet ∷ octets)
-    else heard (next stage octet) (kept stage line octet) octets
+    else scan (next stage octet) (line_after stage line octet) octets
 
 -- Why an answer can't be read further at this stage, with a line of this length.
 abbrev pub refusal_at : ReplyStage → Option ReplyFault
@@ -86,5 +86,5 @@ LiteralsArePassed =
     (before text literal rest : List ℕ) → 0 < length literal
     → length literal ≤ longest_literal
     → list_all (λ octet. not (octet == 10)) text ≡ true
-    → heard Line before (text ++ (announced literal ++ (literal ++ rest)))
-    ≡ heard Line ((before ++ text) ++ announced literal) rest
+    → scan Line before (text ++ (announced literal ++ (literal ++ rest)))
+    ≡ scan Line ((before ++ text) ++ announced literal) rest

@@ -4,7 +4,7 @@ ghost use Rattle.std.specs.Prelude.{codes, ◌≡◌, ◌+◌, ◌-◌, ◌*◌,
 ghost use Rattle.std.specs.Char.{is_ascii_digit};
 ghost use Rattle.std.specs.List.{list_all};
 ghost use Rattle.std.specs.Option.{option_map};
-ghost use Rattle.mail_bench.specs.Answers.{answer_of, behind, exists_in, front_of, number_from};
+ghost use Rattle.mail_bench.specs.Answers.{answer_of, tail_of, exists_in, front_of, number_from};
 ghost use Rattle.mail_bench.specs.Answers.{number_of, plain_answer, status_in, status_of};
 
 use itoa::Buffer;
@@ -69,21 +69,21 @@ fn status_in(line: &[u8], number: u64) -> Option<Status>
         return None;
     };
     let mut buffer = Buffer::new();
-    let rest = behind(buffer.format(number).as_bytes(), rest)?;
-    let rest = behind(b" ", rest)?;
+    let rest = tail_of(buffer.format(number).as_bytes(), rest)?;
+    let rest = tail_of(b" ", rest)?;
     status_of(rest)
 }
 
 fn status_of(text: &[u8]) -> Option<Status>
     ensures { result ≡ status_of text.now }
 {
-    if behind(b"OK ", text).is_some() {
+    if tail_of(b"OK ", text).is_some() {
         return Some(Status::Done);
     }
-    if behind(b"NO ", text).is_some() {
+    if tail_of(b"NO ", text).is_some() {
         return Some(Status::No);
     }
-    if behind(b"BAD ", text).is_some() {
+    if tail_of(b"BAD ", text).is_some() {
         return Some(Status::Bad);
     }
     None
@@ -96,31 +96,31 @@ fn exists_in(line: &[u8]) -> Option<u32>
     let [b'*', b' ', rest @ ..] = line else {
         return None;
     };
-    let digits = in_front_of_exists(rest)?;
+    let digits = front_of_exists(rest)?;
     number_of(digits)
 }
 
 /// The part of an answer before ` EXISTS` and its line end, if it ends so. Most answers have
 /// another octet in place of the S.
 #[tactic(auto, using(crate::proofs::AnswerLemmas::no_exists, crate::proofs::AnswerLemmas::too_short))]
-fn in_front_of_exists(text: &[u8]) -> Option<&[u8]>
+fn front_of_exists(text: &[u8]) -> Option<&[u8]>
     ensures { option_map (λ rest. rest.now) result ≡ front_of (codes " EXISTS\r\n") text.now }
 {
     match text {
-        [.., b'S', _, _] => in_front_of(b" EXISTS\r\n", text),
+        [.., b'S', _, _] => front_part(b" EXISTS\r\n", text),
         _ => None,
     }
 }
 
 /// The part after this beginning, if the text begins so.
-fn behind<'a>(front: &[u8], text: &'a [u8]) -> Option<&'a [u8]>
-    ensures { option_map (λ rest. rest.now) result ≡ behind front.now text.now }
+fn tail_of<'a>(front: &[u8], text: &'a [u8]) -> Option<&'a [u8]>
+    ensures { option_map (λ rest. rest.now) result ≡ tail_of front.now text.now }
 {
     text.strip_prefix(front)
 }
 
 /// The part before this end, if the text ends so.
-fn in_front_of<'a>(end: &[u8], text: &'a [u8]) -> Option<&'a [u8]>
+fn front_part<'a>(end: &[u8], text: &'a [u8]) -> Option<&'a [u8]>
     ensures { option_map (λ rest. rest.now) result ≡ front_of end.now text.now }
 {
     text.strip_suffix(end)

@@ -5,7 +5,7 @@ ghost use Rattle.clap.specs.Words.{matches_of};
 ghost use Rattle.mail_bench.specs.Options.{Asks, IsPlainText, bench_words};
 
 use crate::fault::BenchFault;
-use crate::settings::{Settings, SettingsFault, UsageFault, is_without_memory, read_settings};
+use crate::settings::{Settings, SettingsFault, UsageFault, is_out_of_memory, read_settings};
 use clap::Error;
 use std::convert::AsStr;
 use std::io::Eprint;
@@ -32,39 +32,39 @@ pub fn settings_or_status<'a, R: Print + Eprint + AllocGlobal>(
 fn explain<R: Print + Eprint>(rt: &R, why: SettingsFault<'_>) -> u8 {
     match why {
         SettingsFault::Words(error) => explain_words(rt, error),
-        SettingsFault::Usage(why) => tell_usage(rt, why),
+        SettingsFault::Usage(why) => print_usage(rt, why),
     }
 }
 
 /// Prints what can't be used, and returns the program's status.
-fn tell_usage<R: Eprint>(rt: &R, why: UsageFault<'_>) -> u8 {
-    let told = match why {
+fn print_usage<R: Eprint>(rt: &R, why: UsageFault<'_>) -> u8 {
+    let printed = match why {
         UsageFault::BadWorkload(word) => eprintln!(rt; "usage: no workload {word}"),
         UsageFault::BadText(word) => eprintln!(rt; "usage: --{word} takes printable ASCII"),
     };
-    match told {
+    match printed {
         Ok(()) => 2,
         Err(_) => 1,
     }
 }
 
 /// Prints why the run ended early, and returns the program's status.
-pub fn tell_fault<R: Eprint>(rt: &R, fault: BenchFault) -> u8 {
+pub fn print_fault<R: Eprint>(rt: &R, fault: BenchFault) -> u8 {
     let _ = eprintln!(rt; "mail_bench: {fault}");
     1
 }
 
 fn explain_words<R: Print + Eprint>(rt: &R, error: Error) -> u8 {
-    if is_without_memory(&error) {
-        return tell_fault(rt, BenchFault::NoMemory);
+    if is_out_of_memory(&error) {
+        return print_fault(rt, BenchFault::NoMemory);
     }
     let is_help = !error.use_stderr();
-    let told = if is_help {
+    let printed = if is_help {
         rt.print(error)
     } else {
         rt.eprint(error)
     };
-    match told {
+    match printed {
         Ok(()) if is_help => 0,
         Ok(()) => 2,
         Err(_) => 1,

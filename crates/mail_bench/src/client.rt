@@ -41,7 +41,7 @@ pub struct Client {
     ghost within: { end ≤ vec_len piece },
 }
 
-// By hand, so that crates above drop it whole.
+// Written by hand, so crates above drop it whole.
 impl Drop for Client {
     fn drop(self) {
         let Self {
@@ -76,12 +76,12 @@ impl<R: Net<Listener = TcpListener, Stream = TcpStream>> Dial for R {
 impl Client {
     /// Connects, and waits for the greeting.
     pub fn connect<R: Dial>(rt: &R, alloc: Global, address: &str) -> Result<Client, BenchFault> {
-        let mut client = Client::over(alloc, rt.dial(address)?)?;
+        let mut client = Client::from_stream(alloc, rt.dial(address)?)?;
         client.greet()?;
         Ok(client)
     }
 
-    fn over(alloc: Global, stream: TcpStream) -> Result<Client, BenchFault> {
+    fn from_stream(alloc: Global, stream: TcpStream) -> Result<Client, BenchFault> {
         let patience = Some(Duration::from_secs(PATIENCE));
         if stream.set_nodelay(true).is_err() || stream.set_read_timeout(patience).is_err() {
             return Err(BenchFault::Connect);
@@ -101,7 +101,7 @@ impl Client {
     }
 
     fn greet(&mut self) -> Result<(), BenchFault> {
-        match self.hear(0)? {
+        match self.receive(0)? {
             Answer::Other => Ok(()),
             Answer::Bye => Err(BenchFault::Bye),
             _ => Err(BenchFault::Unreadable),
@@ -172,7 +172,7 @@ impl Client {
     /// Waits until the server reports that the mailbox has at least `least` messages.
     pub fn await_messages(&mut self, least: u32) -> Result<(), BenchFault> {
         for _ in 0..MAX_ANSWERS {
-            match self.hear(0)? {
+            match self.receive(0)? {
                 Answer::Exists(_) if self.messages >= least => return Ok(()),
                 Answer::Exists(_) | Answer::Other => {}
                 Answer::Bye => return Err(BenchFault::Bye),
@@ -231,7 +231,7 @@ impl Client {
     /// Waits until the command with this number is answered OK.
     pub fn await_end(&mut self, number: u64) -> Result<(), BenchFault> {
         for _ in 0..MAX_ANSWERS {
-            match self.hear(number)? {
+            match self.receive(number)? {
                 Answer::Ended(status) => return status_result(status),
                 Answer::Exists(_) | Answer::Other => {}
                 Answer::Bye if self.leaves => {}
@@ -245,7 +245,7 @@ impl Client {
     /// Waits until the server asks for more of the command with this number.
     fn await_continue(&mut self, number: u64) -> Result<(), BenchFault> {
         for _ in 0..MAX_ANSWERS {
-            match self.hear(number)? {
+            match self.receive(number)? {
                 Answer::Continue => return Ok(()),
                 Answer::Exists(_) | Answer::Other => {}
                 Answer::Ended(status) => {
@@ -261,7 +261,7 @@ impl Client {
 
     /// Reads the next answer, and returns its meaning while the end of the command with this number
     /// is awaited.
-    fn hear(&mut self, number: u64) -> Result<Answer, BenchFault> {
+    fn receive(&mut self, number: u64) -> Result<Answer, BenchFault> {
         self.reading.begin();
         self.read_answer()?;
         let answer = answer_of(&self.reading.line, number);

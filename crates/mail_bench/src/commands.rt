@@ -15,7 +15,7 @@ const FIELDS: &[u8] =
     b"From: bench@example.org\r\nTo: bench@example.org\r\nSubject: one of many\r\n\r\n";
 
 /// A line of a message's text.
-const TEXT: &[u8] = b"A line of sixty-four octets, which stands in a message of bench.\r\n";
+const TEXT: &[u8] = b"A line of sixty-four octets, which occurs in a message of bench.\r\n";
 
 /// A command with no argument of its own.
 #[derive(Clone, Copy)]

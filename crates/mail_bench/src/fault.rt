@@ -25,9 +25,9 @@ pub enum BenchFault {
     LongLine,
     /// An answer's literal is too long.
     LongLiteral,
-    /// More answers came than are read for one command.
+    /// More answers arrived than are read for one command.
     Endless,
-    /// Nothing came for too long.
+    /// Nothing arrived for too long.
     Silent,
     /// A read failed.
     Read,

@@ -17,7 +17,7 @@ const PATIENCE: u64 = 60;
 struct BoardState {
     /// The moments at which idling connections received the last message, as far as they did;
     /// before the first message, one moment for each that idles.
-    heard: Vec<Instant>,
+    received: Vec<Instant>,
     /// Whether the message that is being sent is the last.
     is_last: bool,
     /// Why one of the idling connections ended.
@@ -27,7 +27,7 @@ struct BoardState {
 /// The shared state, and the signal that it changed.
 #[derive(Drop)]
 pub struct Board {
-    news: Mutex<BoardState>,
+    state: Mutex<BoardState>,
     changed: Condvar,
     idlers: usize,
 }
@@ -36,8 +36,8 @@ impl Board {
     /// The state for `idlers` idling connections.
     pub fn new(alloc: Global, idlers: usize) -> Board {
         Board {
-            news: Mutex::new(BoardState {
-                heard: Vec::new(alloc),
+            state: Mutex::new(BoardState {
+                received: Vec::new(alloc),
                 is_last: false,
                 fault: None,
             }),
@@ -50,56 +50,56 @@ impl Board {
     /// the last.
     pub fn note_now<R: Wait + Clock>(&self, rt: &R) -> Result<bool, BenchFault> {
         let moment = now(rt)?;
-        let mut news = self.news.lock(rt);
-        if news.heard.push(moment).is_err() {
+        let mut state = self.state.lock(rt);
+        if state.received.push(moment).is_err() {
             return Err(BenchFault::NoMemory);
         }
-        if news.heard.len() >= self.idlers {
+        if state.received.len() >= self.idlers {
             self.changed.notify_all();
         }
-        Ok(news.is_last)
+        Ok(state.is_last)
     }
 
     /// Notes why a connection ended.
     pub fn fail<R: Wait>(&self, rt: &R, fault: BenchFault) {
-        let mut news = self.news.lock(rt);
-        news.fault = Some(fault);
+        let mut state = self.state.lock(rt);
+        state.fault = Some(fault);
         self.changed.notify_all();
     }
 
     /// Notes that the next message is about to be sent.
     pub fn begin<R: Wait>(&self, rt: &R, is_last: bool) {
-        let mut news = self.news.lock(rt);
-        news.heard.clear();
-        news.is_last = is_last;
+        let mut state = self.state.lock(rt);
+        state.received.clear();
+        state.is_last = is_last;
     }
 
     /// Waits until all connections received the message, or idle. `Silent` if it takes longer than
     /// 60 seconds; the fault of a connection, if one ended.
     pub fn await_all<R: Wait + Clock>(&self, rt: &R) -> Result<(), BenchFault> {
         let idlers = self.idlers;
-        let (news, _) = self.changed.wait_timeout_while(
+        let (state, _) = self.changed.wait_timeout_while(
             rt,
-            self.news.lock(rt),
+            self.state.lock(rt),
             Duration::from_secs(PATIENCE),
-            |news: &mut BoardState| news.heard.len() < idlers && news.fault.is_none(),
+            |state: &mut BoardState| state.received.len() < idlers && state.fault.is_none(),
         );
-        match news.fault {
+        match state.fault {
             Some(fault) => Err(fault),
-            None if news.heard.len() < idlers => Err(BenchFault::Silent),
+            None if state.received.len() < idlers => Err(BenchFault::Silent),
             None => Ok(()),
         }
     }
 
     /// Adds to a tally how long after this moment each connection received the message.
-    pub fn tell<R: Wait>(
+    pub fn add_times<R: Wait>(
         &self,
         rt: &R,
         sent: Instant,
         tally: &mut Tally,
     ) -> Result<(), BenchFault> {
-        let news = self.news.lock(rt);
-        for moment in news.heard.iter() {
+        let state = self.state.lock(rt);
+        for moment in state.received.iter() {
             tally.note(0, moment.duration_since(sent))?;
         }
         Ok(())

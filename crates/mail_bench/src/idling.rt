@@ -4,8 +4,8 @@
 use crate::client::{Client, Dial};
 use crate::fault::BenchFault;
 use crate::idle_board::Board;
-use crate::measuring::measure;
-use crate::preparing::{connect_and_login, connect_and_select, connect_and_select_when};
+use crate::measurement::measure;
+use crate::preparation::{connect_and_login, connect_and_select, connect_and_select_when};
 use crate::report::{Report, Tally};
 use crate::settings::Settings;
 use crate::work::{WorkPlan, now, since};
@@ -20,7 +20,7 @@ use std::time::Duration;
 /// The number of connections that receive each message.
 pub const LISTENERS: u32 = 32;
 
-/// The number of connections that idle beside the one that is measured.
+/// The number of connections that idle while another is measured.
 pub const BYSTANDERS: u32 = 400;
 
 /// The largest number of messages that are sent.
@@ -36,7 +36,7 @@ pub fn fan_out<R: Threads + Wait + Clock + Sync + Dial>(
 ) -> Result<Report, BenchFault> {
     let listeners = listeners(rt, alloc, settings, plan.messages)?;
     let mut sender = connect_and_login(rt, alloc, settings, settings.address)?;
-    let (tally, took) = send_and_hear(rt, alloc, settings.seconds, plan, listeners, &mut sender)?;
+    let (tally, took) = send_and_listen(rt, alloc, settings.seconds, plan, listeners, &mut sender)?;
     Report::of(1, plan.messages, took, tally)
 }
 
@@ -58,7 +58,7 @@ fn listeners<R: Clock + Dial>(
 
 /// Has one connection send messages for `seconds` seconds while the others listen; returns the
 /// tally of the messages, and how long it took.
-fn send_and_hear<R: Threads + Wait + Clock + Sync>(
+fn send_and_listen<R: Threads + Wait + Clock + Sync>(
     rt: &R,
     alloc: Global,
     seconds: u32,
@@ -67,7 +67,7 @@ fn send_and_hear<R: Threads + Wait + Clock + Sync>(
     sender: &mut Client,
 ) -> Result<(Tally, Duration), BenchFault> {
     let board = Board::new(alloc, listeners.len());
-    let (sent, heard) = thread::join(
+    let (sent, received) = thread::join(
         rt,
         || send_all(rt, alloc, seconds, plan, &board, sender),
         || thread::map_vec(
@@ -76,7 +76,7 @@ fn send_and_hear<R: Threads + Wait + Clock + Sync>(
             &|client: Client| listen(rt, &board, plan.messages, client),
         ),
     );
-    first_fault(heard?)?;
+    first_fault(received?)?;
     sent
 }
 
@@ -113,16 +113,16 @@ fn send_for<R: Wait + Clock>(
     tally: &mut Tally,
 ) -> Result<Duration, BenchFault> {
     board.await_all(rt)?;
-    let begun = now(rt)?;
+    let start = now(rt)?;
     for _ in 0..MAX_ROUNDS {
-        let is_last = since(rt, begun)?.as_secs() >= u64::from(seconds);
+        let is_last = since(rt, start)?.as_secs() >= u64::from(seconds);
         board.begin(rt, is_last);
         send_one(rt, plan, board, sender, tally)?;
         if is_last {
             break;
         }
     }
-    since(rt, begun)
+    since(rt, start)
 }
 
 /// Sends a message, and notes how long each connection took to receive it.
@@ -138,7 +138,7 @@ fn send_one<R: Wait + Clock>(
     sender.finish(&plan.message, number)?;
     board.await_all(rt)?;
     tally.commands = tally.commands.saturating_add(1);
-    board.tell(rt, sent, tally)
+    board.add_times(rt, sent, tally)
 }
 
 /// Idles, and notes when it receives each message after the first `messages`, until the last.
@@ -162,12 +162,12 @@ fn listen_to_all<R: Wait + Clock>(
     client: &mut Client,
 ) -> Result<(), BenchFault> {
     let number = client.idle()?;
-    hear_all(rt, board, messages, number, client)?;
+    receive_all(rt, board, messages, number, client)?;
     client.logout()
 }
 
 /// Receives each message until the last, and ends the IDLE command with this number.
-fn hear_all<R: Wait + Clock>(
+fn receive_all<R: Wait + Clock>(
     rt: &R,
     board: &Board,
     messages: u32,
@@ -183,7 +183,7 @@ fn hear_all<R: Wait + Clock>(
     client.done(number)
 }
 
-/// Measures the NOOPs of one connection by itself, and then beside 400 connections that idle in the
+/// Measures the NOOPs of one connection by itself, and then while 400 connections idle in the
 /// same mailbox.
 pub fn beside_idle<R: Threads + Clock + Sync + Dial>(
     rt: &R,

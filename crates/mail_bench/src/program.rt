@@ -1,11 +1,11 @@
 //! The program: what its command line asks for, and the status with which it ends.
 
-use crate::bench_output::{settings_or_status, tell_fault};
+use crate::bench_output::{print_fault, settings_or_status};
 use crate::client::Dial;
 use crate::fault::BenchFault;
 use crate::idling::{BYSTANDERS, LISTENERS, beside_idle, fan_out};
-use crate::measuring::{measure, measure_visits};
-use crate::preparing::prepare;
+use crate::measurement::{measure, measure_logins};
+use crate::preparation::prepare;
 use crate::report::Report;
 use crate::settings::Settings;
 use crate::times::Summary;
@@ -25,8 +25,8 @@ pub fn run<R: Env + Print + Eprint + AllocGlobal + Threads + Wait + Clock + Sync
     rt: &R,
 ) -> u8 {
     match words(rt) {
-        Ok(words) => obey(rt, &words),
-        Err(_) => tell_fault(rt, BenchFault::NoMemory),
+        Ok(words) => run_words(rt, &words),
+        Err(_) => print_fault(rt, BenchFault::NoMemory),
     }
 }
 
@@ -35,7 +35,7 @@ fn words<R: Env + AllocGlobal>(rt: &R) -> io::Result<Vec<String>> {
     Ok(words)
 }
 
-fn obey<R: Print + Eprint + AllocGlobal + Threads + Wait + Clock + Sync + Dial>(
+fn run_words<R: Print + Eprint + AllocGlobal + Threads + Wait + Clock + Sync + Dial>(
     rt: &R,
     words: &[String],
 ) -> u8 {
@@ -45,7 +45,7 @@ fn obey<R: Print + Eprint + AllocGlobal + Threads + Wait + Clock + Sync + Dial>(
     };
     match bench(rt, rt.alloc(), &settings) {
         Ok(()) => 0,
-        Err(fault) => tell_fault(rt, fault),
+        Err(fault) => print_fault(rt, fault),
     }
 }
 
@@ -75,14 +75,14 @@ fn measure_one<R: Print + Threads + Wait + Clock + Sync + Dial>(
     workload: Workload,
 ) -> Result<(), BenchFault> {
     let (idling, measured) = match workload {
-        Workload::Login => (0, measure_visits(rt, alloc, settings, plan.messages)),
+        Workload::Login => (0, measure_logins(rt, alloc, settings, plan.messages)),
         Workload::IdleFanOut => (LISTENERS, fan_out(rt, alloc, settings, plan)),
         _ => (0, measure(rt, alloc, settings, plan, settings.connections)),
     };
-    tell(rt, workload, idling, &measured?)
+    print_report(rt, workload, idling, &measured?)
 }
 
-/// Measures NOOPs by themselves, and then beside idling connections.
+/// Measures NOOPs by themselves, and then while other connections idle.
 fn measure_beside<R: Print + Threads + Wait + Clock + Sync + Dial>(
     rt: &R,
     alloc: Global,
@@ -90,12 +90,12 @@ fn measure_beside<R: Print + Threads + Wait + Clock + Sync + Dial>(
     plan: &WorkPlan<'_>,
 ) -> Result<(), BenchFault> {
     let (alone, beside) = beside_idle(rt, alloc, settings, plan)?;
-    tell(rt, settings.workload, 0, &alone)?;
-    tell(rt, settings.workload, BYSTANDERS, &beside)
+    print_report(rt, settings.workload, 0, &alone)?;
+    print_report(rt, settings.workload, BYSTANDERS, &beside)
 }
 
 /// Prints the line of a measurement during which `idling` connections idled.
-fn tell<R: Print>(
+fn print_report<R: Print>(
     rt: &R,
     workload: Workload,
     idling: u32,
@@ -104,25 +104,25 @@ fn tell<R: Print>(
     let Some(times) = report.summary else {
         return Err(BenchFault::Missing);
     };
-    match tell_times(rt, workload, idling, report, times) {
+    match print_times(rt, workload, idling, report, times) {
         Ok(()) => Ok(()),
         Err(_) => Err(BenchFault::Print),
     }
 }
 
-fn tell_times<R: Print>(
+fn print_times<R: Print>(
     rt: &R,
     workload: Workload,
     idling: u32,
     report: &Report,
     times: Summary,
 ) -> io::Result<()> {
-    tell_setting(rt, workload, idling, report)?;
-    tell_work(rt, report)?;
-    tell_summary(rt, times)
+    print_setting(rt, workload, idling, report)?;
+    print_work(rt, report)?;
+    print_summary(rt, times)
 }
 
-fn tell_setting<R: Print>(
+fn print_setting<R: Print>(
     rt: &R,
     workload: Workload,
     idling: u32,
@@ -136,7 +136,7 @@ fn tell_setting<R: Print>(
     print!(rt; "{workload} connections={connections} idling={idling} messages={messages}")
 }
 
-fn tell_work<R: Print>(rt: &R, report: &Report) -> io::Result<()> {
+fn print_work<R: Print>(rt: &R, report: &Report) -> io::Result<()> {
     let Report {
         commands,
         micros,
@@ -148,7 +148,7 @@ fn tell_work<R: Print>(rt: &R, report: &Report) -> io::Result<()> {
     print!(rt; " commands={commands} seconds={seconds}.{thousandths:03} per_second={rate}")
 }
 
-fn tell_summary<R: Print>(rt: &R, times: Summary) -> io::Result<()> {
+fn print_summary<R: Print>(rt: &R, times: Summary) -> io::Result<()> {
     let Summary {
         least,
         median,

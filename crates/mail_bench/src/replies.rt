@@ -3,8 +3,9 @@
 
 ghost use Rattle.std.specs.Prelude.{◌≡◌, ◌⊎◌, ◌≤◌, ◌<◌, ◌+◌, ◌++◌, [], IfErr, IfOk, None, OnOk};
 ghost use Rattle.std.specs.Prelude.{Some, drop, false, length, true};
-ghost use Rattle.mail_bench.specs.Replies.{at_literal, count_more, heard, in_line, is_ended};
-ghost use Rattle.mail_bench.specs.Replies.{is_kept, kept, longest_line, next, refusal, refusal_at};
+ghost use Rattle.mail_bench.specs.Replies.{at_literal, count_more, scan, in_line, is_ended};
+ghost use Rattle.mail_bench.specs.Replies.{is_text, line_after, longest_line, next, refusal};
+ghost use Rattle.mail_bench.specs.Replies.{refusal_at};
 ghost use Rattle.mail_bench.specs.declared.replies.ReplyFault.TheVariants as faults;
 ghost use Rattle.mail_bench.specs.declared.replies.ReplyStage.TheVariants.{Line, Literal};
 
@@ -39,7 +40,7 @@ pub enum ReplyStage {
         /// The number.
         octets: u64,
     },
-    /// In a literal of which this number of octets, at least one, is still to come.
+    /// In a literal with this number of octets left, at least one.
     Literal {
         /// The number.
         left: u64,
@@ -69,7 +70,7 @@ pub struct Reading {
 }
 
 impl Reading {
-    /// An answer of which nothing was read.
+    /// An answer before its first octet.
     pub fn new(alloc: Global) -> Reading
         ensures { (result.line.items ≡ []) × (result.stage ≡ Line) }
     {
@@ -99,10 +100,10 @@ impl Reading {
 
     /// Reads until the answer has ended or all octets were read, and returns how many were read.
     /// After an `Err` the answer can't be read further.
-    #[tactic(auto, using(crate::proofs::ReplyLemmas::heard_ended, crate::proofs::ReplyLemmas::heard_whole))]
+    #[tactic(auto, using(crate::proofs::ReplyLemmas::scan_ended, crate::proofs::ReplyLemmas::scan_nothing))]
     pub fn read(&mut self, octets: &[u8]) -> Result<usize, ReplyFault>
         ensures within { IfOk result (λ count. count ≤ length octets.now) }
-        ensures heard { IfOk result (λ count. heard self.old.stage self.old.line.items octets.now
+        ensures scan { IfOk result (λ count. scan self.old.stage self.old.line.items octets.now
             ≡ (self.new.stage, self.new.line.items, drop count octets.now)) }
         ensures ended { IfOk result
             (λ count. count < length octets.now → is_ended self.new.stage ≡ true) }
@@ -122,11 +123,11 @@ impl Reading {
     /// were read.
     fn read_some(&mut self, octets: &[u8]) -> Result<usize, ReplyFault>
         requires some { 0 < length octets.now }
-        requires goes_on { is_ended self.old.stage ≡ false }
+        requires not_ended { is_ended self.old.stage ≡ false }
         ensures some { IfOk result (λ count. 0 < count) }
         ensures within { IfOk result (λ count. count ≤ length octets.now) }
-        ensures heard { IfOk result (λ count. heard self.old.stage self.old.line.items octets.now
-            ≡ heard self.new.stage self.new.line.items (drop count octets.now)) }
+        ensures scan { IfOk result (λ count. scan self.old.stage self.old.line.items octets.now
+            ≡ scan self.new.stage self.new.line.items (drop count octets.now)) }
     {
         match self.stage {
             ReplyStage::Line => self.read_text(octets),
@@ -142,16 +143,16 @@ impl Reading {
         requires text { self.old.stage ≡ Line }
         ensures some { IfOk result (λ count. 0 < count) }
         ensures within { IfOk result (λ count. count ≤ length octets.now) }
-        ensures heard { IfOk result (λ count. heard Line self.old.line.items octets.now
-            ≡ heard self.new.stage self.new.line.items (drop count octets.now)) }
+        ensures scan { IfOk result (λ count. scan Line self.old.line.items octets.now
+            ≡ scan self.new.stage self.new.line.items (drop count octets.now)) }
     {
         match memchr2(b'{', b'\n', octets) {
             Some(at) => {
-                self.keep(&octets[..at + 1], in_line(octets[at]))?;
+                self.push_text(&octets[..at + 1], in_line(octets[at]))?;
                 Ok(at + 1)
             }
             None => {
-                self.keep(octets, ReplyStage::Line)?;
+                self.push_text(octets, ReplyStage::Line)?;
                 Ok(octets.len())
             }
         }
@@ -159,8 +160,8 @@ impl Reading {
 
     /// Adds octets to the line, and sets the stage after them. `LongLine` exactly if the line would
     /// be too long.
-    fn keep(&mut self, text: &[u8], behind: ReplyStage) -> Result<(), ReplyFault>
-        ensures stage { OnOk result (self.new.stage ≡ behind) }
+    fn push_text(&mut self, text: &[u8], after: ReplyStage) -> Result<(), ReplyFault>
+        ensures stage { OnOk result (self.new.stage ≡ after) }
         ensures line { OnOk result (self.new.line.items ≡ self.old.line.items ++ text.now) }
         ensures fine { OnOk result (length self.new.line.items ≤ longest_line) }
         ensures refused { IfErr result (λ fault. (fault ≡ faults.NoMemory)
@@ -173,19 +174,19 @@ impl Reading {
         if self.line.extend_from_slice(text).is_err() {
             return Err(ReplyFault::NoMemory);
         }
-        self.stage = behind;
+        self.stage = after;
         Ok(())
     }
 
-    /// Passes over the octets of a literal, of which `left` are still to come, and returns how many
+    /// Passes over the octets of a literal that has `left` octets left, and returns how many
     /// were passed.
     fn pass(&mut self, left: u64, octets: &[u8]) -> usize
         requires some { 0 < length octets.now }
         requires literal { self.old.stage ≡ Literal left }
         ensures some { 0 < result }
         ensures within { result ≤ length octets.now }
-        ensures heard { heard (Literal left) self.old.line.items octets.now
-            ≡ heard self.new.stage self.new.line.items (drop result octets.now) }
+        ensures scan { scan (Literal left) self.old.line.items octets.now
+            ≡ scan self.new.stage self.new.line.items (drop result octets.now) }
     {
         let count = (octets.len() as u64).min(left.max(1));
         self.stage = at_literal(left.saturating_sub(count));
@@ -193,14 +194,14 @@ impl Reading {
     }
 
     /// Reads the first of these octets, and returns 1.
-    #[tactic(auto, using(crate::proofs::ReplyLemmas::heard_next))]
+    #[tactic(auto, using(crate::proofs::ReplyLemmas::scan_next))]
     fn read_one(&mut self, octets: &[u8]) -> Result<usize, ReplyFault>
         requires some { 0 < length octets.now }
-        requires goes_on { is_ended self.old.stage ≡ false }
+        requires not_ended { is_ended self.old.stage ≡ false }
         ensures some { IfOk result (λ count. 0 < count) }
         ensures within { IfOk result (λ count. count ≤ length octets.now) }
-        ensures heard { IfOk result (λ count. heard self.old.stage self.old.line.items octets.now
-            ≡ heard self.new.stage self.new.line.items (drop count octets.now)) }
+        ensures scan { IfOk result (λ count. scan self.old.stage self.old.line.items octets.now
+            ≡ scan self.new.stage self.new.line.items (drop count octets.now)) }
     {
         self.take(octets[0])?;
         Ok(1)
@@ -211,14 +212,14 @@ impl Reading {
     fn take(&mut self, octet: u8) -> Result<(), ReplyFault>
         ensures stage { OnOk result (self.new.stage ≡ next self.old.stage octet) }
         ensures line { OnOk result
-            (self.new.line.items ≡ kept self.old.stage self.old.line.items octet) }
+            (self.new.line.items ≡ line_after self.old.stage self.old.line.items octet) }
         ensures fine { OnOk result (refusal (next self.old.stage octet)
-            (length (kept self.old.stage self.old.line.items octet)) ≡ None) }
+            (length (line_after self.old.stage self.old.line.items octet)) ≡ None) }
         ensures refused { IfErr result (λ fault. (fault ≡ faults.NoMemory)
             ⊎ (refusal (next self.old.stage octet)
-            (length (kept self.old.stage self.old.line.items octet)) ≡ Some fault)) }
+            (length (line_after self.old.stage self.old.line.items octet)) ≡ Some fault)) }
     {
-        if is_kept(self.stage) && self.line.push(octet).is_err() {
+        if is_text(self.stage) && self.line.push(octet).is_err() {
             return Err(ReplyFault::NoMemory);
         }
         self.stage = next(self.stage, octet);
@@ -230,8 +231,8 @@ impl Reading {
 }
 
 /// Whether the octet at this stage is part of the line.
-fn is_kept(stage: ReplyStage) -> bool
-    ensures { result ≡ is_kept stage }
+fn is_text(stage: ReplyStage) -> bool
+    ensures { result ≡ is_text stage }
 {
     !matches!(stage, ReplyStage::Literal { .. } | ReplyStage::Ended)
 }
@@ -277,7 +278,7 @@ fn count_more(octets: u64, digit: u8) -> u64
         .min(MAX_LITERAL + 1)
 }
 
-/// The stage in or after a literal of which this number of octets is still to come.
+/// The stage in or after a literal with this number of octets left.
 fn at_literal(octets: u64) -> ReplyStage
     ensures { result ≡ at_literal octets }
 {

@@ -185,16 +185,22 @@ fn find_words<'a>(alloc: Global, words: &'a [String]) -> Result<ArgMatches<'a>, 
 }
 
 const ABOUT: &str =
-    "Loads an IMAP server with commands and prints how many it answered, and the microseconds that they took.
+    "Loads an IMAP server with commands and prints how many it answered, and the microseconds that \
+they took.
 
-Each connection sends a command, waits for its end, and sends the next one, for some seconds. A line of the output names the workload, and then connections, messages,
-commands, seconds, commands a second, and of the times the least, the median, the 90th and 99th of a hundred, and the greatest.";
+Each connection sends a command, waits for its end, and sends the next one, for some seconds. A \
+line of the output names the workload, and then connections, messages, commands, seconds, commands \
+a second, and of the times the least, the median, the 90th and 99th of a hundred, and the greatest.";
 
 const WORKLOADS: &str =
-    "What is measured: noop sends one NOOP after another, and noop-pipelined 64 of them in one write, whose time is that of all 64. append-1k and append-64k append messages. \
-fetch-flags fetches the flags of all messages, fetch-body the text of one, and store sets and clears a flag of one. search-unseen and search-subject search all. \
-mixed goes round through one message's flags, one body, a store, a NOOP, a search for the unseen and an APPEND of 1 KiB. login connects, logs in, logs out and closes. \
-idle-fan-out has 32 connections idle and takes the time from an APPEND's last octet until each was told of it. noop-beside-idle measures NOOPs of one connection alone, and then beside 400 that idle.";
+    "What is measured: noop sends one NOOP after another, and noop-pipelined 64 of them in one write, \
+whose time is that of all 64. append-1k and append-64k append messages. fetch-flags fetches the \
+flags of all messages, fetch-body the text of one, and store sets and clears a flag of one. \
+search-unseen and search-subject search all. mixed goes round through one message's flags, one \
+body, a store, a NOOP, a search for the unseen and an APPEND of 1 KiB. login connects, logs in, \
+logs out and closes. idle-fan-out has 32 connections idle and takes the time from an APPEND's last \
+octet until each has received it. noop-beside-idle measures NOOPs of one connection alone, and \
+then beside 400 that idle.";
 
 /// The words that name the server and the workload, and then those that say how much is done, and
 /// where.
@@ -214,25 +220,25 @@ fn known_words<'a>(alloc: Global) -> Result<Vec<Arg<'a>>, AllocError>
         number_word(
             alloc,
             "messages",
-            "So many messages of 1 KiB the mailbox has at least; 1000 if it isn't said",
+            "How many messages of 1 KiB the mailbox has at least; 1000 by default",
             1_000_000,
         ),
         number_word(
             alloc,
             "connections",
-            "So many connections work side by side; 4 if it isn't said",
+            "How many connections work side by side; 4 by default",
             1_000,
         ),
         number_word(
             alloc,
             "seconds",
-            "So many seconds it takes; 2 if it isn't said",
+            "How many seconds it takes; 2 by default",
             3_600,
         ),
         word_with_value(
             alloc,
             "mailbox",
-            "The mailbox in which all is done, made if it isn't there; bench if it isn't said",
+            "The mailbox that is used, created if it doesn't exist; bench by default",
         ),
     ]?;
     Ok(words)
@@ -264,6 +270,6 @@ fn number_word<'a>(alloc: Global, name: &'a str, help: &'a str, most: u64) -> Ar
 }
 
 /// Whether memory ran out for the words.
-pub fn is_without_memory(error: &Error) -> bool {
+pub fn is_out_of_memory(error: &Error) -> bool {
     error.kind() == ErrorKind::OutOfMemory
 }

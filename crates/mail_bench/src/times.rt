@@ -31,7 +31,7 @@ pub fn summarize(times: &mut Vec<u64>) -> Result<Option<Summary>, AllocError>
     requires { vec_len times.old ≤ 1_000_000_000 }
     ensures sorted { IfOk result (λ summary. IsSorted nat_cmp times.new.items) }
     ensures same { IsPermutation times.old.items times.new.items }
-    ensures kept { IfErr result (λ none. times.new.items ≡ times.old.items) }
+    ensures unchanged { IfErr result (λ none. times.new.items ≡ times.old.items) }
     ensures summary { IfOk result (λ summary. summary ≡ summary_of times.new.items) }
 {
     times.sort()?;

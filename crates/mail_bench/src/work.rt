@@ -5,7 +5,7 @@ ghost use Rattle.std.specs.Prelude.{◌+◌, ◌%◌, ◌≡◌, ◌≤◌, ◌<
 use crate::client::{Client, Dial};
 use crate::commands::{Ask, Command, MessageAsk, message};
 use crate::fault::BenchFault;
-use crate::preparing::{LARGE, SMALL, connect_and_login};
+use crate::preparation::{LARGE, SMALL, connect_and_login};
 use crate::report::Tally;
 use crate::settings::Settings;
 use crate::workload::Workload;
@@ -72,9 +72,9 @@ pub fn now<R: Clock>(rt: &R) -> Result<Instant, BenchFault> {
 }
 
 /// The time that has passed since a moment.
-pub fn since<R: Clock>(rt: &R, begun: Instant) -> Result<Duration, BenchFault> {
+pub fn since<R: Clock>(rt: &R, start: Instant) -> Result<Duration, BenchFault> {
     match Instant::now(rt) {
-        Ok(now) => Ok(now.duration_since(begun)),
+        Ok(now) => Ok(now.duration_since(start)),
         Err(_) => Err(BenchFault::Clock),
     }
 }
@@ -101,13 +101,13 @@ fn drive<R: Clock, W: Work>(
     work: &mut W,
     tally: &mut Tally,
 ) -> Result<(), BenchFault> {
-    let begun = now(rt)?;
-    let mut before = begun;
+    let start = now(rt)?;
+    let mut before = start;
     for number in 0..u64::MAX {
         work.turn(number)?;
         let after = now(rt)?;
         tally.note(commands, after.duration_since(before))?;
-        if after.duration_since(begun).as_secs() >= u64::from(seconds) {
+        if after.duration_since(start).as_secs() >= u64::from(seconds) {
             break;
         }
         before = after;
@@ -117,7 +117,7 @@ fn drive<R: Clock, W: Work>(
 
 /// The work of a connection that stays open, with the mailbox selected.
 #[derive(Drop)]
-pub struct Mailing<'a> {
+pub struct MailboxWork<'a> {
     /// The connection.
     pub client: Client,
     /// The plan of the run.
@@ -126,7 +126,7 @@ pub struct Mailing<'a> {
     pub first: u32,
 }
 
-impl Work for Mailing<'_> {
+impl Work for MailboxWork<'_> {
     fn turn(&mut self, number: u64) -> Result<(), BenchFault> {
         match self.plan.workload {
             Workload::NoopPipelined => self.client.run_noops(PIPELINED),
@@ -148,7 +148,7 @@ pub fn commands_of(workload: Workload) -> u64 {
     }
 }
 
-impl Mailing<'_> {
+impl MailboxWork<'_> {
     /// One command of a workload.
     fn one(&mut self, workload: Workload, number: u64) -> Result<(), BenchFault> {
         let ask = match workload {
@@ -207,7 +207,7 @@ fn message_at(first: u32, number: u64, messages: u32) -> u32
 
 /// The work of a client that connects, logs in and logs out in each turn.
 #[derive(Drop)]
-pub struct Visiting<'a, R: Dial> {
+pub struct LoginWork<'a, R: Dial> {
     /// The network.
     pub rt: &'a R,
     /// The memory.
@@ -216,7 +216,7 @@ pub struct Visiting<'a, R: Dial> {
     pub settings: &'a Settings<'a>,
 }
 
-impl<R: Dial> Work for Visiting<'_, R> {
+impl<R: Dial> Work for LoginWork<'_, R> {
     fn turn(&mut self, _number: u64) -> Result<(), BenchFault> {
         let mut client = connect_and_login(
             self.rt,

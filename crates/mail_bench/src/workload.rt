@@ -33,7 +33,7 @@ pub enum Workload {
     Login,
     /// APPEND, timed until each of many idling connections received the news.
     IdleFanOut,
-    /// NOOP by itself, then beside many idling connections.
+    /// NOOP by itself, then while many connections idle.
     NoopBesideIdle,
 }
 

@@ -3,14 +3,14 @@ use Rattle.imap_node.specs.Nodes.{NodeWithRoom}
 use Rattle.mail_replay.specs.Exchanges.{nodes_in, with_nodes}
 use Rattle.mail_replay.specs.declared.script_state.ScriptReplica.{ScriptReplica}
 
--- the replicas, of which the first `k` have these nodes
+-- the replicas, the first `k` with these nodes
 abbrev pub replicas_until : ℕ → List ScriptReplica → List NodeWithRoom → List ScriptReplica
 replicas_until zero replicas nodes = replicas
 replicas_until (suc k) [] nodes = []
 replicas_until (suc k) (r ∷ rs) [] = r ∷ rs
 replicas_until (suc k) (r ∷ rs) (n ∷ ns) = record r { node = n } ∷ replicas_until k rs ns
 
--- the nodes, of which the first `k` are the replicas'
+-- the nodes, the first `k` from the replicas
 abbrev pub nodes_until : ℕ → List ScriptReplica → List NodeWithRoom → List NodeWithRoom
 nodes_until zero replicas nodes = nodes
 nodes_until (suc k) [] nodes = nodes
@@ -67,7 +67,7 @@ all_nodes zero (r ∷ rs) ns same whole = absurd (omega (arith, whole))
 all_nodes (suc k) (r ∷ rs) [] same whole = absurd (omega (arith, same))
 all_nodes (suc k) (r ∷ rs) (n ∷ ns) same whole = ap (λ (zs : List NodeWithRoom). r.node ∷ zs) (all_nodes k rs ns (omega (arith, same)) (omega (arith, whole)))
 
--- nodes that replace those that stood in for a while
+-- nodes that replace the blank ones
 pub with_others : (rs : List ScriptReplica) (ms ns : List NodeWithRoom) → length ms ≡ length rs → length ns ≡ length rs → with_nodes (with_nodes rs ms) ns ≡ with_nodes rs ns
 with_others [] ms ns e f = refl
 with_others (r ∷ rs) [] ns e f = absurd (omega (arith, e))
@@ -75,10 +75,10 @@ with_others (r ∷ rs) (m ∷ ms) [] e f = absurd (omega (arith, f))
 with_others (r ∷ rs) (m ∷ ms) (n ∷ ns) e f = ap (λ (zs : List ScriptReplica). record r { node = n } ∷ zs) (with_others rs ms ns (omega (arith, e)) (omega (arith, f)))
 
 -- the number of replicas stays the same
-pub as_many : (rs : List ScriptReplica) (ns : List NodeWithRoom) → length (with_nodes rs ns) ≡ length rs
-as_many [] ns = refl
-as_many (r ∷ rs) [] = refl
-as_many (r ∷ rs) (n ∷ ns) = ap suc (as_many rs ns)
+pub same_length : (rs : List ScriptReplica) (ns : List NodeWithRoom) → length (with_nodes rs ns) ≡ length rs
+same_length [] ns = refl
+same_length (r ∷ rs) [] = refl
+same_length (r ∷ rs) (n ∷ ns) = ap suc (same_length rs ns)
 
 -- there is one node for each replica
 pub one_each : (rs : List ScriptReplica) → length (nodes_in rs) ≡ length rs

@@ -4,7 +4,7 @@ mod FitLemmas
 mod JoinLemmas
 mod LineLemmas
 mod PartLemmas
-mod RightLemmas
-mod StageLemmas
-mod TalkingLemmas
-mod WholeLemmas
+mod RightDumpLemmas
+mod ScriptStateLemmas
+mod ConversationLemmas
+mod ReplayLemmas

@@ -2,7 +2,7 @@ use Rattle.std.proofs.Common.{◌≡◌, inl, ℕ, suc, ◌+◌, List, [], ◌�
 use Rattle.std.specs.Io.KnownBytes.{Appends, Keeps}
 use Rattle.mail_script.specs.Lines.{lines_of}
 use Rattle.mail_script.specs.Reading.{cut_at}
-use Rattle.mail_script.specs.Script.{Says}
+use Rattle.mail_script.specs.Script.{Means}
 use Rattle.mail_script.specs.declared.script.ScriptLine.{ScriptLine}
 use Rattle.text_fields.proofs.FieldLemmas.{cut_takes}
 use Rattle.mail_script.proofs.LineLemmas.{lines_next}
@@ -34,38 +34,38 @@ pub appends_none : (a : Option (List ℕ)) → Appends a a []
 appends_none None = tt
 appends_none (Some xs) = sym (append-nil xs)
 
-pub appends_kept : (a b c : Option (List ℕ)) (xs : List ℕ) → Appends a b xs → Keeps b c → Appends a c xs
-appends_kept a b c xs h k = subst (λ (zs : List ℕ). Appends a c zs) (append-nil xs) (appends_both a b c xs [] h (keeps_appends b c k))
+pub appends_keeps : (a b c : Option (List ℕ)) (xs : List ℕ) → Appends a b xs → Keeps b c → Appends a c xs
+appends_keeps a b c xs h k = subst (λ (zs : List ℕ). Appends a c zs) (append-nil xs) (appends_both a b c xs [] h (keeps_appends b c k))
 
 -- a line for which memory runs out may print nothing
-pub nothing_in_part : (scene : ScriptContents) (lines : List (List ℕ)) → FirstInPart scene lines []
-nothing_in_part scene [] = refl
-nothing_in_part scene (line ∷ lines) = inl refl
+pub nothing_in_part : (setup : ScriptContents) (lines : List (List ℕ)) → FirstInPart setup lines []
+nothing_in_part setup [] = refl
+nothing_in_part setup (line ∷ lines) = inl refl
 
 -- one more line after those that were served
-pub serves_one_more : (old mid new : ScriptContents) (lines : List (List ℕ)) (line told more : List ℕ) (said : ScriptLine)
-    → ServesAll old lines told mid → Says line said → Serves mid said more new → ServesAll old (lines ++ line ∷ []) (told ++ more) new
-serves_one_more old mid new [] line told more said s says serves =
+pub serves_one_more : (old mid new : ScriptContents) (lines : List (List ℕ)) (line out more : List ℕ) (meaning : ScriptLine)
+    → ServesAll old lines out mid → Means line meaning → Serves mid meaning more new → ServesAll old (lines ++ line ∷ []) (out ++ more) new
+serves_one_more old mid new [] line out more meaning s means serves =
     let start : mid ≡ old = s.1 in
-    let none : told ≡ [] = s.0 in
-    (said, more, new, [], says, subst (λ (z : ScriptContents). Serves z said more new) start serves, ap (λ zs. zs ++ more) none ∙ sym (append-nil more), (refl, refl))
-serves_one_more old mid new (first ∷ lines) line told more said s says serves =
-    (s.0, s.1, s.2, s.3 ++ more, s.4, s.5, ap (λ zs. zs ++ more) s.6 ∙ append_assoc s.1 s.3 more, serves_one_more s.2 mid new lines line s.3 more said s.7 says serves)
+    let none : out ≡ [] = s.0 in
+    (meaning, more, new, [], means, subst (λ (z : ScriptContents). Serves z meaning more new) start serves, ap (λ zs. zs ++ more) none ∙ sym (append-nil more), (refl, refl))
+serves_one_more old mid new (first ∷ lines) line out more meaning s means serves =
+    (s.0, s.1, s.2, s.3 ++ more, s.4, s.5, ap (λ zs. zs ++ more) s.6 ∙ append_assoc s.1 s.3 more, serves_one_more s.2 mid new lines line s.3 more meaning s.7 means serves)
 
 -- lines served after others
-pub serves_both : (old mid new : ScriptContents) (xs ys : List (List ℕ)) (told more : List ℕ) → ServesAll old xs told mid → ServesAll mid ys more new → ServesAll old (xs ++ ys) (told ++ more) new
-serves_both old mid new [] ys told more s t =
+pub serves_both : (old mid new : ScriptContents) (xs ys : List (List ℕ)) (out more : List ℕ) → ServesAll old xs out mid → ServesAll mid ys more new → ServesAll old (xs ++ ys) (out ++ more) new
+serves_both old mid new [] ys out more s t =
     let start : mid ≡ old = s.1 in
-    let none : more ≡ told ++ more = sym (ap (λ zs. zs ++ more) s.0) in
+    let none : more ≡ out ++ more = sym (ap (λ zs. zs ++ more) s.0) in
     subst (λ (zs : List ℕ). ServesAll old ys zs new) none (subst (λ (z : ScriptContents). ServesAll z ys more new) start t)
-serves_both old mid new (first ∷ xs) ys told more s t =
+serves_both old mid new (first ∷ xs) ys out more s t =
     (s.0, s.1, s.2, s.3 ++ more, s.4, s.5, ap (λ zs. zs ++ more) s.6 ∙ append_assoc s.1 s.3 more, serves_both s.2 mid new xs ys s.3 more s.7 t)
 
-module _ (held : Option (List ℕ)) (scene : ScriptContents) (served : ℕ) (text : List ℕ) where
-  pub advance_at_first : Advances held scene served text held scene served text
+module _ (held : Option (List ℕ)) (setup : ScriptContents) (served : ℕ) (text : List ℕ) where
+  pub advance_at_first : Advances held setup served text held setup served text
   advance_at_first = record {
     front = [];
-    told = [];
+    out = [];
     lines = λ more. refl;
     count = omega arith;
     serves = (refl, refl);
@@ -74,61 +74,61 @@ module _ (held : Option (List ℕ)) (scene : ScriptContents) (served : ℕ) (tex
   }
 
   -- memory runs out after some of the lines
-  pub stops_behind : (held1 : Option (List ℕ)) (scene1 : ScriptContents) (served1 : ℕ) (text1 : List ℕ) → Advances held scene served text held1 scene1 served1 text1 → Stops held scene text held1
-  stops_behind held1 scene1 served1 text1 a = record {
+  pub stops_after : (held1 : Option (List ℕ)) (scene1 : ScriptContents) (served1 : ℕ) (text1 : List ℕ) → Advances held setup served text held1 scene1 served1 text1 → Stops held setup text held1
+  stops_after held1 scene1 served1 text1 a = record {
     front = a.front;
     back = λ more. lines_of (text1 ++ more);
-    told = a.told;
+    out = a.out;
     part = [];
-    scene' = scene1;
+    setup' = scene1;
     lines = a.lines;
     serves = a.serves;
     first = λ more. nothing_in_part scene1 (lines_of (text1 ++ more));
-    writes = subst (λ (zs : List ℕ). Appends held held1 zs) (sym (append-nil a.told)) a.writes;
+    writes = subst (λ (zs : List ℕ). Appends held held1 zs) (sym (append-nil a.out)) a.writes;
   }
 
-  module _ (held1 : Option (List ℕ)) (scene1 : ScriptContents) (served1 : ℕ) (text1 : List ℕ) (a : Advances held scene served text held1 scene1 served1 text1) (line rest : List ℕ) (cut : cut_at 10 text1 ≡ Some (line, rest)) where
+  module _ (held1 : Option (List ℕ)) (scene1 : ScriptContents) (served1 : ℕ) (text1 : List ℕ) (a : Advances held setup served text held1 scene1 served1 text1) (line rest : List ℕ) (cut : cut_at 10 text1 ≡ Some (line, rest)) where
     parts : (more : List ℕ) → lines_of (text ++ more) ≡ a.front ++ line ∷ lines_of (rest ++ more)
     parts more = a.lines more ∙ ap (λ ls. a.front ++ ls) (lines_next text1 line rest more cut)
 
-    pub advance_on : (held2 : Option (List ℕ)) (scene2 : ScriptContents) (served2 : ℕ) (said : ScriptLine) (more : List ℕ) → served2 ≡ served1 + 1 → Says line said → Serves scene1 said more scene2 → Appends held1 held2 more
-        → Advances held scene served text held2 scene2 served2 rest
-    advance_on held2 scene2 served2 said more next says serves writes =
+    pub advance_on : (held2 : Option (List ℕ)) (scene2 : ScriptContents) (served2 : ℕ) (meaning : ScriptLine) (more : List ℕ) → served2 ≡ served1 + 1 → Means line meaning → Serves scene1 meaning more scene2 → Appends held1 held2 more
+        → Advances held setup served text held2 scene2 served2 rest
+    advance_on held2 scene2 served2 meaning more next means serves writes =
         let n = cut_parts text1 line rest cut in
         let l : length (a.front ++ line ∷ []) ≡ length a.front + 1 = length-append a.front (line ∷ []) in
         record {
           front = a.front ++ line ∷ [];
-          told = a.told ++ more;
-          lines = λ behind. parts behind ∙ sym (append_assoc a.front (line ∷ []) (lines_of (rest ++ behind)));
+          out = a.out ++ more;
+          lines = λ after. parts after ∙ sym (append_assoc a.front (line ∷ []) (lines_of (rest ++ after)));
           count = omega (arith, next, l, a.count);
-          serves = serves_one_more scene scene1 scene2 a.front line a.told more said a.serves says serves;
-          writes = appends_both held held1 held2 a.told more a.writes writes;
+          serves = serves_one_more setup scene1 scene2 a.front line a.out more meaning a.serves means serves;
+          writes = appends_both held held1 held2 a.out more a.writes writes;
           fits = omega (arith, next, n, a.fits);
         }
 
-    pub stops_there : (held2 : Option (List ℕ)) (part : List ℕ) → ServesInPart scene1 line part → Appends held1 held2 part → Stops held scene text held2
-    stops_there held2 part h writes = record {
+    pub stops_here : (held2 : Option (List ℕ)) (part : List ℕ) → ServesInPart scene1 line part → Appends held1 held2 part → Stops held setup text held2
+    stops_here held2 part h writes = record {
       front = a.front;
       back = λ more. line ∷ lines_of (rest ++ more);
-      told = a.told;
+      out = a.out;
       part = part;
-      scene' = scene1;
+      setup' = scene1;
       lines = parts;
       serves = a.serves;
       first = λ more. h;
-      writes = appends_both held held1 held2 a.told part a.writes writes;
+      writes = appends_both held held1 held2 a.out part a.writes writes;
     }
 
-    pub breaks_there : (held2 : Option (List ℕ)) (number : ℕ) → number ≡ served1 + 1 → IsBad scene1 line → Appends held1 held2 [] → Breaks held scene served text held2 number
-    breaks_there held2 number next bad writes = record {
+    pub breaks_here : (held2 : Option (List ℕ)) (number : ℕ) → number ≡ served1 + 1 → IsBad scene1 line → Appends held1 held2 [] → Breaks held setup served text held2 number
+    breaks_here held2 number next bad writes = record {
       front = a.front;
       line = line;
-      behind = rest;
-      told = a.told;
-      scene' = scene1;
+      after = rest;
+      out = a.out;
+      setup' = scene1;
       lines = parts;
       count = omega (arith, next, a.count);
       serves = a.serves;
       bad = bad;
-      writes = subst (λ (zs : List ℕ). Appends held held2 zs) (append-nil a.told) (appends_both held held1 held2 a.told [] a.writes writes);
+      writes = subst (λ (zs : List ℕ). Appends held held2 zs) (append-nil a.out) (appends_both held held1 held2 a.out [] a.writes writes);
     }

@@ -67,47 +67,47 @@ Answers old op (Ok answer) new =
 Answers old op (Err why) new = IsRefusedAt old op why × (new ≡ old)
 
 -- The replica with this name is declared, and has this place.
-abbrev pub StandsAt : ScriptContents → ℕ → ℕ → ScriptReplica → Type 0
-StandsAt scene name at replica =
-    (replica_place scene.replicas name ≡ Some at) × (slice_get scene.replicas at ≡ Some replica)
+abbrev pub IsDeclaredAt : ScriptContents → ℕ → ℕ → ScriptReplica → Type 0
+IsDeclaredAt setup name at replica =
+    (replica_place setup.replicas name ≡ Some at) × (slice_get setup.replicas at ≡ Some replica)
 
 -- The script's state with this node in place of a replica's.
 abbrev pub with_node : ScriptContents → ℕ → ScriptReplica → NodeWithRoom → ScriptContents
-with_node scene at replica node =
-    record scene { replicas = slice_set scene.replicas at (record replica { node = node }) }
+with_node setup at replica node =
+    record setup { replicas = slice_set setup.replicas at (record replica { node = node }) }
 
 -- An operation is delivered to a replica, with this result.
 abbrev pub DeliversOp : ScriptContents → ℕ → Op → DeliveryResult → ScriptContents → Type 0
-DeliversOp old name op told new =
+DeliversOp old name op status new =
     (at : ℕ)
     × (replica : ScriptReplica)
     × (node : NodeWithRoom)
     × (answer : Result Answer DeliverFault)
-    × StandsAt old name at replica
+    × IsDeclaredAt old name at replica
     × Answers replica.node.state op answer node.state
-    × (told ≡ delivery_result_of answer)
+    × (status ≡ delivery_result_of answer)
     × (new ≡ with_node old at replica node)
 
 -- The replica that an id names issued this operation with it.
 abbrev pub Issued : ScriptContents → OpId → Op → Type 0
-Issued scene id op =
+Issued setup id op =
     (at : ℕ)
     × (source : ScriptReplica)
-    × StandsAt scene id.replica at source
+    × IsDeclaredAt setup id.replica at source
     × IsIn op source.issued
     × (op.id ≡ id)
 
 -- The line that reports the result of a delivery.
 abbrev pub outcome_line_of : Source → OpId → ℕ → DeliveryResult → OutcomeLine
-outcome_line_of sources.Issued id name told = Delivered id name told
-outcome_line_of sources.Forged id name told = Forged id name told
+outcome_line_of sources.Issued id name status = Delivered id name status
+outcome_line_of sources.Forged id name status = Forged id name status
 
 -- An operation is delivered to a replica, and the result is printed.
 abbrev pub DeliversAndPrints : ScriptContents → Source → ℕ → Op → List ℕ → ScriptContents → Type 0
 DeliversAndPrints old source name op more new =
-    (told : DeliveryResult)
-    × DeliversOp old name op told new
-    × (more ≡ outcome_line (outcome_line_of source op.id name told))
+    (status : DeliveryResult)
+    × DeliversOp old name op status new
+    × (more ≡ outcome_line (outcome_line_of source op.id name status))
 
 -- The operation that its replica issued with this id is delivered.
 abbrev pub DeliversTo : ScriptContents → OpId → ℕ → List ℕ → ScriptContents → Type 0
@@ -130,7 +130,7 @@ ForgesAt old name text more new = (op : Op) × IsSpelled op text × Forges old n
 abbrev pub DrainsAt : ScriptContents → ℕ → List ℕ → ScriptContents → Type 0
 DrainsAt old name more new =
     (at : ℕ) × (replica : ScriptReplica) × (node : NodeWithRoom) × (count : ℕ) × (stalled : Bool)
-    × StandsAt old name at replica
+    × IsDeclaredAt old name at replica
     × Drains replica.node.state count node.state
     × (IsTrue stalled ↔ HoldsRipe node.state)
     × (more ≡ outcome_line (Drained name count stalled)) × (new ≡ with_node old at replica node)

@@ -7,21 +7,21 @@ use Rattle.mail_script.specs.Outcomes.{outcome_line}
 use Rattle.mail_script.specs.declared.outcome_line.OutcomeLine.TheVariants.{Agreed, Settled}
 use Rattle.mail_script.specs.declared.outcome_line.SettleResult.{SettleResult}
 use Rattle.mail_script.specs.declared.outcome_line.SettleResult.TheVariants as results
-use Rattle.mail_replay.specs.Deliveries.{StandsAt}
+use Rattle.mail_replay.specs.Deliveries.{IsDeclaredAt}
 use Rattle.mail_replay.specs.ScriptState.{ScriptContents}
 use Rattle.mail_replay.specs.declared.script_state.ScriptReplica.{ScriptReplica}
 use Rattle.merge_laws.specs.Orders.{HaveSameElements}
 use Rattle.world_core.specs.Replicas.{all_without_room}
-use Rattle.world_core.specs.Settling.{AllTakeSomeOf, AreAgreed, AreSettled, AreUnsettled}
-use Rattle.world_core.specs.Settling.{IsReceivedBy}
-use Rattle.world_core.specs.declared.settling.SettleFault.{SettleFault}
-use Rattle.world_core.specs.declared.settling.SettleFault.TheVariants as faults
+use Rattle.world_core.specs.Settlement.{AllTakeSomeOf, AreAgreed, AreSettled, AreUnsettled}
+use Rattle.world_core.specs.Settlement.{IsReceivedBy}
+use Rattle.world_core.specs.declared.settlement.SettleFault.{SettleFault}
+use Rattle.world_core.specs.declared.settlement.SettleFault.TheVariants as faults
 
--- Two replicas are compared: whether they applied the same operations is printed.
+-- The line printed for two replicas: whether they applied the same operations.
 abbrev pub Compares : ScriptContents → ℕ → ℕ → List ℕ → Type 0
-Compares scene first second more =
+Compares setup first second more =
     (at : ℕ) × (one : ScriptReplica) × (by : ℕ) × (other : ScriptReplica) × (same : Bool)
-    × StandsAt scene first at one × StandsAt scene second by other
+    × IsDeclaredAt setup first at one × IsDeclaredAt setup second by other
     × (IsTrue same ↔ HaveSameElements one.node.state.applied other.node.state.applied)
     × (more ≡ outcome_line (Agreed first second same))
 
@@ -47,7 +47,7 @@ settle_line (Err faults.NoMemory) = results.NoMemory
 -- what prevents it is reported. In either case each takes what some of them had received, and loses
 -- nothing.
 abbrev pub Exchanges : List ScriptReplica → SettleResult → List ScriptReplica → Type 0
-Exchanges old told new =
+Exchanges old out new =
     (nodes : List NodeWithRoom) × (answer : Result (Unit {0}) SettleFault)
     × MatchResult answer
     (λ done. AreAgreed (all_without_room (nodes_in old))
@@ -55,12 +55,12 @@ Exchanges old told new =
     (λ why. AreUnsettled (all_without_room (nodes_in old)) why (all_without_room nodes))
     × AllTakeSomeOf (IsReceivedBy (all_without_room (nodes_in old)))
     (all_without_room (nodes_in old)) (all_without_room nodes)
-    × (told ≡ settle_line answer) × (new ≡ with_nodes old nodes)
+    × (out ≡ settle_line answer) × (new ≡ with_nodes old nodes)
 
 -- All replicas exchange what they received, and the result is printed.
 abbrev pub Settles : ScriptContents → List ℕ → ScriptContents → Type 0
 Settles old more new =
-    (told : SettleResult) × (replicas : List ScriptReplica)
-    × Exchanges old.replicas told replicas
-    × (more ≡ outcome_line (Settled told))
+    (out : SettleResult) × (replicas : List ScriptReplica)
+    × Exchanges old.replicas out replicas
+    × (more ≡ outcome_line (Settled out))
     × (new ≡ record old { replicas = replicas })

@@ -7,7 +7,7 @@ use Rattle.mail_script.specs.Outcomes.{outcome_line}
 use Rattle.mail_script.specs.declared.outcome_line.JoinResult.{JoinResult}
 use Rattle.mail_script.specs.declared.outcome_line.JoinResult.TheVariants as results
 use Rattle.mail_script.specs.declared.outcome_line.OutcomeLine.TheVariants.{Joined}
-use Rattle.mail_replay.specs.Deliveries.{StandsAt}
+use Rattle.mail_replay.specs.Deliveries.{IsDeclaredAt}
 use Rattle.mail_replay.specs.ScriptState.{ScriptContents, replica_place}
 use Rattle.mail_replay.specs.declared.script_state.ScriptReplica.{ScriptReplica}
 use Rattle.imap_node.specs.Nodes.{joined_node}
@@ -22,23 +22,23 @@ IsJoined name ops replica =
 
 -- The result that is reported for a replica's join with these operations, and the replicas after
 -- it: the new one is added at the end. No replica is added if one of the operations is the new
--- replica's own, of which the least id is reported, or if one of its counters lacks a number for
+-- replica's own (the least such id is reported), or if one of its counters lacks a number for
 -- one of them; and memory may run out.
-abbrev pub JoinsBehind : List ScriptReplica → ℕ → List Op → JoinResult → List ScriptReplica → Type 0
-JoinsBehind old name ops results.Done new =
+abbrev pub JoinsAfter : List ScriptReplica → ℕ → List Op → JoinResult → List ScriptReplica → Type 0
+JoinsAfter old name ops results.Done new =
     IsLeastOwn id_of name ops None
     × (¬ LacksNumbers name ops)
     × ((replica : ScriptReplica) × IsJoined name ops replica × (new ≡ old ++ replica ∷ []))
-JoinsBehind old name ops (results.Own id) new = IsLeastOwn id_of name ops (Some id) × (new ≡ old)
-JoinsBehind old name ops results.Exhausted new =
+JoinsAfter old name ops (results.Own id) new = IsLeastOwn id_of name ops (Some id) × (new ≡ old)
+JoinsAfter old name ops results.Exhausted new =
     IsLeastOwn id_of name ops None × LacksNumbers name ops × (new ≡ old)
-JoinsBehind old name ops results.NoMemory new = IsLeastOwn id_of name ops None × (new ≡ old)
+JoinsAfter old name ops results.NoMemory new = IsLeastOwn id_of name ops None × (new ≡ old)
 
 -- A replica that isn't declared begins with the operations that a declared one applied, and the
 -- result is printed.
 abbrev pub Joins : ScriptContents → ℕ → ℕ → List ℕ → ScriptContents → Type 0
 Joins old name peer more new =
-    (at : ℕ) × (from : ScriptReplica) × (told : JoinResult) × (replicas : List ScriptReplica)
-    × (replica_place old.replicas name ≡ None) × StandsAt old peer at from
-    × JoinsBehind old.replicas name from.node.state.applied told replicas
-    × (more ≡ outcome_line (Joined name peer told)) × (new ≡ record old { replicas = replicas })
+    (at : ℕ) × (from : ScriptReplica) × (status : JoinResult) × (replicas : List ScriptReplica)
+    × (replica_place old.replicas name ≡ None) × IsDeclaredAt old peer at from
+    × JoinsAfter old.replicas name from.node.state.applied status replicas
+    × (more ≡ outcome_line (Joined name peer status)) × (new ≡ record old { replicas = replicas })

@@ -1,5 +1,5 @@
 pub mod Deliveries
-pub mod Endings
+pub mod Statuses
 pub mod Exchanges
 pub mod Faults
 pub mod Joins

@@ -4,14 +4,14 @@ use Rattle.std.specs.Prelude.{◌≡◌, ◌≢◌, ◌⊎◌, ℕ, ◌<◌, ◌
 use Rattle.std.specs.Prelude.{IsSome, IsNone, Ok, drop, length, slice_get, slice_set, take}
 use Rattle.crdt_ops.specs.Form.{IsSpelled}
 use Rattle.crdt_ops.specs.declared.op.Op.{Op}
-use Rattle.imap_lex.specs.Framing.{cut_onward, start}
+use Rattle.imap_lex.specs.Framing.{cut_from, start}
 use Rattle.imap_lex.specs.declared.fault.FrameFaultKind.TheVariants as faults
-use Rattle.imap_answers.specs.Printed.{text_of_answer}
+use Rattle.imap_answers.specs.AnswerText.{text_of_answer}
 use Rattle.imap_answers.specs.declared.answer.Answer.{Answer}
 use Rattle.imap_answers.specs.declared.answer.Answer.TheVariants.{Greeting, Bye}
 use Rattle.imap_answers.specs.declared.fixed_words.ByeReason.TheVariants.{TooManySessions}
-use Rattle.imap_answers.specs.declared.fixed_words.Login.TheVariants.{Given}
-use Rattle.mail_script.specs.Script.{Says}
+use Rattle.imap_answers.specs.declared.fixed_words.Login.TheVariants.{PreAuthenticated}
+use Rattle.mail_script.specs.Script.{Means}
 use Rattle.mail_script.specs.Transcript.{transcript_line}
 use Rattle.mail_script.specs.declared.script.ScriptLine.{ScriptLine}
 use Rattle.mail_script.specs.declared.script.ScriptLine.TheVariants.{Blank, Node, Now, Open, Line}
@@ -19,7 +19,7 @@ use Rattle.mail_script.specs.declared.script.ScriptLine.TheVariants.{Send, Poll,
 use Rattle.mail_script.specs.declared.script.ScriptLine.TheVariants.{Deliver, Forge, Drain, Settle}
 use Rattle.mail_script.specs.declared.script.ScriptLine.TheVariants.{Agree, Join}
 use Rattle.mail_script.specs.declared.transcript.Speaker.TheVariants.{Server}
-use Rattle.imap_node.specs.Nodes.{IsGoing, NodeWithRoom, NodeState, with_session_closed}
+use Rattle.imap_node.specs.Nodes.{IsActive, NodeWithRoom, NodeState, with_session_closed}
 use Rattle.imap_node.specs.Sessions.{IsOpen, Opens}
 use Rattle.imap_node.specs.declared.sessions.Auth.TheVariants.{Preauth}
 use Rattle.mail_replay.specs.Deliveries.{DeliversTo, DrainsAt, ForgesAt, Issued, with_node}
@@ -32,7 +32,7 @@ use Rattle.mail_replay.specs.declared.script_state.ScriptReplica.{ScriptReplica}
 use Rattle.mail_replay.specs.declared.script_state.ScriptSession.{ScriptSession}
 use Rattle.imap_connection.specs.Dumps.{IsDump}
 use Rattle.imap_connection.specs.Replies.{idling_at}
-use Rattle.imap_connection.specs.Talks.{BreaksPoll, EndsTalk, Polls, Talks, TimedCut, cut_at}
+use Rattle.imap_connection.specs.Talks.{BreaksPoll, EndsTalk, IsPoll, Talks, TimedCut, cut_at}
 use Rattle.imap_connection.specs.declared.turn.TalkFaultKind.{TalkFaultKind}
 use Rattle.imap_connection.specs.declared.turn.TalkFaultKind.TheVariants.{Framing, NoMemory}
 use Rattle.imap_connection.specs.declared.turn.Turn.{Turn}
@@ -56,27 +56,27 @@ Declares old first new =
 
 -- A replica opens a session and greets; or, if 1,024 are open, it says that there are too many
 -- sessions, and the session has ended.
-abbrev pub Begins : NodeState → Answer → NodeState → Option Connection → Type 0
-Begins old answer new (Some connection) =
+abbrev pub BeginsSession : NodeState → Answer → NodeState → Option Connection → Type 0
+BeginsSession old answer new (Some connection) =
     Opens old.sessions Preauth connection.number new.sessions
     × (new ≡ record old { sessions = new.sessions })
     × (connection.framer
     ≡ record { limits = record { line = 8192; literals = 1048576 }; state = Ok start })
-    × (answer ≡ Greeting Given)
-Begins old answer new None =
+    × (answer ≡ Greeting PreAuthenticated)
+BeginsSession old answer new None =
     ((n : ℕ) → 0 < n → n ≤ 1024 → IsOpen old.sessions n)
     × (new ≡ old)
     × (answer ≡ Bye TooManySessions)
 
 -- A conversation ends for a fault of framing, or at a refused line of IDLE, and not because memory
 -- ran out partway.
-abbrev pub IsToldEnd : TalkFaultKind → Type 0
-IsToldEnd why = (why ≢ Framing faults.NoMemory) × (why ≢ NoMemory)
+abbrev pub IsReportedEnd : TalkFaultKind → Type 0
+IsReportedEnd why = (why ≢ Framing faults.NoMemory) × (why ≢ NoMemory)
 
 -- The commands that octets complete which arrive at a connection at a moment.
 abbrev pub cut_at_connection : Connection → ℕ → List ℕ → TimedCut
 cut_at_connection connection moment octets =
-    cut_at moment (cut_onward connection.framer.limits connection.framer.state octets)
+    cut_at moment (cut_from connection.framer.limits connection.framer.state octets)
 
 -- The effect of octets that arrive at a connection at a moment: the turns of the conversation, and
 -- the connection afterwards, whose framer has the same limits; no connection if a LOGOUT was
@@ -86,57 +86,57 @@ abbrev pub TalksOn : NodeState → Connection → ℕ → List ℕ → List Turn
 TalksOn old connection moment octets turns new (Some left) =
     (left.number ≡ connection.number)
     × (left.framer.limits ≡ connection.framer.limits)
-    × IsGoing new left.number
+    × IsActive new left.number
     × Talks old connection.number (cut_at_connection connection moment octets) turns new
     left.framer.state
 TalksOn old connection moment octets turns new None =
-    ((IsGoing new connection.number → ⊥)
+    ((IsActive new connection.number → ⊥)
     × ((state : _)
     × Talks old connection.number (cut_at_connection connection moment octets) turns new state))
-    ⊎ ((why : TalkFaultKind) × IsToldEnd why
+    ⊎ ((why : TalkFaultKind) × IsReportedEnd why
     × EndsTalk why old connection.number connection.framer.state
     (cut_at_connection connection moment octets) turns new)
 
 -- A session that can be fed: it was opened, and has a connection with a declared replica.
-pub record Feedable (scene : ScriptContents) (name : List ℕ) : Type 0 where
+pub record Feedable (setup : ScriptContents) (name : List ℕ) : Type 0 where
   pub place : ℕ
   pub session : ScriptSession
   pub at : ℕ
   pub replica : ScriptReplica
   pub connection : Connection
-  pub session_stands : session_place scene.sessions name ≡ Some place
-  pub session_is : slice_get scene.sessions place ≡ Some session
-  pub replica_stands : replica_place scene.replicas session.replica ≡ Some at
-  pub replica_is : slice_get scene.replicas at ≡ Some replica
+  pub session_place_is : session_place setup.sessions name ≡ Some place
+  pub session_is : slice_get setup.sessions place ≡ Some session
+  pub replica_place_is : replica_place setup.replicas session.replica ≡ Some at
+  pub replica_is : slice_get setup.replicas at ≡ Some replica
   pub connection_is : session.connection ≡ Some connection
 
 -- The operations that a node applied after these.
 abbrev pub ops_applied_since : NodeState → NodeState → List Op
 ops_applied_since old new = drop (length old.applied) new.applied
 
--- The replica after a conversation: it issued what its node applied meanwhile.
+-- The replica after a conversation: it issued what its node applied during it.
 abbrev pub replica_after_talk : ScriptReplica → NodeWithRoom → ScriptReplica
 replica_after_talk old node =
     record old { node = node; issued = old.issued ++ ops_applied_since old.node.state node.state }
 
 -- The script's state with this node and this connection in place of a session's.
-abbrev pub with_talk : (scene : ScriptContents) (name : List ℕ) → Feedable scene name → NodeWithRoom
+abbrev pub with_talk : (setup : ScriptContents) (name : List ℕ) → Feedable setup name → NodeWithRoom
     → Option Connection
     → ScriptContents
-with_talk scene name t node left =
-    record scene {
-      replicas = slice_set scene.replicas t.at (replica_after_talk t.replica node);
-      sessions = slice_set scene.sessions t.place (record t.session { connection = left });
+with_talk setup name t node left =
+    record setup {
+      replicas = slice_set setup.replicas t.at (replica_after_talk t.replica node);
+      sessions = slice_set setup.sessions t.place (record t.session { connection = left });
     }
 
 -- The session can be fed, and hasn't logged out.
 abbrev pub IsTalking : ScriptContents → List ℕ → Type 0
-IsTalking scene name = (t : Feedable scene name) × IsGoing t.replica.node.state t.connection.number
+IsTalking setup name = (t : Feedable setup name) × IsActive t.replica.node.state t.connection.number
 
 -- The session idles: a line of IDLE is awaited (RFC 2177, section 3).
 abbrev pub IsIdling : ScriptContents → List ℕ → Type 0
-IsIdling scene name =
-    (t : Feedable scene name) × IsSome (idling_at t.replica.node.state t.connection.number)
+IsIdling setup name =
+    (t : Feedable setup name) × IsSome (idling_at t.replica.node.state t.connection.number)
 
 -- A session is fed these octets, at the time on the clock: the turns of its conversation are
 -- printed.
@@ -157,7 +157,7 @@ PollsAt old name more new =
     × (turns : List Turn)
     × (node : NodeWithRoom)
     × IsSome (idling_at t.replica.node.state t.connection.number)
-    × Polls t.replica.node.state t.connection.number turns node.state
+    × IsPoll t.replica.node.state t.connection.number turns node.state
     × (more ≡ transcript name turns)
     × (new ≡ with_node old t.at t.replica node)
 
@@ -180,7 +180,7 @@ OpensAt old replica name more new =
     × (connection : Option Connection)
     × (replica_place old.replicas replica ≡ Some at)
     × (slice_get old.replicas at ≡ Some host)
-    × Begins host.node.state answer node.state connection
+    × BeginsSession host.node.state answer node.state connection
     × (more ≡ transcript_line name Server (text_of_answer answer))
     × (new ≡ record old {
       replicas = slice_set old.replicas at (record host { node = node });
@@ -190,11 +190,11 @@ OpensAt old replica name more new =
 
 -- The dump of a replica is printed.
 abbrev pub Shows : ScriptContents → ℕ → List ℕ → Type 0
-Shows scene name more =
+Shows setup name more =
     (at : ℕ)
     × (replica : ScriptReplica)
-    × (replica_place scene.replicas name ≡ Some at)
-    × (slice_get scene.replicas at ≡ Some replica)
+    × (replica_place setup.replicas name ≡ Some at)
+    × (slice_get setup.replicas at ≡ Some replica)
     × IsDump replica.node.state.start.replica replica.node.state.applied more
 
 -- The effect of a line on the script's state, and what it prints.
@@ -219,30 +219,30 @@ Serves old (Join replica peer) more new = Joins old replica peer more new
 -- something that is, or names a session that has ended or an operation that was never issued, or
 -- polls a session that doesn't idle, or its text spells no operation.
 abbrev pub IsMisplaced : ScriptContents → ScriptLine → Type 0
-IsMisplaced scene Blank = ⊥
-IsMisplaced scene (Node replica uid k) = IsSome (replica_place scene.replicas replica)
-IsMisplaced scene (Now moment) = ⊥
-IsMisplaced scene (Open replica name) =
-    IsNone (replica_place scene.replicas replica) ⊎ IsSome (session_place scene.sessions name)
-IsMisplaced scene (Line name text) = IsTalking scene name → ⊥
-IsMisplaced scene (Send name text) = IsTalking scene name → ⊥
-IsMisplaced scene (Poll name) = IsIdling scene name → ⊥
-IsMisplaced scene (Close name) = IsTalking scene name → ⊥
-IsMisplaced scene (Show replica) = IsNone (replica_place scene.replicas replica)
-IsMisplaced scene (Deliver id replica) =
-    IsNone (replica_place scene.replicas replica) ⊎ ((op : Op) → Issued scene id op → ⊥)
-IsMisplaced scene (Forge replica operation) =
-    IsNone (replica_place scene.replicas replica) ⊎ ((op : Op) → IsSpelled op operation → ⊥)
-IsMisplaced scene (Drain replica) = IsNone (replica_place scene.replicas replica)
-IsMisplaced scene Settle = ⊥
-IsMisplaced scene (Agree first second) =
-    IsNone (replica_place scene.replicas first) ⊎ IsNone (replica_place scene.replicas second)
-IsMisplaced scene (Join replica peer) =
-    IsSome (replica_place scene.replicas replica) ⊎ IsNone (replica_place scene.replicas peer)
+IsMisplaced setup Blank = ⊥
+IsMisplaced setup (Node replica uid k) = IsSome (replica_place setup.replicas replica)
+IsMisplaced setup (Now moment) = ⊥
+IsMisplaced setup (Open replica name) =
+    IsNone (replica_place setup.replicas replica) ⊎ IsSome (session_place setup.sessions name)
+IsMisplaced setup (Line name text) = IsTalking setup name → ⊥
+IsMisplaced setup (Send name text) = IsTalking setup name → ⊥
+IsMisplaced setup (Poll name) = IsIdling setup name → ⊥
+IsMisplaced setup (Close name) = IsTalking setup name → ⊥
+IsMisplaced setup (Show replica) = IsNone (replica_place setup.replicas replica)
+IsMisplaced setup (Deliver id replica) =
+    IsNone (replica_place setup.replicas replica) ⊎ ((op : Op) → Issued setup id op → ⊥)
+IsMisplaced setup (Forge replica operation) =
+    IsNone (replica_place setup.replicas replica) ⊎ ((op : Op) → IsSpelled op operation → ⊥)
+IsMisplaced setup (Drain replica) = IsNone (replica_place setup.replicas replica)
+IsMisplaced setup Settle = ⊥
+IsMisplaced setup (Agree first second) =
+    IsNone (replica_place setup.replicas first) ⊎ IsNone (replica_place setup.replicas second)
+IsMisplaced setup (Join replica peer) =
+    IsSome (replica_place setup.replicas replica) ⊎ IsNone (replica_place setup.replicas peer)
 
--- A line that can't be served: whatever it says can't be served in this state.
+-- A line that can't be served in this state, whatever its meaning.
 abbrev pub IsBad : ScriptContents → List ℕ → Type 0
-IsBad scene line = (said : ScriptLine) → Says line said → IsMisplaced scene said
+IsBad setup line = (meaning : ScriptLine) → Means line meaning → IsMisplaced setup meaning
 
 -- ---- what is printed if memory runs out
 
@@ -258,42 +258,42 @@ HasTurns old connection moment octets turns =
 
 -- A session is fed these octets, and some of the first turns of its conversation are printed.
 abbrev pub FeedsInPart : ScriptContents → List ℕ → List ℕ → List ℕ → Type 0
-FeedsInPart scene name octets more =
-    (t : Feedable scene name) × (turns : List Turn) × (count : ℕ)
-    × HasTurns t.replica.node.state t.connection scene.moment octets turns
+FeedsInPart setup name octets more =
+    (t : Feedable setup name) × (turns : List Turn) × (count : ℕ)
+    × HasTurns t.replica.node.state t.connection setup.moment octets turns
     × (more ≡ transcript name (take count turns))
 
 -- The turns of a poll: all of them, or those before the one for which memory runs out.
 abbrev pub HasPolledTurns : NodeState → ℕ → List Turn → Type 0
 HasPolledTurns old session turns =
-    ((new : NodeState) × Polls old session turns new)
+    ((new : NodeState) × IsPoll old session turns new)
     ⊎ ((new : NodeState) × BreaksPoll old session turns new)
 
 -- A session is polled, and some of the first answers are printed.
 abbrev pub PollsInPart : ScriptContents → List ℕ → List ℕ → Type 0
-PollsInPart scene name more =
-    (t : Feedable scene name) × (turns : List Turn) × (count : ℕ)
+PollsInPart setup name more =
+    (t : Feedable setup name) × (turns : List Turn) × (count : ℕ)
     × HasPolledTurns t.replica.node.state t.connection.number turns
     × (more ≡ transcript name (take count turns))
 
 -- What a line prints if memory runs out partway: a session is opened and forgotten, or some of its
 -- first turns are printed.
 abbrev pub PrintsInPart : ScriptContents → ScriptLine → List ℕ → Type 0
-PrintsInPart scene (Open replica name) more =
-    (new : ScriptContents) × OpensAt scene replica name more new
-PrintsInPart scene (Line name text) more = FeedsInPart scene name (text ++ crlf) more
-PrintsInPart scene (Send name text) more = FeedsInPart scene name text more
-PrintsInPart scene (Poll name) more = PollsInPart scene name more
-PrintsInPart scene said more = ⊥
+PrintsInPart setup (Open replica name) more =
+    (new : ScriptContents) × OpensAt setup replica name more new
+PrintsInPart setup (Line name text) more = FeedsInPart setup name (text ++ crlf) more
+PrintsInPart setup (Send name text) more = FeedsInPart setup name text more
+PrintsInPart setup (Poll name) more = PollsInPart setup name more
+PrintsInPart setup meaning more = ⊥
 
 -- What is printed of a line for which memory runs out: nothing, or a part.
 abbrev pub ServesInPart : ScriptContents → List ℕ → List ℕ → Type 0
-ServesInPart scene line more =
-    (more ≡ []) ⊎ ((said : ScriptLine) × Says line said × PrintsInPart scene said more)
+ServesInPart setup line more =
+    (more ≡ []) ⊎ ((meaning : ScriptLine) × Means line meaning × PrintsInPart setup meaning more)
 
 -- ---- a bound on what lines say
 
 -- If the line declares a replica, its first UID isn't 0.
 abbrev pub HasFirstUid : ScriptLine → Type 0
 HasFirstUid (Node replica uid k) = 1 ≤ uid
-HasFirstUid said = Unit {0}
+HasFirstUid meaning = Unit {0}

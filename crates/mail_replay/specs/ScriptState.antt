@@ -16,11 +16,11 @@ pub record ScriptContents : Type 0 where
 
 -- The contents of a script's state.
 abbrev pub script_contents_of : ScriptState → ScriptContents
-script_contents_of stage =
+script_contents_of setup =
     record {
-      moment = stage.moment;
-      replicas = stage.replicas.items;
-      sessions = stage.sessions.items;
+      moment = setup.moment;
+      replicas = setup.replicas.items;
+      sessions = setup.sessions.items;
     }
 
 -- A replica that has received nothing and has these first counters.

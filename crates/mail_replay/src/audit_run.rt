@@ -1,7 +1,7 @@
 //! The program's audit of a file or of the standard input.
 
 ghost use Rattle.std.specs.Prelude.{◌≡◌};
-ghost use Rattle.mail_replay.specs.Endings.{audit_status_of};
+ghost use Rattle.mail_replay.specs.Statuses.{audit_status_of};
 
 use mail_audit::{AuditEnd, audit};
 use std::io::{BufWriter, Read, Write};
@@ -24,7 +24,7 @@ pub fn status(end: AuditEnd) -> u8
 pub fn audit_file<R: Files + Print + AllocGlobal>(rt: &R, path: &str) -> u8 {
     match fs::open(rt, path) {
         Ok(file) => audit_from(rt, file),
-        Err(_) => say(rt, b"cannot read\n"),
+        Err(_) => report_failure(rt, b"cannot read\n"),
     }
 }
 
@@ -32,12 +32,12 @@ pub fn audit_file<R: Files + Print + AllocGlobal>(rt: &R, path: &str) -> u8 {
 pub fn audit_from<R: Print + AllocGlobal, S: Read + Drop>(rt: &R, mut input: S) -> u8 {
     match BufWriter::new(rt.alloc(), io::writer(rt)) {
         Ok(mut writer) => status(audit(rt.alloc(), &mut input, &mut writer)),
-        Err(_) => say(rt, b"no memory\n"),
+        Err(_) => report_failure(rt, b"no memory\n"),
     }
 }
 
 /// Prints why nothing was audited, and returns the status 3.
-fn say<R: Print>(rt: &R, why: &[u8]) -> u8 {
+fn report_failure<R: Print>(rt: &R, why: &[u8]) -> u8 {
     let mut writer = io::writer(rt);
     let _ = writer.write_all(why);
     let _ = writer.flush();

@@ -32,21 +32,21 @@ enum Source {
 /// operation was issued, or the receiving replica isn't declared.
 pub fn deliver(
     alloc: Global,
-    stage: &mut ScriptState,
+    setup: &mut ScriptState,
     id: OpId,
     replica: ReplicaId,
     printed: &mut Vec<u8>,
 ) -> Result<(), ServeFault>
     ensures ok { OnOk result ((more : List ℕ)
-        × DeliversTo (script_contents_of stage.old) id replica more (script_contents_of stage.new)
+        × DeliversTo (script_contents_of setup.old) id replica more (script_contents_of setup.new)
         × (printed.new.items ≡ printed.old.items ++ more)) }
     ensures bad { result ≡ Err BadScript
-        → IsNone (replica_place stage.old.replicas.items replica)
-        ⊎ ((op : Op) → Issued (script_contents_of stage.old) id op → ⊥) }
+        → IsNone (replica_place setup.old.replicas.items replica)
+        ⊎ ((op : Op) → Issued (script_contents_of setup.old) id op → ⊥) }
     ensures err { OnErr result (printed.new.items ≡ printed.old.items) }
 {
-    match issued_op(alloc, stage, id) {
-        Ok(op) => deliver_and_print(alloc, stage, Source::Issued, replica, op, printed),
+    match issued_op(alloc, setup, id) {
+        Ok(op) => deliver_and_print(alloc, setup, Source::Issued, replica, op, printed),
         Err(fault) => Err(fault),
     }
 }
@@ -55,43 +55,43 @@ pub fn deliver(
 /// sound. `BadScript` if the text spells none, or the replica isn't declared.
 pub fn forge(
     alloc: Global,
-    stage: &mut ScriptState,
+    setup: &mut ScriptState,
     replica: ReplicaId,
     text: &[u8],
     printed: &mut Vec<u8>,
 ) -> Result<(), ServeFault>
     ensures ok { OnOk result ((more : List ℕ)
-        × ForgesAt (script_contents_of stage.old) replica text.now more
-        (script_contents_of stage.new) × (printed.new.items ≡ printed.old.items ++ more)) }
+        × ForgesAt (script_contents_of setup.old) replica text.now more
+        (script_contents_of setup.new) × (printed.new.items ≡ printed.old.items ++ more)) }
     ensures bad { result ≡ Err BadScript
-        → IsNone (replica_place stage.old.replicas.items replica)
+        → IsNone (replica_place setup.old.replicas.items replica)
         ⊎ ((op : Op) → IsSpelled op text.now → ⊥) }
     ensures err { OnErr result (printed.new.items ≡ printed.old.items) }
 {
-    if replica_place(&stage.replicas, replica).is_none() {
+    if replica_place(&setup.replicas, replica).is_none() {
         return Err(ServeFault::BadScript);
     }
     let op = spelled_op(alloc, text)?;
-    forge_if_sound(alloc, stage, replica, op, printed)
+    forge_if_sound(alloc, setup, replica, op, printed)
 }
 
 /// Applies a replica's held operations that are ripe, and prints how many were applied.
 pub fn drain(
     alloc: Global,
-    stage: &mut ScriptState,
+    setup: &mut ScriptState,
     replica: ReplicaId,
     printed: &mut Vec<u8>,
 ) -> Result<(), ServeFault>
     ensures ok { OnOk result ((more : List ℕ)
-        × DrainsAt (script_contents_of stage.old) replica more (script_contents_of stage.new)
+        × DrainsAt (script_contents_of setup.old) replica more (script_contents_of setup.new)
         × (printed.new.items ≡ printed.old.items ++ more)) }
-    ensures bad { result ≡ Err BadScript → IsNone (replica_place stage.old.replicas.items replica) }
+    ensures bad { result ≡ Err BadScript → IsNone (replica_place setup.old.replicas.items replica) }
     ensures err { OnErr result (printed.new.items ≡ printed.old.items) }
 {
-    let Some(place) = replica_place(&stage.replicas, replica) else {
+    let Some(place) = replica_place(&setup.replicas, replica) else {
         return Err(ServeFault::BadScript);
     };
-    let drained = stage.replicas[place].node.drain(alloc);
+    let drained = setup.replicas[place].node.drain(alloc);
     let outcome = OutcomeLine::Drained {
         replica,
         count: drained.applied as u64,
@@ -102,16 +102,16 @@ pub fn drain(
 }
 
 /// A copy of the operation with this id, if its replica issued one.
-fn issued_op(alloc: Global, stage: &ScriptState, id: OpId) -> Result<SoundOp, ServeFault>
-    ensures ok { IfOk result (λ op. Issued (script_contents_of stage.now) id op) }
+fn issued_op(alloc: Global, setup: &ScriptState, id: OpId) -> Result<SoundOp, ServeFault>
+    ensures ok { IfOk result (λ op. Issued (script_contents_of setup.now) id op) }
     ensures bad { result ≡ Err BadScript → (op : Op)
-        → Issued (script_contents_of stage.now) id op
+        → Issued (script_contents_of setup.now) id op
         → ⊥ }
 {
-    let Some(place) = replica_place(&stage.replicas, id.replica) else {
+    let Some(place) = replica_place(&setup.replicas, id.replica) else {
         return Err(ServeFault::BadScript);
     };
-    let Some(op) = stage.replicas[place].issued.find(id) else {
+    let Some(op) = setup.replicas[place].issued.find(id) else {
         return Err(ServeFault::BadScript);
     };
     let copy = op.copy(alloc)?;
@@ -125,7 +125,7 @@ fn spelled_op(alloc: Global, text: &[u8]) -> Result<Op, ServeFault>
 {
     match read_op(alloc, text) {
         Ok(op) => Ok(op),
-        Err(OpFault::NotTheForm) => Err(ServeFault::BadScript),
+        Err(OpFault::NotInForm) => Err(ServeFault::BadScript),
         Err(OpFault::NoMemory) => Err(ServeFault::NoMemory),
     }
 }
@@ -134,19 +134,19 @@ fn spelled_op(alloc: Global, text: &[u8]) -> Result<Op, ServeFault>
 /// sound.
 fn forge_if_sound(
     alloc: Global,
-    stage: &mut ScriptState,
+    setup: &mut ScriptState,
     replica: ReplicaId,
     op: Op,
     printed: &mut Vec<u8>,
 ) -> Result<(), ServeFault>
     ensures ok { OnOk result ((more : List ℕ)
-        × Forges (script_contents_of stage.old) replica op more (script_contents_of stage.new)
+        × Forges (script_contents_of setup.old) replica op more (script_contents_of setup.new)
         × (printed.new.items ≡ printed.old.items ++ more)) }
-    ensures bad { result ≡ Err BadScript → IsNone (replica_place stage.old.replicas.items replica) }
+    ensures bad { result ≡ Err BadScript → IsNone (replica_place setup.old.replicas.items replica) }
     ensures err { OnErr result (printed.new.items ≡ printed.old.items) }
 {
     match check(op) {
-        Ok(op) => deliver_and_print(alloc, stage, Source::Forged, replica, op, printed),
+        Ok(op) => deliver_and_print(alloc, setup, Source::Forged, replica, op, printed),
         Err((op, why)) => {
             drop(op);
             let rule = broken_rule_of(why);
@@ -159,21 +159,21 @@ fn forge_if_sound(
 /// Delivers an operation to a replica, and prints the result.
 fn deliver_and_print(
     alloc: Global,
-    stage: &mut ScriptState,
+    setup: &mut ScriptState,
     source: Source,
     replica: ReplicaId,
     op: SoundOp,
     printed: &mut Vec<u8>,
 ) -> Result<(), ServeFault>
     ensures ok { OnOk result ((more : List ℕ)
-        × DeliversAndPrints (script_contents_of stage.old) source replica op more
-        (script_contents_of stage.new) × (printed.new.items ≡ printed.old.items ++ more)) }
-    ensures bad { result ≡ Err BadScript → IsNone (replica_place stage.old.replicas.items replica) }
+        × DeliversAndPrints (script_contents_of setup.old) source replica op more
+        (script_contents_of setup.new) × (printed.new.items ≡ printed.old.items ++ more)) }
+    ensures bad { result ≡ Err BadScript → IsNone (replica_place setup.old.replicas.items replica) }
     ensures err { OnErr result (printed.new.items ≡ printed.old.items) }
 {
     let id = op.id();
-    let told = deliver_to(alloc, stage, replica, op)?;
-    let outcome = outcome_line_of(source, id, replica, told);
+    let status = deliver_to(alloc, setup, replica, op)?;
+    let outcome = outcome_line_of(source, id, replica, status);
     write_outcome(outcome, printed)?;
     Ok(())
 }
@@ -183,20 +183,20 @@ fn outcome_line_of(
     source: Source,
     id: OpId,
     replica: ReplicaId,
-    told: DeliveryResult,
+    status: DeliveryResult,
 ) -> OutcomeLine
-    ensures { result ≡ outcome_line_of source id replica told }
+    ensures { result ≡ outcome_line_of source id replica status }
 {
     match source {
         Source::Issued => OutcomeLine::Delivered {
             id,
             replica,
-            result: told,
+            result: status,
         },
         Source::Forged => OutcomeLine::Forged {
             id,
             replica,
-            result: told,
+            result: status,
         },
     }
 }
@@ -204,18 +204,18 @@ fn outcome_line_of(
 /// Delivers an operation to a replica, and returns the result.
 fn deliver_to(
     alloc: Global,
-    stage: &mut ScriptState,
+    setup: &mut ScriptState,
     replica: ReplicaId,
     op: SoundOp,
 ) -> Result<DeliveryResult, ServeFault>
-    ensures ok { IfOk result (λ told. DeliversOp (script_contents_of stage.old) replica op told
-        (script_contents_of stage.new)) }
-    ensures bad { result ≡ Err BadScript → IsNone (replica_place stage.old.replicas.items replica) }
+    ensures ok { IfOk result (λ status. DeliversOp (script_contents_of setup.old) replica op status
+        (script_contents_of setup.new)) }
+    ensures bad { result ≡ Err BadScript → IsNone (replica_place setup.old.replicas.items replica) }
 {
-    let Some(place) = replica_place(&stage.replicas, replica) else {
+    let Some(place) = replica_place(&setup.replicas, replica) else {
         return Err(ServeFault::BadScript);
     };
-    let answer = stage.replicas[place].node.deliver(alloc, op);
+    let answer = setup.replicas[place].node.deliver(alloc, op);
     Ok(delivery_result_of(answer))
 }
 

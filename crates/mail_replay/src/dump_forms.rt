@@ -18,39 +18,39 @@ use imap_types::{DateTime, Flags, Name, Text};
 use tags_clocks::{Clock, OpId, ReplicaId};
 
 /// Sound operations have texts.
-pub fn all_in_form(ops: &[SoundOp])
+pub fn ops_have_texts(ops: &[SoundOp])
     ensures { AreSound IsInForm ops.now }
 {
-    each_in_form(ops);
+    each_op_has_text(ops);
 }
 
-fn each_in_form(ops: &[SoundOp])
+fn each_op_has_text(ops: &[SoundOp])
     ensures { Each IsInForm ops.now }
 {
     for op in ops {
-        in_form(op);
+        op_has_text(op);
     }
 }
 
 /// The dump lines of sound operations can be written: the operations have texts, and the octets of
 /// the messages that they append can be counted.
-pub fn all_writable(ops: &[SoundOp])
+pub fn ops_are_writable(ops: &[SoundOp])
     ensures { AreWritable ops.now }
 {
-    each_writable(ops);
+    each_op_is_writable(ops);
 }
 
-fn each_writable(ops: &[SoundOp])
+fn each_op_is_writable(ops: &[SoundOp])
     ensures { Each (λ (op : Op). IsInForm op × IsCountable op.kind) ops.now }
 {
     for op in ops {
-        in_form(op);
-        text_counts(&op.op().kind);
+        op_has_text(op);
+        text_is_countable(&op.op().kind);
     }
 }
 
 /// An appended message is in memory, so it has fewer than 2^64 octets.
-fn text_counts(kind: &Kind)
+fn text_is_countable(kind: &Kind)
     ensures { IsCountable kind.now }
 {
     match kind {
@@ -69,13 +69,13 @@ fn count_fits(count: usize)
 {}
 
 /// A sound operation has a text.
-pub fn in_form(op: &SoundOp)
+pub fn op_has_text(op: &SoundOp)
     ensures { IsInForm op.now }
 {
-    let found = op.op();
-    id_fits(found.id);
-    clock_fits(&found.clock);
-    kind_fits(&found.kind);
+    let plain = op.op();
+    id_fits(plain.id);
+    clock_fits(&plain.clock);
+    kind_fits(&plain.kind);
 }
 
 /// A replica's number is from 1 to 65,535.
@@ -151,19 +151,19 @@ fn kind_fits(kind: &Kind)
             date_fits(date);
             text_fits(text);
         }
-        Kind::Expunge { folder, olds } => {
+        Kind::Expunge { folder, old_ids } => {
             name_fits(folder);
-            ids_fit(olds);
+            ids_fit(old_ids);
         }
         Kind::Store {
             folder,
             flags,
-            olds,
+            old_ids,
             origin,
         } => {
             name_fits(folder);
             flags_fit(flags);
-            ids_fit(olds);
+            ids_fit(old_ids);
             id_fits(*origin);
         }
         Kind::Subscribe { name } => name_fits(name),

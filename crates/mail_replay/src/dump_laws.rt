@@ -6,7 +6,7 @@ ghost use Rattle.mail_audit.specs.Dumps.{IsRightDump};
 ghost use Rattle.mail_script.specs.Lines.{lines_of};
 ghost use Rattle.imap_connection.specs.Dumps.{IsDump};
 
-use crate::dump_forms::{all_in_form, replica_fits};
+use crate::dump_forms::{ops_have_texts, replica_fits};
 use imap_connection::Node;
 
 /// The text that `write_dump` writes of a node is a right dump. If the audit's `Yes` is true of an
@@ -20,6 +20,6 @@ pub fn dumps_are_right(node: &Node)
         → IsRight front
         → IsRight (front ++ lines_of text) }
 {
-    all_in_form(node.op_list());
+    ops_have_texts(node.op_list());
     replica_fits(node.replica().id());
 }

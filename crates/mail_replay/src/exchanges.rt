@@ -23,26 +23,26 @@ use world_core::{Agreement, SettleFault, agree, settle};
 /// Prints whether two replicas applied the same operations; `BadScript` if one of them isn't
 /// declared.
 pub fn compare(
-    stage: &ScriptState,
+    setup: &ScriptState,
     first: ReplicaId,
     second: ReplicaId,
     printed: &mut Vec<u8>,
 ) -> Result<(), ServeFault>
     ensures ok { OnOk result ((more : List ℕ)
-        × Compares (script_contents_of stage.now) first second more
+        × Compares (script_contents_of setup.now) first second more
         × (printed.new.items ≡ printed.old.items ++ more)) }
     ensures bad { result ≡ Err BadScript
-        → IsNone (replica_place stage.now.replicas.items first)
-        ⊎ IsNone (replica_place stage.now.replicas.items second) }
+        → IsNone (replica_place setup.now.replicas.items first)
+        ⊎ IsNone (replica_place setup.now.replicas.items second) }
     ensures err { OnErr result (printed.new.items ≡ printed.old.items) }
 {
-    let Some(one) = replica_place(&stage.replicas, first) else {
+    let Some(one) = replica_place(&setup.replicas, first) else {
         return Err(ServeFault::BadScript);
     };
-    let Some(other) = replica_place(&stage.replicas, second) else {
+    let Some(other) = replica_place(&setup.replicas, second) else {
         return Err(ServeFault::BadScript);
     };
-    let same = are_same(&stage.replicas[one].node, &stage.replicas[other].node);
+    let same = are_same(&setup.replicas[one].node, &setup.replicas[other].node);
     let outcome = OutcomeLine::Agreed {
         first,
         second,
@@ -65,16 +65,16 @@ fn are_same(one: &Node, other: &Node) -> bool
 /// Has all replicas exchange the operations that they received, and prints the result.
 pub fn exchange(
     alloc: Global,
-    stage: &mut ScriptState,
+    setup: &mut ScriptState,
     printed: &mut Vec<u8>,
 ) -> Result<(), ServeFault>
     ensures ok { OnOk result ((more : List ℕ)
-        × Settles (script_contents_of stage.old) more (script_contents_of stage.new)
+        × Settles (script_contents_of setup.old) more (script_contents_of setup.new)
         × (printed.new.items ≡ printed.old.items ++ more)) }
     ensures err { IfErr result (λ fault. fault ≡ NoMemory) }
-    ensures kept { OnErr result (printed.new.items ≡ printed.old.items) }
+    ensures unchanged { OnErr result (printed.new.items ≡ printed.old.items) }
 {
-    let result = exchange_all(alloc, &mut stage.replicas)?;
+    let result = exchange_all(alloc, &mut setup.replicas)?;
     write_outcome(OutcomeLine::Settled { result }, printed)?;
     Ok(())
 }
@@ -82,7 +82,7 @@ pub fn exchange(
 /// Has replicas exchange the operations that they received. `Err` if memory runs out before the
 /// exchange, and then nothing changes.
 fn exchange_all(alloc: Global, replicas: &mut [ScriptReplica]) -> Result<SettleResult, AllocError>
-    ensures { IfOk result (λ told. Exchanges replicas.old told replicas.new) }
+    ensures { IfOk result (λ status. Exchanges replicas.old status replicas.new) }
 {
     let mut nodes = blank_nodes(alloc, replicas)?;
     Ok(exchange_with(alloc, replicas, &mut nodes))

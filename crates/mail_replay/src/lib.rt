@@ -32,7 +32,7 @@
 //!
 //! - Output is written after each line and flushed after each piece of input.
 //!
-//! - A script stores each node beside its replica's name, and `settle` takes a slice of nodes:
+//! - A script stores each node with its replica's name, and `settle` takes a slice of nodes:
 //!   blank nodes take their place while the real ones are passed to it. If memory runs out for the
 //!   blank ones, the replay ends with `no memory` and nothing changes; if it runs out within the
 //!   exchange, `settle: NoMemory` is printed.
@@ -58,4 +58,4 @@ pub use program::run;
 pub use program_request::{ProgramRequest, read_words};
 pub use replay_end::ReplayEnd;
 pub use replay_run::{MAX_READS, replay};
-pub use replay_status::tell;
+pub use replay_status::write_last_line;

@@ -4,7 +4,7 @@ use crate::audit_run::{audit_file, audit_from};
 use crate::program_request::{ProgramRequest, read_words};
 use crate::replay_end::ReplayEnd;
 use crate::replay_run::replay;
-use crate::replay_status::tell;
+use crate::replay_status::write_last_line;
 use clap::Error;
 use clap::error::ErrorKind;
 use std::io::{BufWriter, Read};
@@ -16,8 +16,8 @@ use std::{env, fs, io};
 /// 2 if the command line is wrong; 3 if a script ended early or an input can't be audited.
 pub fn run<R: Env + Files + Input + Print + AllocGlobal>(rt: &R) -> u8 {
     match words(rt) {
-        Ok(words) => obey(rt, &words),
-        Err(_) => end_at_once(rt, ReplayEnd::NoMemory),
+        Ok(words) => run_words(rt, &words),
+        Err(_) => end_early(rt, ReplayEnd::NoMemory),
     }
 }
 
@@ -26,12 +26,12 @@ fn words<R: Env + AllocGlobal>(rt: &R) -> io::Result<Vec<String>> {
     Ok(words)
 }
 
-fn obey<R: Files + Input + Print + AllocGlobal>(rt: &R, words: &[String]) -> u8 {
+fn run_words<R: Files + Input + Print + AllocGlobal>(rt: &R, words: &[String]) -> u8 {
     match read_words(rt.alloc(), words) {
         Ok(ProgramRequest::Replay { file: None }) => replay_from(rt, rt.reader()),
         Ok(ProgramRequest::Replay { file: Some(path) }) => match fs::open(rt, path) {
             Ok(file) => replay_from(rt, file),
-            Err(_) => end_at_once(rt, ReplayEnd::ReadFailed),
+            Err(_) => end_early(rt, ReplayEnd::ReadFailed),
         },
         Ok(ProgramRequest::Audit { file: None }) => audit_from(rt, rt.reader()),
         Ok(ProgramRequest::Audit { file: Some(path) }) => audit_file(rt, path),
@@ -42,7 +42,7 @@ fn obey<R: Files + Input + Print + AllocGlobal>(rt: &R, words: &[String]) -> u8 
 /// Prints what was wrong with the command line, or the help that it asked for.
 fn explain<R: Print + AllocGlobal>(rt: &R, error: Error) -> u8 {
     if error.kind() == ErrorKind::OutOfMemory {
-        return end_at_once(rt, ReplayEnd::NoMemory);
+        return end_early(rt, ReplayEnd::NoMemory);
     }
     let status = if error.use_stderr() { 2 } else { 0 };
     match rt.print(error) {
@@ -55,12 +55,12 @@ fn replay_from<R: Print + AllocGlobal, S: Read + Drop>(rt: &R, mut script: S) ->
     match BufWriter::new(rt.alloc(), io::writer(rt)) {
         Ok(mut writer) => {
             let end = replay(rt.alloc(), &mut script, &mut writer);
-            tell(rt.alloc(), end, &mut writer)
+            write_last_line(rt.alloc(), end, &mut writer)
         }
-        Err(_) => end_at_once(rt, ReplayEnd::NoMemory),
+        Err(_) => end_early(rt, ReplayEnd::NoMemory),
     }
 }
 
-fn end_at_once<R: Print + AllocGlobal>(rt: &R, end: ReplayEnd) -> u8 {
-    tell(rt.alloc(), end, &mut io::writer(rt))
+fn end_early<R: Print + AllocGlobal>(rt: &R, end: ReplayEnd) -> u8 {
+    write_last_line(rt.alloc(), end, &mut io::writer(rt))
 }

@@ -5,7 +5,7 @@ ghost use Rattle.std.specs.Prelude.{IfErr, IfOk, IfSome, OnOk, OnErr, length};
 ghost use Rattle.std.specs.Io.KnownBytes.{Appends, Keeps};
 ghost use Rattle.mail_script.specs.Lines.{lines_of};
 ghost use Rattle.mail_script.specs.Reading.{cut_at};
-ghost use Rattle.mail_script.specs.Script.{Says};
+ghost use Rattle.mail_script.specs.Script.{Means};
 ghost use Rattle.mail_script.specs.declared.script.ScriptLine.{ScriptLine};
 ghost use Rattle.mail_replay.specs.Lines.{IsBad, Serves, ServesInPart};
 ghost use Rattle.mail_replay.specs.Replays.{Advances, Breaks, EndsEarly, FirstInPart, Replays};
@@ -49,7 +49,7 @@ pub fn replay<R: Read, W: Write>(alloc: Global, reader: &mut R, writer: &mut W) 
 /// The state of a replay between pieces.
 #[derive(Drop)]
 struct Progress {
-    stage: ScriptState,
+    setup: ScriptState,
     /// The octets of the script that were read and not yet served.
     lines: ScriptLines,
     /// The number of lines served.
@@ -86,7 +86,7 @@ fn serve_pieces<R: Read, W: Write>(
         (W.contents writer.new)) }
 {
     let mut progress = Progress {
-        stage: ScriptState::new(alloc),
+        setup: ScriptState::new(alloc),
         lines: ScriptLines::new(alloc),
         served: 0,
     };
@@ -120,14 +120,14 @@ fn serve_piece<W: Write>(
 ) -> Result<(), ReplayEnd>
     requires { progress.old.served + length progress.old.lines + length piece.now < 2 ^ 64 }
     ensures ok { OnOk result (Advances (W.contents writer.old)
-        (script_contents_of progress.old.stage) progress.old.served
+        (script_contents_of progress.old.setup) progress.old.served
         (progress.old.lines ++ piece.now) (W.contents writer.new)
-        (script_contents_of progress.new.stage) progress.new.served progress.new.lines) }
+        (script_contents_of progress.new.setup) progress.new.served progress.new.lines) }
     ensures rest { OnOk result (cut_at 10 progress.new.lines ≡ None) }
     ensures err { IfErr result (EndsEarly
-        (Breaks (W.contents writer.old) (script_contents_of progress.old.stage) progress.old.served
+        (Breaks (W.contents writer.old) (script_contents_of progress.old.setup) progress.old.served
         (progress.old.lines ++ piece.now) (W.contents writer.new)) (Stops (W.contents writer.old)
-        (script_contents_of progress.old.stage) (progress.old.lines ++ piece.now)
+        (script_contents_of progress.old.setup) (progress.old.lines ++ piece.now)
         (W.contents writer.new))) }
 {
     let Ok(()) = progress.lines.push(piece) else {
@@ -151,21 +151,21 @@ fn serve_next<W: Write>(
 ) -> Result<(), ReplayEnd>
     requires { progress.old.served + 1 < 2 ^ 64 }
     ensures lines { progress.new.lines ≡ progress.old.lines }
-    ensures ok { OnOk result ((said : ScriptLine) × (more : List ℕ) × Says line.now said
-        × Serves (script_contents_of progress.old.stage) said more
-        (script_contents_of progress.new.stage)
+    ensures ok { OnOk result ((meaning : ScriptLine) × (more : List ℕ) × Means line.now meaning
+        × Serves (script_contents_of progress.old.setup) meaning more
+        (script_contents_of progress.new.setup)
         × Appends (W.contents writer.old) (W.contents writer.new) more
         × (progress.new.served ≡ progress.old.served + 1)) }
     ensures err { IfErr result (EndsEarly
         (λ number. (number ≡ progress.old.served + 1)
-        × IsBad (script_contents_of progress.old.stage) line.now
+        × IsBad (script_contents_of progress.old.setup) line.now
         × Appends (W.contents writer.old) (W.contents writer.new) []) ((more : List ℕ)
-        × ServesInPart (script_contents_of progress.old.stage) line.now more
+        × ServesInPart (script_contents_of progress.old.setup) line.now more
         × Appends (W.contents writer.old) (W.contents writer.new) more)) }
 {
     progress.served += 1;
     let mut printed = Vec::new(alloc);
-    let served = serve_line(alloc, &mut progress.stage, line, &mut printed);
+    let served = serve_line(alloc, &mut progress.setup, line, &mut printed);
     if writer.write_all(&printed).is_err() {
         return Err(ReplayEnd::WriteFailed);
     }
@@ -186,15 +186,15 @@ fn serve_last<W: Write>(
 ) -> Result<(), ReplayEnd>
     requires room { progress.old.served + 1 < 2 ^ 64 }
     requires rest { cut_at 10 progress.old.lines ≡ None }
-    ensures ok { OnOk result ((told : List ℕ) × (scene : ScriptContents)
-        × ServesAll (script_contents_of progress.old.stage) (lines_of progress.old.lines) told scene
-        × Appends (W.contents writer.old) (W.contents writer.new) told) }
+    ensures ok { OnOk result ((out : List ℕ) × (after : ScriptContents)
+        × ServesAll (script_contents_of progress.old.setup) (lines_of progress.old.lines) out after
+        × Appends (W.contents writer.old) (W.contents writer.new) out) }
     ensures err { IfErr result (EndsEarly
         (λ number. (number ≡ progress.old.served + 1)
         × (lines_of progress.old.lines ≡ progress.old.lines ∷ [])
-        × IsBad (script_contents_of progress.old.stage) progress.old.lines
+        × IsBad (script_contents_of progress.old.setup) progress.old.lines
         × Appends (W.contents writer.old) (W.contents writer.new) []) ((more : List ℕ)
-        × FirstInPart (script_contents_of progress.old.stage) (lines_of progress.old.lines) more
+        × FirstInPart (script_contents_of progress.old.setup) (lines_of progress.old.lines) more
         × Appends (W.contents writer.old) (W.contents writer.new) more)) }
 {
     let line = mem::replace(&mut progress.lines, ScriptLines::new(alloc)).into_rest();
@@ -211,14 +211,14 @@ fn serve_rest<W: Write>(
 ) -> Result<(), ReplayEnd>
     requires room { progress.old.served + 1 < 2 ^ 64 }
     requires rest { cut_at 10 line.now ≡ None }
-    ensures ok { OnOk result ((told : List ℕ) × (scene : ScriptContents)
-        × ServesAll (script_contents_of progress.old.stage) (lines_of line.now) told scene
-        × Appends (W.contents writer.old) (W.contents writer.new) told) }
+    ensures ok { OnOk result ((out : List ℕ) × (after : ScriptContents)
+        × ServesAll (script_contents_of progress.old.setup) (lines_of line.now) out after
+        × Appends (W.contents writer.old) (W.contents writer.new) out) }
     ensures err { IfErr result (EndsEarly
         (λ number. (number ≡ progress.old.served + 1) × (lines_of line.now ≡ line.now ∷ [])
-        × IsBad (script_contents_of progress.old.stage) line.now
+        × IsBad (script_contents_of progress.old.setup) line.now
         × Appends (W.contents writer.old) (W.contents writer.new) []) ((more : List ℕ)
-        × FirstInPart (script_contents_of progress.old.stage) (lines_of line.now) more
+        × FirstInPart (script_contents_of progress.old.setup) (lines_of line.now) more
         × Appends (W.contents writer.old) (W.contents writer.new) more)) }
 {
     if line.is_empty() {

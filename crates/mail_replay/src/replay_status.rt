@@ -2,7 +2,7 @@
 
 ghost use Rattle.std.specs.Prelude.{◌≡◌, IfOk};
 ghost use Rattle.mail_script.specs.Outcomes.{outcome_line};
-ghost use Rattle.mail_replay.specs.Endings.{last_line_of, status_of};
+ghost use Rattle.mail_replay.specs.Statuses.{last_line_of, status_of};
 
 use crate::replay_end::ReplayEnd;
 use mail_script::{OutcomeLine, write_outcome};
@@ -33,7 +33,7 @@ pub fn last_line(end: ReplayEnd) -> Option<OutcomeLine>
 }
 
 /// Writes the last line, if any, and returns the program's status.
-pub fn tell<W: Write>(alloc: Global, end: ReplayEnd, writer: &mut W) -> u8
+pub fn write_last_line<W: Write>(alloc: Global, end: ReplayEnd, writer: &mut W) -> u8
     ensures { result ≡ status_of end }
 {
     if let Some(outcome) = last_line(end) {

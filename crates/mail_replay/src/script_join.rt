@@ -3,7 +3,7 @@
 
 ghost use Rattle.std.specs.Prelude.{◌≡◌, ◌<◌, ◌⊎◌, ◌++◌, [], ℕ, List, Err, IsNone, IsSome, OnErr};
 ghost use Rattle.std.specs.Prelude.{OnOk, Some, length, slice_get};
-ghost use Rattle.mail_replay.specs.Joins.{IsJoined, Joins, JoinsBehind};
+ghost use Rattle.mail_replay.specs.Joins.{IsJoined, Joins, JoinsAfter};
 ghost use Rattle.mail_replay.specs.ScriptState.{replica_place, script_contents_of};
 ghost use Rattle.mail_replay.specs.declared.script_service.ServeFault.TheVariants.{BadScript};
 ghost use Rattle.mail_replay.specs.declared.script_state.ScriptReplica.{ScriptReplica};
@@ -21,26 +21,26 @@ use world_core::{JoinRefusal, with_operations_of};
 /// declared already, or the other one isn't.
 pub fn join(
     alloc: Global,
-    stage: &mut ScriptState,
+    setup: &mut ScriptState,
     name: ReplicaId,
     peer: ReplicaId,
     printed: &mut Vec<u8>,
 ) -> Result<(), ServeFault>
     ensures ok { OnOk result ((more : List ℕ)
-        × Joins (script_contents_of stage.old) name peer more (script_contents_of stage.new)
+        × Joins (script_contents_of setup.old) name peer more (script_contents_of setup.new)
         × (printed.new.items ≡ printed.old.items ++ more)) }
     ensures bad { result ≡ Err BadScript
-        → IsSome (replica_place stage.old.replicas.items name)
-        ⊎ IsNone (replica_place stage.old.replicas.items peer) }
+        → IsSome (replica_place setup.old.replicas.items name)
+        ⊎ IsNone (replica_place setup.old.replicas.items peer) }
     ensures err { OnErr result (printed.new.items ≡ printed.old.items) }
 {
-    if replica_place(&stage.replicas, name).is_some() {
+    if replica_place(&setup.replicas, name).is_some() {
         return Err(ServeFault::BadScript);
     }
-    let Some(place) = replica_place(&stage.replicas, peer) else {
+    let Some(place) = replica_place(&setup.replicas, peer) else {
         return Err(ServeFault::BadScript);
     };
-    let result = join_after(alloc, &mut stage.replicas, name, place);
+    let result = join_after(alloc, &mut setup.replicas, name, place);
     let outcome = OutcomeLine::Joined {
         replica: name,
         peer,
@@ -61,7 +61,7 @@ fn join_after(
     requires { place < length replicas.old.items }
     ensures { (from : ScriptReplica)
         × (slice_get replicas.old.items place ≡ Some from)
-        × JoinsBehind replicas.old.items name from.node.state.applied result replicas.new.items }
+        × JoinsAfter replicas.old.items name from.node.state.applied result replicas.new.items }
 {
     if let Some(id) = least_own(name, replicas[place].node.op_list()) {
         return JoinResult::Own { id };

@@ -2,18 +2,18 @@
 
 ghost use Rattle.std.specs.Prelude.{◌≡◌, ◌≤◌, ◌⊎◌, ◌++◌, ◌∷◌, [], ℕ, List, None, Some, Err, IfOk};
 ghost use Rattle.std.specs.Prelude.{IfErr, IsTrue, IsSome, IsNone, ◌↔◌, OnOk, OnErr, codes, take};
-ghost use Rattle.imap_answers.specs.Printed.{text_of_answer as text_of};
+ghost use Rattle.imap_answers.specs.AnswerText.{text_of_answer as text_of};
 ghost use Rattle.imap_answers.specs.declared.answer.Answer.{Answer};
 ghost use Rattle.imap_answers.specs.declared.answer.Answer.TheVariants.{Bye, Greeting};
 ghost use Rattle.imap_answers.specs.declared.fixed_words.ByeReason.TheVariants.{TooManySessions as FullReplica};
-ghost use Rattle.imap_answers.specs.declared.fixed_words.Login.TheVariants.{Given};
-ghost use Rattle.mail_script.specs.Script.{Says};
+ghost use Rattle.imap_answers.specs.declared.fixed_words.Login.TheVariants.{PreAuthenticated};
+ghost use Rattle.mail_script.specs.Script.{Means};
 ghost use Rattle.mail_script.specs.Transcript.{transcript_line};
 ghost use Rattle.mail_script.specs.declared.script.ScriptLine.{ScriptLine};
 ghost use Rattle.mail_script.specs.declared.transcript.Speaker.TheVariants.{Server};
-ghost use Rattle.imap_node.specs.Nodes.{IsGoing, with_session_closed};
+ghost use Rattle.imap_node.specs.Nodes.{IsActive, with_session_closed};
 ghost use Rattle.imap_node.specs.Sessions.{IsOpen};
-ghost use Rattle.mail_replay.specs.Lines.{Begins, Closes, Declares, Feeds, FeedsInPart};
+ghost use Rattle.mail_replay.specs.Lines.{BeginsSession, Closes, Declares, Feeds, FeedsInPart};
 ghost use Rattle.mail_replay.specs.Lines.{HasFirstUid, HasPolledTurns, HasTurns, IsBad, IsIdling};
 ghost use Rattle.mail_replay.specs.Lines.{IsMisplaced, IsTalking, OpensAt, PollsAt, PollsInPart};
 ghost use Rattle.mail_replay.specs.Lines.{PrintsInPart, Serves, ServesInPart, Shows, TalksOn, crlf};
@@ -23,7 +23,7 @@ ghost use Rattle.mail_replay.specs.Transcript.{transcript};
 ghost use Rattle.mail_replay.specs.declared.script_service.ServeFault.TheVariants.{BadScript};
 ghost use Rattle.mail_replay.specs.declared.script_service.ServeFault.TheVariants.{NoMemory};
 ghost use Rattle.imap_connection.specs.Replies.{idling_at};
-ghost use Rattle.imap_connection.specs.Talks.{Polls};
+ghost use Rattle.imap_connection.specs.Talks.{IsPoll};
 ghost use Rattle.imap_connection.specs.declared.turn.Turn.{Turn};
 
 use crate::deliveries::{deliver, drain, forge};
@@ -99,68 +99,68 @@ impl From<LineFault> for ServeFault {
 /// opened, or some of the first turns of a session that is fed or polled.
 pub fn serve_line(
     alloc: Global,
-    stage: &mut ScriptState,
+    setup: &mut ScriptState,
     line: &[u8],
     printed: &mut Vec<u8>,
 ) -> Result<(), ServeFault>
-    ensures ok { OnOk result ((said : ScriptLine) × (more : List ℕ) × Says line.now said
-        × Serves (script_contents_of stage.old) said more (script_contents_of stage.new)
+    ensures ok { OnOk result ((meaning : ScriptLine) × (more : List ℕ) × Means line.now meaning
+        × Serves (script_contents_of setup.old) meaning more (script_contents_of setup.new)
         × (printed.new.items ≡ printed.old.items ++ more)) }
     ensures bad { result ≡ Err BadScript
-        → IsBad (script_contents_of stage.old) line.now × (printed.new.items ≡ printed.old.items) }
+        → IsBad (script_contents_of setup.old) line.now × (printed.new.items ≡ printed.old.items) }
     ensures memory { result ≡ Err NoMemory
         → (more : List ℕ)
-        × ServesInPart (script_contents_of stage.old) line.now more
+        × ServesInPart (script_contents_of setup.old) line.now more
         × (printed.new.items ≡ printed.old.items ++ more) }
 {
-    let said = read_line(alloc, line)?;
-    serve(alloc, stage, said, printed)
+    let meaning = read_line(alloc, line)?;
+    serve(alloc, setup, meaning, printed)
 }
 
 fn serve(
     alloc: Global,
-    stage: &mut ScriptState,
-    said: ScriptLine,
+    setup: &mut ScriptState,
+    meaning: ScriptLine,
     printed: &mut Vec<u8>,
 ) -> Result<(), ServeFault>
-    requires { HasFirstUid said }
+    requires { HasFirstUid meaning }
     ensures ok { OnOk result ((more : List ℕ)
-        × Serves (script_contents_of stage.old) said more (script_contents_of stage.new)
+        × Serves (script_contents_of setup.old) meaning more (script_contents_of setup.new)
         × (printed.new.items ≡ printed.old.items ++ more)) }
     ensures bad { result ≡ Err BadScript
-        → IsMisplaced (script_contents_of stage.old) said
+        → IsMisplaced (script_contents_of setup.old) meaning
         × (printed.new.items ≡ printed.old.items) }
     ensures memory { result ≡ Err NoMemory
         → (more : List ℕ)
-        × ((more ≡ []) ⊎ PrintsInPart (script_contents_of stage.old) said more)
+        × ((more ≡ []) ⊎ PrintsInPart (script_contents_of setup.old) meaning more)
         × (printed.new.items ≡ printed.old.items ++ more) }
 {
-    match said {
+    match meaning {
         ScriptLine::Blank => Ok(()),
-        ScriptLine::Node { replica, uid, k } => declare(alloc, stage, Counters { replica, uid, k }),
+        ScriptLine::Node { replica, uid, k } => declare(alloc, setup, Counters { replica, uid, k }),
         ScriptLine::Now { moment } => {
-            stage.moment = moment;
+            setup.moment = moment;
             Ok(())
         }
-        ScriptLine::Open { replica, session } => open(alloc, stage, replica, session, printed),
+        ScriptLine::Open { replica, session } => open(alloc, setup, replica, session, printed),
         ScriptLine::Line { session, text } => {
             let octets = with_line_end(text)?;
-            feed(alloc, stage, &session, &octets, printed)
+            feed(alloc, setup, &session, &octets, printed)
         }
         ScriptLine::Send { session, text } => {
-            feed(alloc, stage, &session, text.as_bytes(), printed)
+            feed(alloc, setup, &session, text.as_bytes(), printed)
         }
-        ScriptLine::Poll { session } => poll(alloc, stage, &session, printed),
-        ScriptLine::Close { session } => close(stage, &session),
-        ScriptLine::Show { replica } => show(alloc, stage, replica, printed),
-        ScriptLine::Deliver { id, replica } => deliver(alloc, stage, id, replica, printed),
+        ScriptLine::Poll { session } => poll(alloc, setup, &session, printed),
+        ScriptLine::Close { session } => close(setup, &session),
+        ScriptLine::Show { replica } => show(alloc, setup, replica, printed),
+        ScriptLine::Deliver { id, replica } => deliver(alloc, setup, id, replica, printed),
         ScriptLine::Forge { replica, operation } => {
-            forge(alloc, stage, replica, operation.as_bytes(), printed)
+            forge(alloc, setup, replica, operation.as_bytes(), printed)
         }
-        ScriptLine::Drain { replica } => drain(alloc, stage, replica, printed),
-        ScriptLine::Settle => exchange(alloc, stage, printed),
-        ScriptLine::Agree { first, second } => compare(stage, first, second, printed),
-        ScriptLine::Join { replica, peer } => join(alloc, stage, replica, peer, printed),
+        ScriptLine::Drain { replica } => drain(alloc, setup, replica, printed),
+        ScriptLine::Settle => exchange(alloc, setup, printed),
+        ScriptLine::Agree { first, second } => compare(setup, first, second, printed),
+        ScriptLine::Join { replica, peer } => join(alloc, setup, replica, peer, printed),
     }
 }
 
@@ -174,19 +174,19 @@ fn with_line_end(text: Octets) -> Result<Vec<u8>, AllocError>
 }
 
 /// Declares a replica that has received nothing and has these counters.
-fn declare(alloc: Global, stage: &mut ScriptState, start: Counters) -> Result<(), ServeFault>
+fn declare(alloc: Global, setup: &mut ScriptState, start: Counters) -> Result<(), ServeFault>
     requires { 1 ≤ start.uid }
     ensures ok { OnOk result
-        (Declares (script_contents_of stage.old) start (script_contents_of stage.new)) }
+        (Declares (script_contents_of setup.old) start (script_contents_of setup.new)) }
     ensures bad { result ≡ Err BadScript
-        ↔ IsSome (replica_place stage.old.replicas.items start.replica) }
-    ensures err { OnErr result (script_contents_of stage.new ≡ script_contents_of stage.old) }
+        ↔ IsSome (replica_place setup.old.replicas.items start.replica) }
+    ensures err { OnErr result (script_contents_of setup.new ≡ script_contents_of setup.old) }
 {
-    if replica_place(&stage.replicas, start.replica).is_some() {
+    if replica_place(&setup.replicas, start.replica).is_some() {
         return Err(ServeFault::BadScript);
     }
     let replica = ScriptReplica::new(alloc, start)?;
-    stage.replicas.push(replica)?;
+    setup.replicas.push(replica)?;
     Ok(())
 }
 
@@ -194,33 +194,33 @@ fn declare(alloc: Global, stage: &mut ScriptState, start: Counters) -> Result<()
 /// says BYE instead, and the session has ended.
 fn open(
     alloc: Global,
-    stage: &mut ScriptState,
+    setup: &mut ScriptState,
     replica: ReplicaId,
     name: SessionName,
     printed: &mut Vec<u8>,
 ) -> Result<(), ServeFault>
     ensures ok { OnOk result ((more : List ℕ)
-        × OpensAt (script_contents_of stage.old) replica name more (script_contents_of stage.new)
+        × OpensAt (script_contents_of setup.old) replica name more (script_contents_of setup.new)
         × (printed.new.items ≡ printed.old.items ++ more)) }
     ensures bad { result ≡ Err BadScript
-        → (IsNone (replica_place stage.old.replicas.items replica)
-        ⊎ IsSome (session_place stage.old.sessions.items name))
+        → (IsNone (replica_place setup.old.replicas.items replica)
+        ⊎ IsSome (session_place setup.old.sessions.items name))
         × (printed.new.items ≡ printed.old.items) }
     ensures memory { result ≡ Err NoMemory
         → (more : List ℕ)
         × ((more ≡ [])
-        ⊎ ((new : ScriptContents) × OpensAt (script_contents_of stage.old) replica name more new))
+        ⊎ ((new : ScriptContents) × OpensAt (script_contents_of setup.old) replica name more new))
         × (printed.new.items ≡ printed.old.items ++ more) }
 {
-    let Some(place) = replica_place(&stage.replicas, replica) else {
+    let Some(place) = replica_place(&setup.replicas, replica) else {
         return Err(ServeFault::BadScript);
     };
-    if session_place(&stage.sessions, &name).is_some() {
+    if session_place(&setup.sessions, &name).is_some() {
         return Err(ServeFault::BadScript);
     }
-    let node = &mut stage.replicas[place].node;
+    let node = &mut setup.replicas[place].node;
     let connection = begin(alloc, node, &name, printed)?;
-    stage.sessions.push(ScriptSession {
+    setup.sessions.push(ScriptSession {
         name,
         replica,
         connection,
@@ -237,11 +237,11 @@ fn begin(
     printed: &mut Vec<u8>,
 ) -> Result<Option<Connection>, ServeFault>
     ensures ok { IfOk result (λ connection. (answer : Answer)
-        × Begins node.old.state answer node.new.state connection
+        × BeginsSession node.old.state answer node.new.state connection
         × (printed.new.items
         ≡ printed.old.items ++ transcript_line name.now Server (text_of answer))) }
     ensures err { IfErr result (λ fault. fault ≡ NoMemory) }
-    ensures kept { OnErr result (printed.new.items ≡ printed.old.items) }
+    ensures unchanged { OnErr result (printed.new.items ≡ printed.old.items) }
 {
     match node.open(Auth::Preauth) {
         Ok(number) => {
@@ -250,7 +250,7 @@ fn begin(
             Ok(Some(Connection { number, framer }))
         }
         Err(OpenFault::TooManySessions) => {
-            turn_away(alloc, name, printed)?;
+            refuse_open(alloc, name, printed)?;
             Ok(None)
         }
         Err(OpenFault::NoMemory) => Err(ServeFault::NoMemory),
@@ -259,17 +259,18 @@ fn begin(
 
 fn greet(alloc: Global, name: &SessionName, printed: &mut Vec<u8>) -> Result<(), AllocError>
     ensures ok { OnOk result (printed.new.items
-        ≡ printed.old.items ++ transcript_line name.now Server (text_of (Greeting Given))) }
+        ≡ printed.old.items
+        ++ transcript_line name.now Server (text_of (Greeting PreAuthenticated))) }
     ensures err { OnErr result (printed.new.items ≡ printed.old.items) }
 {
     let answer = Answer::Greeting {
-        login: Login::Given,
+        login: Login::PreAuthenticated,
     };
     write_answer(alloc, name, &answer, printed)
 }
 
 /// Prints the BYE of a replica that has too many open sessions.
-fn turn_away(alloc: Global, name: &SessionName, printed: &mut Vec<u8>) -> Result<(), AllocError>
+fn refuse_open(alloc: Global, name: &SessionName, printed: &mut Vec<u8>) -> Result<(), AllocError>
     ensures ok { OnOk result (printed.new.items
         ≡ printed.old.items ++ transcript_line name.now Server (text_of (Bye FullReplica))) }
     ensures err { OnErr result (printed.new.items ≡ printed.old.items) }
@@ -283,36 +284,36 @@ fn turn_away(alloc: Global, name: &SessionName, printed: &mut Vec<u8>) -> Result
 /// Feeds a session octets, and prints the resulting turns.
 fn feed(
     alloc: Global,
-    stage: &mut ScriptState,
+    setup: &mut ScriptState,
     name: &SessionName,
     octets: &[u8],
     printed: &mut Vec<u8>,
 ) -> Result<(), ServeFault>
     ensures ok { OnOk result ((more : List ℕ)
-        × Feeds (script_contents_of stage.old) name.now octets.now more
-        (script_contents_of stage.new) × (printed.new.items ≡ printed.old.items ++ more)) }
+        × Feeds (script_contents_of setup.old) name.now octets.now more
+        (script_contents_of setup.new) × (printed.new.items ≡ printed.old.items ++ more)) }
     ensures bad { result ≡ Err BadScript
-        → (IsTalking (script_contents_of stage.old) name.now → ⊥)
+        → (IsTalking (script_contents_of setup.old) name.now → ⊥)
         × (printed.new.items ≡ printed.old.items) }
     ensures memory { result ≡ Err NoMemory
         → (more : List ℕ)
-        × FeedsInPart (script_contents_of stage.old) name.now octets.now more
+        × FeedsInPart (script_contents_of setup.old) name.now octets.now more
         × (printed.new.items ≡ printed.old.items ++ more) }
 {
-    let Some(place) = session_place(&stage.sessions, name) else {
+    let Some(place) = session_place(&setup.sessions, name) else {
         return Err(ServeFault::BadScript);
     };
-    let session = &mut stage.sessions[place];
-    let Some(at) = replica_place(&stage.replicas, session.replica) else {
+    let session = &mut setup.sessions[place];
+    let Some(at) = replica_place(&setup.replicas, session.replica) else {
         return Err(ServeFault::BadScript);
     };
     let Some(connection) = session.connection.take() else {
         return Err(ServeFault::BadScript);
     };
-    let replica = &mut stage.replicas[at];
+    let replica = &mut setup.replicas[at];
     let applied = replica.node.op_list().len();
     let piece = Piece {
-        moment: stage.moment,
+        moment: setup.moment,
         octets,
     };
     session.connection = converse(alloc, &mut replica.node, connection, &piece, name, printed)?;
@@ -346,7 +347,8 @@ fn converse(
         node.new.state left
         × (printed.new.items ≡ printed.old.items ++ transcript name.now turns)) }
     ensures bad { result ≡ Err BadScript
-        → (IsGoing node.old.state connection.number → ⊥) × (printed.new.items ≡ printed.old.items) }
+        → (IsActive node.old.state connection.number → ⊥)
+        × (printed.new.items ≡ printed.old.items) }
     ensures memory { result ≡ Err NoMemory
         → (turns : List Turn)
         × (count : ℕ)
@@ -380,7 +382,7 @@ fn converse(
 
 /// Whether the session is open and hasn't logged out.
 fn is_going(node: &Node, session: SessionNo) -> bool
-    ensures { IsTrue result ↔ IsGoing node.now.state session }
+    ensures { IsTrue result ↔ IsActive node.now.state session }
 {
     match node.session(session) {
         Some(session) => !matches!(session.state, State::LoggedOut),
@@ -391,32 +393,32 @@ fn is_going(node: &Node, session: SessionNo) -> bool
 /// Polls an idling session, and prints the answers that report changes.
 fn poll(
     alloc: Global,
-    stage: &mut ScriptState,
+    setup: &mut ScriptState,
     name: &SessionName,
     printed: &mut Vec<u8>,
 ) -> Result<(), ServeFault>
     ensures ok { OnOk result ((more : List ℕ)
-        × PollsAt (script_contents_of stage.old) name.now more (script_contents_of stage.new)
+        × PollsAt (script_contents_of setup.old) name.now more (script_contents_of setup.new)
         × (printed.new.items ≡ printed.old.items ++ more)) }
     ensures bad { result ≡ Err BadScript
-        → (IsIdling (script_contents_of stage.old) name.now → ⊥)
+        → (IsIdling (script_contents_of setup.old) name.now → ⊥)
         × (printed.new.items ≡ printed.old.items) }
     ensures memory { result ≡ Err NoMemory
         → (more : List ℕ)
-        × PollsInPart (script_contents_of stage.old) name.now more
+        × PollsInPart (script_contents_of setup.old) name.now more
         × (printed.new.items ≡ printed.old.items ++ more) }
 {
-    let Some(place) = session_place(&stage.sessions, name) else {
+    let Some(place) = session_place(&setup.sessions, name) else {
         return Err(ServeFault::BadScript);
     };
-    let session = &stage.sessions[place];
-    let Some(at) = replica_place(&stage.replicas, session.replica) else {
+    let session = &setup.sessions[place];
+    let Some(at) = replica_place(&setup.replicas, session.replica) else {
         return Err(ServeFault::BadScript);
     };
     let Some(connection) = &session.connection else {
         return Err(ServeFault::BadScript);
     };
-    let node = &mut stage.replicas[at].node;
+    let node = &mut setup.replicas[at].node;
     poll_node(alloc, node, connection.number, name, printed)
 }
 
@@ -429,7 +431,7 @@ fn poll_node(
     printed: &mut Vec<u8>,
 ) -> Result<(), ServeFault>
     ensures ok { OnOk result ((turns : List Turn) × IsSome (idling_at node.old.state session)
-        × Polls node.old.state session turns node.new.state
+        × IsPoll node.old.state session turns node.new.state
         × (printed.new.items ≡ printed.old.items ++ transcript name.now turns)) }
     ensures bad { result ≡ Err BadScript
         → IsNone (idling_at node.old.state session) × (printed.new.items ≡ printed.old.items) }
@@ -466,23 +468,23 @@ fn is_idling(node: &Node, session: SessionNo) -> bool
 }
 
 /// Closes a session.
-fn close(stage: &mut ScriptState, name: &SessionName) -> Result<(), ServeFault>
+fn close(setup: &mut ScriptState, name: &SessionName) -> Result<(), ServeFault>
     ensures ok { OnOk result
-        (Closes (script_contents_of stage.old) name.now (script_contents_of stage.new)) }
-    ensures bad { OnErr result (IsTalking (script_contents_of stage.old) name.now → ⊥) }
+        (Closes (script_contents_of setup.old) name.now (script_contents_of setup.new)) }
+    ensures bad { OnErr result (IsTalking (script_contents_of setup.old) name.now → ⊥) }
     ensures err { IfErr result (λ fault. fault ≡ BadScript) }
 {
-    let Some(place) = session_place(&stage.sessions, name) else {
+    let Some(place) = session_place(&setup.sessions, name) else {
         return Err(ServeFault::BadScript);
     };
-    let session = &mut stage.sessions[place];
-    let Some(at) = replica_place(&stage.replicas, session.replica) else {
+    let session = &mut setup.sessions[place];
+    let Some(at) = replica_place(&setup.replicas, session.replica) else {
         return Err(ServeFault::BadScript);
     };
     let Some(connection) = session.connection.take() else {
         return Err(ServeFault::BadScript);
     };
-    let node = &mut stage.replicas[at].node;
+    let node = &mut setup.replicas[at].node;
     if !node.is_open(connection.number) {
         return Err(ServeFault::BadScript);
     }
@@ -493,18 +495,18 @@ fn close(stage: &mut ScriptState, name: &SessionName) -> Result<(), ServeFault>
 /// Prints the dump of a replica.
 fn show(
     alloc: Global,
-    stage: &ScriptState,
+    setup: &ScriptState,
     name: ReplicaId,
     printed: &mut Vec<u8>,
 ) -> Result<(), ServeFault>
-    ensures ok { OnOk result ((more : List ℕ) × Shows (script_contents_of stage.now) name more
+    ensures ok { OnOk result ((more : List ℕ) × Shows (script_contents_of setup.now) name more
         × (printed.new.items ≡ printed.old.items ++ more)) }
-    ensures bad { result ≡ Err BadScript → IsNone (replica_place stage.now.replicas.items name) }
+    ensures bad { result ≡ Err BadScript → IsNone (replica_place setup.now.replicas.items name) }
     ensures err { OnErr result (printed.new.items ≡ printed.old.items) }
 {
-    let Some(place) = replica_place(&stage.replicas, name) else {
+    let Some(place) = replica_place(&setup.replicas, name) else {
         return Err(ServeFault::BadScript);
     };
-    write_dump(alloc, &stage.replicas[place].node, printed)?;
+    write_dump(alloc, &setup.replicas[place].node, printed)?;
     Ok(())
 }

@@ -50,12 +50,12 @@ impl IssuedOps {
     /// The issued operation with this id, if any.
     pub fn find(&self, id: OpId) -> Option<&SoundOp>
         ensures { MatchOption result (¬ HasId id_of self.now id)
-            (λ found. IsIn found.now self.now × (found.now.id ≡ id)) }
+            (λ entry. IsIn entry.now self.now × (entry.now.id ≡ id)) }
     {
         find_in(&self.ops, id)
     }
 
-    /// Adds copies of the operations after the first `first` ones; `Err` if memory runs out, and
+    /// Adds copies of the operations after the first `first`; `Err` if memory runs out, and
     /// then some may have been added.
     pub fn add_after(
         &mut self,
@@ -66,7 +66,7 @@ impl IssuedOps {
         ensures { OnOk result (self.new ≡ self.old ++ drop first ops.now) }
     {
         match ops.get(first..) {
-            Some(behind) => self.add(alloc, behind),
+            Some(after) => self.add(alloc, after),
             None => Ok(()),
         }
     }
@@ -112,7 +112,7 @@ impl ScriptReplica {
 pub struct Connection {
     /// The session's number at its replica.
     pub number: SessionNo,
-    /// The octets from the client that make no whole command yet.
+    /// The client's octets that don't make a whole command yet.
     pub framer: Framer,
 }
 
@@ -139,7 +139,7 @@ pub struct ScriptState {
 }
 
 impl ScriptState {
-    /// Nothing is declared, and the clock shows 0.
+    /// A state with nothing declared and the clock at 0.
     pub fn new(alloc: Global) -> ScriptState
         ensures { script_contents_of result ≡ record { moment = 0; replicas = []; sessions = [] } }
     {

@@ -1,7 +1,7 @@
 //! Transcript lines of turns and answers.
 
 ghost use Rattle.std.specs.Prelude.{◌≡◌, ◌++◌, ℕ, OnErr, OnOk, take};
-ghost use Rattle.imap_answers.specs.Printed.{text_of_answer as text_of};
+ghost use Rattle.imap_answers.specs.AnswerText.{text_of_answer as text_of};
 ghost use Rattle.mail_script.specs.Transcript.{transcript_line};
 ghost use Rattle.mail_script.specs.declared.transcript.Speaker.TheVariants.{Server};
 ghost use Rattle.mail_replay.specs.Transcript.{transcript, turn_line};

@@ -11,7 +11,7 @@ use Rattle.imap_types.specs.declared.escape.Escape.TheVariants.{Text}
 use Rattle.imap_types.proofs.EscapeLemmas.{unescaped_again, unescaped_takes}
 use Rattle.text_fields.proofs.FieldLemmas.{all_of, bind_some, bound, chosen, cut_again, cut_takes, decimal_lacks, number_again, number_takes, positive_again, positive_takes}
 use Rattle.mail_script.specs.Fields.{IsFirstK, IsFirstUid, IsMoment, is_session_name}
-use Rattle.mail_script.specs.Reading.{behind_at, counted_at, cut_at, first_numbers_at, in_front, moment_at, number_at, positive, session_at, session_and_text_at}
+use Rattle.mail_script.specs.Reading.{tail_at, counted_at, cut_at, first_numbers_at, before_first_part, moment_at, number_at, positive, session_at, session_and_text_at}
 use Rattle.mail_script.specs.Script.{first_numbers_text}
 
 not_true : (b : Bool) → not b ≡ true → b ≡ false
@@ -23,7 +23,7 @@ cut_none separator [] h = refl
 cut_none separator (octet ∷ octets) h =
     let p = and_parts (not (eqb octet separator)) (list_all (λ octet. not (eqb octet separator)) octets) h in
     let f : eqb octet separator ≡ false = not_true (eqb octet separator) p.0 in
-    rw f (ap (in_front (octet ∷ [])) (cut_none separator octets p.1))
+    rw f (ap (before_first_part (octet ∷ [])) (cut_none separator octets p.1))
 
 letter_no_space : (octet : ℕ) → is_ascii_alphanumeric octet ≡ true → not (eqb octet 32) ≡ true
 letter_no_space octet h = grind (arith, nat_tests)
@@ -84,9 +84,9 @@ unfolding counted_at
 counted_again limit number l p h =
     bound (number_at limit (decimal number)) positive number (number_again limit number l h) ∙ positive_again number p
 
-behind_takes : (word text rest : List ℕ) → behind_at word text ≡ Some rest → text ≡ word ++ 32 ∷ rest
-unfolding behind_at
-behind_takes word text rest h =
+tail_takes : (word text rest : List ℕ) → tail_at word text ≡ Some rest → text ≡ word ++ 32 ∷ rest
+unfolding tail_at
+tail_takes word text rest h =
     let c = bind_some (cut_at 32 text) _ rest h in
     elim (chosen (bytes_eq c.0.0 word) (Some c.0.1) None (Some rest) c.2) [
       | inl t ↦
@@ -96,27 +96,27 @@ behind_takes word text rest h =
       | inr f ↦ absurd (let k = f.1 in cc)
     ]
 
-behind_again : (word rest : List ℕ) → list_all (λ octet. not (eqb octet 32)) word ≡ true → behind_at word (word ++ 32 ∷ rest) ≡ Some rest
-unfolding behind_at
-behind_again word rest l =
+tail_again : (word rest : List ℕ) → list_all (λ octet. not (eqb octet 32)) word ≡ true → tail_at word (word ++ 32 ∷ rest) ≡ Some rest
+unfolding tail_at
+tail_again word rest l =
     bound (cut_at 32 (word ++ 32 ∷ rest)) _ (word, rest) (cut_again 32 word rest l)
     ∙ (let t : bytes_eq word word ≡ true = (bytes_eq-Decides word word).1 refl in rw t refl)
 
 pub first_numbers_takes : (text : List ℕ) (numbers : ℕ × ℕ) → first_numbers_at text ≡ Some numbers → IsFirstUid numbers.0 × IsFirstK numbers.1 × (32 ∷ text ≡ first_numbers_text numbers.0 numbers.1)
 unfolding first_numbers_at
 first_numbers_takes text numbers h =
-    let a = bind_some (behind_at (codes "uid") text) _ numbers h in
+    let a = bind_some (tail_at (codes "uid") text) _ numbers h in
     let c = bind_some (cut_at 32 a.0) _ numbers a.2 in
     let u = bind_some (counted_at 4294967295 c.0.0) _ numbers c.2 in
-    let b = bind_some (behind_at (codes "k") c.0.1) _ numbers u.2 in
+    let b = bind_some (tail_at (codes "k") c.0.1) _ numbers u.2 in
     let k = bind_some (counted_at 65536 b.0) _ numbers b.2 in
     let e : ◌≡◌ {A = ℕ × ℕ} (u.0, k.0) numbers = let z = k.2 in cc in
     let s = counted_takes 4294967295 c.0.0 u.0 (omega arith) u.1 in
     let t = counted_takes 65536 b.0 k.0 (omega arith) k.1 in
-    let last : c.0.1 ≡ codes "k " ++ decimal k.0 = behind_takes (codes "k") c.0.1 b.0 b.1 ∙ ap (λ (z : List ℕ). codes "k " ++ z) t.2 in
+    let last : c.0.1 ≡ codes "k " ++ decimal k.0 = tail_takes (codes "k") c.0.1 b.0 b.1 ∙ ap (λ (z : List ℕ). codes "k " ++ z) t.2 in
     let rest : a.0 ≡ decimal u.0 ++ 32 ∷ (codes "k " ++ decimal k.0) = cut_takes 32 a.0 c.0 c.1 ∙ (λ i. s.2 i ++ 32 ∷ last i) in
     subst (λ (z : ℕ × ℕ). IsFirstUid z.0 × IsFirstK z.1 × (32 ∷ text ≡ first_numbers_text z.0 z.1)) e
-    ((s.0, s.1), (t.0, t.1), ap (λ (z : List ℕ). 32 ∷ z) (behind_takes (codes "uid") text a.0 a.1) ∙ ap (λ (z : List ℕ). codes " uid " ++ z) rest)
+    ((s.0, s.1), (t.0, t.1), ap (λ (z : List ℕ). 32 ∷ z) (tail_takes (codes "uid") text a.0 a.1) ∙ ap (λ (z : List ℕ). codes " uid " ++ z) rest)
 
 -- The first numbers without the space before them.
 abbrev pub numbers_text : ℕ → ℕ → List ℕ
@@ -126,8 +126,8 @@ pub first_numbers_again : (uid k : ℕ) → IsFirstUid uid → IsFirstK k → fi
 unfolding first_numbers_at
 first_numbers_again uid k u i =
     let last : List ℕ = codes "k " ++ decimal k in
-    bound (behind_at (codes "uid") (numbers_text uid k)) _ (decimal uid ++ 32 ∷ last) (behind_again (codes "uid") (decimal uid ++ 32 ∷ last) refl)
+    bound (tail_at (codes "uid") (numbers_text uid k)) _ (decimal uid ++ 32 ∷ last) (tail_again (codes "uid") (decimal uid ++ 32 ∷ last) refl)
     ∙ bound (cut_at 32 (decimal uid ++ 32 ∷ last)) _ (decimal uid, last) (cut_again 32 (decimal uid) last (decimal_lacks 32 uid refl (omega arith)))
     ∙ bound (counted_at 4294967295 (decimal uid)) _ uid (counted_again 4294967295 uid (omega arith) u.0 u.1)
-    ∙ bound (behind_at (codes "k") last) _ (decimal k) (behind_again (codes "k") (decimal k) refl)
+    ∙ bound (tail_at (codes "k") last) _ (decimal k) (tail_again (codes "k") (decimal k) refl)
     ∙ bound (counted_at 65536 (decimal k)) _ k (counted_again 65536 k (omega arith) i.0 i.1)

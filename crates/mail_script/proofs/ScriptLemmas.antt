@@ -6,8 +6,8 @@ use Rattle.tags_clocks.specs.declared.id.OpId.{OpId}
 use Rattle.imap_types.specs.Escape.{AreOctets, escape_text}
 use Rattle.imap_types.specs.declared.escape.Escape.TheVariants.{Text}
 use Rattle.mail_script.specs.Fields.{IsFirstK, IsFirstUid, IsNumber, IsReplica, id_text, is_session_name}
-use Rattle.mail_script.specs.Reading.{◌>>=◌, Gives, agree_at, cut_at, deliver_at, fields_at, first_numbers_at, forge_at, id_at, join_at, keyword_at, line_at, moment_at, node_at, open_at, replica_at, session_at, session_and_text_at, word_or_words_at, words_at}
-use Rattle.mail_script.specs.Script.{Says, first_numbers_text}
+use Rattle.mail_script.specs.Reading.{◌>>=◌, IsReading, agree_at, cut_at, deliver_at, fields_at, first_numbers_at, forge_at, id_at, join_at, keyword_at, line_at, moment_at, node_at, open_at, replica_at, session_at, session_and_text_at, word_or_words_at, words_at}
+use Rattle.mail_script.specs.Script.{Means, first_numbers_text}
 use Rattle.mail_script.specs.declared.script.ScriptWord.{ScriptWord}
 use Rattle.mail_script.specs.declared.script.ScriptWord.TheVariants.{Node as NodeWord, Now as NowWord, Open as OpenWord, Line as LineWord, Send as SendWord, Poll as PollWord, Close as CloseWord, Show as ShowWord, Deliver as DeliverWord, Forge as ForgeWord, Drain as DrainWord, Agree as AgreeWord, Join as JoinWord}
 use Rattle.mail_script.specs.declared.script.LineFault.{LineFault}
@@ -36,10 +36,10 @@ keyword_text JoinWord = codes "join"
 
 -- a word of the table, or a later one
 picked : (word text : List ℕ) (k : ScriptWord) (next : Option ScriptWord) (keyword : ScriptWord) → text ≡ keyword_text k → cond (bytes_eq word text) (Some k) next ≡ Some keyword → (next ≡ Some keyword → word ≡ keyword_text keyword) → word ≡ keyword_text keyword
-picked word text k next keyword s h behind =
+picked word text k next keyword s h after =
     elim (chosen (bytes_eq word text) (Some k) next (Some keyword) h) [
       | inl t ↦ (bytes_eq-Decides word text).0 t.0 ∙ s ∙ ap keyword_text (let e = t.1 in cc)
-      | inr f ↦ behind f.1
+      | inr f ↦ after f.1
     ]
 
 keyword_takes : (word : List ℕ) (keyword : ScriptWord) → keyword_at word ≡ Some keyword → word ≡ keyword_text keyword
@@ -61,158 +61,158 @@ keyword_takes word keyword h =
     absurd (let k = h in cc))))))))))))))
 
 -- the line says what is read after each word
-node_takes : (fields : List ℕ) (cut : Option (List ℕ × List ℕ)) (said : ScriptLine) → ((parts : List ℕ × List ℕ) → cut ≡ Some parts → fields ≡ parts.0 ++ 32 ∷ parts.1) → node_at cut fields ≡ Some said → Says (codes "node " ++ fields) said
+node_takes : (fields : List ℕ) (cut : Option (List ℕ × List ℕ)) (value : ScriptLine) → ((parts : List ℕ × List ℕ) → cut ≡ Some parts → fields ≡ parts.0 ++ 32 ∷ parts.1) → node_at cut fields ≡ Some value → Means (codes "node " ++ fields) value
 unfolding node_at
-node_takes fields None said c h =
-    let r = bind_some (replica_at fields) _ said h in
-    let e : Node r.0 1 1 ≡ said = let k = r.2 in cc in
+node_takes fields None value c h =
+    let r = bind_some (replica_at fields) _ value h in
+    let e : Node r.0 1 1 ≡ value = let k = r.2 in cc in
     let t = replica_takes fields r.0 r.1 in
-    subst (Says (codes "node " ++ fields)) e (t.0, (omega arith, omega arith), (omega arith, omega arith), inr (ap (λ (t : List ℕ). codes "node " ++ t) t.1, refl, refl))
-node_takes fields (Some parts) said c h =
-    let r = bind_some (replica_at parts.0) _ said h in
-    let n = bind_some (first_numbers_at parts.1) _ said r.2 in
-    let e : Node r.0 n.0.0 n.0.1 ≡ said = let k = n.2 in cc in
+    subst (Means (codes "node " ++ fields)) e (t.0, (omega arith, omega arith), (omega arith, omega arith), inr (ap (λ (t : List ℕ). codes "node " ++ t) t.1, refl, refl))
+node_takes fields (Some parts) value c h =
+    let r = bind_some (replica_at parts.0) _ value h in
+    let n = bind_some (first_numbers_at parts.1) _ value r.2 in
+    let e : Node r.0 n.0.0 n.0.1 ≡ value = let k = n.2 in cc in
     let t = replica_takes parts.0 r.0 r.1 in
     let u = first_numbers_takes parts.1 n.0 n.1 in
     let text : fields ≡ decimal r.0 ++ first_numbers_text n.0.0 n.0.1 = c parts refl ∙ (λ i. t.1 i ++ u.2 i) in
-    subst (Says (codes "node " ++ fields)) e (t.0, u.0, u.1, inl (ap (λ (t : List ℕ). codes "node " ++ t) text))
+    subst (Means (codes "node " ++ fields)) e (t.0, u.0, u.1, inl (ap (λ (t : List ℕ). codes "node " ++ t) text))
 
-open_takes : (fields : List ℕ) (said : ScriptLine) → open_at fields ≡ Some said → Says (codes "open " ++ fields) said
+open_takes : (fields : List ℕ) (value : ScriptLine) → open_at fields ≡ Some value → Means (codes "open " ++ fields) value
 unfolding open_at
-open_takes fields said h =
-    let c = bind_some (cut_at 32 fields) _ said h in
-    let r = bind_some (replica_at c.0.0) _ said c.2 in
-    let s = bind_some (session_at c.0.1) _ said r.2 in
-    let e : Open r.0 s.0 ≡ said = let k = s.2 in cc in
+open_takes fields value h =
+    let c = bind_some (cut_at 32 fields) _ value h in
+    let r = bind_some (replica_at c.0.0) _ value c.2 in
+    let s = bind_some (session_at c.0.1) _ value r.2 in
+    let e : Open r.0 s.0 ≡ value = let k = s.2 in cc in
     let t = replica_takes c.0.0 r.0 r.1 in
     let u = session_takes c.0.1 s.0 s.1 in
     let text : fields ≡ decimal r.0 ++ 32 ∷ s.0 = cut_takes 32 fields c.0 c.1 ∙ (λ i. t.1 i ++ 32 ∷ u.1 i) in
-    subst (Says (codes "open " ++ fields)) e (t.0, u.0, ap (λ (t : List ℕ). codes "open " ++ t) text)
+    subst (Means (codes "open " ++ fields)) e (t.0, u.0, ap (λ (t : List ℕ). codes "open " ++ t) text)
 
-deliver_takes : (fields : List ℕ) (said : ScriptLine) → deliver_at fields ≡ Some said → Says (codes "deliver " ++ fields) said
+deliver_takes : (fields : List ℕ) (value : ScriptLine) → deliver_at fields ≡ Some value → Means (codes "deliver " ++ fields) value
 unfolding deliver_at
-deliver_takes fields said h =
-    let c = bind_some (cut_at 32 fields) _ said h in
-    let n = bind_some (id_at c.0.0) _ said c.2 in
-    let r = bind_some (replica_at c.0.1) _ said n.2 in
-    let e : Deliver n.0 r.0 ≡ said = let k = r.2 in cc in
+deliver_takes fields value h =
+    let c = bind_some (cut_at 32 fields) _ value h in
+    let n = bind_some (id_at c.0.0) _ value c.2 in
+    let r = bind_some (replica_at c.0.1) _ value n.2 in
+    let e : Deliver n.0 r.0 ≡ value = let k = r.2 in cc in
     let t = id_takes c.0.0 n.0 n.1 in
     let u = replica_takes c.0.1 r.0 r.1 in
     let text : fields ≡ id_text n.0 ++ 32 ∷ decimal r.0 = cut_takes 32 fields c.0 c.1 ∙ (λ i. t.1 i ++ 32 ∷ u.1 i) in
-    subst (Says (codes "deliver " ++ fields)) e (t.0.0, t.0.1, u.0, ap (λ (t : List ℕ). codes "deliver " ++ t) text)
+    subst (Means (codes "deliver " ++ fields)) e (t.0.0, t.0.1, u.0, ap (λ (t : List ℕ). codes "deliver " ++ t) text)
 
-agree_takes : (fields : List ℕ) (said : ScriptLine) → agree_at fields ≡ Some said → Says (codes "agree " ++ fields) said
+agree_takes : (fields : List ℕ) (value : ScriptLine) → agree_at fields ≡ Some value → Means (codes "agree " ++ fields) value
 unfolding agree_at
-agree_takes fields said h =
-    let c = bind_some (cut_at 32 fields) _ said h in
-    let r = bind_some (replica_at c.0.0) _ said c.2 in
-    let s = bind_some (replica_at c.0.1) _ said r.2 in
-    let e : Agree r.0 s.0 ≡ said = let k = s.2 in cc in
+agree_takes fields value h =
+    let c = bind_some (cut_at 32 fields) _ value h in
+    let r = bind_some (replica_at c.0.0) _ value c.2 in
+    let s = bind_some (replica_at c.0.1) _ value r.2 in
+    let e : Agree r.0 s.0 ≡ value = let k = s.2 in cc in
     let t = replica_takes c.0.0 r.0 r.1 in
     let u = replica_takes c.0.1 s.0 s.1 in
     let text : fields ≡ decimal r.0 ++ 32 ∷ decimal s.0 = cut_takes 32 fields c.0 c.1 ∙ (λ i. t.1 i ++ 32 ∷ u.1 i) in
-    subst (Says (codes "agree " ++ fields)) e (t.0, u.0, ap (λ (t : List ℕ). codes "agree " ++ t) text)
+    subst (Means (codes "agree " ++ fields)) e (t.0, u.0, ap (λ (t : List ℕ). codes "agree " ++ t) text)
 
-join_takes : (fields : List ℕ) (said : ScriptLine) → join_at fields ≡ Some said → Says (codes "join " ++ fields) said
+join_takes : (fields : List ℕ) (value : ScriptLine) → join_at fields ≡ Some value → Means (codes "join " ++ fields) value
 unfolding join_at
-join_takes fields said h =
-    let c = bind_some (cut_at 32 fields) _ said h in
-    let r = bind_some (replica_at c.0.0) _ said c.2 in
-    let s = bind_some (replica_at c.0.1) _ said r.2 in
-    let e : Join r.0 s.0 ≡ said = let k = s.2 in cc in
+join_takes fields value h =
+    let c = bind_some (cut_at 32 fields) _ value h in
+    let r = bind_some (replica_at c.0.0) _ value c.2 in
+    let s = bind_some (replica_at c.0.1) _ value r.2 in
+    let e : Join r.0 s.0 ≡ value = let k = s.2 in cc in
     let t = replica_takes c.0.0 r.0 r.1 in
     let u = replica_takes c.0.1 s.0 s.1 in
     let text : fields ≡ decimal r.0 ++ 32 ∷ decimal s.0 = cut_takes 32 fields c.0 c.1 ∙ (λ i. t.1 i ++ 32 ∷ u.1 i) in
-    subst (Says (codes "join " ++ fields)) e (t.0, u.0, ap (λ (t : List ℕ). codes "join " ++ t) text)
+    subst (Means (codes "join " ++ fields)) e (t.0, u.0, ap (λ (t : List ℕ). codes "join " ++ t) text)
 
-forge_takes : (fields : List ℕ) (said : ScriptLine) → forge_at fields ≡ Some said → Says (codes "forge " ++ fields) said
+forge_takes : (fields : List ℕ) (value : ScriptLine) → forge_at fields ≡ Some value → Means (codes "forge " ++ fields) value
 unfolding forge_at
-forge_takes fields said h =
-    let c = bind_some (cut_at 32 fields) _ said h in
-    let r = bind_some (replica_at c.0.0) _ said c.2 in
-    let e : Forge r.0 c.0.1 ≡ said = let k = r.2 in cc in
+forge_takes fields value h =
+    let c = bind_some (cut_at 32 fields) _ value h in
+    let r = bind_some (replica_at c.0.0) _ value c.2 in
+    let e : Forge r.0 c.0.1 ≡ value = let k = r.2 in cc in
     let t = replica_takes c.0.0 r.0 r.1 in
     let text : fields ≡ decimal r.0 ++ 32 ∷ c.0.1 = cut_takes 32 fields c.0 c.1 ∙ (λ i. t.1 i ++ 32 ∷ c.0.1) in
-    subst (Says (codes "forge " ++ fields)) e (t.0, ap (λ (t : List ℕ). codes "forge " ++ t) text)
+    subst (Means (codes "forge " ++ fields)) e (t.0, ap (λ (t : List ℕ). codes "forge " ++ t) text)
 
-replica_said : (word fields : List ℕ) (line : ℕ → ScriptLine) (said : ScriptLine) → ((r : ℕ) → IsReplica r → fields ≡ decimal r → Says (word ++ 32 ∷ fields) (line r)) → (replica_at fields >>= (λ r. Some (line r))) ≡ Some said → Says (word ++ 32 ∷ fields) said
-replica_said word fields line said says h =
-    let r = bind_some (replica_at fields) (λ r. Some (line r)) said h in
-    let e : line r.0 ≡ said = let k = r.2 in cc in
+replica_line_takes : (word fields : List ℕ) (line : ℕ → ScriptLine) (value : ScriptLine) → ((r : ℕ) → IsReplica r → fields ≡ decimal r → Means (word ++ 32 ∷ fields) (line r)) → (replica_at fields >>= (λ r. Some (line r))) ≡ Some value → Means (word ++ 32 ∷ fields) value
+replica_line_takes word fields line value means h =
+    let r = bind_some (replica_at fields) (λ r. Some (line r)) value h in
+    let e : line r.0 ≡ value = let k = r.2 in cc in
     let t = replica_takes fields r.0 r.1 in
-    subst (Says (word ++ 32 ∷ fields)) e (says r.0 t.0 t.1)
+    subst (Means (word ++ 32 ∷ fields)) e (means r.0 t.0 t.1)
 
-spoken_said : (word fields : List ℕ) (line : List ℕ → List ℕ → ScriptLine) (said : ScriptLine) → ((session text : List ℕ) → IsTrue (is_session_name session) → AreOctets text → fields ≡ session ++ 32 ∷ escape_text Text text → Says (word ++ 32 ∷ fields) (line session text)) → (session_and_text_at fields >>= (λ spoken. Some (line spoken.0 spoken.1))) ≡ Some said → Says (word ++ 32 ∷ fields) said
-spoken_said word fields line said says h =
-    let s = bind_some (session_and_text_at fields) (λ spoken. Some (line spoken.0 spoken.1)) said h in
-    let e : line s.0.0 s.0.1 ≡ said = let k = s.2 in cc in
+spoken_line_takes : (word fields : List ℕ) (line : List ℕ → List ℕ → ScriptLine) (value : ScriptLine) → ((session text : List ℕ) → IsTrue (is_session_name session) → AreOctets text → fields ≡ session ++ 32 ∷ escape_text Text text → Means (word ++ 32 ∷ fields) (line session text)) → (session_and_text_at fields >>= (λ spoken. Some (line spoken.0 spoken.1))) ≡ Some value → Means (word ++ 32 ∷ fields) value
+spoken_line_takes word fields line value means h =
+    let s = bind_some (session_and_text_at fields) (λ spoken. Some (line spoken.0 spoken.1)) value h in
+    let e : line s.0.0 s.0.1 ≡ value = let k = s.2 in cc in
     let t = spoken_takes fields s.0 s.1 in
-    subst (Says (word ++ 32 ∷ fields)) e (says s.0.0 s.0.1 t.0 t.1 t.2)
+    subst (Means (word ++ 32 ∷ fields)) e (means s.0.0 s.0.1 t.0 t.1 t.2)
 
-now_said : (fields : List ℕ) (said : ScriptLine) → (moment_at fields >>= (λ m. Some (Now m))) ≡ Some said → Says (codes "now " ++ fields) said
-now_said fields said h =
-    let m = bind_some (moment_at fields) (λ m. Some (Now m)) said h in
-    let e : Now m.0 ≡ said = let k = m.2 in cc in
+now_takes : (fields : List ℕ) (value : ScriptLine) → (moment_at fields >>= (λ m. Some (Now m))) ≡ Some value → Means (codes "now " ++ fields) value
+now_takes fields value h =
+    let m = bind_some (moment_at fields) (λ m. Some (Now m)) value h in
+    let e : Now m.0 ≡ value = let k = m.2 in cc in
     let t = moment_takes fields m.0 m.1 in
-    subst (Says (codes "now " ++ fields)) e (t.0, ap (λ (t : List ℕ). codes "now " ++ t) t.1)
+    subst (Means (codes "now " ++ fields)) e (t.0, ap (λ (t : List ℕ). codes "now " ++ t) t.1)
 
-poll_said : (fields : List ℕ) (said : ScriptLine) → (session_at fields >>= (λ s. Some (Poll s))) ≡ Some said → Says (codes "poll " ++ fields) said
-poll_said fields said h =
-    let s = bind_some (session_at fields) (λ s. Some (Poll s)) said h in
-    let e : Poll s.0 ≡ said = let k = s.2 in cc in
+poll_takes : (fields : List ℕ) (value : ScriptLine) → (session_at fields >>= (λ s. Some (Poll s))) ≡ Some value → Means (codes "poll " ++ fields) value
+poll_takes fields value h =
+    let s = bind_some (session_at fields) (λ s. Some (Poll s)) value h in
+    let e : Poll s.0 ≡ value = let k = s.2 in cc in
     let t = session_takes fields s.0 s.1 in
-    subst (Says (codes "poll " ++ fields)) e (t.0, ap (λ (t : List ℕ). codes "poll " ++ t) t.1)
+    subst (Means (codes "poll " ++ fields)) e (t.0, ap (λ (t : List ℕ). codes "poll " ++ t) t.1)
 
-close_said : (fields : List ℕ) (said : ScriptLine) → (session_at fields >>= (λ s. Some (Close s))) ≡ Some said → Says (codes "close " ++ fields) said
-close_said fields said h =
-    let s = bind_some (session_at fields) (λ s. Some (Close s)) said h in
-    let e : Close s.0 ≡ said = let k = s.2 in cc in
+close_takes : (fields : List ℕ) (value : ScriptLine) → (session_at fields >>= (λ s. Some (Close s))) ≡ Some value → Means (codes "close " ++ fields) value
+close_takes fields value h =
+    let s = bind_some (session_at fields) (λ s. Some (Close s)) value h in
+    let e : Close s.0 ≡ value = let k = s.2 in cc in
     let t = session_takes fields s.0 s.1 in
-    subst (Says (codes "close " ++ fields)) e (t.0, ap (λ (t : List ℕ). codes "close " ++ t) t.1)
+    subst (Means (codes "close " ++ fields)) e (t.0, ap (λ (t : List ℕ). codes "close " ++ t) t.1)
 
-fields_takes : (keyword : ScriptWord) (fields : List ℕ) (said : ScriptLine) → fields_at keyword fields ≡ Some said → Says (keyword_text keyword ++ 32 ∷ fields) said
-fields_takes NodeWord fields said h = node_takes fields (cut_at 32 fields) said (λ parts c. cut_takes 32 fields parts c) h
-fields_takes NowWord fields said h = now_said fields said h
-fields_takes OpenWord fields said h = open_takes fields said h
-fields_takes LineWord fields said h = spoken_said (codes "line") fields Line said (λ s t i a e. (i, a, ap (λ (t : List ℕ). codes "line " ++ t) e)) h
-fields_takes SendWord fields said h = spoken_said (codes "send") fields Send said (λ s t i a e. (i, a, ap (λ (t : List ℕ). codes "send " ++ t) e)) h
-fields_takes PollWord fields said h = poll_said fields said h
-fields_takes CloseWord fields said h = close_said fields said h
-fields_takes ShowWord fields said h = replica_said (codes "show") fields Show said (λ r i e. (i, ap (λ (t : List ℕ). codes "show " ++ t) e)) h
-fields_takes DeliverWord fields said h = deliver_takes fields said h
-fields_takes ForgeWord fields said h = forge_takes fields said h
-fields_takes DrainWord fields said h = replica_said (codes "drain") fields Drain said (λ r i e. (i, ap (λ (t : List ℕ). codes "drain " ++ t) e)) h
-fields_takes AgreeWord fields said h = agree_takes fields said h
-fields_takes JoinWord fields said h = join_takes fields said h
+fields_takes : (keyword : ScriptWord) (fields : List ℕ) (value : ScriptLine) → fields_at keyword fields ≡ Some value → Means (keyword_text keyword ++ 32 ∷ fields) value
+fields_takes NodeWord fields value h = node_takes fields (cut_at 32 fields) value (λ parts c. cut_takes 32 fields parts c) h
+fields_takes NowWord fields value h = now_takes fields value h
+fields_takes OpenWord fields value h = open_takes fields value h
+fields_takes LineWord fields value h = spoken_line_takes (codes "line") fields Line value (λ s t i a e. (i, a, ap (λ (t : List ℕ). codes "line " ++ t) e)) h
+fields_takes SendWord fields value h = spoken_line_takes (codes "send") fields Send value (λ s t i a e. (i, a, ap (λ (t : List ℕ). codes "send " ++ t) e)) h
+fields_takes PollWord fields value h = poll_takes fields value h
+fields_takes CloseWord fields value h = close_takes fields value h
+fields_takes ShowWord fields value h = replica_line_takes (codes "show") fields Show value (λ r i e. (i, ap (λ (t : List ℕ). codes "show " ++ t) e)) h
+fields_takes DeliverWord fields value h = deliver_takes fields value h
+fields_takes ForgeWord fields value h = forge_takes fields value h
+fields_takes DrainWord fields value h = replica_line_takes (codes "drain") fields Drain value (λ r i e. (i, ap (λ (t : List ℕ). codes "drain " ++ t) e)) h
+fields_takes AgreeWord fields value h = agree_takes fields value h
+fields_takes JoinWord fields value h = join_takes fields value h
 
-words_takes : (line : List ℕ) (said : ScriptLine) → words_at line ≡ Some said → Says line said
+words_takes : (line : List ℕ) (value : ScriptLine) → words_at line ≡ Some value → Means line value
 unfolding words_at
-words_takes line said h =
-    let c = bind_some (cut_at 32 line) _ said h in
-    let k = bind_some (keyword_at c.0.0) _ said c.2 in
+words_takes line value h =
+    let c = bind_some (cut_at 32 line) _ value h in
+    let k = bind_some (keyword_at c.0.0) _ value c.2 in
     let text : line ≡ keyword_text k.0 ++ 32 ∷ c.0.1 = cut_takes 32 line c.0 c.1 ∙ ap (λ (w : List ℕ). w ++ 32 ∷ c.0.1) (keyword_takes c.0.0 k.0 k.1) in
-    subst (λ (t : List ℕ). Says t said) (sym text) (fields_takes k.0 c.0.1 said k.2)
+    subst (λ (t : List ℕ). Means t value) (sym text) (fields_takes k.0 c.0.1 value k.2)
 
-line_of_words : (line : List ℕ) (said : ScriptLine) → word_or_words_at line ≡ Some said → Says line said
+line_of_words : (line : List ℕ) (value : ScriptLine) → word_or_words_at line ≡ Some value → Means line value
 unfolding word_or_words_at
-line_of_words line said h =
-    elim (chosen (bytes_eq line (codes "settle")) (Some Settle) (words_at line) (Some said) h) [
+line_of_words line value h =
+    elim (chosen (bytes_eq line (codes "settle")) (Some Settle) (words_at line) (Some value) h) [
       | inl t ↦
-          let e : Settle ≡ said = let k = t.1 in cc in
-          subst (Says line) e ((bytes_eq-Decides line (codes "settle")).0 t.0)
-      | inr f ↦ words_takes line said f.1
+          let e : Settle ≡ value = let k = t.1 in cc in
+          subst (Means line) e ((bytes_eq-Decides line (codes "settle")).0 t.0)
+      | inr f ↦ words_takes line value f.1
     ]
 
 -- a line says what is read from it
-pub line_takes : (line : List ℕ) (said : ScriptLine) → line_at line ≡ Some said → Says line said
-line_takes [] said h = let e : Blank ≡ said = cc in subst (Says []) e (inl refl)
-line_takes (octet ∷ octets) said h =
-    elim (chosen (eqb octet 35) (Some Blank) (word_or_words_at (octet ∷ octets)) (Some said) h) [
+pub line_takes : (line : List ℕ) (value : ScriptLine) → line_at line ≡ Some value → Means line value
+line_takes [] value h = let e : Blank ≡ value = cc in subst (Means []) e (inl refl)
+line_takes (octet ∷ octets) value h =
+    elim (chosen (eqb octet 35) (Some Blank) (word_or_words_at (octet ∷ octets)) (Some value) h) [
       | inl t ↦
-          let e : Blank ≡ said = let k = t.1 in cc in
+          let e : Blank ≡ value = let k = t.1 in cc in
           let s : octet ≡ 35 = eqb-true octet 35 t.0 in
-          subst (Says (octet ∷ octets)) e (inr (octets, (λ i. s i ∷ octets)))
-      | inr f ↦ line_of_words (octet ∷ octets) said f.1
+          subst (Means (octet ∷ octets)) e (inr (octets, (λ i. s i ∷ octets)))
+      | inr f ↦ line_of_words (octet ∷ octets) value f.1
     ]
 
 -- the first word of a line selects the reader of its fields
@@ -232,8 +232,8 @@ read_on DrainWord fields = refl
 read_on AgreeWord fields = refl
 read_on JoinWord fields = refl
 
-read_of : (keyword : ScriptWord) (line fields : List ℕ) (said : ScriptLine) → line ≡ keyword_text keyword ++ 32 ∷ fields → fields_at keyword fields ≡ Some said → line_at line ≡ Some said
-read_of keyword line fields said e h = ap line_at e ∙ read_on keyword fields ∙ h
+read_of : (keyword : ScriptWord) (line fields : List ℕ) (value : ScriptLine) → line ≡ keyword_text keyword ++ 32 ∷ fields → fields_at keyword fields ≡ Some value → line_at line ≡ Some value
+read_of keyword line fields value e h = ap line_at e ∙ read_on keyword fields ∙ h
 
 node_again : (r uid k : ℕ) → IsReplica r → IsFirstUid uid → IsFirstK k → node_at (cut_at 32 (decimal r ++ 32 ∷ numbers_text uid k)) (decimal r ++ 32 ∷ numbers_text uid k) ≡ Some (Node r uid k)
 unfolding node_at
@@ -289,7 +289,7 @@ forge_again r operation i =
     ∙ bound (replica_at (decimal r)) _ r (replica_again r i)
 
 -- what a line says is read from it
-pub line_again : (line : List ℕ) (said : ScriptLine) → Says line said → line_at line ≡ Some said
+pub line_again : (line : List ℕ) (value : ScriptLine) → Means line value → line_at line ≡ Some value
 line_again line Blank h = elim h [ inl e ↦ ap line_at e | inr c ↦ ap line_at c.1 ]
 line_again line (Node r uid k) h =
     elim (h.3) [
@@ -310,17 +310,17 @@ line_again line Settle h = ap line_at h ∙ settle_again
 line_again line (Agree r s) h = read_of AgreeWord line (decimal r ++ 32 ∷ decimal s) (Agree r s) h.2 (agree_again r s h.0 h.1)
 line_again line (Join r s) h = read_of JoinWord line (decimal r ++ 32 ∷ decimal s) (Join r s) h.2 (join_again r s h.0 h.1)
 
-pub found_by : (line : List ℕ) (r : Result ScriptLine LineFault) → Gives (λ said. said) r (line_at line) → IfOk r (λ said. Says line said)
-found_by line (Ok said) g = line_takes line said g
-found_by line (Err e) g = tt
+pub ok_by : (line : List ℕ) (r : Result ScriptLine LineFault) → IsReading (λ value. value) r (line_at line) → IfOk r (λ value. Means line value)
+ok_by line (Ok value) g = line_takes line value g
+ok_by line (Err e) g = tt
 
-pub only_by : (line : List ℕ) (r : Result ScriptLine LineFault) → Gives (λ said. said) r (line_at line) → (meaning : ScriptLine) → Says line meaning → MatchResult r (λ said. said ≡ meaning) (λ fault. fault ≡ NoMemory)
-only_by line (Ok said) g meaning s =
-    let e : ◌≡◌ {A = Option ScriptLine} (Some said) (Some meaning) = sym g ∙ line_again line meaning s in cc
+pub only_by : (line : List ℕ) (r : Result ScriptLine LineFault) → IsReading (λ value. value) r (line_at line) → (meaning : ScriptLine) → Means line meaning → MatchResult r (λ value. value ≡ meaning) (λ fault. fault ≡ NoMemory)
+only_by line (Ok value) g meaning s =
+    let e : ◌≡◌ {A = Option ScriptLine} (Some value) (Some meaning) = sym g ∙ line_again line meaning s in cc
 only_by line (Err NoMemory) g meaning s = refl
 only_by line (Err NotALine) g meaning s =
     let e : ◌≡◌ {A = Option ScriptLine} None (Some meaning) = sym g ∙ line_again line meaning s in absurd cc
 
-pub one_by : (line : List ℕ) (meaning other : ScriptLine) → Says line meaning → Says line other → meaning ≡ other
+pub one_by : (line : List ℕ) (meaning other : ScriptLine) → Means line meaning → Means line other → meaning ≡ other
 one_by line meaning other s t =
     let e : ◌≡◌ {A = Option ScriptLine} (Some meaning) (Some other) = sym (line_again line meaning s) ∙ line_again line other t in cc

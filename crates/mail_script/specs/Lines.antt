@@ -5,15 +5,15 @@ use Rattle.std.specs.Prelude.{if◌then◌else◌}
 use Rattle.mail_script.specs.Reading.{cut_at}
 
 -- Adds an octet to the beginning of the first line.
-abbrev pub line_begun : ℕ → List (List ℕ) → List (List ℕ)
-line_begun octet [] = (octet ∷ []) ∷ []
-line_begun octet (line ∷ lines) = (octet ∷ line) ∷ lines
+abbrev pub prepend_octet : ℕ → List (List ℕ) → List (List ℕ)
+prepend_octet octet [] = (octet ∷ []) ∷ []
+prepend_octet octet (line ∷ lines) = (octet ∷ line) ∷ lines
 
 -- The lines of a text without their ends: each ends with LF (10), which the last may lack.
 abbrev pub lines_of : List ℕ → List (List ℕ)
 lines_of [] = []
 lines_of (octet ∷ octets) =
-    if octet == 10 then [] ∷ lines_of octets else line_begun octet (lines_of octets)
+    if octet == 10 then [] ∷ lines_of octets else prepend_octet octet (lines_of octets)
 
 -- No LF (10) lies between the octets taken and the end of those searched.
 pub record IsSearched (taken searched : ℕ) (octets : List ℕ) : Type 0 where

@@ -1,14 +1,15 @@
--- How the code reads a script line, step by step. The meaning of a line is defined by `Says`; the
+-- How the code reads a script line, step by step. The meaning of a line is defined by `Means`; the
 -- contract of `read_line` joins the two.
 
 use Rattle.std.specs.Prelude.{◌≡◌, ℕ, ◌==◌, List, [], ◌∷◌, Option, Some, None, Result, Ok, Err}
 use Rattle.std.specs.Prelude.{codes, if◌then◌else◌}
 use Rattle.std.specs.Str.{bytes_eq}
 use Rattle.imap_types.specs.Escape.{unescape}
-use Rattle.imap_types.specs.ReaderSteps.{GivesBy}
+use Rattle.imap_types.specs.ReaderSteps.{IsReadingBy}
 use Rattle.imap_types.specs.declared.escape.Escape.TheVariants.{Text}
 use Rattle.mail_script.specs.Fields.{is_session_name}
-pub use Rattle.text_fields.specs.FieldReading.{◌>>=◌, cut_at, id_at, in_front, number_at, positive}
+pub use Rattle.text_fields.specs.FieldReading.{◌>>=◌, cut_at, id_at, before_first_part, number_at}
+pub use Rattle.text_fields.specs.FieldReading.{positive}
 pub use Rattle.text_fields.specs.FieldReading.{replica_at}
 use Rattle.mail_script.specs.declared.script.ScriptWord.{ScriptWord}
 use Rattle.mail_script.specs.declared.script.ScriptWord.TheVariants.{Node as NodeWord}
@@ -33,13 +34,13 @@ use Rattle.mail_script.specs.declared.script.ScriptLine.TheVariants.{Deliver, Fo
 use Rattle.mail_script.specs.declared.script.ScriptLine.TheVariants.{Agree, Join}
 
 -- A fault other than lack of memory means that the text can't be read.
-abbrev pub Fails : {Y : Type 0} → LineFault → Option Y → Type 0
-Fails NoMemory read = Unit {0}
-Fails NotALine read = read ≡ None
+abbrev pub FailsReading : {Y : Type 0} → LineFault → Option Y → Type 0
+FailsReading NoMemory read = Unit {0}
+FailsReading NotALine read = read ≡ None
 
 -- A reader gives what its definition reads, or runs out of memory.
-abbrev pub Gives : {X Y : Type 0} → (X → Y) → Result X LineFault → Option Y → Type 0
-Gives = GivesBy Fails
+abbrev pub IsReading : {X Y : Type 0} → (X → Y) → Result X LineFault → Option Y → Type 0
+IsReading = IsReadingBy FailsReading
 
 -- The moment that a field gives.
 unfoldable pub moment_at : List ℕ → Option ℕ
@@ -58,8 +59,8 @@ session_and_text_at text = do
   Some (session, spoken)
 
 -- The text after a word and a space.
-unfoldable pub behind_at : List ℕ → List ℕ → Option (List ℕ)
-behind_at word text = do
+unfoldable pub tail_at : List ℕ → List ℕ → Option (List ℕ)
+tail_at word text = do
   parts ← cut_at 32 text
   if bytes_eq parts.0 word then Some parts.1 else None
 
@@ -72,10 +73,10 @@ counted_at limit text = do
 -- The first numbers of a replica's counters.
 unfoldable pub first_numbers_at : List ℕ → Option (ℕ × ℕ)
 first_numbers_at text = do
-  numbers ← behind_at (codes "uid") text
+  numbers ← tail_at (codes "uid") text
   parts ← cut_at 32 numbers
   uid ← counted_at 4294967295 parts.0
-  last ← behind_at (codes "k") parts.1
+  last ← tail_at (codes "k") parts.1
   k ← counted_at 65536 last
   Some (uid, k)
 

@@ -19,44 +19,44 @@ first_numbers_text uid k = codes " uid " ++ (decimal uid ++ (codes " k " ++ deci
 -- The meaning of a script line: a word and its fields, with one space (32) between them. A `#` (35)
 -- begins a comment. A replica whose first numbers are left out begins with 1 and 1. A TEXT is the
 -- rest of the line, escaped so that spaces stay as they are.
-abbrev pub Says : List ℕ → ScriptLine → Type 0
-Says line Blank = (line ≡ []) ⊎ ((comment : List ℕ) × (line ≡ 35 ∷ comment))
-Says line (Node replica uid k) =
+abbrev pub Means : List ℕ → ScriptLine → Type 0
+Means line Blank = (line ≡ []) ⊎ ((comment : List ℕ) × (line ≡ 35 ∷ comment))
+Means line (Node replica uid k) =
     IsReplica replica
     × IsFirstUid uid
     × IsFirstK k
     × ((line ≡ codes "node " ++ (decimal replica ++ first_numbers_text uid k))
     ⊎ ((line ≡ codes "node " ++ decimal replica) × (uid ≡ 1) × (k ≡ 1)))
-Says line (Now moment) = IsMoment moment × (line ≡ codes "now " ++ decimal moment)
-Says line (Open replica session) =
+Means line (Now moment) = IsMoment moment × (line ≡ codes "now " ++ decimal moment)
+Means line (Open replica session) =
     IsReplica replica
     × IsTrue (is_session_name session)
     × (line ≡ codes "open " ++ (decimal replica ++ 32 ∷ session))
-Says line (Line session text) =
+Means line (Line session text) =
     IsTrue (is_session_name session)
     × AreOctets text
     × (line ≡ codes "line " ++ (session ++ 32 ∷ escape_text Text text))
-Says line (Send session text) =
+Means line (Send session text) =
     IsTrue (is_session_name session)
     × AreOctets text
     × (line ≡ codes "send " ++ (session ++ 32 ∷ escape_text Text text))
-Says line (Poll session) = IsTrue (is_session_name session) × (line ≡ codes "poll " ++ session)
-Says line (Close session) = IsTrue (is_session_name session) × (line ≡ codes "close " ++ session)
-Says line (Show replica) = IsReplica replica × (line ≡ codes "show " ++ decimal replica)
-Says line (Deliver id replica) =
+Means line (Poll session) = IsTrue (is_session_name session) × (line ≡ codes "poll " ++ session)
+Means line (Close session) = IsTrue (is_session_name session) × (line ≡ codes "close " ++ session)
+Means line (Show replica) = IsReplica replica × (line ≡ codes "show " ++ decimal replica)
+Means line (Deliver id replica) =
     IsReplica id.replica
     × IsNumber id.number
     × IsReplica replica
     × (line ≡ codes "deliver " ++ (id_text id ++ 32 ∷ decimal replica))
-Says line (Forge replica operation) =
+Means line (Forge replica operation) =
     IsReplica replica × (line ≡ codes "forge " ++ (decimal replica ++ 32 ∷ operation))
-Says line (Drain replica) = IsReplica replica × (line ≡ codes "drain " ++ decimal replica)
-Says line Settle = line ≡ codes "settle"
-Says line (Agree first second) =
+Means line (Drain replica) = IsReplica replica × (line ≡ codes "drain " ++ decimal replica)
+Means line Settle = line ≡ codes "settle"
+Means line (Agree first second) =
     IsReplica first
     × IsReplica second
     × (line ≡ codes "agree " ++ (decimal first ++ 32 ∷ decimal second))
-Says line (Join replica peer) =
+Means line (Join replica peer) =
     IsReplica replica
     × IsReplica peer
     × (line ≡ codes "join " ++ (decimal replica ++ 32 ∷ decimal peer))

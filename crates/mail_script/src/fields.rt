@@ -1,6 +1,7 @@
 //! Readers of the fields of a script line: numbers, names, ids and texts.
 
-ghost use Rattle.mail_script.specs.Reading.{Gives, behind_at, counted_at, cut_at, first_numbers_at};
+ghost use Rattle.mail_script.specs.Reading.{IsReading, tail_at, counted_at, cut_at};
+ghost use Rattle.mail_script.specs.Reading.{first_numbers_at};
 ghost use Rattle.mail_script.specs.Reading.{id_at, moment_at, replica_at, session_at};
 ghost use Rattle.mail_script.specs.Reading.{session_and_text_at};
 
@@ -13,7 +14,7 @@ use text_fields::split;
 
 /// The parts of a text before and after its first separator, or `NotALine` if it has no separator.
 pub fn split_field(separator: u8, text: &[u8]) -> Result<(&[u8], &[u8]), LineFault>
-    ensures { Gives (λ parts. (parts.0.now, parts.1.now)) result (cut_at separator text.now) }
+    ensures { IsReading (λ parts. (parts.0.now, parts.1.now)) result (cut_at separator text.now) }
 {
     match split(separator, text) {
         Some(parts) => Ok(parts),
@@ -23,7 +24,7 @@ pub fn split_field(separator: u8, text: &[u8]) -> Result<(&[u8], &[u8]), LineFau
 
 /// The replica that a field names; `NotALine` unless the field is a number from 1 to 65,535.
 pub fn replica(text: &[u8]) -> Result<ReplicaId, LineFault>
-    ensures { Gives (λ replica. replica) result (replica_at text.now) }
+    ensures { IsReading (λ replica. replica) result (replica_at text.now) }
 {
     match text_fields::replica(text) {
         Some(replica) => Ok(replica),
@@ -35,7 +36,7 @@ pub fn replica(text: &[u8]) -> Result<ReplicaId, LineFault>
 /// of the year 9999.
 #[tactic(auto, unfolding(crate::specs::Reading::moment_at))]
 pub fn moment(text: &[u8]) -> Result<Moment, LineFault>
-    ensures { Gives (λ moment. moment) result (moment_at text.now) }
+    ensures { IsReading (λ moment. moment) result (moment_at text.now) }
 {
     match text_fields::number(text, LAST_MOMENT) {
         None => Err(LineFault::NotALine),
@@ -45,7 +46,7 @@ pub fn moment(text: &[u8]) -> Result<Moment, LineFault>
 
 /// The id that a field names; `NotALine` if it spells none.
 pub fn id(text: &[u8]) -> Result<OpId, LineFault>
-    ensures { Gives (λ id. id) result (id_at text.now) }
+    ensures { IsReading (λ id. id) result (id_at text.now) }
 {
     match text_fields::id(text) {
         Some(id) => Ok(id),
@@ -57,7 +58,7 @@ pub fn id(text: &[u8]) -> Result<OpId, LineFault>
 /// memory runs out.
 #[tactic(auto, unfolding(crate::specs::Reading::session_at))]
 pub fn session(alloc: Global, text: &[u8]) -> Result<SessionName, LineFault>
-    ensures { Gives (λ session. session) result (session_at text.now) }
+    ensures { IsReading (λ session. session) result (session_at text.now) }
 {
     if !is_session_name(text) {
         return Err(LineFault::NotALine);
@@ -70,7 +71,7 @@ pub fn session(alloc: Global, text: &[u8]) -> Result<SessionName, LineFault>
 /// can't be read, `NoMemory` if memory runs out.
 #[tactic(auto, unfolding(crate::specs::Reading::session_and_text_at))]
 pub fn session_and_text(alloc: Global, fields: &[u8]) -> Result<(SessionName, Octets), LineFault>
-    ensures { Gives (λ spoken. spoken) result (session_and_text_at fields.now) }
+    ensures { IsReading (λ spoken. spoken) result (session_and_text_at fields.now) }
 {
     let (name, text) = split_field(b' ', fields)?;
     let session = session(alloc, name)?;
@@ -82,7 +83,7 @@ pub fn session_and_text(alloc: Global, fields: &[u8]) -> Result<(SessionName, Oc
 /// from 1 to 65,536; `NotALine` otherwise.
 #[tactic(auto, unfolding(crate::specs::Reading::first_numbers_at))]
 pub fn first_numbers(text: &[u8]) -> Result<(u32, u32), LineFault>
-    ensures { Gives (λ numbers. (numbers.0, numbers.1)) result (first_numbers_at text.now) }
+    ensures { IsReading (λ numbers. (numbers.0, numbers.1)) result (first_numbers_at text.now) }
 {
     let numbers = text_after_word(b"uid", text)?;
     let (first, rest) = split_field(b' ', numbers)?;
@@ -93,9 +94,9 @@ pub fn first_numbers(text: &[u8]) -> Result<(u32, u32), LineFault>
 }
 
 /// The text after a given word and a space; `NotALine` if the text doesn't begin with them.
-#[tactic(auto, unfolding(crate::specs::Reading::behind_at))]
+#[tactic(auto, unfolding(crate::specs::Reading::tail_at))]
 fn text_after_word<'a>(word: &[u8], text: &'a [u8]) -> Result<&'a [u8], LineFault>
-    ensures { Gives (λ rest. rest.now) result (behind_at word.now text.now) }
+    ensures { IsReading (λ rest. rest.now) result (tail_at word.now text.now) }
 {
     let (first, rest) = split_field(b' ', text)?;
     if first != word {
@@ -107,7 +108,7 @@ fn text_after_word<'a>(word: &[u8], text: &'a [u8]) -> Result<&'a [u8], LineFaul
 /// The number that a field spells, from 1 to a limit; `NotALine` otherwise.
 #[tactic(auto, unfolding(crate::specs::Reading::counted_at))]
 fn number_up_to(text: &[u8], limit: u32) -> Result<u32, LineFault>
-    ensures { Gives (λ number. number) result (counted_at limit text.now) }
+    ensures { IsReading (λ number. number) result (counted_at limit text.now) }
 {
     match text_fields::number(text, u64::from(limit)) {
         None => Err(LineFault::NotALine),

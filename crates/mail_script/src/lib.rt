@@ -5,7 +5,7 @@
 //! operations between replicas. Running a script is the work of the crate `mail_replay`; this crate
 //! only reads and writes lines.
 //!
-//! The contract of `read_line` promises that a line is read exactly as the relation `Says` defines
+//! The contract of `read_line` promises that a line is read exactly as the relation `Means` defines
 //! it, and `one_meaning` that a line says at most one thing. `ScriptLines` cuts a script into
 //! lines; the lines don't depend on the pieces in which the script arrives (`cut_in_turn`).
 //! `write_outcome` and `write_transcript_line` append exactly the line that `outcome_line` and

@@ -143,7 +143,7 @@ pub fn write_outcome(outcome: OutcomeLine, out: &mut Vec<u8>) -> Result<(), Allo
 
 fn push_outcome(outcome: OutcomeLine, out: &mut Vec<u8>) -> Result<(), AllocError>
     ensures ok { OnOk result (out.new.items ≡ out.old.items ++ outcome_line outcome) }
-    ensures kept { (more : List ℕ) × (out.new.items ≡ out.old.items ++ more) }
+    ensures prefix { (more : List ℕ) × (out.new.items ≡ out.old.items ++ more) }
 {
     push_text(outcome, out)?;
     push(b"\n", out)?;
@@ -152,7 +152,7 @@ fn push_outcome(outcome: OutcomeLine, out: &mut Vec<u8>) -> Result<(), AllocErro
 
 fn push_text(outcome: OutcomeLine, out: &mut Vec<u8>) -> Result<(), AllocError>
     ensures ok { OnOk result (out.new.items ≡ out.old.items ++ outcome_text outcome) }
-    ensures kept { (more : List ℕ) × (out.new.items ≡ out.old.items ++ more) }
+    ensures prefix { (more : List ℕ) × (out.new.items ≡ out.old.items ++ more) }
 {
     match outcome {
         OutcomeLine::Delivered {
@@ -221,7 +221,7 @@ fn push_text(outcome: OutcomeLine, out: &mut Vec<u8>) -> Result<(), AllocError>
 /// Appends an operation's id and the replica to which it was delivered.
 fn push_delivery(id: OpId, replica: ReplicaId, out: &mut Vec<u8>) -> Result<(), AllocError>
     ensures ok { OnOk result (out.new.items ≡ out.old.items ++ delivery_text id replica) }
-    ensures kept { (more : List ℕ) × (out.new.items ≡ out.old.items ++ more) }
+    ensures prefix { (more : List ℕ) × (out.new.items ≡ out.old.items ++ more) }
 {
     push_id(id, out)?;
     push(b" ", out)?;
@@ -232,7 +232,7 @@ fn push_delivery(id: OpId, replica: ReplicaId, out: &mut Vec<u8>) -> Result<(), 
 /// Appends the number of operations that were applied.
 fn push_applied(count: u64, stalled: bool, out: &mut Vec<u8>) -> Result<(), AllocError>
     ensures ok { OnOk result (out.new.items ≡ out.old.items ++ applied_text count stalled) }
-    ensures kept { (more : List ℕ) × (out.new.items ≡ out.old.items ++ more) }
+    ensures prefix { (more : List ℕ) × (out.new.items ≡ out.old.items ++ more) }
 {
     push(b"Applied ", out)?;
     push_number(count, out)?;
@@ -241,7 +241,7 @@ fn push_applied(count: u64, stalled: bool, out: &mut Vec<u8>) -> Result<(), Allo
 
 fn push_result(delivery: DeliveryResult, out: &mut Vec<u8>) -> Result<(), AllocError>
     ensures ok { OnOk result (out.new.items ≡ out.old.items ++ result_text delivery) }
-    ensures kept { (more : List ℕ) × (out.new.items ≡ out.old.items ++ more) }
+    ensures prefix { (more : List ℕ) × (out.new.items ≡ out.old.items ++ more) }
 {
     match delivery {
         DeliveryResult::Applied { count, stalled } => push_applied(count, stalled, out),
@@ -265,7 +265,7 @@ fn push_result(delivery: DeliveryResult, out: &mut Vec<u8>) -> Result<(), AllocE
 
 fn push_settle(settled: SettleResult, out: &mut Vec<u8>) -> Result<(), AllocError>
     ensures ok { OnOk result (out.new.items ≡ out.old.items ++ settled_text settled) }
-    ensures kept { (more : List ℕ) × (out.new.items ≡ out.old.items ++ more) }
+    ensures prefix { (more : List ℕ) × (out.new.items ≡ out.old.items ++ more) }
 {
     match settled {
         SettleResult::Done => push(b"Ok", out),
@@ -280,7 +280,7 @@ fn push_settle(settled: SettleResult, out: &mut Vec<u8>) -> Result<(), AllocErro
 
 fn push_join(joined: JoinResult, out: &mut Vec<u8>) -> Result<(), AllocError>
     ensures ok { OnOk result (out.new.items ≡ out.old.items ++ join_text joined) }
-    ensures kept { (more : List ℕ) × (out.new.items ≡ out.old.items ++ more) }
+    ensures prefix { (more : List ℕ) × (out.new.items ≡ out.old.items ++ more) }
 {
     match joined {
         JoinResult::Done => push(b"Ok", out),
@@ -296,7 +296,7 @@ fn push_join(joined: JoinResult, out: &mut Vec<u8>) -> Result<(), AllocError>
 /// Appends the two replicas that a line is about.
 fn push_pair(first: ReplicaId, second: ReplicaId, out: &mut Vec<u8>) -> Result<(), AllocError>
     ensures ok { OnOk result (out.new.items ≡ out.old.items ++ pair_text first second) }
-    ensures kept { (more : List ℕ) × (out.new.items ≡ out.old.items ++ more) }
+    ensures prefix { (more : List ℕ) × (out.new.items ≡ out.old.items ++ more) }
 {
     push_number(u64::from(first.get()), out)?;
     push(b" ", out)?;
@@ -312,7 +312,7 @@ fn yes_or_no(same: bool) -> &'static [u8]
 
 fn push(octets: &[u8], out: &mut Vec<u8>) -> Result<(), AllocError>
     ensures ok { OnOk result (out.new.items ≡ out.old.items ++ octets.now) }
-    ensures kept { (more : List ℕ) × (out.new.items ≡ out.old.items ++ more) }
+    ensures prefix { (more : List ℕ) × (out.new.items ≡ out.old.items ++ more) }
 {
     out.extend_from_slice(octets)
 }

@@ -3,10 +3,10 @@
 ghost use Rattle.std.specs.Prelude.{◌≡◌, ℕ, List, IfOk, MatchResult};
 ghost use Rattle.mail_script.specs.declared.script.ScriptLine.{ScriptLine};
 ghost use Rattle.mail_script.specs.declared.script.LineFault.TheVariants.{NoMemory};
-ghost use Rattle.mail_script.specs.Reading.{Gives, agree_at, cut_at, deliver_at, fields_at};
+ghost use Rattle.mail_script.specs.Reading.{IsReading, agree_at, cut_at, deliver_at, fields_at};
 ghost use Rattle.mail_script.specs.Reading.{forge_at, join_at, keyword_at, line_at, node_at};
 ghost use Rattle.mail_script.specs.Reading.{open_at, word_or_words_at, words_at};
-ghost use Rattle.mail_script.specs.Script.{Says};
+ghost use Rattle.mail_script.specs.Script.{Means};
 
 use crate::fields::{first_numbers, id, moment, replica, session, session_and_text, split_field};
 use crate::session_name::SessionName;
@@ -147,21 +147,21 @@ pub enum ScriptWord {
 /// Reads a line, which is passed without its LF; a CR before the LF belongs to the line. `NotALine`
 /// exactly if it is no line of a script, and `NoMemory` if memory runs out.
 pub fn read_line(alloc: Global, line: &[u8]) -> Result<ScriptLine, LineFault>
-    ensures found { IfOk result (λ said. Says line.now said) }
-    ensures only { (meaning : ScriptLine) → Says line.now meaning
-        → MatchResult result (λ said. said ≡ meaning) (λ fault. fault ≡ NoMemory) }
+    ensures ok { IfOk result (λ value. Means line.now value) }
+    ensures only { (meaning : ScriptLine) → Means line.now meaning
+        → MatchResult result (λ value. value ≡ meaning) (λ fault. fault ≡ NoMemory) }
 {
-    read_said(alloc, line)
+    parse_line(alloc, line)
 }
 
 /// A line says at most one thing.
 pub fn one_meaning()
-    ensures { (line : List ℕ) (meaning other : ScriptLine) → Says line meaning → Says line other
+    ensures { (line : List ℕ) (meaning other : ScriptLine) → Means line meaning → Means line other
         → meaning ≡ other }
 {}
 
-fn read_said(alloc: Global, line: &[u8]) -> Result<ScriptLine, LineFault>
-    ensures { Gives (λ said. said) result (line_at line.now) }
+fn parse_line(alloc: Global, line: &[u8]) -> Result<ScriptLine, LineFault>
+    ensures { IsReading (λ value. value) result (line_at line.now) }
 {
     match line {
         [] => Ok(ScriptLine::Blank),
@@ -176,7 +176,7 @@ fn read_said(alloc: Global, line: &[u8]) -> Result<ScriptLine, LineFault>
 
 #[tactic(auto, unfolding(crate::specs::Reading::word_or_words_at))]
 fn word_or_words(alloc: Global, line: &[u8]) -> Result<ScriptLine, LineFault>
-    ensures { Gives (λ said. said) result (word_or_words_at line.now) }
+    ensures { IsReading (λ value. value) result (word_or_words_at line.now) }
 {
     if line == b"settle".as_slice() {
         return Ok(ScriptLine::Settle);
@@ -186,7 +186,7 @@ fn word_or_words(alloc: Global, line: &[u8]) -> Result<ScriptLine, LineFault>
 
 #[tactic(auto, unfolding(crate::specs::Reading::words_at))]
 fn words(alloc: Global, line: &[u8]) -> Result<ScriptLine, LineFault>
-    ensures { Gives (λ said. said) result (words_at line.now) }
+    ensures { IsReading (λ value. value) result (words_at line.now) }
 {
     let (word, fields) = split_field(b' ', line)?;
     let keyword = read_keyword(word)?;
@@ -195,7 +195,7 @@ fn words(alloc: Global, line: &[u8]) -> Result<ScriptLine, LineFault>
 
 #[tactic(auto, unfolding(crate::specs::Reading::keyword_at))]
 fn read_keyword(word: &[u8]) -> Result<ScriptWord, LineFault>
-    ensures { Gives (λ keyword. keyword) result (keyword_at word.now) }
+    ensures { IsReading (λ keyword. keyword) result (keyword_at word.now) }
 {
     if word == b"node".as_slice() {
         Ok(ScriptWord::Node)
@@ -229,7 +229,7 @@ fn read_keyword(word: &[u8]) -> Result<ScriptWord, LineFault>
 }
 
 fn after_keyword(alloc: Global, keyword: ScriptWord, fields: &[u8]) -> Result<ScriptLine, LineFault>
-    ensures { Gives (λ said. said) result (fields_at keyword fields.now) }
+    ensures { IsReading (λ value. value) result (fields_at keyword fields.now) }
 {
     match keyword {
         ScriptWord::Node => node(fields),
@@ -271,7 +271,7 @@ fn after_keyword(alloc: Global, keyword: ScriptWord, fields: &[u8]) -> Result<Sc
 
 #[tactic(auto, unfolding(crate::specs::Reading::node_at))]
 fn node(fields: &[u8]) -> Result<ScriptLine, LineFault>
-    ensures { Gives (λ said. said) result (node_at (cut_at 32 fields.now) fields.now) }
+    ensures { IsReading (λ value. value) result (node_at (cut_at 32 fields.now) fields.now) }
 {
     match split(b' ', fields) {
         None => {
@@ -292,7 +292,7 @@ fn node(fields: &[u8]) -> Result<ScriptLine, LineFault>
 
 #[tactic(auto, unfolding(crate::specs::Reading::open_at))]
 fn open(alloc: Global, fields: &[u8]) -> Result<ScriptLine, LineFault>
-    ensures { Gives (λ said. said) result (open_at fields.now) }
+    ensures { IsReading (λ value. value) result (open_at fields.now) }
 {
     let (number, name) = split_field(b' ', fields)?;
     let replica = replica(number)?;
@@ -302,7 +302,7 @@ fn open(alloc: Global, fields: &[u8]) -> Result<ScriptLine, LineFault>
 
 #[tactic(auto, unfolding(crate::specs::Reading::deliver_at))]
 fn deliver(fields: &[u8]) -> Result<ScriptLine, LineFault>
-    ensures { Gives (λ said. said) result (deliver_at fields.now) }
+    ensures { IsReading (λ value. value) result (deliver_at fields.now) }
 {
     let (name, number) = split_field(b' ', fields)?;
     let id = id(name)?;
@@ -312,7 +312,7 @@ fn deliver(fields: &[u8]) -> Result<ScriptLine, LineFault>
 
 #[tactic(auto, unfolding(crate::specs::Reading::agree_at))]
 fn agree(fields: &[u8]) -> Result<ScriptLine, LineFault>
-    ensures { Gives (λ said. said) result (agree_at fields.now) }
+    ensures { IsReading (λ value. value) result (agree_at fields.now) }
 {
     let (one, other) = split_field(b' ', fields)?;
     let first = replica(one)?;
@@ -322,7 +322,7 @@ fn agree(fields: &[u8]) -> Result<ScriptLine, LineFault>
 
 #[tactic(auto, unfolding(crate::specs::Reading::join_at))]
 fn join(fields: &[u8]) -> Result<ScriptLine, LineFault>
-    ensures { Gives (λ said. said) result (join_at fields.now) }
+    ensures { IsReading (λ value. value) result (join_at fields.now) }
 {
     let (one, other) = split_field(b' ', fields)?;
     let joining = replica(one)?;
@@ -335,7 +335,7 @@ fn join(fields: &[u8]) -> Result<ScriptLine, LineFault>
 
 #[tactic(auto, unfolding(crate::specs::Reading::forge_at))]
 fn forge(alloc: Global, fields: &[u8]) -> Result<ScriptLine, LineFault>
-    ensures { Gives (λ said. said) result (forge_at fields.now) }
+    ensures { IsReading (λ value. value) result (forge_at fields.now) }
 {
     let (number, operation) = split_field(b' ', fields)?;
     let replica = replica(number)?;

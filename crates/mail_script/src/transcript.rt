@@ -55,7 +55,7 @@ fn push_line(
 ) -> Result<(), AllocError>
     ensures ok { OnOk result
         (out.new.items ≡ out.old.items ++ transcript_line session.now speaker octets.now) }
-    ensures kept { (more : List ℕ) × (out.new.items ≡ out.old.items ++ more) }
+    ensures prefix { (more : List ℕ) × (out.new.items ≡ out.old.items ++ more) }
 {
     out.extend_from_slice(session.as_bytes())?;
     out.extend_from_slice(speaker.mark())?;

@@ -25,7 +25,7 @@ epoch d h =
 digit : (q : ℕ) → q < 10 → is_digit (48 + q) ≡ true
 digit q h = let a : nat_lt (48 + q) 48 ≡ false = le-ltb _ _ (omega arith) in let b : nat_lt 57 (48 + q) ≡ false = le-ltb _ _ (omega arith) in rw (a, b) refl
 
--- two digits write their number
+-- two digits spell their number
 again : (n : ℕ) → (48 + n / 10 - 48) * 10 + (48 + n % 10 - 48) ≡ n
 again n = omega (arith, div-add-mod n 10)
 

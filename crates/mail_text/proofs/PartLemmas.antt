@@ -13,8 +13,8 @@ pub starts : (text : List ℕ) → IsWithin text text
 starts text = record { front = []; split = refl; header = refl; body = refl }
 
 -- a line that isn't empty
-pub goes : (text rest line tail : List ℕ) → IsWithin text rest → lines_of rest ≡ line ∷ lines_of tail → line ++ tail ≡ rest → is_empty_line line ≡ false → IsWithin text tail
-goes text rest line tail w e p f =
+pub within_tail : (text rest line tail : List ℕ) → IsWithin text rest → lines_of rest ≡ line ∷ lines_of tail → line ++ tail ≡ rest → is_empty_line line ≡ false → IsWithin text tail
+within_tail text rest line tail w e p f =
     let h : header_of rest ≡ line ++ header_of tail = ap (λ ls. concat (header_lines ls)) e ∙ rw f refl in
     let b : body_of rest ≡ body_of tail = ap (λ ls. concat (body_lines ls)) e ∙ rw f refl in
     record {

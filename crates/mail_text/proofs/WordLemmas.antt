@@ -6,7 +6,7 @@ use Rattle.memchr.specs.Find.{Nowhere, Passes, is_byte}
 use Rattle.mail_text.specs.Cuts.{IsInContinuation, IsAfterContinuation, IsFirstField, continuation_lines, after_continuations}
 use Rattle.mail_text.specs.HeaderFields.{field_lines, fields_in, is_continuation, is_blank, has_asked_name}
 use Rattle.mail_text.specs.TextLines.{in_first, is_crlf, is_empty_line, lines_of}
-use Rattle.mail_text.specs.TextSearch.{any_field_holds, after_colon, field_holds, holds}
+use Rattle.mail_text.specs.TextSearch.{any_field_holds, after_colon, field_holds, occurs_in}
 
 -- the first line begins as the text does
 record StartsWith (octet : ℕ) (lines : List (List ℕ)) : Type 0 where
@@ -38,18 +38,18 @@ first_or : List ℕ → List (List ℕ) → List ℕ
 first_or other [] = other
 first_or other (line ∷ lines) = line
 
-nil_behind : (xs : List ℕ) → xs ++ [] ≡ xs
-nil_behind [] = refl
-nil_behind (x ∷ xs) = ap (λ ys. x ∷ ys) (nil_behind xs)
+append_nil : (xs : List ℕ) → xs ++ [] ≡ xs
+append_nil [] = refl
+append_nil (x ∷ xs) = ap (λ ys. x ∷ ys) (append_nil xs)
 
-pub begins_going : (text : List ℕ) → IsInContinuation text text
-begins_going text = record { front = []; split = refl; lines = refl; others = refl }
+pub in_continuation : (text : List ℕ) → IsInContinuation text text
+in_continuation text = record { front = []; split = refl; lines = refl; others = refl }
 
 -- a line that continues the field
-pub goes : (text rest line tail : List ℕ) → IsInContinuation text rest → lines_of rest ≡ line ∷ lines_of tail → line ++ tail ≡ rest → is_continuation rest ≡ true → IsInContinuation text tail
+pub continuation_tail : (text rest line tail : List ℕ) → IsInContinuation text rest → lines_of rest ≡ line ∷ lines_of tail → line ++ tail ≡ rest → is_continuation rest ≡ true → IsInContinuation text tail
 unfolding first_or
-goes text [] line tail g e p h = absurd cc
-goes text (a ∷ rest) line tail g e p h =
+continuation_tail text [] line tail g e p h = absurd cc
+continuation_tail text (a ∷ rest) line tail g e p h =
     let s = starts_with a rest in
     let l : line ≡ a ∷ s.more = ap (first_or []) (sym e ∙ s.are) in
     let n : is_empty_line line ≡ false = ap is_empty_line l ∙ blank_line a s.more h in
@@ -65,34 +65,34 @@ goes text (a ∷ rest) line tail g e p h =
     }
 
 -- a line that doesn't
-record NoneGoing (rest : List ℕ) : Type 0 where
-  going : continuation_lines (field_lines (lines_of rest)) ≡ []
-  gone : after_continuations (field_lines (lines_of rest)) ≡ field_lines (lines_of rest)
+record HasNoContinuation (rest : List ℕ) : Type 0 where
+  no_lines : continuation_lines (field_lines (lines_of rest)) ≡ []
+  all_after : after_continuations (field_lines (lines_of rest)) ≡ field_lines (lines_of rest)
 
-none_going : (rest : List ℕ) → is_continuation rest ≡ false → NoneGoing rest
-none_going [] h = record { going = refl; gone = refl }
-none_going (a ∷ rest) h =
+has_no_continuation : (rest : List ℕ) → is_continuation rest ≡ false → HasNoContinuation rest
+has_no_continuation [] h = record { no_lines = refl; all_after = refl }
+has_no_continuation (a ∷ rest) h =
     let s = starts_with a rest in
     elim (cases_Bool (is_empty_line (a ∷ s.more))) [
       | inl t ↦
           let f : field_lines (lines_of (a ∷ rest)) ≡ [] = ap field_lines s.are ∙ rw t refl in
-          record { going = ap continuation_lines f; gone = ap after_continuations f ∙ sym f }
+          record { no_lines = ap continuation_lines f; all_after = ap after_continuations f ∙ sym f }
       | inr u ↦
           let f : field_lines (lines_of (a ∷ rest)) ≡ (a ∷ s.more) ∷ field_lines s.others = ap field_lines s.are ∙ rw u refl in
-          record { going = ap continuation_lines f ∙ rw h refl; gone = ap after_continuations f ∙ rw h refl ∙ sym f }
+          record { no_lines = ap continuation_lines f ∙ rw h refl; all_after = ap after_continuations f ∙ rw h refl ∙ sym f }
     ]
 
-pub stops : (text rest : List ℕ) → IsInContinuation text rest → is_continuation rest ≡ false → IsAfterContinuation text rest
-stops text rest g h =
-    let n = none_going rest h in
+pub after_continuation : (text rest : List ℕ) → IsInContinuation text rest → is_continuation rest ≡ false → IsAfterContinuation text rest
+after_continuation text rest g h =
+    let n = has_no_continuation rest h in
     record {
-      split = g.split ∙ ap (λ xs. xs ++ rest) (sym (g.lines ∙ ap (λ ls. g.front ++ concat ls) n.going ∙ nil_behind g.front));
-      others = g.others ∙ n.gone;
+      split = g.split ∙ ap (λ xs. xs ++ rest) (sym (g.lines ∙ ap (λ ls. g.front ++ concat ls) n.no_lines ∙ append_nil g.front));
+      others = g.others ∙ n.all_after;
     }
 
-pub all_gone : (text rest : List ℕ) → IsInContinuation text rest → length rest < 1 → IsAfterContinuation text rest
-all_gone text [] g l = stops text [] g refl
-all_gone text (x ∷ rest) g l = absurd (omega arith)
+pub continuation_at_end : (text rest : List ℕ) → IsInContinuation text rest → length rest < 1 → IsAfterContinuation text rest
+continuation_at_end text [] g l = after_continuation text [] g refl
+continuation_at_end text (x ∷ rest) g l = absurd (omega arith)
 
 -- the first field: a line and those that continue it
 split_fields : (line : List ℕ) (lines : List (List ℕ)) → fields_in (line ∷ lines) ≡ (line ∷ continuation_lines lines) ∷ fields_in (after_continuations lines)
@@ -133,11 +133,11 @@ no_text [] l = refl
 no_text (x ∷ text) l = absurd (omega arith)
 
 -- one further field
-pub passes : (name word text line octets rest : List ℕ) (is : Bool) → IsFirstField text line octets rest → is ≡ (has_asked_name (name ∷ []) line && holds word (after_colon octets))
+pub passes : (name word text line octets rest : List ℕ) (is : Bool) → IsFirstField text line octets rest → is ≡ (has_asked_name (name ∷ []) line && occurs_in word (after_colon octets))
     → any_field_holds name word text ≡ (is || any_field_holds name word rest)
 passes name word text line octets rest is f e =
     ap (list_any (field_holds name word)) f.fields
-    ∙ (λ i. (has_asked_name (name ∷ []) line && holds word (after_colon (f.joined i))) || any_field_holds name word rest)
+    ∙ (λ i. (has_asked_name (name ∷ []) line && occurs_in word (after_colon (f.joined i))) || any_field_holds name word rest)
     ∙ ap (λ b. b || any_field_holds name word rest) (sym e)
 
 pub none_holds : (name word text : List ℕ) → fields_in (field_lines (lines_of text)) ≡ [] → any_field_holds name word text ≡ false
@@ -148,23 +148,23 @@ no_more name word [] l = refl
 no_more name word (x ∷ text) l = absurd (omega arith)
 
 -- the octets after the first colon
-pub behind_at : (octets : List ℕ) (k : ℕ) → k < length octets → Passes (is_byte 58) octets k → Nowhere (Passes (is_byte 58) octets) 0 k → after_colon octets ≡ drop (k + 1) octets
-behind_at [] k l p n = absurd (omega arith)
-behind_at (a ∷ octets) zero l p n = rw p refl
-behind_at (a ∷ octets) (suc k) l p n =
+pub after_colon_at : (octets : List ℕ) (k : ℕ) → k < length octets → Passes (is_byte 58) octets k → Nowhere (Passes (is_byte 58) octets) 0 k → after_colon octets ≡ drop (k + 1) octets
+after_colon_at [] k l p n = absurd (omega arith)
+after_colon_at (a ∷ octets) zero l p n = rw p refl
+after_colon_at (a ∷ octets) (suc k) l p n =
     elim (cases_Bool (is_byte 58 a)) [
       | inl t ↦ absurd (n 0 (omega arith) (omega arith) t)
       | inr f ↦
           let e : suc k + 1 ≡ suc (k + 1) = omega arith in
-          rw (f, e) (behind_at octets k (omega arith) p (λ j m o q. n (suc j) (omega arith) (omega arith) q))
+          rw (f, e) (after_colon_at octets k (omega arith) p (λ j m o q. n (suc j) (omega arith) (omega arith) q))
     ]
 
-pub behind_none : (octets : List ℕ) → Nowhere (Passes (is_byte 58) octets) 0 (length octets) → after_colon octets ≡ []
-behind_none [] n = refl
-behind_none (a ∷ octets) n =
+pub after_colon_none : (octets : List ℕ) → Nowhere (Passes (is_byte 58) octets) 0 (length octets) → after_colon octets ≡ []
+after_colon_none [] n = refl
+after_colon_none (a ∷ octets) n =
     elim (cases_Bool (is_byte 58 a)) [
       | inl t ↦ absurd (n 0 (omega arith) (omega arith) t)
-      | inr f ↦ rw f (behind_none octets (λ j m o q. n (suc j) (omega arith) (omega arith) q))
+      | inr f ↦ rw f (after_colon_none octets (λ j m o q. n (suc j) (omega arith) (omega arith) q))
     ]
 
 pub drop_all : (xs : List ℕ) → drop (length xs) xs ≡ []

@@ -1,6 +1,6 @@
 pub mod Civil
 pub mod Cuts
-pub mod KeptLines
+pub mod SelectedLines
 pub mod HeaderFields
 pub mod TextLines
 pub mod HeaderAndBody

@@ -8,14 +8,14 @@ use Rattle.mail_text.specs.HeaderFields.{field_lines, fields_in, first_asked, ha
 use Rattle.mail_text.specs.TextLines.{lines_of}
 
 -- Whether a text begins with a word, compared without case.
-abbrev pub begins_with : List ℕ → List ℕ → Bool
-begins_with word text = bytes_eq (to_lower_case (take (length word) text)) (to_lower_case word)
+abbrev pub is_prefix : List ℕ → List ℕ → Bool
+is_prefix word text = bytes_eq (to_lower_case (take (length word) text)) (to_lower_case word)
 
 -- Whether a word occurs at some place of a text, compared without case. The text's end is a place
 -- too.
-abbrev pub holds : List ℕ → List ℕ → Bool
-holds word [] = begins_with word []
-holds word (octet ∷ octets) = begins_with word (octet ∷ octets) || holds word octets
+abbrev pub occurs_in : List ℕ → List ℕ → Bool
+occurs_in word [] = is_prefix word []
+occurs_in word (octet ∷ octets) = is_prefix word (octet ∷ octets) || occurs_in word octets
 
 -- The octets after the first colon.
 abbrev pub after_colon : List ℕ → List ℕ
@@ -25,7 +25,7 @@ after_colon (octet ∷ octets) = if octet == 58 then octets else after_colon oct
 -- Whether a field, given as its lines, has this name and holds a word after its first colon.
 abbrev pub field_holds : List ℕ → List ℕ → List (List ℕ) → Bool
 field_holds name word field =
-    first_asked (has_asked_name (name ∷ [])) field && holds word (after_colon (concat field))
+    first_asked (has_asked_name (name ∷ [])) field && occurs_in word (after_colon (concat field))
 
 -- Whether a field of this name in a text's header holds a word (RFC 9051, section 6.4.4, HEADER).
 abbrev pub any_field_holds : List ℕ → List ℕ → List ℕ → Bool

@@ -10,22 +10,22 @@ use imap_types::{DATE_TIME_OCTETS, DateTime, Day, Moment};
 use jiff::ToSpan;
 use jiff::civil::{Date, date};
 
-/// The number of seconds of a day.
-const DAY: u64 = 86_400;
+/// The number of seconds in a day.
+const SECONDS_PER_DAY: u64 = 86_400;
 
 /// A moment's date-time in UTC (RFC 9051, section 9, date-time).
 pub fn civil(moment: Moment) -> DateTime
     ensures { IsCivil moment result }
 {
     let seconds = moment.seconds();
-    let day = day_after_epoch((seconds / DAY) as u32);
-    match DateTime::new(utc_octets(day, (seconds % DAY) as u32)) {
+    let day = day_after_epoch((seconds / SECONDS_PER_DAY) as u32);
+    match DateTime::new(utc_octets(day, (seconds % SECONDS_PER_DAY) as u32)) {
         Some(date) => date,
         None => unreachable!(),
     }
 }
 
-/// Whether octets are a date-time with its quotes and two digits of the day (RFC 9051, section 9,
+/// Whether octets are a quoted date-time with a two-digit day (RFC 9051, section 9,
 /// date-time).
 pub fn date_ok(octets: &[u8]) -> bool
     ensures { IsTrue result ↔ IsDateTime octets.now }
@@ -50,7 +50,7 @@ pub fn written_day(date: &DateTime) -> Day
     }
 }
 
-/// The number that the two digits from `place` of a date-time write.
+/// The number spelled by the two digits at `place` in a date-time.
 fn two_digits(octets: &[u8], place: usize) -> u8
     requires within { place + 1 < length octets.now }
     requires tens { IsTrue (is_digit (slice_index octets.now place)) }

@@ -4,7 +4,7 @@ ghost use Rattle.std.specs.Prelude.{◌≡◌, ◌≤◌, ◌&&◌, [], ◌∷�
 ghost use Rattle.mail_text.specs.Cuts.{IsAfterContinuation, IsFirstField};
 ghost use Rattle.mail_text.specs.HeaderFields.{field_lines, fields_in, has_asked_name};
 ghost use Rattle.mail_text.specs.TextLines.{lines_of};
-ghost use Rattle.mail_text.specs.TextSearch.{any_field_holds, after_colon, holds};
+ghost use Rattle.mail_text.specs.TextSearch.{any_field_holds, after_colon, occurs_in};
 
 use crate::header_fields::{before_colon, is_continuation, trim_end_blanks};
 use crate::text_lines::{first_line, is_empty_line};
@@ -40,7 +40,7 @@ pub fn field_contains_nocase(
         match first_field(rest) {
             None => return Ok(false),
             Some(field) => {
-                if holds(alloc, field.line, field.octets, name, word)? {
+                if occurs_in(alloc, field.line, field.octets, name, word)? {
                     return Ok(true);
                 }
                 rest = field.rest;
@@ -51,7 +51,7 @@ pub fn field_contains_nocase(
 }
 
 /// Whether the field with this first line and these octets has this name and holds a word.
-fn holds(
+fn occurs_in(
     alloc: Global,
     line: &[u8],
     octets: &[u8],
@@ -59,7 +59,8 @@ fn holds(
     word: &[u8],
 ) -> Result<bool, AllocError>
     ensures { IfOk result (λ is. is
-        ≡ (has_asked_name (name.now ∷ []) line.now && holds word.now (after_colon octets.now))) }
+        ≡ (has_asked_name (name.now ∷ []) line.now
+        && occurs_in word.now (after_colon octets.now))) }
 {
     if !has_field_name(line, name) {
         return Ok(false);

@@ -6,7 +6,7 @@ ghost use Rattle.imap_types.specs.Keywords.{has_keyword};
 ghost use Rattle.mail_text.specs.HeaderFields.{is_asked_field, before_colon, fields_of};
 ghost use Rattle.mail_text.specs.HeaderFields.{is_continuation, is_among, is_blank, has_asked_name};
 ghost use Rattle.mail_text.specs.HeaderFields.{trim_end_blanks};
-ghost use Rattle.mail_text.specs.KeptLines.{is_kept_line, takes_line};
+ghost use Rattle.mail_text.specs.SelectedLines.{line_if_selected, selects_line};
 
 use crate::text_lines::{first_line, is_empty_line};
 use bstr::ByteSlice;
@@ -17,7 +17,7 @@ use std::alloc::{AllocError, Global};
 /// of the text, and then the empty line if there is one (RFC 9051, section 6.4.5.1, HEADER.FIELDS).
 /// Time is linear in the text's length for each name. `Err` if memory runs out.
 pub fn fields(alloc: Global, text: &[u8], names: &[Octets]) -> Result<Vec<u8>, AllocError>
-    ensures { IfOk result (λ kept. kept.items ≡ fields_of true names.now text.now) }
+    ensures { IfOk result (λ selection. selection.items ≡ fields_of true names.now text.now) }
 {
     select_fields(alloc, text, names, true)
 }
@@ -26,7 +26,7 @@ pub fn fields(alloc: Global, text: &[u8], names: &[Octets]) -> Result<Vec<u8>, A
 /// the empty line if there is one (RFC 9051, section 6.4.5.1, HEADER.FIELDS.NOT). Time is linear in
 /// the text's length for each name. `Err` if memory runs out.
 pub fn other_fields(alloc: Global, text: &[u8], names: &[Octets]) -> Result<Vec<u8>, AllocError>
-    ensures { IfOk result (λ kept. kept.items ≡ fields_of false names.now text.now) }
+    ensures { IfOk result (λ selection. selection.items ≡ fields_of false names.now text.now) }
 {
     select_fields(alloc, text, names, false)
 }
@@ -38,46 +38,47 @@ fn select_fields(
     names: &[Octets],
     named: bool,
 ) -> Result<Vec<u8>, AllocError>
-    ensures { IfOk result (λ kept. kept.items ≡ fields_of named names.now text.now) }
+    ensures { IfOk result (λ selection. selection.items ≡ fields_of named names.now text.now) }
 {
-    let mut found = Vec::new(alloc);
+    let mut output = Vec::new(alloc);
     if text.is_empty() {
-        return Ok(found);
+        return Ok(output);
     }
     let (line, _) = first_line(text);
-    let mut keep = is_asked_field(line, names, named);
+    let mut selected = is_asked_field(line, names, named);
     let mut rest = text;
     for _ in 0..text.len() {
         if rest.is_empty() {
-            return Ok(found);
+            return Ok(output);
         }
         let (line, tail) = first_line(rest);
         if is_empty_line(line) {
-            found.extend_from_slice(line)?;
-            return Ok(found);
+            output.extend_from_slice(line)?;
+            return Ok(output);
         }
-        keep = takes(line, keep, names, named);
-        push_taken(&mut found, keep, line)?;
+        selected = selects(line, selected, names, named);
+        push_selected(&mut output, selected, line)?;
         rest = tail;
     }
-    Ok(found)
+    Ok(output)
 }
 
-fn push_taken(found: &mut Vec<u8>, keep: bool, line: &[u8]) -> Result<(), AllocError>
-    ensures { OnOk result (found.new.items ≡ found.old.items ++ is_kept_line keep line.now) }
+fn push_selected(output: &mut Vec<u8>, selected: bool, line: &[u8]) -> Result<(), AllocError>
+    ensures { OnOk result
+        (output.new.items ≡ output.old.items ++ line_if_selected selected line.now) }
 {
-    if keep {
-        found.extend_from_slice(line)?;
+    if selected {
+        output.extend_from_slice(line)?;
     }
     Ok(())
 }
 
-/// Whether a line is selected; `keep` says whether the line before it was.
-fn takes(line: &[u8], keep: bool, names: &[Octets], named: bool) -> bool
-    ensures { result ≡ takes_line (is_asked_field named names.now) keep line.now }
+/// Whether a line is selected; `selected` says whether the line before it was.
+fn selects(line: &[u8], selected: bool, names: &[Octets], named: bool) -> bool
+    ensures { result ≡ selects_line (is_asked_field named names.now) selected line.now }
 {
     if is_continuation(line) {
-        keep
+        selected
     } else {
         is_asked_field(line, names, named)
     }

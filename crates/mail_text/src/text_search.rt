@@ -1,7 +1,7 @@
 //! Words in texts.
 
 ghost use Rattle.std.specs.Prelude.{◌≡◌, IfOk};
-ghost use Rattle.mail_text.specs.TextSearch.{holds};
+ghost use Rattle.mail_text.specs.TextSearch.{occurs_in};
 
 use bstr::ByteSlice;
 use std::alloc::{AllocError, Global};
@@ -10,7 +10,7 @@ use std::alloc::{AllocError, Global};
 /// occurs in any text. Time is linear in both lengths. `Err` if memory runs out for either in lower
 /// case.
 pub fn contains_nocase(alloc: Global, text: &[u8], word: &[u8]) -> Result<bool, AllocError>
-    ensures { IfOk result (λ is. is ≡ holds word.now text.now) }
+    ensures { IfOk result (λ is. is ≡ occurs_in word.now text.now) }
 {
     let text = text.to_ascii_lowercase(alloc)?;
     let word = word.to_ascii_lowercase(alloc)?;

@@ -19,19 +19,19 @@ use Rattle.std.specs.Option.{option_to_list, unwrap_or}
 
 -- ---- the message's data
 
-pub told_length : (fresh : List (OpId × OwnedMessage)) (mailbox : FolderMessages) (es : List ListingEntry) → length (rows_by fresh mailbox es) ≡ length es
-told_length fresh mailbox [] = refl
-told_length fresh mailbox (e ∷ es) = ap (λ n. suc n) (told_length fresh mailbox es)
+pub rows_length : (fresh : List (OpId × OwnedMessage)) (mailbox : FolderMessages) (es : List ListingEntry) → length (rows_by fresh mailbox es) ≡ length es
+rows_length fresh mailbox [] = refl
+rows_length fresh mailbox (e ∷ es) = ap (λ n. suc n) (rows_length fresh mailbox es)
 
-pub told_get : (fresh : List (OpId × OwnedMessage)) (mailbox : FolderMessages) (es : List ListingEntry) (k : ℕ) → slice_get (rows_by fresh mailbox es) k ≡ option_map (row_by fresh mailbox) (slice_get es k)
-told_get fresh mailbox [] k = refl
-told_get fresh mailbox (e ∷ es) zero = refl
-told_get fresh mailbox (e ∷ es) (suc k) = told_get fresh mailbox es k
+pub rows_get : (fresh : List (OpId × OwnedMessage)) (mailbox : FolderMessages) (es : List ListingEntry) (k : ℕ) → slice_get (rows_by fresh mailbox es) k ≡ option_map (row_by fresh mailbox) (slice_get es k)
+rows_get fresh mailbox [] k = refl
+rows_get fresh mailbox (e ∷ es) zero = refl
+rows_get fresh mailbox (e ∷ es) (suc k) = rows_get fresh mailbox es k
 
-pub told_uid : (fresh : List (OpId × OwnedMessage)) (mailbox : FolderMessages) (es : List ListingEntry) (k : ℕ) → option_map (λ (row : ListedMessage). row.uid) (slice_get (rows_by fresh mailbox es) k) ≡ option_map (λ (e : ListingEntry). e.uid) (slice_get es k)
-told_uid fresh mailbox [] k = refl
-told_uid fresh mailbox (e ∷ es) zero = refl
-told_uid fresh mailbox (e ∷ es) (suc k) = told_uid fresh mailbox es k
+pub rows_uid : (fresh : List (OpId × OwnedMessage)) (mailbox : FolderMessages) (es : List ListingEntry) (k : ℕ) → option_map (λ (row : ListedMessage). row.uid) (slice_get (rows_by fresh mailbox es) k) ≡ option_map (λ (e : ListingEntry). e.uid) (slice_get es k)
+rows_uid fresh mailbox [] k = refl
+rows_uid fresh mailbox (e ∷ es) zero = refl
+rows_uid fresh mailbox (e ∷ es) (suc k) = rows_uid fresh mailbox es k
 
 -- ---- ascending UIDs
 
@@ -42,16 +42,16 @@ few_rising low (row ∷ rows) h =
     let rest : row.uid + length rows ≤ last_uid row.uid rows = few_rising row.uid rows h.1 in
     omega arith
 
-pub last_got : (low : ℕ) (rows : List ListedMessage) (uid : ℕ) → Some uid ≡ option_map (λ (row : ListedMessage). row.uid) (slice_get rows (length rows - 1)) → uid ≡ last_uid low rows
-last_got low [] uid h = absurd (cc h)
-last_got low (x ∷ []) uid h = cc
-last_got low (x ∷ y ∷ rows) uid h =
+pub last_some : (low : ℕ) (rows : List ListedMessage) (uid : ℕ) → Some uid ≡ option_map (λ (row : ListedMessage). row.uid) (slice_get rows (length rows - 1)) → uid ≡ last_uid low rows
+last_some low [] uid h = absurd (cc h)
+last_some low (x ∷ []) uid h = cc
+last_some low (x ∷ y ∷ rows) uid h =
     let k : suc (suc (length rows)) - 1 ≡ suc (suc (length rows) - 1) = omega arith in
-    last_got x.uid (y ∷ rows) uid (rw k at h)
+    last_some x.uid (y ∷ rows) uid (rw k at h)
 
-pub last_lost : (rows : List ListedMessage) → None ≡ option_map (λ (row : ListedMessage). row.uid) (slice_get rows (length rows - 1)) → 0 ≡ last_uid 0 rows
-last_lost [] e = refl
-last_lost (x ∷ rows) e = absurd (lost (x ∷ rows) (length (x ∷ rows) - 1) x (omega arith) e)
+pub last_none : (rows : List ListedMessage) → None ≡ option_map (λ (row : ListedMessage). row.uid) (slice_get rows (length rows - 1)) → 0 ≡ last_uid 0 rows
+last_none [] e = refl
+last_none (x ∷ rows) e = absurd (lost (x ∷ rows) (length (x ∷ rows) - 1) x (omega arith) e)
   where
     lost : (xs : List ListedMessage) (i : ℕ) (d : ListedMessage) → i < length xs → None ≡ option_map (λ (row : ListedMessage). row.uid) (slice_get xs i) → ⊥
     lost [] i d h e = omega (arith, h)
@@ -93,14 +93,14 @@ seam_at uid rows n h within edge = record {
       elim (cases_order i (n - 1)) [
         | inl same ↦ subst (λ k. (get_or rows k d).uid < uid) (sym same) last
         | inr (inl front) ↦ omega (arith, last, rising_pair 1 rows h i (n - 1) d front (omega (arith, less, within)))
-        | inr (inr behind) ↦ absurd (omega (arith, behind, less))
+        | inr (inr tail) ↦ absurd (omega (arith, tail, less))
       ];
   above = λ i d from inside.
       let first : uid ≤ (get_or rows n d).uid = ltb_false _ _ ((edge d).fail (omega (arith, from, inside))) in
       elim (cases_order n i) [
         | inl same ↦ subst (λ k. uid ≤ (get_or rows k d).uid) same first
         | inr (inl front) ↦ omega (arith, first, rising_pair 1 rows h n i d front inside)
-        | inr (inr behind) ↦ absurd (omega (arith, behind, from))
+        | inr (inr tail) ↦ absurd (omega (arith, tail, from))
       ];
 }
 
@@ -141,22 +141,22 @@ none_under uid low (row ∷ rows) k h =
 
 -- The result of a search: the message at the first place whose UID is no less, if its UID is this
 -- one.
-abbrev pub found_with : ℕ → Option ListedMessage → Option ListedMessage
-found_with uid None = None
-found_with uid (Some row) = if row.uid == uid then Some row else None
+abbrev pub if_uid : ℕ → Option ListedMessage → Option ListedMessage
+if_uid uid None = None
+if_uid uid (Some row) = if row.uid == uid then Some row else None
 
-pub found_seam : (uid low : ℕ) (rows : List ListedMessage) (n : ℕ) → AreRisingRows low rows → IsSeam uid rows n → found_with uid (slice_get rows n) ≡ row_of uid rows
-found_seam uid low [] n h s = refl
-found_seam uid low (row ∷ rows) zero h s =
+pub row_of_seam : (uid low : ℕ) (rows : List ListedMessage) (n : ℕ) → AreRisingRows low rows → IsSeam uid rows n → if_uid uid (slice_get rows n) ≡ row_of uid rows
+row_of_seam uid low [] n h s = refl
+row_of_seam uid low (row ∷ rows) zero h s =
     let first : uid ≤ row.uid = s.above 0 row (omega arith) (omega arith) in
     elim (cases_Bool (nat_eq row.uid uid)) [
       | inl t ↦ rw t refl
       | inr f ↦ rw f (sym (none_under uid (row.uid + 1) rows (grind (arith, nat_tests)) h.1))
     ]
-found_seam uid low (row ∷ rows) (suc n) h s =
+row_of_seam uid low (row ∷ rows) (suc n) h s =
     let first : row.uid < uid = s.below 0 row (omega arith) (omega arith) in
     let is : nat_eq row.uid uid ≡ false = grind (arith, nat_tests) in
-    rw is (found_seam uid (row.uid + 1) rows n h.1 (seam_rest uid row rows n s))
+    rw is (row_of_seam uid (row.uid + 1) rows n h.1 (seam_rest uid row rows n s))
 
 -- A message at a place is the one with its UID.
 at_least : (low : ℕ) (rows : List ListedMessage) (n : ℕ) (row : ListedMessage) → AreRisingRows low rows → slice_get rows n ≡ Some row → low ≤ row.uid
@@ -170,16 +170,16 @@ at_least low (first ∷ rows) (suc n) row h g =
     let rest : first.uid + 1 ≤ row.uid = at_least (first.uid + 1) rows n row h.1 g in
     omega arith
 
-pub found_at : (low : ℕ) (rows : List ListedMessage) (n : ℕ) (row : ListedMessage) → AreRisingRows low rows → slice_get rows n ≡ Some row → row_of row.uid rows ≡ Some row
-found_at low [] n row h g = cc g
-found_at low (other ∷ rows) zero row h g =
+pub row_of_get : (low : ℕ) (rows : List ListedMessage) (n : ℕ) (row : ListedMessage) → AreRisingRows low rows → slice_get rows n ≡ Some row → row_of row.uid rows ≡ Some row
+row_of_get low [] n row h g = cc g
+row_of_get low (other ∷ rows) zero row h g =
     let same : other.uid ≡ row.uid = ap (λ o. (unwrap_or o row).uid) g in
     let is : nat_eq other.uid row.uid ≡ true = grind (arith, nat_tests) in
     rw is g
-found_at low (other ∷ rows) (suc n) row h g =
+row_of_get low (other ∷ rows) (suc n) row h g =
     let later : other.uid + 1 ≤ row.uid = at_least (other.uid + 1) rows n row h.1 g in
     let is : nat_eq other.uid row.uid ≡ false = grind (arith, nat_tests) in
-    rw is (found_at (other.uid + 1) rows n row h.1 g)
+    rw is (row_of_get (other.uid + 1) rows n row h.1 g)
 
 -- ---- rows that are left out
 
@@ -197,41 +197,41 @@ rising_left p low (row ∷ rows) h =
     ]
 
 -- The rows of the entries that are left are the rows that are left.
-pub told_changed : (modseq : ℕ) (fresh : List (OpId × OwnedMessage)) (mailbox : FolderMessages) (es : List ListingEntry) → rows_by fresh mailbox (entries_since modseq es) ≡ changed_since modseq (rows_by fresh mailbox es)
-told_changed modseq fresh mailbox [] = refl
-told_changed modseq fresh mailbox (e ∷ es) =
+pub rows_changed : (modseq : ℕ) (fresh : List (OpId × OwnedMessage)) (mailbox : FolderMessages) (es : List ListingEntry) → rows_by fresh mailbox (entries_since modseq es) ≡ changed_since modseq (rows_by fresh mailbox es)
+rows_changed modseq fresh mailbox [] = refl
+rows_changed modseq fresh mailbox (e ∷ es) =
     elim (cases_Bool (nat_lt modseq e.modseq)) [
-      | inl t ↦ rw t (ap (λ rs. row_by fresh mailbox e ∷ rs) (told_changed modseq fresh mailbox es))
-      | inr f ↦ rw f (told_changed modseq fresh mailbox es)
+      | inl t ↦ rw t (ap (λ rs. row_by fresh mailbox e ∷ rs) (rows_changed modseq fresh mailbox es))
+      | inr f ↦ rw f (rows_changed modseq fresh mailbox es)
     ]
 
 pub same_number : (a b : ℕ) → nat_eq a b ≡ true → a ≡ b
 same_number a b h = grind (arith, nat_tests)
 
 -- If the message at a place has this UID, a message with this UID exists.
-pub near_there : (rows : List ListedMessage) (place uid : ℕ) → AreRisingRows 1 rows → option_map (λ (row : ListedMessage). row.uid) (slice_get rows place) ≡ Some uid → is_some (row_of uid rows) ≡ true
-near_there rows place uid h e = there (slice_get rows place) refl e
+pub uid_listed : (rows : List ListedMessage) (place uid : ℕ) → AreRisingRows 1 rows → option_map (λ (row : ListedMessage). row.uid) (slice_get rows place) ≡ Some uid → is_some (row_of uid rows) ≡ true
+uid_listed rows place uid h e = listed (slice_get rows place) refl e
   where
-    there : (o : Option ListedMessage) → slice_get rows place ≡ o → option_map (λ (row : ListedMessage). row.uid) o ≡ Some uid → is_some (row_of uid rows) ≡ true
-    there None is k = absurd (cc k)
-    there (Some row) is k =
+    listed : (o : Option ListedMessage) → slice_get rows place ≡ o → option_map (λ (row : ListedMessage). row.uid) o ≡ Some uid → is_some (row_of uid rows) ≡ true
+    listed None is k = absurd (cc k)
+    listed (Some row) is k =
         let same : row.uid ≡ uid = cc k in
-        ap is_some (subst (λ u. row_of u rows ≡ Some row) same (found_at 1 rows place row h is))
+        ap is_some (subst (λ u. row_of u rows ≡ Some row) same (row_of_get 1 rows place row h is))
 
 -- If the message at a place has this UID, its head is that of the message with this UID.
-pub head_there : (rows : List ListedMessage) (place uid : ℕ) (head : ListedHead) → AreRisingRows 1 rows → Some head ≡ option_map head_of (slice_get rows place) → head.uid ≡ uid → Some head ≡ option_map head_of (row_of uid rows)
-head_there rows place uid head h e u = there (slice_get rows place) refl e
+pub head_listed : (rows : List ListedMessage) (place uid : ℕ) (head : ListedHead) → AreRisingRows 1 rows → Some head ≡ option_map head_of (slice_get rows place) → head.uid ≡ uid → Some head ≡ option_map head_of (row_of uid rows)
+head_listed rows place uid head h e u = listed (slice_get rows place) refl e
   where
-    there : (o : Option ListedMessage) → slice_get rows place ≡ o → Some head ≡ option_map head_of o → Some head ≡ option_map head_of (row_of uid rows)
-    there None is k = absurd (cc k)
-    there (Some row) is k =
+    listed : (o : Option ListedMessage) → slice_get rows place ≡ o → Some head ≡ option_map head_of o → Some head ≡ option_map head_of (row_of uid rows)
+    listed None is k = absurd (cc k)
+    listed (Some row) is k =
         let same : row.uid ≡ uid = sym (ap (λ (o : Option ListedHead). (unwrap_or o head).uid) k) ∙ u in
-        k ∙ ap (option_map head_of) (sym (subst (λ n. row_of n rows ≡ Some row) same (found_at 1 rows place row h is)))
+        k ∙ ap (option_map head_of) (sym (subst (λ n. row_of n rows ≡ Some row) same (row_of_get 1 rows place row h is)))
 
 -- The messages of entries by ascending UID.
-pub told_rising : (low : ℕ) (fresh : List (OpId × OwnedMessage)) (mailbox : FolderMessages) (es : List ListingEntry) → AreRising low es → AreRisingRows low (rows_by fresh mailbox es)
-told_rising low fresh mailbox [] r = tt
-told_rising low fresh mailbox (e ∷ es) r = (r.0, told_rising (e.uid + 1) fresh mailbox es r.1)
+pub rows_rising : (low : ℕ) (fresh : List (OpId × OwnedMessage)) (mailbox : FolderMessages) (es : List ListingEntry) → AreRising low es → AreRisingRows low (rows_by fresh mailbox es)
+rows_rising low fresh mailbox [] r = tt
+rows_rising low fresh mailbox (e ∷ es) r = (r.0, rows_rising (e.uid + 1) fresh mailbox es r.1)
 
 pub on_ok : {A B : Type 0} {P : Type 0} (r : Result A B) → is_err r ≡ false → OnOk r P → P
 on_ok (Ok v) e h = h

@@ -45,7 +45,7 @@ first_of (Some x) other = Some x
 first_of None other = other
 
 abbrev pub indexed_over : List (OpId × ℕ) → List (OpId × ℕ) → OpId → Option ℕ
-indexed_over own kept origin = first_of (indexed_value own origin) (indexed_value kept origin)
+indexed_over own stored origin = first_of (indexed_value own origin) (indexed_value stored origin)
 
 -- The edge of a test on `count` places: it passes just before `at` and fails at `at`, as far as
 -- those places exist.

@@ -35,9 +35,9 @@ message_data versions date text = record {
 
 -- The data of a message with these versions and the date and text of its Append, if applied.
 abbrev pub message_data_of : List Version → Option DatedText → MessageData
-message_data_of versions letter =
-    message_data versions (option_map (λ (l : DatedText). l.date) letter)
-    (option_map (λ (l : DatedText). l.text) letter)
+message_data_of versions dated_text =
+    message_data versions (option_map (λ (l : DatedText). l.date) dated_text)
+    (option_map (λ (l : DatedText). l.text) dated_text)
 
 -- The data of a message as pending operations leave it.
 abbrev pub owned_message_data : OwnedMessage → MessageData
@@ -60,11 +60,11 @@ abbrev pub messages_of : FolderMessages → Option (List (OpId × Vec Version))
 messages_of mailbox = option_map (λ messages. messages.now.entries) mailbox.messages
 
 abbrev pub dated_texts_of : FolderMessages → List (OpId × DatedText)
-dated_texts_of mailbox = mailbox.letters.now.entries
+dated_texts_of mailbox = mailbox.dated_texts.now.entries
 
 -- The data of the mailbox's stored message of this origin, if it exists.
-abbrev pub kept_message_data : FolderMessages → OpId → Option MessageData
-kept_message_data mailbox origin =
+abbrev pub stored_message_data : FolderMessages → OpId → Option MessageData
+stored_message_data mailbox origin =
     option_map (λ versions. message_data_of versions (entry_under origin (dated_texts_of mailbox)))
     (versions_in (messages_of mailbox) origin)
 
@@ -73,7 +73,7 @@ kept_message_data mailbox origin =
 abbrev pub message_data_at : List (OpId × OwnedMessage) → FolderMessages → OpId → Option MessageData
 message_data_at fresh mailbox origin =
     first_of (option_map owned_message_data (entry_under origin fresh))
-    (kept_message_data mailbox origin)
+    (stored_message_data mailbox origin)
 
 -- A message with the numbers of its entry.
 abbrev pub with_numbers : ListingEntry → MessageData → ListedMessage

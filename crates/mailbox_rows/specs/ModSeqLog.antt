@@ -61,5 +61,5 @@ AreLoggedIn changes es = changes.is_whole ≡ true → AreLogged changes.list es
 
 -- A stored log, and after it a log of new changes.
 abbrev pub log_over : LogState → LogState → LogState
-log_over kept own =
-    record { list = kept.list ++ own.list; is_whole = kept.is_whole && own.is_whole }
+log_over stored own =
+    record { list = stored.list ++ own.list; is_whole = stored.is_whole && own.is_whole }

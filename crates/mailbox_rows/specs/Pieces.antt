@@ -4,11 +4,11 @@ use Rattle.std.specs.Prelude.{◌≡◌, ℕ, ◌+◌, ◌-◌, ◌*◌, ◌<◌
 use Rattle.std.specs.Prelude.{get_or, take, drop}
 use Rattle.mailbox_rows.specs.declared.pieces.Piece.{Piece}
 use Rattle.mailbox_rows.specs.declared.pieces.PieceSource.{PieceSource}
-use Rattle.mailbox_rows.specs.declared.pieces.PieceSource.TheVariants.{Kept, Own}
+use Rattle.mailbox_rows.specs.declared.pieces.PieceSource.TheVariants.{Base, Own}
 
 -- The `len` items of a source over a list.
 abbrev pub source_items : {T : Type 0} → List T → ℕ → PieceSource T → List T
-source_items base len (Kept from) = take len (drop from base)
+source_items base len (Base from) = take len (drop from base)
 source_items base len (Own item) = item ∷ []
 
 -- The items of a piece over a list.
@@ -23,7 +23,7 @@ items_of base ps = flat_map (λ p. piece_items base p) ps
 pub record IsPiece {T : Type 0} (base : List T) (before : ℕ) (p : Piece T) : Type 0 where
   pub start : p.start ≡ before
   pub some : 0 < p.len
-  pub many : length (piece_items base p) ≡ p.len
+  pub item_count : length (piece_items base p) ≡ p.len
 
 -- Pieces one after another, with `before` items before the first.
 abbrev pub ArePieces : {T : Type 0} → List T → ℕ → List (Piece T) → Type 0
@@ -35,7 +35,7 @@ abbrev pub with_one_less : {T : Type 0} → Piece T → Piece T
 with_one_less p = record { start = p.start - 1; len = p.len; source = p.source }
 
 -- The item at `index` is in the piece at this place.
-pub record StandsIn {T : Type 0} (ps : List (Piece T)) (index at : ℕ) : Type 0 where
+pub record IsInPiece {T : Type 0} (ps : List (Piece T)) (index at : ℕ) : Type 0 where
   pub within : at < length ps
   pub start : (d : Piece T) → (get_or ps at d).start ≤ index
   pub end : (d : Piece T) → index < (get_or ps at d).start + (get_or ps at d).len

@@ -12,7 +12,7 @@ use Rattle.mailbox_rows.specs.declared.row.Row.{Row}
 use Rattle.mailbox_rows.specs.declared.row.RowHead.{RowHead}
 use Rattle.mailbox_rows.specs.declared.owned_row.OwnedRow.{OwnedRow}
 use Rattle.mailbox_rows.specs.declared.owned_row.VersionsCow.{VersionsCow}
-use Rattle.mailbox_rows.specs.declared.owned_row.VersionsCow.TheVariants.{Lent, Own}
+use Rattle.mailbox_rows.specs.declared.owned_row.VersionsCow.TheVariants.{Borrowed, Own}
 
 -- The date-time shown for a message whose date is unknown.
 abbrev pub epoch : List ℕ
@@ -30,7 +30,7 @@ listed_message row = record {
   text = unwrap_or (option_map (λ text. text.now) row.text) [];
 }
 
--- What the head of a row shows of a message.
+-- The head of the message that a row's head shows.
 abbrev pub listed_head : RowHead → ListedHead
 listed_head head = record {
   uid = head.uid;
@@ -46,7 +46,7 @@ head_of row =
 
 -- The versions of an owned row, whether borrowed or its own.
 abbrev pub owned_versions : VersionsCow → List Version
-owned_versions (Lent versions) = versions.list.now
+owned_versions (Borrowed versions) = versions.list.now
 owned_versions (Own versions) = versions.items
 
 -- The message that an owned row shows.

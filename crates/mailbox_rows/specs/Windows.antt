@@ -4,12 +4,12 @@ use Rattle.std.specs.Prelude.{◌≡◌, ℕ, ◌-◌, ◌<◌, Bool, true, fals
 use Rattle.mailbox_rows.specs.ListedMessage.{ListedMessage}
 use Rattle.mailbox_rows.specs.RowViews.{owned_message}
 use Rattle.mailbox_rows.specs.declared.listing_rows.Source.{Source}
-use Rattle.mailbox_rows.specs.declared.listing_rows.Source.TheVariants.{Made, Seen}
+use Rattle.mailbox_rows.specs.declared.listing_rows.Source.TheVariants.{Owned, InWindow}
 
 -- The messages of a source.
 abbrev pub source_rows : Source → List ListedMessage
-source_rows (Made rows) = map owned_message rows.items
-source_rows (Seen window) = window
+source_rows (Owned rows) = map owned_message rows.items
+source_rows (InWindow window) = window
 
 -- The edge of a test on `count` places: it passes just before `at` and fails at `at`, as far as
 -- those places exist.

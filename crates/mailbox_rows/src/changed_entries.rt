@@ -18,43 +18,44 @@ pub fn changed_entries_by_scan(
     list: &PatchedList<'_, ListingEntry>,
     modseq: u64,
 ) -> Result<Vec<ListingEntry>, AllocError>
-    ensures { IfOk result (λ found. found.items ≡ changed_since modseq list.now.items) }
+    ensures { IfOk result (λ changed. changed.items ≡ changed_since modseq list.now.items) }
 {
-    let mut found = Vec::new(alloc);
+    let mut changed = Vec::new(alloc);
     for place in 0..list.len() {
-        push_at(&mut found, list, place, modseq)?;
+        push_at(&mut changed, list, place, modseq)?;
     }
-    Ok(found)
+    Ok(changed)
 }
 
-/// Appends the entry at `place` to `found` if its mod-sequence is above `modseq`. `Err` if memory
+/// Appends the entry at `place` to `changed` if its mod-sequence is above `modseq`. `Err` if memory
 /// runs out.
 fn push_at(
-    found: &mut Vec<ListingEntry>,
+    changed: &mut Vec<ListingEntry>,
     list: &PatchedList<'_, ListingEntry>,
     place: usize,
     modseq: u64,
 ) -> Result<(), AllocError>
-    ensures { OnOk result (found.new.items
-        ≡ found.old.items
+    ensures { OnOk result (changed.new.items
+        ≡ changed.old.items
         ++ changed_since modseq (option_to_list (slice_get list.now.items place))) }
 {
     match list.get(place) {
-        Some(entry) => push_changed(found, entry, modseq),
+        Some(entry) => push_changed(changed, entry, modseq),
         None => Ok(()),
     }
 }
 
-/// Appends `entry` to `found` if its mod-sequence is above `modseq`. `Err` if memory runs out.
+/// Appends `entry` to `changed` if its mod-sequence is above `modseq`. `Err` if memory runs out.
 fn push_changed(
-    found: &mut Vec<ListingEntry>,
+    changed: &mut Vec<ListingEntry>,
     entry: ListingEntry,
     modseq: u64,
 ) -> Result<(), AllocError>
-    ensures { OnOk result (found.new.items ≡ found.old.items ++ changed_since modseq (entry ∷ [])) }
+    ensures { OnOk result
+        (changed.new.items ≡ changed.old.items ++ changed_since modseq (entry ∷ [])) }
 {
     if modseq < entry.modseq {
-        found.push(entry)?;
+        changed.push(entry)?;
     }
     Ok(())
 }
@@ -70,35 +71,35 @@ pub fn changed_entries_among(
     requires rising { AreRising 1 list.now.items }
     requires ascending { AreAscending 0 uids.now }
     requires among { AreAmong modseq uids.now list.now.items }
-    ensures { IfOk result (λ found. found.items ≡ changed_since modseq list.now.items) }
+    ensures { IfOk result (λ changed. changed.items ≡ changed_since modseq list.now.items) }
 {
-    let mut found = Vec::new(alloc);
+    let mut changed = Vec::new(alloc);
     let mut low = 0;
     for uid in uids {
         if low <= u64::from(*uid) {
-            push_with(&mut found, list, *uid, modseq)?;
+            push_with(&mut changed, list, *uid, modseq)?;
             low = u64::from(*uid) + 1;
         }
     }
-    Ok(found)
+    Ok(changed)
 }
 
-/// Appends the entry with this UID to `found` if it exists and its mod-sequence is above `modseq`.
+/// Appends the entry of this UID to `changed` if it exists and its mod-sequence is above `modseq`.
 /// `Err` if memory runs out.
 fn push_with(
-    found: &mut Vec<ListingEntry>,
+    changed: &mut Vec<ListingEntry>,
     list: &PatchedList<'_, ListingEntry>,
     uid: u32,
     modseq: u64,
 ) -> Result<(), AllocError>
     requires { AreRising 1 list.now.items }
     ensures { OnOk result
-        (found.new.items ≡ found.old.items ++ changed_with modseq uid list.now.items) }
+        (changed.new.items ≡ changed.old.items ++ changed_with modseq uid list.now.items) }
 {
     match list.get(first_from(list, uid)) {
         Some(entry) => {
             if entry.uid == uid {
-                push_changed(found, entry, modseq)
+                push_changed(changed, entry, modseq)
             } else {
                 Ok(())
             }

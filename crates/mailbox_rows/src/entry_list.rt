@@ -14,7 +14,7 @@ pub trait EntryList {
     /// The entries.
     ghost entries: { Self → List ListingEntry };
 
-    /// Room for this number of edits: an entry renewed, taken out or put in.
+    /// Room for this number of edits; an edit changes, removes or adds one entry.
     ghost has_edits: { Self → ℕ → Type 0 };
 
     /// Room for this number of additional entries.
@@ -34,7 +34,7 @@ pub trait EntryList {
             (IsAt origin.now (entries self.now)) };
 
     /// Gives the entry at `place` another mod-sequence; its origin and UID stay.
-    fn renew(&mut self, place: usize, modseq: u64)
+    fn set_modseq(&mut self, place: usize, modseq: u64)
         requires within { place < length (entries self.old) }
         requires edits { has_edits self.old 1 }
         ensures entries { (e : ListingEntry)
@@ -47,7 +47,7 @@ pub trait EntryList {
         ensures edits { (n : ℕ) → has_edits self.old (n + 1) → has_edits self.new n }
         ensures room { (n : ℕ) → has_room self.old n → has_room self.new n };
 
-    /// Takes out the entry at `place`.
+    /// Removes the entry at `place`.
     fn take_out(&mut self, place: usize)
         requires within { place < length (entries self.old) }
         requires edits { has_edits self.old 1 }

@@ -105,7 +105,7 @@ impl EntryList for EntryTable {
         }
     }
 
-    fn renew(&mut self, place: usize, modseq: u64) {
+    fn set_modseq(&mut self, place: usize, modseq: u64) {
         match self.list.get(place).copied() {
             Some(old) => {
                 put_at(&mut self.list, place, &old.origin, old.uid, modseq);

@@ -5,7 +5,7 @@ ghost use Rattle.std.specs.Prelude.{◌≡◌, Some, IfSome, option_map};
 ghost use Rattle.mailbox_rows.specs.RowViews.{head_of, listed_head, listed_message};
 ghost use Rattle.mailbox_rows.specs.MessageData.{entry_under, no_message_data, with_numbers};
 ghost use Rattle.mailbox_rows.specs.MessageData.{message_data_of, owned_message_data};
-ghost use Rattle.mailbox_rows.specs.MessageData.{kept_message_data, versions_in};
+ghost use Rattle.mailbox_rows.specs.MessageData.{stored_message_data, versions_in};
 
 use crate::entry::ListingEntry;
 use crate::row::{Row, RowHead};
@@ -36,7 +36,7 @@ pub struct FolderMessages<'a> {
     /// messages.
     pub messages: Option<&'a IndexMap<OpId, Vec<Version>>>,
     /// The dates and texts of all applied Appends, by their ids.
-    pub letters: &'a IndexMap<OpId, DatedText>,
+    pub dated_texts: &'a IndexMap<OpId, DatedText>,
 }
 
 /// A message as pending operations leave it, with versions of its own.
@@ -55,10 +55,14 @@ impl<'a> FolderMessages<'a> {
     /// place if the messages are in the tables in the order of their UIDs, else by hash.
     pub fn row(&self, entry: &ListingEntry) -> Option<Row<'a>>
         ensures { option_map listed_message result
-            ≡ option_map (with_numbers entry.now) (kept_message_data self.now entry.now.origin) }
+            ≡ option_map (with_numbers entry.now) (stored_message_data self.now entry.now.origin) }
     {
-        match lent_versions(self.messages, entry) {
-            Some(versions) => Some(with_letter(entry, versions, look_up(self.letters, entry))),
+        match look_up_versions(self.messages, entry) {
+            Some(versions) => Some(with_dated_text(
+                entry,
+                versions,
+                look_up(self.dated_texts, entry),
+            )),
             None => None,
         }
     }
@@ -69,9 +73,9 @@ impl<'a> FolderMessages<'a> {
     pub fn head(&self, entry: &ListingEntry) -> Option<RowHead<'a>>
         ensures { option_map listed_head result
             ≡ option_map (λ message_data_of. head_of (with_numbers entry.now message_data_of))
-            (kept_message_data self.now entry.now.origin) }
+            (stored_message_data self.now entry.now.origin) }
     {
-        match lent_versions(self.messages, entry) {
+        match look_up_versions(self.messages, entry) {
             Some(versions) => Some(head_with(entry, versions)),
             None => None,
         }
@@ -131,7 +135,7 @@ pub(crate) fn bare_row(entry: &ListingEntry) -> Row<'static>
 
 /// The versions of an entry's message, if there is a table that has it.
 #[inline(always)]
-fn lent_versions<'a>(
+fn look_up_versions<'a>(
     messages: Option<&'a IndexMap<OpId, Vec<Version>>>,
     entry: &ListingEntry,
 ) -> Option<Versions<'a>>
@@ -189,23 +193,24 @@ fn look_up_near<'a, V>(table: &'a IndexMap<OpId, V>, entry: &ListingEntry) -> Op
 }
 
 /// The row of an entry with these versions, and the date and text of its Append, if applied.
-fn with_letter<'a>(
+fn with_dated_text<'a>(
     entry: &ListingEntry,
     versions: Versions<'a>,
-    letter: Option<&'a DatedText>,
+    dated_text: Option<&'a DatedText>,
 ) -> Row<'a>
     ensures { listed_message result
         ≡ with_numbers entry.now
-        (message_data_of versions.entry.list.now (option_map (λ letter. letter.now) letter.entry)) }
+        (message_data_of versions.entry.list.now
+        (option_map (λ dated_text. dated_text.now) dated_text.entry)) }
 {
-    match letter {
-        Some(letter) => Row {
+    match dated_text {
+        Some(dated_text) => Row {
             uid: entry.uid,
             modseq: entry.modseq,
             origin: entry.origin,
             versions,
-            date: Some(&letter.date),
-            text: Some(&letter.text),
+            date: Some(&dated_text.date),
+            text: Some(&dated_text.text),
         },
         None => Row {
             uid: entry.uid,

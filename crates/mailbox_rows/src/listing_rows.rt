@@ -19,9 +19,9 @@ use std::marker::Model;
 #[derive(Drop)]
 enum Source<'a> {
     /// In a list of owned rows.
-    Made(Vec<OwnedRow<'a>>),
+    Owned(Vec<OwnedRow<'a>>),
     /// In a mailbox, through a window.
-    Seen(Window<'a>),
+    InWindow(Window<'a>),
 }
 
 /// A mailbox's messages, by ascending UIDs.
@@ -56,7 +56,7 @@ impl<'a> Rows<'a> {
         ensures { result ≡ [] }
     {
         Rows {
-            source: Source::Made(Vec::new(alloc)),
+            source: Source::Owned(Vec::new(alloc)),
         }
     }
 
@@ -66,7 +66,7 @@ impl<'a> Rows<'a> {
         ensures { result ≡ map owned_message rows.entry.items }
     {
         Rows {
-            source: Source::Made(rows),
+            source: Source::Owned(rows),
         }
     }
 
@@ -76,7 +76,7 @@ impl<'a> Rows<'a> {
     {
         window.prove_ascending();
         Rows {
-            source: Source::Seen(window),
+            source: Source::InWindow(window),
         }
     }
 
@@ -152,7 +152,7 @@ impl<'a> Rows<'a> {
     pub fn has_near(&self, place: usize, uid: u32) -> bool
         ensures { result ≡ is_some (row_of uid self.now) }
     {
-        self.stands_at(place, uid) || self.row_of(uid).is_some()
+        self.has_uid_at(place, uid) || self.row_of(uid).is_some()
     }
 
     /// The number of messages with this UID or a lower one, which is the place of the first with a
@@ -171,8 +171,8 @@ impl<'a> Rows<'a> {
         ensures { IfOk result (λ rows. rows ≡ changed_since modseq self.now) }
     {
         let _len = self.len();
-        let kept = changed_rows_in(alloc, &self.source, modseq)?;
-        Ok(Rows::from_ascending(kept))
+        let changed = changed_rows_in(alloc, &self.source, modseq)?;
+        Ok(Rows::from_ascending(changed))
     }
 
     /// The head of the row at `place`.
@@ -203,7 +203,7 @@ impl<'a> Rows<'a> {
     }
 
     /// Whether the message at `place` has this UID.
-    fn stands_at(&self, place: usize, uid: u32) -> bool
+    fn has_uid_at(&self, place: usize, uid: u32) -> bool
         ensures { result ≡ true → is_some (row_of uid self.now) ≡ true }
     {
         let _len = self.len();
@@ -278,8 +278,8 @@ fn len_of(source: &Source<'_>) -> usize
     ensures { result ≡ length (source_rows source.now) }
 {
     match source {
-        Source::Made(rows) => rows.len(),
-        Source::Seen(window) => window.len(),
+        Source::Owned(rows) => rows.len(),
+        Source::InWindow(window) => window.len(),
     }
 }
 
@@ -288,8 +288,8 @@ fn row_in<'r>(source: &'r Source<'_>, place: usize) -> Option<Row<'r>>
     ensures { option_map listed_message result ≡ slice_get (source_rows source.now) place }
 {
     match source {
-        Source::Made(rows) => slice_row(rows, place),
-        Source::Seen(window) => window.row_at(place),
+        Source::Owned(rows) => slice_row(rows, place),
+        Source::InWindow(window) => window.row_at(place),
     }
 }
 
@@ -310,8 +310,8 @@ fn head_in<'r>(source: &'r Source<'_>, place: usize) -> Option<RowHead<'r>>
         ≡ option_map head_of (slice_get (source_rows source.now) place) }
 {
     match source {
-        Source::Made(rows) => slice_head(rows, place),
-        Source::Seen(window) => window.head_at(place),
+        Source::Owned(rows) => slice_head(rows, place),
+        Source::InWindow(window) => window.head_at(place),
     }
 }
 
@@ -331,8 +331,8 @@ fn uid_in(source: &Source<'_>, place: usize) -> Option<u32>
     ensures { result ≡ option_map (λ row. row.uid) (slice_get (source_rows source.now) place) }
 {
     match source {
-        Source::Made(rows) => slice_uid(rows, place),
-        Source::Seen(window) => window.uid_at(place),
+        Source::Owned(rows) => slice_uid(rows, place),
+        Source::InWindow(window) => window.uid_at(place),
     }
 }
 
@@ -356,8 +356,8 @@ fn owned_row_in<'a>(
         (λ row. option_map owned_message row ≡ slice_get (source_rows source.now) place) }
 {
     match source {
-        Source::Made(rows) => slice_owned_row(alloc, rows, place),
-        Source::Seen(window) => window.owned_row_at(alloc, place),
+        Source::Owned(rows) => slice_owned_row(alloc, rows, place),
+        Source::InWindow(window) => window.owned_row_at(alloc, place),
     }
 }
 
@@ -386,11 +386,12 @@ fn changed_rows_in<'a>(
     modseq: u64,
 ) -> Result<Vec<OwnedRow<'a>>, AllocError>
     ensures { IfOk result
-        (λ kept. map owned_message kept.items ≡ changed_since modseq (source_rows source.now)) }
+        (λ changed. map owned_message changed.items
+        ≡ changed_since modseq (source_rows source.now)) }
 {
     match source {
-        Source::Made(rows) => slice_changed_rows(alloc, rows, modseq),
-        Source::Seen(window) => window.changed_since(alloc, modseq),
+        Source::Owned(rows) => slice_changed_rows(alloc, rows, modseq),
+        Source::InWindow(window) => window.changed_since(alloc, modseq),
     }
 }
 
@@ -401,27 +402,29 @@ fn slice_changed_rows<'a>(
     modseq: u64,
 ) -> Result<Vec<OwnedRow<'a>>, AllocError>
     ensures { IfOk result
-        (λ kept. map owned_message kept.items ≡ changed_since modseq (map owned_message rows.now)) }
+        (λ changed. map owned_message changed.items
+        ≡ changed_since modseq (map owned_message rows.now)) }
 {
-    let mut kept = Vec::new(alloc);
+    let mut changed = Vec::new(alloc);
     for row in rows {
-        push_changed(alloc, &mut kept, row, modseq)?;
+        push_changed(alloc, &mut changed, row, modseq)?;
     }
-    Ok(kept)
+    Ok(changed)
 }
 
 /// Appends a copy of `row` if its mod-sequence is above `modseq`; `Err` if memory runs out.
 fn push_changed<'a>(
     alloc: Global,
-    kept: &mut Vec<OwnedRow<'a>>,
+    changed: &mut Vec<OwnedRow<'a>>,
     row: &OwnedRow<'a>,
     modseq: u64,
 ) -> Result<(), AllocError>
-    ensures { OnOk result (map owned_message kept.new.items
-        ≡ map owned_message kept.old.items ++ changed_since modseq (owned_message row.now ∷ [])) }
+    ensures { OnOk result (map owned_message changed.new.items
+        ≡ map owned_message changed.old.items
+        ++ changed_since modseq (owned_message row.now ∷ [])) }
 {
     if row.modseq > modseq {
-        kept.push(row.copy(alloc)?)?;
+        changed.push(row.copy(alloc)?)?;
     }
     Ok(())
 }

@@ -12,7 +12,7 @@ use chunk_list::ChunkList;
 use std::alloc::{AllocError, Global};
 use std::marker::Model;
 
-/// The number of changes, beyond those asked for, that always get room.
+/// The number of changes, beyond those requested, for which there is always room.
 const SPARE: usize = 8;
 
 /// A change: the entry with this UID got this mod-sequence.

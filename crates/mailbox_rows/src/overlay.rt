@@ -21,9 +21,9 @@ use tags_clocks::OpId;
 /// A mailbox's entries with edits over them; the table below stays unchanged.
 pub struct EntryOverlay<'a> {
     list: PatchedList<'a, ListingEntry>,
-    kept: &'a IndexMap<OpId, u32>,
+    stored: &'a IndexMap<OpId, u32>,
     own: IndexMap<OpId, u32>,
-    kept_changes: &'a ModSeqLog,
+    stored_changes: &'a ModSeqLog,
     own_changes: ModSeqLog,
 }
 
@@ -32,9 +32,9 @@ impl<'a> Drop for EntryOverlay<'a> {
     fn drop(self) {
         let Self {
             list: _,
-            kept: _,
+            stored: _,
             own: _,
-            kept_changes: _,
+            stored_changes: _,
             own_changes: _,
         } = self;
     }
@@ -55,8 +55,8 @@ impl<'a> Model for EntryOverlay<'a> {
     } };
 
     ghost invariant = { λ o. AreRising 1 o.list.items
-        × AreIndexed (indexed_over o.own.entries o.kept.now.entries) o.list.items
-        × AreLoggedIn (log_over o.kept_changes.now o.own_changes) o.list.items };
+        × AreIndexed (indexed_over o.own.entries o.stored.now.entries) o.list.items
+        × AreLoggedIn (log_over o.stored_changes.now o.own_changes) o.list.items };
 }
 
 impl<'a> EntryOverlay<'a> {
@@ -64,12 +64,12 @@ impl<'a> EntryOverlay<'a> {
     pub(crate) fn new(
         alloc: Global,
         list: &'a ChunkList<ListingEntry>,
-        kept: &'a IndexMap<OpId, u32>,
-        kept_changes: &'a ModSeqLog,
+        stored: &'a IndexMap<OpId, u32>,
+        stored_changes: &'a ModSeqLog,
     ) -> Result<EntryOverlay<'a>, AllocError>
         requires rising { AreRising 1 list.now.items }
-        requires indexed { AreIndexed (indexed_value kept.now.entries) list.now.items }
-        requires noted { AreLoggedIn kept_changes.now list.now.items }
+        requires indexed { AreIndexed (indexed_value stored.now.entries) list.now.items }
+        requires noted { AreLoggedIn stored_changes.now list.now.items }
         ensures { IfOk result (λ over. over.entries ≡ list.now.items) }
     {
         let list = PatchedList::new(alloc, list)?;
@@ -77,9 +77,9 @@ impl<'a> EntryOverlay<'a> {
         let own_changes = ModSeqLog::new(alloc);
         Ok(EntryOverlay {
             list,
-            kept,
+            stored,
             own,
-            kept_changes,
+            stored_changes,
             own_changes,
         })
     }
@@ -108,13 +108,13 @@ impl<'a> EntryOverlay<'a> {
     /// changes to greater mod-sequences, with a search for each; if a change was left out of a log,
     /// one pass over the entries.
     pub fn changed_since(&self, alloc: Global, modseq: u64) -> Result<Vec<ListingEntry>, AllocError>
-        ensures { IfOk result (λ found. found.items ≡ changed_since modseq self.now.entries) }
+        ensures { IfOk result (λ changed. changed.items ≡ changed_since modseq self.now.entries) }
     {
-        if !self.kept_changes.is_whole() || !self.own_changes.is_whole() {
+        if !self.stored_changes.is_whole() || !self.own_changes.is_whole() {
             return changed_entries_by_scan(alloc, &self.list, modseq);
         }
         let mut uids = Vec::new(alloc);
-        self.kept_changes.push_uids(modseq, &mut uids)?;
+        self.stored_changes.push_uids(modseq, &mut uids)?;
         self.own_changes.push_uids(modseq, &mut uids)?;
         uids.sort_by_key(|uid| *uid)?;
         changed_entries_among(alloc, &self.list, &uids, modseq)
@@ -140,13 +140,13 @@ impl<'a> EntryList for EntryOverlay<'a> {
     }
 
     fn place_of(&self, origin: &OpId) -> Option<usize> {
-        match uid_over(&self.own, self.kept, origin) {
+        match uid_over(&self.own, self.stored, origin) {
             Some(uid) => entry_search::place_with(&self.list, uid, origin),
             None => None,
         }
     }
 
-    fn renew(&mut self, place: usize, modseq: u64) {
+    fn set_modseq(&mut self, place: usize, modseq: u64) {
         match self.list.get(place) {
             Some(old) => {
                 self.list.replace(
@@ -175,11 +175,11 @@ impl<'a> EntryList for EntryOverlay<'a> {
 }
 
 /// The UID of an origin by the first index that has it.
-fn uid_over(own: &IndexMap<OpId, u32>, kept: &IndexMap<OpId, u32>, origin: &OpId) -> Option<u32>
-    ensures { result ≡ indexed_over own.now.entries kept.now.entries origin.now }
+fn uid_over(own: &IndexMap<OpId, u32>, stored: &IndexMap<OpId, u32>, origin: &OpId) -> Option<u32>
+    ensures { result ≡ indexed_over own.now.entries stored.now.entries origin.now }
 {
     match uid_index::uid_of(own, origin) {
         Some(uid) => Some(uid),
-        None => uid_index::uid_of(kept, origin),
+        None => uid_index::uid_of(stored, origin),
     }
 }

@@ -30,7 +30,7 @@ pub struct OwnedRow<'a> {
 #[derive(Drop)]
 pub enum VersionsCow<'a> {
     /// Borrowed from the tables that store the message.
-    Lent(Versions<'a>),
+    Borrowed(Versions<'a>),
     /// The row's own, ascending by id: the versions that pending operations leave.
     Own(Vec<Version>),
 }
@@ -72,7 +72,7 @@ impl<'a> VersionsCow<'a> {
         ensures { result.list.now ≡ owned_versions self.now }
     {
         match self {
-            VersionsCow::Lent(versions) => Versions::new(versions.as_slice()),
+            VersionsCow::Borrowed(versions) => Versions::new(versions.as_slice()),
             VersionsCow::Own(versions) => Versions::new(versions),
         }
     }
@@ -82,7 +82,7 @@ impl<'a> VersionsCow<'a> {
         ensures { IfOk result (λ copied. owned_versions copied ≡ owned_versions self.now) }
     {
         match self {
-            VersionsCow::Lent(versions) => Ok(VersionsCow::Lent(*versions)),
+            VersionsCow::Borrowed(versions) => Ok(VersionsCow::Borrowed(*versions)),
             VersionsCow::Own(versions) => {
                 let copies = copy_versions(alloc, versions)?;
                 Ok(VersionsCow::Own(copies))

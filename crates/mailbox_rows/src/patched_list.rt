@@ -44,7 +44,7 @@ impl<'a, T: Copy + Drop> PatchedList<'a, T> {
             pieces.push(Piece {
                 start: 0,
                 len,
-                source: PieceSource::Kept(0),
+                source: PieceSource::Base(0),
             })?;
         }
         Ok(PatchedList { base, pieces, len })
@@ -92,7 +92,7 @@ impl<'a, T: Copy + Drop> PatchedList<'a, T> {
         pieces::replace_piece(self.base, &mut self.pieces, index, at, item);
     }
 
-    /// Takes out the item at `index`. There is room for the edit.
+    /// Removes the item at `index`. There is room for the edit.
     pub fn remove(&mut self, index: usize)
         requires within { index < length self.old.items }
         requires room { HasRoom self.old 1 }

@@ -3,7 +3,7 @@
 ghost use Rattle.std.specs.Prelude.{◌≡◌, ℕ, ◌+◌, ◌-◌, ◌^◌, ◌<◌, ◌≤◌, [], ◌∷◌, ◌++◌, length, take};
 ghost use Rattle.std.specs.Prelude.{drop, map, remove, set, get_or, vec_len, vec_capacity};
 ghost use Rattle.std.specs.List.{insert, slice_get};
-ghost use Rattle.mailbox_rows.specs.Pieces.{ArePieces, IsAlone, IsPiece, StandsIn, items_of};
+ghost use Rattle.mailbox_rows.specs.Pieces.{ArePieces, IsAlone, IsPiece, IsInPiece, items_of};
 ghost use Rattle.mailbox_rows.specs.Pieces.{with_one_less, piece_items};
 
 use chunk_list::ChunkList;
@@ -12,7 +12,7 @@ use chunk_list::ChunkList;
 #[derive(Clone, Copy)]
 pub enum PieceSource<T> {
     /// From the list below, from this place on.
-    Kept(usize),
+    Base(usize),
     /// One item of the piece's own.
     Own(T),
 }
@@ -30,7 +30,7 @@ pub struct Piece<T> {
 pub fn piece_at<T>(base: &ChunkList<T>, pieces: &[Piece<T>], index: usize) -> usize
     requires pieces { ArePieces base.now.items 0 pieces.now }
     requires within { index < length (items_of base.now.items pieces.now) }
-    ensures { StandsIn pieces.now index result }
+    ensures { IsInPiece pieces.now index result }
 {
     let mut low = 0;
     let mut high = pieces.len();
@@ -55,7 +55,7 @@ pub fn item_in<T: Copy + Drop>(base: &ChunkList<T>, pieces: &[Piece<T>], index: 
     let at = piece_at(base, pieces, index);
     let piece = pieces[at];
     match piece.source {
-        PieceSource::Kept(from) => base_item(base, from, index - piece.start),
+        PieceSource::Base(from) => base_item(base, from, index - piece.start),
         PieceSource::Own(item) => Some(item),
     }
 }
@@ -70,7 +70,7 @@ fn base_item<T: Copy + Drop>(base: &ChunkList<T>, from: usize, more: usize) -> O
     base.get(from + more).copied()
 }
 
-/// Cuts the piece at `at` in two, of which the first has `count` items. There is room for another
+/// Cuts the piece at `at` in two; the first has `count` items. There is room for another
 /// piece.
 fn split_piece<T: Copy + Drop>(
     base: &ChunkList<T>,
@@ -131,14 +131,14 @@ fn piece_after<T: Copy + Drop>(base: &ChunkList<T>, piece: Piece<T>, count: usiz
     ensures len { result.len + count ≡ piece.len }
     ensures items { piece_items base.now.items (record piece { len = count })
         ++ piece_items base.now.items result ≡ piece_items base.now.items piece }
-    ensures many { length (piece_items base.now.items result) ≡ result.len }
+    ensures item_count { length (piece_items base.now.items result) ≡ result.len }
 {
     let _len = base.len();
     match piece.source {
-        PieceSource::Kept(from) => Piece {
+        PieceSource::Base(from) => Piece {
             start: piece.start + count,
             len: piece.len - count,
-            source: PieceSource::Kept(from + count),
+            source: PieceSource::Base(from + count),
         },
         PieceSource::Own(_) => unreachable!(),
     }
@@ -244,7 +244,7 @@ pub fn replace_piece<T: Copy + Drop>(
     };
 }
 
-/// Takes out a piece of one item.
+/// Removes a piece of one item.
 pub fn take_piece<T: Copy + Drop>(
     base: &ChunkList<T>,
     pieces: &mut Vec<Piece<T>>,

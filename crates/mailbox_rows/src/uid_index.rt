@@ -18,7 +18,7 @@ pub fn uid_of(uids: &IndexMap<OpId, u32>, origin: &OpId) -> Option<u32>
 /// Sets the UID of an origin in the index. There is room for it.
 pub fn note(uids: &mut IndexMap<OpId, u32>, origin: &OpId, uid: u32)
     requires { 0 < spare uids.old }
-    ensures told { (i : OpId)
+    ensures lookups { (i : OpId)
         → indexed_value uids.new.entries i
         ≡ (if is_id origin.now i then Some uid else indexed_value uids.old.entries i) }
     ensures room { spare uids.old ≤ spare uids.new + 1 }
@@ -30,7 +30,7 @@ pub fn note(uids: &mut IndexMap<OpId, u32>, origin: &OpId, uid: u32)
 
 /// Removes an origin from the index.
 pub fn forget(uids: &mut IndexMap<OpId, u32>, origin: &OpId)
-    ensures told { (i : OpId)
+    ensures lookups { (i : OpId)
         → indexed_value uids.new.entries i
         ≡ (if is_id origin.now i then None else indexed_value uids.old.entries i) }
     ensures room { spare uids.old ≤ spare uids.new }

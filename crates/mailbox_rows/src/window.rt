@@ -1,4 +1,4 @@
-//! `Window`: a mailbox's messages, looked up only when they are asked for.
+//! `Window`: a mailbox's messages, looked up only when they are needed.
 
 ghost use Rattle.std.specs.Prelude.{◌≡◌, ◌++◌, ◌∷◌, [], Some, length, map, option_map, IfOk, OnOk};
 ghost use Rattle.std.specs.List.{slice_get};
@@ -7,7 +7,7 @@ ghost use Rattle.mailbox_rows.specs.RowViews.{owned_message, listed_message};
 ghost use Rattle.std.specs.Option.{unwrap_or};
 ghost use Rattle.mailbox_rows.specs.MessageData.{entry_under, no_message_data, with_numbers};
 ghost use Rattle.mailbox_rows.specs.MessageData.{row_by, rows_by, owned_message_data};
-ghost use Rattle.mailbox_rows.specs.MessageData.{kept_message_data};
+ghost use Rattle.mailbox_rows.specs.MessageData.{stored_message_data};
 
 use crate::entry::ListingEntry;
 use crate::entry_list::EntryList;
@@ -52,7 +52,7 @@ impl<'a> Model for Window<'a> {
 }
 
 impl<'a> Window<'a> {
-    /// A window on these entries. Their messages are those in `fresh`, and else those of the
+    /// A window on these entries. Their messages are those in `fresh`, otherwise those of the
     /// mailbox.
     pub fn new(
         entries: EntryOverlay<'a>,
@@ -152,13 +152,13 @@ fn owned_rows<'a>(
 {
     let mut rows = Vec::with_capacity(alloc, entries.len())?;
     for entry in entries {
-        push_held(alloc, &mut rows, fresh, mailbox, entry)?;
+        push_owned_row(alloc, &mut rows, fresh, mailbox, entry)?;
     }
     Ok(rows)
 }
 
 /// Appends the owned row of an entry; `Err` if memory runs out.
-fn push_held<'a>(
+fn push_owned_row<'a>(
     alloc: Global,
     rows: &mut Vec<OwnedRow<'a>>,
     fresh: &IndexMap<OpId, OwnedMessage<'a>>,
@@ -189,7 +189,7 @@ fn row_of_entry<'r>(
 {
     match fresh_at(fresh, &entry.origin) {
         Some(message) => message.row(entry),
-        None => kept_row(mailbox, entry),
+        None => stored_row(mailbox, entry),
     }
 }
 
@@ -204,7 +204,7 @@ fn head_of_entry<'r>(
 {
     match fresh_at(fresh, &entry.origin) {
         Some(message) => message.head(entry),
-        None => kept_head(mailbox, entry),
+        None => stored_head(mailbox, entry),
     }
 }
 
@@ -225,10 +225,10 @@ fn fresh_at<'r, 'a>(
 }
 
 /// The row of an entry by the mailbox's stored messages.
-fn kept_row<'r>(mailbox: &FolderMessages<'r>, entry: &ListingEntry) -> Row<'r>
+fn stored_row<'r>(mailbox: &FolderMessages<'r>, entry: &ListingEntry) -> Row<'r>
     ensures { listed_message result
         ≡ with_numbers entry.now
-        (unwrap_or (kept_message_data mailbox.now entry.now.origin) no_message_data) }
+        (unwrap_or (stored_message_data mailbox.now entry.now.origin) no_message_data) }
 {
     match mailbox.row(entry) {
         Some(row) => row,
@@ -238,10 +238,10 @@ fn kept_row<'r>(mailbox: &FolderMessages<'r>, entry: &ListingEntry) -> Row<'r>
 
 /// The head of an entry's row by the mailbox's stored messages.
 #[inline(always)]
-fn kept_head<'r>(mailbox: &FolderMessages<'r>, entry: &ListingEntry) -> RowHead<'r>
+fn stored_head<'r>(mailbox: &FolderMessages<'r>, entry: &ListingEntry) -> RowHead<'r>
     ensures { listed_head result
         ≡ head_of (with_numbers entry.now
-        (unwrap_or (kept_message_data mailbox.now entry.now.origin) no_message_data)) }
+        (unwrap_or (stored_message_data mailbox.now entry.now.origin) no_message_data)) }
 {
     match mailbox.head(entry) {
         Some(head) => head,
@@ -261,19 +261,19 @@ fn owned_row_of<'a>(
 {
     match fresh_at(fresh, &entry.origin) {
         Some(message) => owned_changed_row(alloc, entry, message),
-        None => Ok(Some(owned_kept_row(kept_row(mailbox, entry)))),
+        None => Ok(Some(owned_stored_row(stored_row(mailbox, entry)))),
     }
 }
 
 /// The row as an owned one, with borrowed versions.
-fn owned_kept_row<'a>(row: Row<'a>) -> OwnedRow<'a>
+fn owned_stored_row<'a>(row: Row<'a>) -> OwnedRow<'a>
     ensures { owned_message result ≡ listed_message row.entry }
 {
     OwnedRow {
         uid: row.uid,
         modseq: row.modseq,
         origin: row.origin,
-        versions: VersionsCow::Lent(row.versions),
+        versions: VersionsCow::Borrowed(row.versions),
         date: row.date,
         text: row.text,
     }

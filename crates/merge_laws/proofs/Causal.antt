@@ -30,8 +30,8 @@ module _ {O : Type 0} (id : O → OpId) (clock : O → List (ℕ × ℕ)) where
   pub ripe_along : (e f : List O) (o : O) → HaveSameIds e f → IsRipe id clock e o → IsRipe id clock f o
   ripe_along e f o h r = (λ i k. (h i).0 (r.0 i k), λ k. r.1 ((h (id o)).1 k))
 
-  pub same_behind : (x : O) (e f : List O) → HaveSameIds e f → HaveSameIds (x ∷ e) (x ∷ f)
-  same_behind x e f h i = (λ t. elim t [ inl k ↦ inl k | inr u ↦ inr ((h i).0 u) ], λ t. elim t [ inl k ↦ inl k | inr u ↦ inr ((h i).1 u) ])
+  pub same_ids_cons : (x : O) (e f : List O) → HaveSameIds e f → HaveSameIds (x ∷ e) (x ∷ f)
+  same_ids_cons x e f h i = (λ t. elim t [ inl k ↦ inl k | inr u ↦ inr ((h i).0 u) ], λ t. elim t [ inl k ↦ inl k | inr u ↦ inr ((h i).1 u) ])
 
   same_at_end : (x : O) (e f : List O) → HaveSameIds e f → HaveSameIds (x ∷ e) (f ++ x ∷ [])
   same_at_end x e f h i = (

@@ -3,13 +3,13 @@ use Rattle.tags_clocks.specs.declared.id.OpId.{OpId}
 use Rattle.tags_clocks.specs.Clock.{IsCause}
 use Rattle.merge_laws.specs.Orders.{IsIn, HasId, fold_of, HaveSameElements, AreSound, IsConcurrent, GivesOneValue}
 use Rattle.merge_laws.proofs.Lists.{in_middle, in_rest, in_front, in_cases, split_at}
-use Rattle.merge_laws.proofs.Causal.{HaveSameIds, IsCausalAfter, ripe_along, same_behind, causal_after, is_new}
+use Rattle.merge_laws.proofs.Causal.{HaveSameIds, IsCausalAfter, ripe_along, same_ids_cons, causal_after, is_new}
 
 module _ {O V : Type 0} (id : O → OpId) (clock : O → List (ℕ × ℕ)) (sound : O → Type 0) (effect : V → O → V) where
   -- causal after earlier ones with the same ids
   causal_along : (e f : List O) (os : List O) → HaveSameIds id clock e f → IsCausalAfter id clock e os → IsCausalAfter id clock f os
   causal_along e f [] h c = tt
-  causal_along e f (o ∷ os) h c = (ripe_along id clock e f o h c.0, causal_along (o ∷ e) (o ∷ f) os (same_behind id clock o e f h) c.1)
+  causal_along e f (o ∷ os) h c = (ripe_along id clock e f o h c.0, causal_along (o ∷ e) (o ∷ f) os (same_ids_cons id clock o e f h) c.1)
 
   -- the first two exchanged
   same_swapped : (x y : O) (e : List O) → HaveSameIds id clock (x ∷ y ∷ e) (y ∷ x ∷ e)

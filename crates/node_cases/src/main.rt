@@ -31,13 +31,13 @@ fn print_part(rt: &HostRuntime, part: &str) -> io::Result<()> {
         println!(*rt; "=== costs")?;
         return node_costs::play(rt, cases);
     }
-    let told = told(rt.alloc(), kind, cases)?;
+    let output = output(rt.alloc(), kind, cases)?;
     println!(*rt; "=== {kind}")?;
-    io::writer(rt).write_all(&told)
+    io::writer(rt).write_all(&output)
 }
 
 /// The result of the cases of a kind. `Err` if memory runs out.
-fn told(alloc: Global, kind: &str, cases: &str) -> Result<Vec<u8>, AllocError> {
+fn output(alloc: Global, kind: &str, cases: &str) -> Result<Vec<u8>, AllocError> {
     match kind {
         "texts" => imap_cases::play(alloc, cases),
         "operations" => replica_cases::play(alloc, cases),

@@ -9,7 +9,7 @@ use Rattle.crdt_ops.specs.declared.kind.Kind.TheVariants as kinds
 use Rattle.crdt_ops.specs.declared.op.Op.{Op}
 use Rattle.imap_answers.specs.declared.codes.Code.{Code}
 use Rattle.imap_answers.specs.declared.codes.Code.TheVariants as codes
-use Rattle.imap_commands.specs.Copying.{append_of, appends_of, copied_code, expunge_of_moved, expunges_of_moved}
+use Rattle.imap_commands.specs.CopyCommand.{append_of, appends_of, copied_code, expunge_of_moved, expunges_of_moved}
 use Rattle.imap_commands.specs.MessageNames.{name_at, existing_messages, uid_in}
 use Rattle.imap_commands.specs.Report.{are_some_gone, entry_at, gone_code, is_gone, message_at, row_for}
 use Rattle.mailbox_rows.specs.ListedMessage.{ListedMessage}
@@ -44,17 +44,17 @@ kinds_among folder (o ∷ ops) =
       | inr f ↦ rw f (kinds_among folder ops)
     ]
 
-append_kept : (folder : List ℕ) (m : Option ListedMessage) → filter (is_append_to folder) (append_of folder m) ≡ append_of folder m
-append_kept folder None = refl
-append_kept folder (Some row) = let own : bytes_eq folder folder ≡ true = (bytes_eq-Decides folder folder).1 refl in rw own refl
+append_filtered : (folder : List ℕ) (m : Option ListedMessage) → filter (is_append_to folder) (append_of folder m) ≡ append_of folder m
+append_filtered folder None = refl
+append_filtered folder (Some row) = let own : bytes_eq folder folder ≡ true = (bytes_eq-Decides folder folder).1 refl in rw own refl
 
-pub appends_kept : (folder : List ℕ) (rows : List ListedMessage) (view : List ViewEntry) (numbers : List ℕ) → filter (is_append_to folder) (appends_of folder rows view numbers) ≡ appends_of folder rows view numbers
-appends_kept folder rows view [] = refl
-appends_kept folder rows view (n ∷ numbers) =
+pub appends_filtered : (folder : List ℕ) (rows : List ListedMessage) (view : List ViewEntry) (numbers : List ℕ) → filter (is_append_to folder) (appends_of folder rows view numbers) ≡ appends_of folder rows view numbers
+appends_filtered folder rows view [] = refl
+appends_filtered folder rows view (n ∷ numbers) =
     let m = message_at rows view n in
     filter_more (is_append_to folder) (append_of folder m) (appends_of folder rows view numbers)
-    ∙ ap (λ (ks : List Kind). ks ++ filter (is_append_to folder) (appends_of folder rows view numbers)) (append_kept folder m)
-    ∙ ap (λ (ks : List Kind). append_of folder m ++ ks) (appends_kept folder rows view numbers)
+    ∙ ap (λ (ks : List Kind). ks ++ filter (is_append_to folder) (appends_of folder rows view numbers)) (append_filtered folder m)
+    ∙ ap (λ (ks : List Kind). append_of folder m ++ ks) (appends_filtered folder rows view numbers)
 
 removal_out : (folder destination : List ℕ) (m : Option ListedMessage) → filter (is_append_to destination) (expunge_of_moved folder m) ≡ []
 removal_out folder destination None = refl
@@ -69,81 +69,81 @@ removals_out folder destination rows view (n ∷ numbers) =
     ∙ removals_out folder destination rows view numbers
 
 -- the Appends among the operations of MOVE
-pub moves_kept : (folder destination : List ℕ) (rows : List ListedMessage) (view : List ViewEntry) (numbers : List ℕ)
+pub moves_filtered : (folder destination : List ℕ) (rows : List ListedMessage) (view : List ViewEntry) (numbers : List ℕ)
     → filter (is_append_to destination) (appends_of destination rows view numbers ++ expunges_of_moved folder rows view numbers) ≡ appends_of destination rows view numbers
-moves_kept folder destination rows view numbers =
+moves_filtered folder destination rows view numbers =
     let appends = appends_of destination rows view numbers in
     filter_more (is_append_to destination) appends (expunges_of_moved folder rows view numbers)
-    ∙ ap (λ (ks : List Kind). ks ++ filter (is_append_to destination) (expunges_of_moved folder rows view numbers)) (appends_kept destination rows view numbers)
+    ∙ ap (λ (ks : List Kind). ks ++ filter (is_append_to destination) (expunges_of_moved folder rows view numbers)) (appends_filtered destination rows view numbers)
     ∙ ap (λ (ks : List Kind). appends ++ ks) (removals_out folder destination rows view numbers)
     ∙ append-nil appends
 
-pub kinds_are : (folder : List ℕ) (issued : List Op) (wanted appends : List Kind) → map (λ (o : Op). o.kind) issued ≡ wanted → filter (is_append_to folder) wanted ≡ appends → map (λ (o : Op). o.kind) (appends_among folder issued) ≡ appends
-kinds_are folder issued wanted appends e f = kinds_among folder issued ∙ ap (filter (is_append_to folder)) e ∙ f
+pub kinds_are : (folder : List ℕ) (issued : List Op) (intended appends : List Kind) → map (λ (o : Op). o.kind) issued ≡ intended → filter (is_append_to folder) intended ≡ appends → map (λ (o : Op). o.kind) (appends_among folder issued) ≡ appends
+kinds_are folder issued intended appends e f = kinds_among folder issued ∙ ap (filter (is_append_to folder)) e ∙ f
 
 -- ---- each source with its copy
 
-row_found : (uid : ℕ) (rows : List ListedMessage) (row : ListedMessage) → row_of uid rows ≡ Some row → IsIn row rows × (row.uid ≡ uid)
-row_found uid [] row e = absurd cc
-row_found uid (r ∷ rows) row e =
+row_of_in : (uid : ℕ) (rows : List ListedMessage) (row : ListedMessage) → row_of uid rows ≡ Some row → IsIn row rows × (row.uid ≡ uid)
+row_of_in uid [] row e = absurd cc
+row_of_in uid (r ∷ rows) row e =
     elim (eqb_tells r.uid uid) [
       | inl t ↦
           let k : ◌≡◌ {A = Option ListedMessage} (Some r) (Some row) = subst (λ (b : Bool). (if b then Some r else row_of uid rows) ≡ Some row) t.0 e in
           let same : r ≡ row = cc in
           (inl same, ap (λ (x : ListedMessage). x.uid) (sym same) ∙ t.1)
-      | inr f ↦ let more = row_found uid rows row (subst (λ (b : Bool). (if b then Some r else row_of uid rows) ≡ Some row) f.0 e) in (inr more.0, more.1)
+      | inr f ↦ let more = row_of_in uid rows row (subst (λ (b : Bool). (if b then Some r else row_of uid rows) ≡ Some row) f.0 e) in (inr more.0, more.1)
     ]
 
-message_found : (rows : List ListedMessage) (o : Option ViewEntry) (row : ListedMessage) → row_for rows o ≡ Some row → IsIn row rows × (row.uid ≡ uid_in o)
-message_found rows None row e = absurd cc
-message_found rows (Some entry) row e = row_found entry.uid rows row e
+row_for_in : (rows : List ListedMessage) (o : Option ViewEntry) (row : ListedMessage) → row_for rows o ≡ Some row → IsIn row rows × (row.uid ≡ uid_in o)
+row_for_in rows None row e = absurd cc
+row_for_in rows (Some entry) row e = row_of_in entry.uid rows row e
 
 cases_message : (m : Option ListedMessage) → (m ≡ None) ⊎ ((row : ListedMessage) × (m ≡ Some row))
 cases_message None = inl refl
 cases_message (Some row) = inr (row, refl)
 
-module _ (rows landed : List ListedMessage) (name : List ℕ) (view : List ViewEntry) where
+module _ (rows added : List ListedMessage) (name : List ℕ) (view : List ViewEntry) where
   abbrev sources : List ℕ → List ℕ
   sources numbers = map (name_at true view) (existing_messages rows view numbers)
 
-  copied_first : (n : ℕ) (row : ListedMessage) (numbers : List ℕ) (ops : List Op) (new : List ListedMessage) → row_for rows (entry_at view n) ≡ Some row → ((r : ListedMessage) → IsIn r new → IsIn r landed)
+  copied_first : (n : ℕ) (row : ListedMessage) (numbers : List ℕ) (ops : List Op) (new : List ListedMessage) → row_for rows (entry_at view n) ≡ Some row → ((r : ListedMessage) → IsIn r new → IsIn r added)
       → map (λ (r : ListedMessage). r.origin) new ≡ map id_of ops → map (λ (o : Op). o.kind) ops ≡ kinds.Append name row.flags row.date row.text ∷ appends_of name rows view numbers
-      → ((os : List Op) (rs : List ListedMessage) → ((r : ListedMessage) → IsIn r rs → IsIn r landed) → map (λ (r : ListedMessage). r.origin) rs ≡ map id_of os → map (λ (o : Op). o.kind) os ≡ appends_of name rows view numbers
-      → AreCopied rows landed name (sources numbers) (map (λ (r : ListedMessage). r.uid) rs) os)
-      → AreCopied rows landed name (name_at true view n ∷ sources numbers) (map (λ (r : ListedMessage). r.uid) new) ops
+      → ((os : List Op) (rs : List ListedMessage) → ((r : ListedMessage) → IsIn r rs → IsIn r added) → map (λ (r : ListedMessage). r.origin) rs ≡ map id_of os → map (λ (o : Op). o.kind) os ≡ appends_of name rows view numbers
+      → AreCopied rows added name (sources numbers) (map (λ (r : ListedMessage). r.uid) rs) os)
+      → AreCopied rows added name (name_at true view n ∷ sources numbers) (map (λ (r : ListedMessage). r.uid) new) ops
   copied_first n row numbers [] new f h e k more = absurd cc
   copied_first n row numbers (op ∷ ops) [] f h e k more = absurd cc
   copied_first n row numbers (op ∷ ops) (r ∷ new) f h e k more =
-      let found = message_found rows (entry_at view n) row f in
+      let row_is = row_for_in rows (entry_at view n) row f in
       let first : r.origin ≡ op.id = cc in
       let rest : map (λ (r : ListedMessage). r.origin) new ≡ map id_of ops = cc in
       let kind : op.kind ≡ kinds.Append name row.flags row.date row.text = cc in
       let others : map (λ (o : Op). o.kind) ops ≡ appends_of name rows view numbers = cc in (
         record {
           message = row;
-          there = found.0;
-          numbered = found.1;
+          listed = row_is.0;
+          numbered = row_is.1;
           bears = kind;
-          landed = record { row = r; there = h r (inl refl); numbered = refl; appended = first };
+          added = record { row = r; listed = h r (inl refl); numbered = refl; appended = first };
         },
         more ops new (λ x i. h x (inr i)) rest others,
       )
 
-  pub copied_all : (numbers : List ℕ) (ops : List Op) (new : List ListedMessage) → ((r : ListedMessage) → IsIn r new → IsIn r landed)
+  pub copied_all : (numbers : List ℕ) (ops : List Op) (new : List ListedMessage) → ((r : ListedMessage) → IsIn r new → IsIn r added)
       → map (λ (r : ListedMessage). r.origin) new ≡ map id_of ops → map (λ (o : Op). o.kind) ops ≡ appends_of name rows view numbers
-      → AreCopied rows landed name (sources numbers) (map (λ (r : ListedMessage). r.uid) new) ops
+      → AreCopied rows added name (sources numbers) (map (λ (r : ListedMessage). r.uid) new) ops
   copied_all [] [] [] h e k = tt
   copied_all [] [] (r ∷ new) h e k = absurd cc
   copied_all [] (op ∷ ops) new h e k = absurd cc
   copied_all (n ∷ numbers) ops new h e k =
       elim (cases_message (message_at rows view n)) [
         | inl none ↦
-            let there : existing_messages rows view (n ∷ numbers) ≡ existing_messages rows view numbers = ap (λ (m : Option ListedMessage). if not (is_gone m) then n ∷ existing_messages rows view numbers else existing_messages rows view numbers) none in
+            let listed : existing_messages rows view (n ∷ numbers) ≡ existing_messages rows view numbers = ap (λ (m : Option ListedMessage). if not (is_gone m) then n ∷ existing_messages rows view numbers else existing_messages rows view numbers) none in
             let kind : appends_of name rows view (n ∷ numbers) ≡ appends_of name rows view numbers = ap (λ (m : Option ListedMessage). append_of name m ++ appends_of name rows view numbers) none in
-            subst (λ (ns : List ℕ). AreCopied rows landed name (map (name_at true view) ns) (map (λ (r : ListedMessage). r.uid) new) ops) (sym there) (copied_all numbers ops new h e (k ∙ kind))
+            subst (λ (ns : List ℕ). AreCopied rows added name (map (name_at true view) ns) (map (λ (r : ListedMessage). r.uid) new) ops) (sym listed) (copied_all numbers ops new h e (k ∙ kind))
         | inr (row, some) ↦
-            let there : existing_messages rows view (n ∷ numbers) ≡ n ∷ existing_messages rows view numbers = ap (λ (m : Option ListedMessage). if not (is_gone m) then n ∷ existing_messages rows view numbers else existing_messages rows view numbers) some in
+            let listed : existing_messages rows view (n ∷ numbers) ≡ n ∷ existing_messages rows view numbers = ap (λ (m : Option ListedMessage). if not (is_gone m) then n ∷ existing_messages rows view numbers else existing_messages rows view numbers) some in
             let kind : appends_of name rows view (n ∷ numbers) ≡ kinds.Append name row.flags row.date row.text ∷ appends_of name rows view numbers = ap (λ (m : Option ListedMessage). append_of name m ++ appends_of name rows view numbers) some in
-            subst (λ (ns : List ℕ). AreCopied rows landed name (map (name_at true view) ns) (map (λ (r : ListedMessage). r.uid) new) ops) (sym there)
+            subst (λ (ns : List ℕ). AreCopied rows added name (map (name_at true view) ns) (map (λ (r : ListedMessage). r.uid) new) ops) (sym listed)
             (copied_first n row numbers ops new some h e (k ∙ kind) (copied_all numbers))
       ]

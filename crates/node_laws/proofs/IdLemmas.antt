@@ -21,14 +21,14 @@ use Rattle.uid_projection.specs.Incarnations.{folder_exists}
 use Rattle.uid_projection.specs.UidsAndModSeqs.{has_version, origin_added, uidnext_of}
 use Rattle.uid_projection.specs.Listing.{listed_message_of, listing}
 use Rattle.uid_projection.proofs.ChartOf.{charted}
-use Rattle.uid_projection.proofs.Listed.{row_from}
+use Rattle.uid_projection.proofs.SortedRowLemmas.{row_from}
 use Rattle.uid_projection.proofs.Presence.{applied_front}
 use Rattle.uid_projection.proofs.RowLemmas.{rising_chart, rows_listed}
 use Rattle.uid_projection.proofs.Steps.{uid_new}
 use Rattle.uid_projection.proofs.Versions.{origin_applied, origin_new, version_in}
-use Rattle.imap_node.proofs.ThereLemmas.{IsNoDelete, added_there}
-use Rattle.imap_node.proofs.LandingLemmas.{IsCopying, appends_to, landing, rows_are_landed}
-use Rattle.node_laws.specs.Copies.{IsLanded, appends_among, is_append_to}
+use Rattle.imap_node.proofs.ExistingFolderLemmas.{IsNoDelete, added_present}
+use Rattle.imap_node.proofs.CopyTargetLemmas.{IsCopying, appends_to, added_origins, rows_are_added}
+use Rattle.node_laws.specs.Copies.{IsAddedRow, appends_among, is_append_to}
 use Rattle.crdt_ops.specs.Ops.{id_of}
 
 -- ---- operations that copy
@@ -37,8 +37,8 @@ pub copying_stays : (before : List Op) (kind : Kind) → IsCopying before kind �
 copying_stays before (kinds.Create name) h = tt
 copying_stays before (kinds.Delete name seen) h = absurd h
 copying_stays before (kinds.Append name flags date text) h = tt
-copying_stays before (kinds.Expunge name olds) h = tt
-copying_stays before (kinds.Store name flags olds origin) h = tt
+copying_stays before (kinds.Expunge name old_ids) h = tt
+copying_stays before (kinds.Store name flags old_ids origin) h = tt
 copying_stays before (kinds.Subscribe name) h = tt
 copying_stays before (kinds.Unsubscribe name seen) h = tt
 
@@ -52,17 +52,17 @@ one_test : (folder : List ℕ) (kind : Kind) → appends_to folder kind ≡ is_a
 one_test folder (kinds.Create name) = refl
 one_test folder (kinds.Delete name seen) = refl
 one_test folder (kinds.Append name flags date text) = refl
-one_test folder (kinds.Expunge name olds) = refl
-one_test folder (kinds.Store name flags olds origin) = refl
+one_test folder (kinds.Expunge name old_ids) = refl
+one_test folder (kinds.Store name flags old_ids origin) = refl
 one_test folder (kinds.Subscribe name) = refl
 one_test folder (kinds.Unsubscribe name seen) = refl
 
-landing_is : (folder : List ℕ) (ops : List Op) → landing folder ops ≡ map id_of (appends_among folder ops)
-landing_is folder ops = λ i. map id_of (filter (λ (o : Op). one_test folder o.kind i) ops)
+added_origins_is : (folder : List ℕ) (ops : List Op) → added_origins folder ops ≡ map id_of (appends_among folder ops)
+added_origins_is folder ops = λ i. map id_of (filter (λ (o : Op). one_test folder o.kind i) ops)
 
-origins_kept : (start : Counters) (folder : List ℕ) (ops : List Op) (origins : List OpId) → map (λ (row : ListedMessage). row.origin) (map (listed_message_of start folder ops) origins) ≡ origins
-origins_kept start folder ops [] = refl
-origins_kept start folder ops (g ∷ origins) = ap (λ (ids : List OpId). g ∷ ids) (origins_kept start folder ops origins)
+origins_listed : (start : Counters) (folder : List ℕ) (ops : List Op) (origins : List OpId) → map (λ (row : ListedMessage). row.origin) (map (listed_message_of start folder ops) origins) ≡ origins
+origins_listed start folder ops [] = refl
+origins_listed start folder ops (g ∷ origins) = ap (λ (ids : List OpId). g ∷ ids) (origins_listed start folder ops origins)
 
 listing_rises : (start : Counters) (folder : List ℕ) (ops : List Op) → 1 ≤ start.uid → IsApplied ops → AreRisingRows 1 (listing start folder ops)
 listing_rises start folder ops l a =
@@ -70,12 +70,12 @@ listing_rises start folder ops l a =
     subst (AreRisingRows 1) (rows_listed start folder ops c.2 c.3.are_entries c.3.ascending) (rising_chart start folder ops c.0 c.1 c.2 l c.3)
 
 -- the rows with UIDs from the former UIDNEXT on are, one by one, those of the Appends
-pub ids_landed : (start : Counters) (folder : List ℕ) (before issued : List Op) → 1 ≤ start.uid → 1 ≤ uidnext_of start folder before → IsApplied (before ++ issued) → folder_exists folder before ≡ true → ((o : Op) → IsIn o issued → IsCopying before o.kind)
+pub ids_added : (start : Counters) (folder : List ℕ) (before issued : List Op) → 1 ≤ start.uid → 1 ≤ uidnext_of start folder before → IsApplied (before ++ issued) → folder_exists folder before ≡ true → ((o : Op) → IsIn o issued → IsCopying before o.kind)
     → map (λ (row : ListedMessage). row.origin) (rows_after_uid (uidnext_of start folder before - 1) (listing start folder (before ++ issued))) ≡ map id_of (appends_among folder issued)
-ids_landed start folder before issued first least a t c =
-    ap (map (λ (row : ListedMessage). row.origin)) (rows_are_landed start folder before issued least a (listing_rises start folder (before ++ issued) first a) t c)
-    ∙ origins_kept start folder (before ++ issued) (landing folder issued)
-    ∙ landing_is folder issued
+ids_added start folder before issued first least a t c =
+    ap (map (λ (row : ListedMessage). row.origin)) (rows_are_added start folder before issued least a (listing_rises start folder (before ++ issued) first a) t c)
+    ∙ origins_listed start folder (before ++ issued) (added_origins folder issued)
+    ∙ added_origins_is folder issued
 
 -- ---- one Append
 
@@ -87,24 +87,24 @@ put_of : (folder : List ℕ) (id : OpId) (kind : Kind) → is_append_to folder k
 put_of folder id (kinds.Append name flags date text) c = record { own = and_from (bytes_eq folder name) (same_id id id) c ((ids_decide id id).1 refl); origin = refl }
 put_of folder id _ c = absurd (false≢true c)
 
-is_begun : (x y : Bool) → x ≡ true → y ≡ false → (x && not y) ≡ true
-is_begun true false p q = refl
-is_begun true true p q = absurd (false≢true (sym q))
-is_begun false y p q = absurd (false≢true p)
+and_not_true : (x y : Bool) → x ≡ true → y ≡ false → (x && not y) ≡ true
+and_not_true true false p q = refl
+and_not_true true true p q = absurd (false≢true (sym q))
+and_not_true false y p q = absurd (false≢true p)
 
 -- its message gets the former UIDNEXT
-pub append_landed : (start : Counters) (folder : List ℕ) (before : List Op) (o : Op) → IsApplied (before ++ o ∷ []) → folder_exists folder (before ++ o ∷ []) ≡ true → is_append_to folder o.kind ≡ true
-    → IsLanded (listing start folder (before ++ o ∷ [])) (uidnext_of start folder before) o
-append_landed start folder before o a t is =
+pub append_added : (start : Counters) (folder : List ℕ) (before : List Op) (o : Op) → IsApplied (before ++ o ∷ []) → folder_exists folder (before ++ o ∷ []) ≡ true → is_append_to folder o.kind ≡ true
+    → IsAddedRow (listing start folder (before ++ o ∷ [])) (uidnext_of start folder before) o
+append_added start folder before o a t is =
     let ops = before ++ o ∷ [] in
     let puts = put_of folder o.id o.kind is in
     let fresh : Has before o.id → ⊥ = (a.causal before o [] refl).1 in
     let none : has_version folder o.id before ≡ false = false_from_ne_true (has_version folder o.id before) (λ h. fresh (origin_applied folder before o.id (applied_front before (o ∷ []) a) h)) in
     let added : origin_added folder o ≡ Some o.id = ap (option_map (λ (b : MessageTagData). b.origin)) (ap (λ (b : Bool). cond {A = Option MessageTagData} b (tag_data_by o.id o.kind) None) puts.own) ∙ puts.origin in
-    let there : has_version folder o.id ops ≡ true = (version_in folder ops o.id).1 (o.id, (added_there before o (MessageTag folder o.id) a puts.own, origin_new folder before o a puts.own ∙ added)) in
+    let listed : has_version folder o.id ops ≡ true = (version_in folder ops o.id).1 (o.id, (added_present before o (MessageTag folder o.id) a puts.own, origin_new folder before o a puts.own ∙ added)) in
     record {
       row = listed_message_of start folder ops o.id;
-      there = row_from start folder ops o.id there;
-      numbered = uid_new start folder before o o.id t (is_begun (has_version folder o.id ops) (has_version folder o.id before) there none);
+      listed = row_from start folder ops o.id listed;
+      numbered = uid_new start folder before o o.id t (and_not_true (has_version folder o.id ops) (has_version folder o.id before) listed none);
       appended = refl;
     }

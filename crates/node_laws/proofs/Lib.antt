@@ -1,5 +1,5 @@
 pub mod ByNumberLemmas
 mod IdLemmas
 mod CopyLemmas
-mod ToldLemmas
+mod ReplyLemmas
 mod UnionLemmas

@@ -15,9 +15,9 @@ use Rattle.imap_node.specs.declared.reply.Reply.TheVariants.{Done, Refused}
 -- Whether a command is FETCH, STORE or SEARCH by message numbers, and not by UIDs (RFC 9051,
 -- section 7.5.1).
 abbrev pub is_by_number : Command → Bool
-is_by_number (commands.Search asked) = not asked.by_uid
-is_by_number (commands.Fetch asked) = not asked.by_uid
-is_by_number (commands.Store asked) = not asked.by_uid
+is_by_number (commands.Search request) = not request.by_uid
+is_by_number (commands.Fetch request) = not request.by_uid
+is_by_number (commands.Store request) = not request.by_uid
 is_by_number _ = false
 
 -- Whether an input is such a command.
@@ -43,7 +43,7 @@ pub record KeepsPlaces (before after : ViewState) : Type 0 where
   pub uids : BeginsWith (uids_of before.entries) (uids_of after.entries)
 
 -- If a session had a view, it still has one, in which each message keeps its number.
-abbrev pub AreKeptInPlace : Option ViewState → Option ViewState → Type 0
-AreKeptInPlace before after =
+abbrev pub ViewKeepsPlaces : Option ViewState → Option ViewState → Type 0
+ViewKeepsPlaces before after =
     (view : ViewState) → before ≡ Some view
     → (now : ViewState) × (after ≡ Some now) × KeepsPlaces view now

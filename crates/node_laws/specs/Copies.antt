@@ -22,8 +22,8 @@ use Rattle.uid_projection.specs.Incarnations.{uidvalidity_of}
 use Rattle.uid_projection.specs.Listing.{listing}
 
 -- The input of a command with its tag, at a moment.
-abbrev pub asked : ℕ → List ℕ → Command → Input
-asked moment tag command = inputs.Command moment (record { tag = tag; command = command })
+abbrev pub request : ℕ → List ℕ → Command → Input
+request moment tag command = inputs.Command moment (record { tag = tag; command = command })
 
 -- A tagged line with this code is among the answers.
 abbrev pub HasCode : Code → List Answer → Type 0
@@ -40,9 +40,9 @@ abbrev pub appends_among : List ℕ → List Op → List Op
 appends_among name ops = filter (λ (o : Op). is_append_to name o.kind) ops
 
 -- The message with this UID is the one that the operation appended.
-pub record IsLanded (rows : List ListedMessage) (number : ℕ) (op : Op) : Type 0 where
+pub record IsAddedRow (rows : List ListedMessage) (number : ℕ) (op : Op) : Type 0 where
   pub row : ListedMessage
-  pub there : IsIn row rows
+  pub listed : IsIn row rows
   pub numbered : row.uid ≡ number
   pub appended : row.origin ≡ op.id
 
@@ -50,10 +50,10 @@ pub record IsLanded (rows : List ListedMessage) (number : ℕ) (op : Op) : Type 
 pub record IsCopied (before after : List ListedMessage) (name : List ℕ) (source copy : ℕ) (op : Op)
     : Type 0 where
   pub message : ListedMessage
-  pub there : IsIn message before
+  pub listed : IsIn message before
   pub numbered : message.uid ≡ source
   pub bears : op.kind ≡ Append name message.flags message.date message.text
-  pub landed : IsLanded after copy op
+  pub added : IsAddedRow after copy op
 
 -- Each source has its copy and its operation, at the same place.
 abbrev pub AreCopied : List ListedMessage → List ListedMessage → List ℕ → List ℕ → List ℕ → List Op
@@ -66,7 +66,7 @@ AreCopied before after name _ _ _ = ⊥
 -- COPYUID is right (RFC 9051, section 7.1): the mailbox has this UIDVALIDITY, and each message of
 -- the view with a UID of the sources was appended to it as the message with the UID at the same
 -- place among the copies.
-pub record AreCopiesTold (old new : NodeState) (view : ViewState) (name : List ℕ) (issued : List Op)
+pub record IsCopyUid (old new : NodeState) (view : ViewState) (name : List ℕ) (issued : List Op)
     (uidvalidity : ℕ) (sources copies : List ℕ) : Type 0 where
   pub under : uidvalidity_of new.start name new.applied ≡ Some uidvalidity
   pub copied : AreCopied (rows_for old.start old.applied view) (listing new.start name new.applied)
@@ -74,9 +74,9 @@ pub record AreCopiesTold (old new : NodeState) (view : ViewState) (name : List �
 
 -- APPENDUID is right (RFC 9051, section 7.1): the mailbox has this UIDVALIDITY, and the one
 -- operation that was issued appended the message with this UID.
-pub record IsAppendTold (new : NodeState) (name : List ℕ) (issued : List Op)
+pub record IsAppendUid (new : NodeState) (name : List ℕ) (issued : List Op)
     (uidvalidity number : ℕ) : Type 0 where
   pub under : uidvalidity_of new.start name new.applied ≡ Some uidvalidity
   pub op : Op
   pub only : issued ≡ op ∷ []
-  pub landed : IsLanded (listing new.start name new.applied) number op
+  pub added : IsAddedRow (listing new.start name new.applied) number op

@@ -4,7 +4,7 @@
 //!
 //! - `by_number_keeps_places`: FETCH, STORE and SEARCH by message numbers are answered without
 //!   EXPUNGE, and each message that the session was shown before keeps its number.
-//! - `told_uids_are_those_of_the_messages`: the UIDs of APPENDUID and COPYUID are those of the
+//! - `reported_uids_are_those_of_the_messages`: the UIDs of APPENDUID and COPYUID are those of the
 //!   messages that the command appended.
 //! - `flags_are_unions`: the flags of a message with several versions are the union of its
 //!   versions' flags.
@@ -15,5 +15,5 @@
 mod laws;
 mod unions;
 
-pub use laws::{by_number_keeps_places, told_uids_are_those_of_the_messages};
+pub use laws::{by_number_keeps_places, reported_uids_are_those_of_the_messages};
 pub use unions::flags_are_unions;

@@ -1,33 +1,35 @@
 //! The notes that a feed holds, and sessions that learn of more changes than their feed holds.
 
-use crate::talks::{Talk, answers, begin, begin_at, deliver_last, may_be_behind};
+use crate::node_sessions::{
+    NodeSession, answers, begin, begin_at, deliver_last, may_have_unsent_changes,
+};
 use idle_feed::{Feed, TakenNotes};
 use session_view::Note;
 use std::alloc::Global;
 
 #[test]
-fn a_feed_gives_the_notes_that_came(rt: HostRuntime) {
+fn a_feed_gives_its_notes(rt: HostRuntime) {
     assert!(rt; takes(rt.alloc(), 3) == Some((Some(3), Some(0))));
     assert!(rt; takes(rt.alloc(), 4_096) == Some((Some(4_096), Some(0))));
 }
 
 #[test]
-fn a_feed_that_missed_a_note_says_so_once(rt: HostRuntime) {
+fn a_feed_that_missed_a_note_resyncs_once(rt: HostRuntime) {
     assert!(rt; takes(rt.alloc(), 4_097) == Some((None, Some(0))));
 }
 
 #[test]
-fn more_changes_than_a_feed_keeps_are_told(rt: HostRuntime) {
-    assert!(rt; is_told_behind(rt.alloc(), 4_097) == Some(true));
+fn more_changes_than_a_feed_holds_are_sent(rt: HostRuntime) {
+    assert!(rt; is_sent_once(rt.alloc(), 4_097) == Some(true));
 }
 
 #[test]
-fn as_many_changes_as_a_feed_keeps_are_told(rt: HostRuntime) {
-    assert!(rt; is_told_behind(rt.alloc(), 3) == Some(true));
+fn as_many_changes_as_a_feed_holds_are_sent(rt: HostRuntime) {
+    assert!(rt; is_sent_once(rt.alloc(), 3) == Some(true));
 }
 
 #[test]
-fn a_session_is_behind_only_what_it_was_not_told(rt: HostRuntime) {
+fn own_commands_leave_nothing_unsent(rt: HostRuntime) {
     let own = [
         "c FETCH 1 FLAGS\r\n",
         "d NOOP\r\n",
@@ -40,11 +42,11 @@ fn a_session_is_behind_only_what_it_was_not_told(rt: HostRuntime) {
         "j APPEND INBOX {1+}\r\ny\r\n",
         "k APPEND other {1+}\r\ny\r\n",
     ];
-    assert!(rt; is_behind_after(rt.alloc(), &own, b"----------") == Some(true));
+    assert!(rt; has_unsent_after(rt.alloc(), &own, b"----------") == Some(true));
 }
 
 #[test]
-fn a_session_is_behind_what_another_replica_did_until_it_is_told(rt: HostRuntime) {
+fn changes_elsewhere_are_unsent_until_shown(rt: HostRuntime) {
     let mixed = [
         "c FETCH 1 FLAGS\r\n",
         "elsewhere d APPEND INBOX {1+}\r\ny\r\n",
@@ -60,11 +62,11 @@ fn a_session_is_behind_what_another_replica_did_until_it_is_told(rt: HostRuntime
         "n IDLE\r\n",
         "DONE\r\n",
     ];
-    assert!(rt; is_behind_after(rt.alloc(), &mixed, b"-!-!-!!---!!-") == Some(true));
+    assert!(rt; has_unsent_after(rt.alloc(), &mixed, b"-!-!-!!---!!-") == Some(true));
 }
 
 #[test]
-fn a_session_is_not_behind_what_select_shows(rt: HostRuntime) {
+fn select_leaves_nothing_unsent(rt: HostRuntime) {
     let selected = [
         "c SELECT INBOX\r\n",
         "d EXAMINE INBOX\r\n",
@@ -75,13 +77,13 @@ fn a_session_is_not_behind_what_select_shows(rt: HostRuntime) {
         "i SELECT INBOX\r\n",
         "j FETCH 2 FLAGS\r\n",
     ];
-    assert!(rt; is_behind_after(rt.alloc(), &selected, b"--!-----") == Some(true));
+    assert!(rt; has_unsent_after(rt.alloc(), &selected, b"--!-----") == Some(true));
 }
 
 /// Whether, after each of these steps, something may have to be sent to a session that has selected
 /// INBOX with one message: `!` in `expected` for yes, `-` for no. A step `elsewhere ..` is another
 /// replica's, which delivers its last operation.
-fn is_behind_after(alloc: Global, steps: &[&str], marks: &[u8]) -> Option<bool> {
+fn has_unsent_after(alloc: Global, steps: &[&str], expected: &[u8]) -> Option<bool> {
     let mut other = begin(alloc, "joe", "secret")?;
     let mut reader = begin_at(alloc, 2, "joe", "secret")?;
     answers(
@@ -95,16 +97,26 @@ fn is_behind_after(alloc: Global, steps: &[&str], marks: &[u8]) -> Option<bool> 
         &mut reader,
         "a LOGIN joe secret\r\nb SELECT INBOX\r\n",
     )?;
-    let mut told = Vec::new(alloc);
+    let mut output = Vec::new(alloc);
     for step in steps {
         take_step(alloc, &mut other, &mut reader, step)?;
-        told.push(if may_be_behind(&reader) { b'!' } else { b'-' })
+        output
+            .push(if may_have_unsent_changes(&reader) {
+                b'!'
+            } else {
+                b'-'
+            })
             .ok()?;
     }
-    Some(told.as_slice() == marks)
+    Some(output.as_slice() == expected)
 }
 
-fn take_step(alloc: Global, other: &mut Talk, reader: &mut Talk, step: &str) -> Option<()> {
+fn take_step(
+    alloc: Global,
+    other: &mut NodeSession,
+    reader: &mut NodeSession,
+    step: &str,
+) -> Option<()> {
     match step.strip_prefix("elsewhere ") {
         Some(text) => {
             answers(alloc, other, text)?;
@@ -137,7 +149,7 @@ fn taken(feed: &mut Feed) -> Option<usize> {
 
 /// Whether a session at one replica is sent one answer for `changes` changes, an odd number, that
 /// another replica makes to the flags of its only message.
-fn is_told_behind(alloc: Global, changes: u32) -> Option<bool> {
+fn is_sent_once(alloc: Global, changes: u32) -> Option<bool> {
     let mut writer = begin(alloc, "joe", "secret")?;
     let mut reader = begin_at(alloc, 2, "joe", "secret")?;
     answers(
@@ -160,9 +172,9 @@ fn is_told_behind(alloc: Global, changes: u32) -> Option<bool> {
         answers(alloc, &mut writer, command)?;
         deliver_last(alloc, &writer, &mut reader)?;
     }
-    let told = answers(alloc, &mut reader, "d NOOP\r\ne NOOP\r\n")?;
+    let output = answers(alloc, &mut reader, "d NOOP\r\ne NOOP\r\n")?;
     Some(
-        told.as_slice()
+        output.as_slice()
             == b"* 1 FETCH (UID 1 FLAGS (\\Seen))|d OK NOOP completed|e OK NOOP completed|".as_slice(),
     )
 }

@@ -4,15 +4,15 @@ use imap_lex::{Framer, Item, Limits};
 use std::alloc::Global;
 
 /// Whether a line is one frame, which yields the octets of the line.
-fn is_handed_over(alloc: Global, line: &[u8]) -> bool {
+fn yields_line(alloc: Global, line: &[u8]) -> bool {
     let mut framer = Framer::new(alloc, Limits::STANDARD);
     match framer.feed(alloc, line) {
-        Ok(mut items) => items.len() == 1 && hands_over(items.pop(), line),
+        Ok(mut items) => items.len() == 1 && yields_octets(items.pop(), line),
         Err(_) => false,
     }
 }
 
-fn hands_over(item: Option<Item>, octets: &[u8]) -> bool {
+fn yields_octets(item: Option<Item>, octets: &[u8]) -> bool {
     match item {
         Some(Item::Frame(frame)) => frame.into_bytes().as_slice() == octets,
         _ => false,
@@ -20,6 +20,6 @@ fn hands_over(item: Option<Item>, octets: &[u8]) -> bool {
 }
 
 #[test]
-fn frames_hand_over_their_octets(rt: HostRuntime) {
-    assert!(rt; is_handed_over(rt.alloc(), b"a NOOP\r\n"));
+fn frames_yield_their_octets(rt: HostRuntime) {
+    assert!(rt; yields_line(rt.alloc(), b"a NOOP\r\n"));
 }

@@ -5,19 +5,19 @@ use imap_connection::{
     others_come_between, pieces_are_one_stream,
 };
 use imap_grammar::one_reading;
-use imap_lex::{any_cuts, faults_come_first, frames_are_given, given_are_frames};
+use imap_lex::{any_cuts, faults_come_first, frames_are_read, read_items_are_frames};
 use imap_node::{answers_are_printable, listings_are_showable};
 use uid_projection::{
-    concurrent_stores_leave_one_message, keywords_are_lawful, names_are_applied,
-    numbers_are_for_good, numbers_have_bounds, rows_are_writable, store_beside_expunge,
+    concurrent_store_and_expunge, concurrent_stores_leave_one_message, keywords_are_lawful,
+    names_are_applied, numbers_are_for_good, numbers_have_bounds, rows_are_writable,
     uids_are_apart,
 };
 
 #[test]
 fn laws_of_frames_can_be_called() {
     any_cuts();
-    frames_are_given();
-    given_are_frames();
+    frames_are_read();
+    read_items_are_frames();
     faults_come_first();
 }
 
@@ -39,7 +39,7 @@ fn laws_of_listings_can_be_called() {
     keywords_are_lawful();
     rows_are_writable();
     concurrent_stores_leave_one_message();
-    store_beside_expunge();
+    concurrent_store_and_expunge();
 }
 
 #[test]

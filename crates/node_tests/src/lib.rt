@@ -15,22 +15,22 @@
 #[cfg(test)]
 mod devices;
 #[cfg(test)]
+mod fake_port;
+#[cfg(test)]
 mod feeds;
 #[cfg(test)]
 mod frames;
-#[cfg(test)]
-mod kept;
 #[cfg(test)]
 mod laws;
 #[cfg(test)]
 mod login;
 #[cfg(test)]
-mod made_up;
+mod names;
+#[cfg(test)]
+mod node_sessions;
 #[cfg(test)]
 mod nodes;
 #[cfg(test)]
 mod programs;
-#[cfg(test)]
-mod talks;
 #[cfg(test)]
 mod wires;

@@ -1,7 +1,7 @@
 //! LOGIN, refused and then taken, and what a session may do before it (RFC 9051, sections 3 and
 //! 6.2.3).
 
-use crate::talks::{answers, begin, goes_on};
+use crate::node_sessions::{answers, begin, is_session_active};
 use std::alloc::Global;
 
 /// Commands before LOGIN and their answers: any session may send the first ones; all others need a
@@ -78,43 +78,43 @@ const LOGIN: [(&str, &str); 12] = [
 /// LOGOUT may come before LOGIN.
 const AT_ONCE: [(&str, &str); 1] = [("a LOGOUT\r\n", "* BYE logging out|a OK LOGOUT completed|")];
 
-/// The place of the first line, in a new session of joe's, with another answer than the expected
+/// The place of the first line, in a new session of joe's, whose answer isn't the expected
 /// one.
 fn first_wrong(alloc: Global, lines: &[(&str, &str)]) -> Option<usize> {
-    let Some(mut talk) = begin(alloc, "joe", "secret") else {
+    let Some(mut session) = begin(alloc, "joe", "secret") else {
         return Some(lines.len());
     };
-    lines.iter().position(|line| match answers(alloc, &mut talk, line.0) {
-        Some(told) => told.as_slice() != line.1.as_bytes(),
+    lines.iter().position(|line| match answers(alloc, &mut session, line.0) {
+        Some(output) => output.as_slice() != line.1.as_bytes(),
         None => true,
     })
 }
 
 /// Whether a session is open after these lines.
-fn goes_on_behind(alloc: Global, lines: &[(&str, &str)]) -> bool {
-    let Some(mut talk) = begin(alloc, "joe", "secret") else {
+fn is_active_after(alloc: Global, lines: &[(&str, &str)]) -> bool {
+    let Some(mut session) = begin(alloc, "joe", "secret") else {
         return false;
     };
     for line in lines {
-        let _ = answers(alloc, &mut talk, line.0);
+        let _ = answers(alloc, &mut session, line.0);
     }
-    goes_on(&talk)
+    is_session_active(&session)
 }
 
 #[test]
 fn a_session_waits_for_login(rt: HostRuntime) {
     assert_eq!(rt; first_wrong(rt.alloc(), &BEFORE), None);
-    assert!(rt; goes_on_behind(rt.alloc(), &BEFORE));
+    assert!(rt; is_active_after(rt.alloc(), &BEFORE));
 }
 
 #[test]
 fn login_is_refused_then_taken(rt: HostRuntime) {
     assert_eq!(rt; first_wrong(rt.alloc(), &LOGIN), None);
-    assert!(rt; !goes_on_behind(rt.alloc(), &LOGIN));
+    assert!(rt; !is_active_after(rt.alloc(), &LOGIN));
 }
 
 #[test]
-fn logout_comes_before_login(rt: HostRuntime) {
+fn logout_may_precede_login(rt: HostRuntime) {
     assert_eq!(rt; first_wrong(rt.alloc(), &AT_ONCE), None);
-    assert!(rt; !goes_on_behind(rt.alloc(), &AT_ONCE));
+    assert!(rt; !is_active_after(rt.alloc(), &AT_ONCE));
 }

@@ -18,7 +18,7 @@ const KNOWN: &[u8] =
     b"a APPEND INBOX {3+}\r\nabc\r\nb STATUS INBOX (MESSAGES UIDNEXT)\r\nc IDLE\r\nDONE\r\nz LOGOUT\r\n";
 
 /// The answers to that user.
-const TOLD: &[u8] =
+const OUTPUT: &[u8] =
     b"* PREAUTH [CAPABILITY IMAP4rev2 IDLE CONDSTORE] ready\r\na OK [APPENDUID 1 1] APPEND completed\r\n* STATUS INBOX (MESSAGES 1 UIDNEXT 2)\r\nb OK STATUS completed\r\n+ idling\r\nc OK IDLE completed\r\n* BYE logging out\r\nz OK LOGOUT completed\r\n";
 
 /// The commands of a user who must log in.
@@ -36,7 +36,7 @@ const ELSEWHERE: &[u8] = b"a APPEND INBOX {3+}\r\nabc\r\nb APPEND INBOX {3+}\r\n
 const MADE: &[u8] =
     b"* PREAUTH [CAPABILITY IMAP4rev2 IDLE CONDSTORE] ready\r\na OK [APPENDUID 2 1] APPEND completed\r\nb OK [APPENDUID 2 2] APPEND completed\r\n";
 
-/// The commands of a user to whose replica the other one's operations come, one before each
+/// The commands of a user whose replica receives the other one's operations, one before each
 /// command.
 const ASKED: &[u8] =
     b"a STATUS INBOX (MESSAGES UIDNEXT)\r\nb STATUS INBOX (MESSAGES UIDNEXT)\r\nc STATUS INBOX (MESSAGES UIDNEXT)\r\n";
@@ -63,7 +63,7 @@ fn port(alloc: Global, number: u32, auth: Auth) -> Option<NodePort<NoOthers>> {
 /// The operations that another replica issues in a conversation, the last first.
 fn issued<R: Wait>(rt: &R, alloc: Global, most: usize) -> Option<Vec<SoundOp>> {
     let mut port = port(alloc, 2, Auth::Preauth)?;
-    if !is_told(
+    if !ends_with_output(
         rt,
         alloc,
         &mut port,
@@ -90,25 +90,25 @@ fn user(alloc: Global, name: &[u8], password: &[u8]) -> Option<Auth> {
 
 /// Whether a conversation over this input, which comes in pieces of at most this many octets, ends
 /// so with this output.
-fn is_told<R: Wait, O: Others>(
+fn ends_with_output<R: Wait, O: Others>(
     rt: &R,
     alloc: Global,
     port: &mut NodePort<O>,
-    said: (&[u8], usize),
+    input: (&[u8], usize),
     ended: Ended,
-    told: &[u8],
+    output: &[u8],
 ) -> bool {
-    let mut source = MemorySource::new(said.0, said.1, u64::MAX);
+    let mut source = MemorySource::new(input.0, input.1, u64::MAX);
     let mut sink = MemorySink::new(Vec::new(alloc), u64::MAX);
     let end = converse(rt, alloc, &mut source, &mut sink, port);
-    end == ended && sink.octets() == told
+    end == ended && sink.octets() == output
 }
 
 /// Whether a known user is served up to the LOGOUT, and no other user after it.
 fn is_known_served<R: Wait>(rt: &R, alloc: Global, most: usize) -> Option<bool> {
     let mut port = port(alloc, 1, Auth::Preauth)?;
-    let served = is_told(rt, alloc, &mut port, (KNOWN, most), Ended::Logout, TOLD);
-    let again = is_told(
+    let served = ends_with_output(rt, alloc, &mut port, (KNOWN, most), Ended::Logout, OUTPUT);
+    let again = ends_with_output(
         rt,
         alloc,
         &mut port,
@@ -119,23 +119,23 @@ fn is_known_served<R: Wait>(rt: &R, alloc: Global, most: usize) -> Option<bool> 
     Some(served && again && port.node().replica().id() == ReplicaId::new(1)?)
 }
 
-/// Whether a user who must log in is let in with both name and password, and with nothing else.
+/// Whether a user who must log in can do so with both name and password, and not otherwise.
 fn is_unknown_served<R: Wait>(rt: &R, alloc: Global, most: usize) -> Option<bool> {
     let mut port = port(alloc, 1, user(alloc, b"me", b"secret")?)?;
     let ended = Ended::PeerClosed;
-    Some(is_told(rt, alloc, &mut port, (UNKNOWN, most), ended, LET_IN))
+    Some(ends_with_output(rt, alloc, &mut port, (UNKNOWN, most), ended, LET_IN))
 }
 
-/// Whether each command of a user is answered with what came from another replica before it.
-fn is_told_of_others<R: Wait>(rt: &R, alloc: Global, most: usize) -> Option<bool> {
+/// Whether each answer to a user includes what was received from another replica before it.
+fn are_others_shown<R: Wait>(rt: &R, alloc: Global, most: usize) -> Option<bool> {
     let others = Deliveries::new(Moment::epoch(), issued(rt, alloc, most)?);
     let mut port = NodePort::new(node(alloc, 1)?, Auth::Preauth, others);
     let ended = Ended::PeerClosed;
-    Some(is_told(rt, alloc, &mut port, (ASKED, most), ended, GROWN))
+    Some(ends_with_output(rt, alloc, &mut port, (ASKED, most), ended, GROWN))
 }
 
 #[test]
-fn a_node_is_talked_to(rt: HostRuntime) {
+fn a_node_converses(rt: HostRuntime) {
     nodes_converse::<Deliveries>();
     for most in [1usize, 4_096] {
         assert_eq!(rt; is_known_served(&rt, rt.alloc(), most), Some(true));
@@ -144,8 +144,8 @@ fn a_node_is_talked_to(rt: HostRuntime) {
 }
 
 #[test]
-fn operations_come_between_commands(rt: HostRuntime) {
+fn operations_arrive_between_commands(rt: HostRuntime) {
     for most in [1usize, 4_096] {
-        assert_eq!(rt; is_told_of_others(&rt, rt.alloc(), most), Some(true));
+        assert_eq!(rt; are_others_shown(&rt, rt.alloc(), most), Some(true));
     }
 }

@@ -1,7 +1,7 @@
 //! Devices of std that move one octet at a time, are interrupted, and fail.
 
-use crate::devices::{SAID, TOLD};
-use crate::made_up::MadeUp;
+use crate::devices::{INPUT, OUTPUT};
+use crate::fake_port::FakePort;
 use imap_connection::{Ended, Wire, converse};
 use std::alloc::Global;
 use std::io;
@@ -57,42 +57,42 @@ impl<T: Write> Write for Trickle<T> {
 /// How a conversation ended, its output, how many reads and writes failed, and how often the
 /// session was closed.
 #[derive(Drop)]
-struct Course {
+struct Conversation {
     ended: Ended,
-    told: Vec<u8>,
+    output: Vec<u8>,
     failed: (u64, u64),
     closed: u32,
 }
 
 /// A conversation over devices of std, which fail with `fault` after `reads` reads and `writes`
 /// writes, or move nothing if it is `None`.
-fn trickled<R: Wait>(
+fn run_trickled<R: Wait>(
     rt: &R,
     alloc: Global,
     reads: u64,
     writes: u64,
     fault: Option<ErrorKind>,
-) -> Course {
-    let mut told = Vec::new(alloc);
+) -> Conversation {
+    let mut output = Vec::new(alloc);
     let mut source = Wire::new(Trickle {
-        inner: SAID,
+        inner: INPUT,
         calls: 0,
         most: reads,
         fault,
     });
     let mut sink = Wire::new(Trickle {
-        inner: &mut told,
+        inner: &mut output,
         calls: 0,
         most: writes,
         fault,
     });
-    let mut port = MadeUp::new();
+    let mut port = FakePort::new();
     let ended = converse(rt, alloc, &mut source, &mut sink, &mut port);
     let failed = (source.failed(), sink.failed());
     drop(sink);
-    Course {
+    Conversation {
         ended,
-        told,
+        output,
         failed,
         closed: port.closed,
     }
@@ -108,67 +108,81 @@ const FAULTS: [Option<ErrorKind>; 4] = [
 
 /// Whether a conversation whose reads fail sent a prefix of the output, ended as its device did,
 /// and closed the session. The output is whole if the device lasted.
-fn is_lawful_reading(course: &Course, fault: Option<ErrorKind>) -> bool {
+fn is_lawful_reading(conversation: &Conversation, fault: Option<ErrorKind>) -> bool {
     let ended = match fault {
         Some(_) => Ended::ReadFailed,
         None => Ended::PeerClosed,
     };
-    let is_whole = course.ended == Ended::Logout && course.told.as_slice() == TOLD;
-    let is_cut = course.ended == ended && course.told.len() < TOLD.len();
-    TOLD.starts_with(&course.told)
+    let is_whole = conversation.ended == Ended::Logout && conversation.output.as_slice() == OUTPUT;
+    let is_cut = conversation.ended == ended && conversation.output.len() < OUTPUT.len();
+    OUTPUT.starts_with(&conversation.output)
         && (is_whole || is_cut)
-        && (course.ended == Ended::ReadFailed) == (course.failed.0 > 0)
-        && course.failed.1 == 0
-        && course.closed == 1
+        && (conversation.ended == Ended::ReadFailed) == (conversation.failed.0 > 0)
+        && conversation.failed.1 == 0
+        && conversation.closed == 1
 }
 
 /// Whether a conversation whose writes fail sent a prefix of the output, ended as its device did,
 /// and closed the session.
-fn is_lawful_writing(course: &Course) -> bool {
-    let is_whole = course.ended == Ended::Logout && course.told.as_slice() == TOLD;
-    let is_cut = course.ended == Ended::WriteFailed && course.told.len() < TOLD.len();
-    TOLD.starts_with(&course.told)
+fn is_lawful_writing(conversation: &Conversation) -> bool {
+    let is_whole = conversation.ended == Ended::Logout && conversation.output.as_slice() == OUTPUT;
+    let is_cut = conversation.ended == Ended::WriteFailed
+        && conversation.output.len() < OUTPUT.len();
+    OUTPUT.starts_with(&conversation.output)
         && (is_whole || is_cut)
-        && course.failed.0 == 0
-        && (course.ended == Ended::WriteFailed) == (course.failed.1 > 0)
-        && course.closed == 1
+        && conversation.failed.0 == 0
+        && (conversation.ended == Ended::WriteFailed) == (conversation.failed.1 > 0)
+        && conversation.closed == 1
 }
 
 /// Whether a conversation whose reads fail after `reads` is lawful.
-fn bears_reads<R: Wait>(rt: &R, alloc: Global, reads: u64, fault: Option<ErrorKind>) -> bool {
-    is_lawful_reading(&trickled(rt, alloc, reads, u64::MAX, fault), fault)
+fn is_lawful_with_reads<R: Wait>(
+    rt: &R,
+    alloc: Global,
+    reads: u64,
+    fault: Option<ErrorKind>,
+) -> bool {
+    is_lawful_reading(&run_trickled(rt, alloc, reads, u64::MAX, fault), fault)
 }
 
 /// The first number of reads after which a failure makes the conversation unlawful; the last
 /// numbers are more than it makes.
 fn first_unlawful_read<R: Wait>(rt: &R, alloc: Global, fault: Option<ErrorKind>) -> Option<u64> {
-    (0..200u64).find(|reads| !bears_reads(rt, alloc, *reads, fault))
+    (0..200u64).find(|reads| !is_lawful_with_reads(rt, alloc, *reads, fault))
 }
 
 /// The first number of writes after which a failure makes the conversation unlawful.
 fn first_unlawful_write<R: Wait>(rt: &R, alloc: Global, fault: Option<ErrorKind>) -> Option<u64> {
-    (0..500u64).find(|writes| !is_lawful_writing(&trickled(rt, alloc, u64::MAX, *writes, fault)))
+    (0..500u64).find(|writes| !is_lawful_writing(&run_trickled(
+        rt,
+        alloc,
+        u64::MAX,
+        *writes,
+        fault,
+    )))
 }
 
 #[test]
-fn octets_come_and_go_one_at_a_time(rt: HostRuntime) {
-    let course = trickled(&rt, rt.alloc(), u64::MAX, u64::MAX, None);
-    assert!(rt; course.ended == Ended::Logout);
-    assert!(rt; course.told.as_slice() == TOLD);
-    assert_eq!(rt; course.failed, (0, 0));
+fn octets_move_one_at_a_time(rt: HostRuntime) {
+    let conversation = run_trickled(&rt, rt.alloc(), u64::MAX, u64::MAX, None);
+    assert!(rt; conversation.ended == Ended::Logout);
+    assert!(rt; conversation.output.as_slice() == OUTPUT);
+    assert_eq!(rt; conversation.failed, (0, 0));
 }
 
 #[test]
 fn a_device_of_std_fails(rt: HostRuntime) {
     let fault = Some(ErrorKind::WouldBlock);
-    let course = trickled(&rt, rt.alloc(), 20, u64::MAX, fault);
-    assert!(rt; course.ended == Ended::ReadFailed);
-    assert!(rt; course.told.len() < TOLD.len() && TOLD.starts_with(&course.told));
-    assert_eq!(rt; course.failed, (1, 0));
-    let course = trickled(&rt, rt.alloc(), u64::MAX, 30, fault);
-    assert!(rt; course.ended == Ended::WriteFailed);
-    assert!(rt; course.told.as_slice() == &TOLD[..20]);
-    assert_eq!(rt; course.failed, (0, 1));
+    let conversation = run_trickled(&rt, rt.alloc(), 20, u64::MAX, fault);
+    assert!(rt; conversation.ended == Ended::ReadFailed);
+    assert!(rt;
+        conversation.output.len() < OUTPUT.len() && OUTPUT.starts_with(&conversation.output)
+    );
+    assert_eq!(rt; conversation.failed, (1, 0));
+    let conversation = run_trickled(&rt, rt.alloc(), u64::MAX, 30, fault);
+    assert!(rt; conversation.ended == Ended::WriteFailed);
+    assert!(rt; conversation.output.as_slice() == &OUTPUT[..20]);
+    assert_eq!(rt; conversation.failed, (0, 1));
 }
 
 #[test]

@@ -1,7 +1,7 @@
 //! Questions about ids and clocks.
 
 use crate::fields::{Gathers, entry, id, id_of, take_each};
-use case_lines::{Trouble, Words, pair, parted, replica};
+use case_lines::{Trouble, Words, pair, parts_around, replica};
 use std::alloc::{AllocError, Global};
 use tags_clocks::Clock;
 
@@ -26,16 +26,16 @@ pub enum ClockWord {
 
 /// Puts the answer to a question about ids or clocks.
 pub fn answer_clock(word: ClockWord, fields: &str, answer: &mut Words) {
-    let (first, second) = parted(fields, " ");
+    let (first, second) = parts_around(fields, " ");
     match word {
-        ClockWord::Id => tell_id(fields, answer),
+        ClockWord::Id => put_checked_id(fields, answer),
         ClockWord::Push => push_all(fields, answer),
-        ClockWord::Clock => tell_raised(word, "", fields, answer),
-        _ => tell_raised(word, first, second, answer),
+        ClockWord::Clock => put_raised(word, "", fields, answer),
+        _ => put_raised(word, first, second, answer),
     }
 }
 
-fn tell_id(fields: &str, answer: &mut Words) {
+fn put_checked_id(fields: &str, answer: &mut Words) {
     match pair(" ", fields) {
         Ok((replica, number)) => match id_of(replica, number) {
             Some(id) => answer.put_id(" ", id),
@@ -64,24 +64,24 @@ impl Gathers for Clock {
 }
 
 /// Puts the answer about the clock after these raises, and about what the line names before it.
-fn tell_raised(word: ClockWord, first: &str, raises: &str, answer: &mut Words) {
+fn put_raised(word: ClockWord, first: &str, raises: &str, answer: &mut Words) {
     match raised(answer.alloc(), raises) {
-        Ok(clock) => tell_clock(word, first, &clock, answer),
+        Ok(clock) => put_clock_answer(word, first, &clock, answer),
         Err(trouble) => answer.put_trouble(" ", trouble),
     }
 }
 
-fn tell_clock(word: ClockWord, first: &str, clock: &Clock, answer: &mut Words) {
+fn put_clock_answer(word: ClockWord, first: &str, clock: &Clock, answer: &mut Words) {
     match word {
-        ClockWord::Clock => tell_copied(clock, answer),
-        ClockWord::Number => tell_number(first, clock, answer),
-        ClockWord::Covers => tell_covered(first, clock, answer),
-        _ => tell_two(word, first, clock, answer),
+        ClockWord::Clock => put_copy(clock, answer),
+        ClockWord::Number => put_number_of(first, clock, answer),
+        ClockWord::Covers => put_covered(first, clock, answer),
+        _ => put_comparison(word, first, clock, answer),
     }
 }
 
 /// Puts a copy of the clock.
-fn tell_copied(clock: &Clock, answer: &mut Words) {
+fn put_copy(clock: &Clock, answer: &mut Words) {
     match clock.copy(answer.alloc()) {
         Ok(copied) => {
             answer.put_if(!copied.same(clock), " copied");
@@ -91,14 +91,14 @@ fn tell_copied(clock: &Clock, answer: &mut Words) {
     }
 }
 
-fn tell_number(of: &str, clock: &Clock, answer: &mut Words) {
+fn put_number_of(of: &str, clock: &Clock, answer: &mut Words) {
     match replica(of) {
         Ok(replica) => answer.put_number(" ", u64::from(clock.get(replica))),
         Err(trouble) => answer.put_trouble(" ", trouble),
     }
 }
 
-fn tell_covered(of: &str, clock: &Clock, answer: &mut Words) {
+fn put_covered(of: &str, clock: &Clock, answer: &mut Words) {
     match id(of) {
         Ok(id) => answer.put_whether(" ", clock.covers(id)),
         Err(trouble) => answer.put_trouble(" ", trouble),
@@ -106,26 +106,26 @@ fn tell_covered(of: &str, clock: &Clock, answer: &mut Words) {
 }
 
 /// Puts how the clock after these raises compares with another, or their join.
-fn tell_two(word: ClockWord, raises: &str, other: &Clock, answer: &mut Words) {
+fn put_comparison(word: ClockWord, raises: &str, other: &Clock, answer: &mut Words) {
     match raised(answer.alloc(), raises) {
         Ok(mut clock) => {
             if matches!(word, ClockWord::Compare) {
-                tell_order(&clock, other, answer);
+                put_order(&clock, other, answer);
             } else {
-                tell_joined(&mut clock, other, answer);
+                put_join(&mut clock, other, answer);
             }
         }
         Err(trouble) => answer.put_trouble(" ", trouble),
     }
 }
 
-fn tell_order(first: &Clock, second: &Clock, answer: &mut Words) {
+fn put_order(first: &Clock, second: &Clock, answer: &mut Words) {
     answer.put_name(" ", &first.compare(second));
     answer.put_if(first.is_covered_by(second), " within");
     answer.put_if(first.same(second), " same");
 }
 
-fn tell_joined(clock: &mut Clock, other: &Clock, answer: &mut Words) {
+fn put_join(clock: &mut Clock, other: &Clock, answer: &mut Words) {
     match clock.join(answer.alloc(), other) {
         Ok(()) => answer.put_clock(" ", clock),
         Err(AllocError) => answer.give_up(),

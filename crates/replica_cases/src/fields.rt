@@ -35,10 +35,10 @@ pub trait Gathers {
 pub fn take_each<G: Gathers>(
     alloc: Global,
     gathered: &mut G,
-    mark: char,
+    separator: char,
     text: &str,
 ) -> Result<(), Trouble> {
-    for field in text.split(mark) {
+    for field in text.split(separator) {
         gathered.take(alloc, field)?;
     }
     Ok(())

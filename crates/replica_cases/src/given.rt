@@ -1,8 +1,8 @@
 //! The operations that a case gives.
 
-use crate::dump::tell_state;
+use crate::dump::put_state;
 use crate::fields::add_op;
-use crate::stage::empty;
+use crate::setup::empty;
 use case_lines::{Trouble, Words, cut, number};
 use crdt_ops::SoundOp;
 use merge_laws::{Caused, replay};
@@ -15,7 +15,7 @@ pub struct Given {
     pub first: Vec<SoundOp>,
     /// The operations that come in each order.
     pub any: Vec<SoundOp>,
-    /// Which of those are causes of which: the place of the cause, and the place of its effect.
+    /// Their causes: the place of a cause, and the place of the operation that it precedes.
     pub causes: Vec<(usize, usize)>,
 }
 
@@ -59,17 +59,17 @@ fn add_cause(causes: &mut Vec<(usize, usize)>, place: &str, at: usize) -> Result
     }
 }
 
-/// `replay`: puts what the operations that come first lead to, without an inbox.
-pub fn tell_replay(given: &Given, answer: &mut Words) {
+/// `replay`: puts the result of the first operations, without an inbox.
+pub fn put_replay(given: &Given, answer: &mut Words) {
     match replay(answer.alloc(), empty(answer.alloc()), &given.first) {
-        Ok(state) => tell_state(&state, answer),
+        Ok(state) => put_state(&state, answer),
         Err(AllocError) => answer.give_up(),
     }
 }
 
 /// `pairs`: puts how many operations come first, and whether each is the same as itself and as no
 /// other; else the places, counted from 1, of the first two that break this.
-pub fn tell_pairs(given: &Given, answer: &mut Words) {
+pub fn put_pairs(given: &Given, answer: &mut Words) {
     answer.put_number(" ", given.first.len() as u64);
     match odd_pair(&given.first) {
         None => answer.put(" operations, each the same as itself alone"),

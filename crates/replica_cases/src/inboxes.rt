@@ -1,10 +1,10 @@
 //! Questions about the inbox of a case.
 
 use crate::clocks::raised;
-use crate::dump::{tell_ids, tell_state};
-use crate::issuing::tell_issue;
-use crate::mutations::tell_damage;
-use crate::stage::{Mailboxes, Node, deliver};
+use crate::dump::{put_id_list, put_state};
+use crate::issue_line::put_issue;
+use crate::mutations::put_damage;
+use crate::setup::{Mailboxes, Node, deliver};
 use case_lines::{Words, name, operation};
 use causal_inbox::{Arrival, DeliverFault, Delivered, HeldOps};
 use crdt_ops::{SoundOp, copy_ops};
@@ -28,7 +28,7 @@ pub enum InboxWord {
     /// `since RAISES`: the applied operations that the clock doesn't cover.
     Since,
     /// `told`: the folders, messages and subscriptions.
-    Told,
+    Contents,
     /// `folder NAME`: whether it exists, and the ids of its tags, of its delete set and of the
     /// subscriptions to it.
     Folder,
@@ -37,37 +37,37 @@ pub enum InboxWord {
 /// Puts the answer to a question about the inbox.
 pub fn answer_inbox(inbox: &mut Node, word: InboxWord, fields: &str, answer: &mut Words) {
     match word {
-        InboxWord::Deliver => tell_delivery(inbox, fields, answer),
-        InboxWord::Drain => tell_drain(inbox, answer),
-        InboxWord::Issue => tell_issue(inbox, fields, answer),
-        InboxWord::Since => tell_since(inbox, fields, answer),
-        InboxWord::Folder => tell_named(inbox.value(), fields, answer),
-        InboxWord::Show => tell_received(inbox.op_list(), &inbox.held(), answer),
-        InboxWord::List => tell_applied(inbox.op_list(), answer),
-        InboxWord::Told => tell_state(inbox.value(), answer),
+        InboxWord::Deliver => put_delivery(inbox, fields, answer),
+        InboxWord::Drain => put_drain(inbox, answer),
+        InboxWord::Issue => put_issue(inbox, fields, answer),
+        InboxWord::Since => put_since(inbox, fields, answer),
+        InboxWord::Folder => put_named_folder(inbox.value(), fields, answer),
+        InboxWord::Show => put_received(inbox.op_list(), &inbox.held(), answer),
+        InboxWord::List => put_applied(inbox.op_list(), answer),
+        InboxWord::Contents => put_state(inbox.value(), answer),
     }
 }
 
-fn tell_delivery(inbox: &mut Node, line: &str, answer: &mut Words) {
+fn put_delivery(inbox: &mut Node, line: &str, answer: &mut Words) {
     match operation(answer.alloc(), line) {
         Ok(op) => {
-            tell_arrival(inbox, op, answer);
-            tell_damage(line.as_bytes(), answer);
+            put_arrival(inbox, op, answer);
+            put_damage(line.as_bytes(), answer);
         }
         Err(trouble) => answer.put_trouble(" ", trouble),
     }
 }
 
-fn tell_arrival(inbox: &mut Node, op: SoundOp, answer: &mut Words) {
+fn put_arrival(inbox: &mut Node, op: SoundOp, answer: &mut Words) {
     match deliver(answer.alloc(), inbox, op) {
-        Ok(delivered) => tell_delivered(delivered, answer),
-        Err(fault) => tell_fault(fault, answer),
+        Ok(delivered) => put_delivered(delivered, answer),
+        Err(fault) => put_fault(fault, answer),
     }
 }
 
-fn tell_drain(inbox: &mut Node, answer: &mut Words) {
+fn put_drain(inbox: &mut Node, answer: &mut Words) {
     let drained = inbox.drain(answer.alloc());
-    tell_delivered(
+    put_delivered(
         Delivered {
             arrival: Arrival::Applied(drained.applied),
             stalled: drained.stalled,
@@ -76,7 +76,7 @@ fn tell_drain(inbox: &mut Node, answer: &mut Words) {
     );
 }
 
-fn tell_delivered(delivered: Delivered, answer: &mut Words) {
+fn put_delivered(delivered: Delivered, answer: &mut Words) {
     match delivered.arrival {
         Arrival::Applied(count) => answer.put_number(" Applied ", count as u64),
         Arrival::Held => answer.put(" Held"),
@@ -85,7 +85,7 @@ fn tell_delivered(delivered: Delivered, answer: &mut Words) {
     answer.put_if(delivered.stalled, " stalled");
 }
 
-fn tell_fault(fault: DeliverFault, answer: &mut Words) {
+fn put_fault(fault: DeliverFault, answer: &mut Words) {
     match fault {
         DeliverFault::Conflict { id } => answer.put_id(" Conflict ", id),
         DeliverFault::HeldFull => answer.put(" HeldFull"),
@@ -94,21 +94,21 @@ fn tell_fault(fault: DeliverFault, answer: &mut Words) {
     }
 }
 
-fn tell_received(applied: &[SoundOp], held: &HeldOps<'_, SoundOp>, answer: &mut Words) {
+fn put_received(applied: &[SoundOp], held: &HeldOps<'_, SoundOp>, answer: &mut Words) {
     answer.put(" applied");
-    tell_ids_of(applied, answer);
+    put_ids_of(applied, answer);
     answer.put(" held");
-    tell_held_ids(held, answer);
+    put_held_ids(held, answer);
 }
 
-fn tell_ids_of(ops: &[SoundOp], answer: &mut Words) {
+fn put_ids_of(ops: &[SoundOp], answer: &mut Words) {
     answer.put_if(ops.is_empty(), " -");
     for op in ops {
         answer.put_id(" ", op.op().id);
     }
 }
 
-fn tell_held_ids(held: &HeldOps<'_, SoundOp>, answer: &mut Words) {
+fn put_held_ids(held: &HeldOps<'_, SoundOp>, answer: &mut Words) {
     answer.put_if(held.is_empty(), " -");
     for op in held.iter() {
         answer.put_id(" ", op.op().id);
@@ -116,56 +116,56 @@ fn tell_held_ids(held: &HeldOps<'_, SoundOp>, answer: &mut Words) {
 }
 
 /// Puts a line for each operation.
-fn tell_ops(ops: &[SoundOp], answer: &mut Words) {
+fn put_ops(ops: &[SoundOp], answer: &mut Words) {
     for op in ops {
         answer.put_op("\n  ", op);
     }
 }
 
 /// Puts copies of the operations, a line each.
-fn tell_applied(ops: &[SoundOp], answer: &mut Words) {
+fn put_applied(ops: &[SoundOp], answer: &mut Words) {
     match copy_ops(answer.alloc(), ops) {
         Ok(mut copies) => {
-            tell_ops(copies.make_contiguous(), answer);
+            put_ops(copies.make_contiguous(), answer);
             drop(copies);
         }
         Err(AllocError) => answer.give_up(),
     }
 }
 
-fn tell_since(inbox: &Node, fields: &str, answer: &mut Words) {
+fn put_since(inbox: &Node, fields: &str, answer: &mut Words) {
     match raised(answer.alloc(), fields) {
-        Ok(clock) => tell_uncovered(inbox, &clock, answer),
+        Ok(clock) => put_uncovered(inbox, &clock, answer),
         Err(trouble) => answer.put_trouble(" ", trouble),
     }
 }
 
-fn tell_uncovered(inbox: &Node, clock: &Clock, answer: &mut Words) {
+fn put_uncovered(inbox: &Node, clock: &Clock, answer: &mut Words) {
     match inbox.ops_since(answer.alloc(), clock) {
         Ok(ops) => {
-            tell_ops(&ops, answer);
+            put_ops(&ops, answer);
             drop(ops);
         }
         Err(AllocError) => answer.give_up(),
     }
 }
 
-fn tell_named(state: &Mailboxes, fields: &str, answer: &mut Words) {
+fn put_named_folder(state: &Mailboxes, fields: &str, answer: &mut Words) {
     match name(answer.alloc(), fields) {
-        Ok(name) => tell_lists(state, &name, answer),
+        Ok(name) => put_lists(state, &name, answer),
         Err(trouble) => answer.put_trouble(" ", trouble),
     }
 }
 
-fn tell_lists(state: &Mailboxes, name: &Name, answer: &mut Words) {
+fn put_lists(state: &Mailboxes, name: &Name, answer: &mut Words) {
     answer.put(if state.first.exists(name) {
         " exists, tags"
     } else {
         " isn't there, tags"
     });
-    tell_ids(state.first.tags(answer.alloc(), name), answer);
+    put_id_list(state.first.tags(answer.alloc(), name), answer);
     answer.put(" delete");
-    tell_ids(state.first.delete_set(answer.alloc(), name), answer);
+    put_id_list(state.first.delete_set(answer.alloc(), name), answer);
     answer.put(" subscribed");
-    tell_ids(state.second.tags(answer.alloc(), name), answer);
+    put_id_list(state.second.tags(answer.alloc(), name), answer);
 }

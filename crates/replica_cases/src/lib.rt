@@ -17,7 +17,7 @@ mod dump;
 mod fields;
 mod given;
 mod inboxes;
-mod issuing;
+mod issue_line;
 mod lines;
 mod mutations;
 mod operations;
@@ -25,7 +25,7 @@ mod orders;
 mod permutations;
 mod requests;
 mod sets;
-mod stage;
+mod setup;
 mod uids;
 
 pub use requests::play;

@@ -1,6 +1,6 @@
 //! Texts that are cut, or have one octet replaced.
 
-use crate::operations::{Finding, found};
+use crate::operations::{Finding, finding_of};
 use case_lines::{Words, with_octet};
 use std::alloc::{AllocError, Global};
 
@@ -25,7 +25,7 @@ impl Findings {
 
     fn note(&mut self, finding: Finding) {
         match finding {
-            Finding::NotTheForm => self.refused = self.refused.saturating_add(1),
+            Finding::NotInForm => self.refused = self.refused.saturating_add(1),
             Finding::Sound => self.sound = self.sound.saturating_add(1),
             Finding::Unsound(_) => self.unsound = self.unsound.saturating_add(1),
             Finding::Changed => self.changed = self.changed.saturating_add(1),
@@ -34,7 +34,7 @@ impl Findings {
 }
 
 /// Puts how many texts were refused, sound, unsound or changed.
-pub fn tell_findings(findings: Findings, answer: &mut Words) {
+pub fn put_findings(findings: Findings, answer: &mut Words) {
     answer.put_number(" ", findings.refused);
     answer.put_number(" refused, ", findings.sound);
     answer.put_number(" sound, ", findings.unsound);
@@ -46,8 +46,8 @@ pub fn tell_findings(findings: Findings, answer: &mut Words) {
 const STRANGE: [u8; 5] = [0, 10, 32, 126, 255];
 
 /// Puts how many of the text's shorter beginnings, and of the texts with one octet replaced by 0,
-/// 10, 32, 126 or 255, are written otherwise than they were read; nothing if none is.
-pub fn tell_damage(text: &[u8], answer: &mut Words) {
+/// 10, 32, 126 or 255, aren't written as they were read; nothing if all are.
+pub fn put_damage(text: &[u8], answer: &mut Words) {
     let cut = of_cuts(answer.alloc(), text).changed;
     let replaced = of_octets(answer.alloc(), text, &STRANGE).changed;
     if cut > 0 || replaced > 0 {
@@ -60,7 +60,7 @@ pub fn tell_damage(text: &[u8], answer: &mut Words) {
 pub fn of_cuts(alloc: Global, text: &[u8]) -> Findings {
     let mut findings = Findings::none();
     for length in 0..text.len() {
-        findings.note(found(alloc, &text[..length]));
+        findings.note(finding_of(alloc, &text[..length]));
     }
     findings
 }
@@ -76,14 +76,14 @@ pub fn of_octets(alloc: Global, text: &[u8], octets: &[u8]) -> Findings {
 
 fn note_octet(alloc: Global, text: &[u8], octet: u8, findings: &mut Findings) {
     for at in 0..text.len() {
-        findings.note(found_with(alloc, text, at, octet));
+        findings.note(finding_with(alloc, text, at, octet));
     }
 }
 
 /// What the text is with this octet at this place.
-fn found_with(alloc: Global, text: &[u8], at: usize, octet: u8) -> Finding {
+fn finding_with(alloc: Global, text: &[u8], at: usize, octet: u8) -> Finding {
     match with_octet(alloc, text, at, octet) {
-        Ok(other) => found(alloc, &other),
+        Ok(other) => finding_of(alloc, &other),
         Err(AllocError) => Finding::Changed,
     }
 }

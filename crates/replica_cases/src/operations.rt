@@ -9,19 +9,19 @@ use std::alloc::{AllocError, Global};
 #[derive(Clone, Copy)]
 pub enum Finding {
     /// It spells no operation.
-    NotTheForm,
+    NotInForm,
     /// It spells an unsound operation, and this is its first fault.
     Unsound(Unsound),
     /// It spells a sound operation, which is written as this very text.
     Sound,
-    /// It spells an operation that is read, written or copied as another, or memory ran out.
+    /// It changes when the operation is read, written or copied, or memory ran out.
     Changed,
 }
 
-/// Puts what a text is.
-pub fn tell_finding(finding: Finding, answer: &mut Words) {
+/// Writes the finding on a text.
+pub fn put_finding(finding: Finding, answer: &mut Words) {
     match finding {
-        Finding::NotTheForm => answer.put(" no operation"),
+        Finding::NotInForm => answer.put(" no operation"),
         Finding::Unsound(fault) => answer.put_name(" ", &fault),
         Finding::Sound => answer.put(" sound"),
         Finding::Changed => answer.put(" changed"),
@@ -29,25 +29,25 @@ pub fn tell_finding(finding: Finding, answer: &mut Words) {
 }
 
 /// What a text is.
-pub fn found(alloc: Global, text: &[u8]) -> Finding {
+pub fn finding_of(alloc: Global, text: &[u8]) -> Finding {
     match read_op(alloc, text) {
-        Ok(op) => found_in(alloc, op, text),
-        Err(OpFault::NotTheForm) => Finding::NotTheForm,
+        Ok(op) => finding_of_op(alloc, op, text),
+        Err(OpFault::NotInForm) => Finding::NotInForm,
         Err(OpFault::NoMemory) => Finding::Changed,
     }
 }
 
-fn found_in(alloc: Global, op: Op, text: &[u8]) -> Finding {
+fn finding_of_op(alloc: Global, op: Op, text: &[u8]) -> Finding {
     match check(op) {
         Ok(sound) => {
-            let finding = found_sound(alloc, &sound, text);
+            let finding = finding_of_sound(alloc, &sound, text);
             drop(sound);
             finding
         }
         Err((op, fault)) => {
-            let is_spelled = is_spelled(alloc, &op, text);
+            let spells_op = spells_op(alloc, &op, text);
             drop(op);
-            if is_spelled {
+            if spells_op {
                 Finding::Unsound(fault)
             } else {
                 Finding::Changed
@@ -56,16 +56,16 @@ fn found_in(alloc: Global, op: Op, text: &[u8]) -> Finding {
     }
 }
 
-fn found_sound(alloc: Global, op: &SoundOp, text: &[u8]) -> Finding {
-    if is_spelled(alloc, op.op(), text) && is_written(alloc, op, text) && is_copied(alloc, op) {
+fn finding_of_sound(alloc: Global, op: &SoundOp, text: &[u8]) -> Finding {
+    if spells_op(alloc, op.op(), text) && writes_text(alloc, op, text) && copies_op(alloc, op) {
         Finding::Sound
     } else {
         Finding::Changed
     }
 }
 
-/// Whether the text, read again, gives this operation.
-fn is_spelled(alloc: Global, op: &Op, text: &[u8]) -> bool {
+/// Whether the text reads back as this operation.
+fn spells_op(alloc: Global, op: &Op, text: &[u8]) -> bool {
     match read_op(alloc, text) {
         Ok(again) => {
             let same = op.same(&again);
@@ -77,7 +77,7 @@ fn is_spelled(alloc: Global, op: &Op, text: &[u8]) -> bool {
 }
 
 /// Whether the operation is written as this text, after other octets.
-fn is_written(alloc: Global, op: &SoundOp, text: &[u8]) -> bool {
+fn writes_text(alloc: Global, op: &SoundOp, text: &[u8]) -> bool {
     let mut words = Words::new(alloc);
     words.put_op("front ", op);
     match words.finish() {
@@ -87,12 +87,12 @@ fn is_written(alloc: Global, op: &SoundOp, text: &[u8]) -> bool {
 }
 
 /// Whether copies of the operation and of its parts are the same.
-fn is_copied(alloc: Global, op: &SoundOp) -> bool {
+fn copies_op(alloc: Global, op: &SoundOp) -> bool {
     match op.copy(alloc) {
         Ok(copied) => {
             let same = copied.same(op);
             let inner = copied.into_op();
-            let inner_same = inner.same(op.op()) && has_copied_parts(alloc, &inner);
+            let inner_same = inner.same(op.op()) && copies_parts(alloc, &inner);
             drop(inner);
             same && inner_same
         }
@@ -100,10 +100,10 @@ fn is_copied(alloc: Global, op: &SoundOp) -> bool {
     }
 }
 
-fn has_copied_parts(alloc: Global, op: &Op) -> bool {
+fn copies_parts(alloc: Global, op: &Op) -> bool {
     match op.copy(alloc) {
         Ok(copied) => {
-            let same = copied.same(op) && has_copied_kind(alloc, &copied);
+            let same = copied.same(op) && copies_kind(alloc, &copied);
             drop(copied);
             same
         }
@@ -111,7 +111,7 @@ fn has_copied_parts(alloc: Global, op: &Op) -> bool {
     }
 }
 
-fn has_copied_kind(alloc: Global, op: &Op) -> bool {
+fn copies_kind(alloc: Global, op: &Op) -> bool {
     match op.kind.copy(alloc) {
         Ok(copied) => {
             let same = copied.same(&op.kind);

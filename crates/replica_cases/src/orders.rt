@@ -1,9 +1,9 @@
 //! Delivers operations in each order.
 
-use crate::dump::tell_state;
+use crate::dump::put_state;
 use crate::given::Given;
-use crate::permutations::{comes_early, is_causal, order, orders_of};
-use crate::stage::{Node, deliver, node};
+use crate::permutations::{is_causal, order, orders_of, precedes_a_cause};
+use crate::setup::{Node, deliver, node};
 use case_lines::{Trouble, Words};
 use causal_inbox::{Arrival, Delivered};
 use crdt_ops::SoundOp;
@@ -44,41 +44,41 @@ impl Tried {
     }
 }
 
-/// `orders`: delivers the operations in each order, each twice in a row, and then all and all
-/// again, and in the causal orders also each once. Puts how many orders there are, whether every
+/// `orders`: delivers the operations in each order, each twice in a row, then all of them
+/// twice, and in causal orders also each once. Puts how many orders there are, whether every
 /// order had the right answers and the same result, and that result.
-pub fn tell_orders(given: &Given, answer: &mut Words) {
+pub fn put_orders(given: &Given, answer: &mut Words) {
     if given.any.len() > MOST {
         answer.put_trouble(" ", Trouble::NotACase);
     } else {
         match end_of(answer.alloc(), given) {
-            Some(end) => tell_all(given, &end, answer),
+            Some(end) => put_all(given, &end, answer),
             None => answer.give_up(),
         }
     }
 }
 
-fn tell_all(given: &Given, end: &[u8], answer: &mut Words) {
+fn put_all(given: &Given, end: &[u8], answer: &mut Words) {
     let tried = try_all(answer.alloc(), given, end);
     answer.put_number(" ", tried.all as u64);
     answer.put_number(" orders, ", tried.causal as u64);
     answer.put(" causal,");
-    tell_wrong(tried.wrong, given.any.len(), answer);
+    put_wrong(tried.wrong, given.any.len(), answer);
     answer.put_octets(end);
 }
 
-fn tell_wrong(wrong: Option<usize>, count: usize, answer: &mut Words) {
+fn put_wrong(wrong: Option<usize>, count: usize, answer: &mut Words) {
     match wrong {
         None => answer.put(" all end alike"),
         Some(number) => {
             answer.put(" but not");
-            tell_order(number, count, answer);
+            put_order(number, count, answer);
         }
     }
 }
 
 /// Puts the places of an order, counted from 1.
-fn tell_order(number: usize, count: usize, answer: &mut Words) {
+fn put_order(number: usize, count: usize, answer: &mut Words) {
     match order(answer.alloc(), number, count) {
         Ok(order) => {
             for place in &order {
@@ -95,16 +95,16 @@ fn end_of(alloc: Global, given: &Given) -> Option<Vec<u8>> {
     match replica(alloc, given) {
         Some(mut inbox) => {
             deliver_all(alloc, &mut inbox, &given.any);
-            told(alloc, &inbox)
+            contents(alloc, &inbox)
         }
         None => None,
     }
 }
 
 /// The contents of an inbox as text; `None` if memory ran out.
-fn told(alloc: Global, inbox: &Node) -> Option<Vec<u8>> {
+fn contents(alloc: Global, inbox: &Node) -> Option<Vec<u8>> {
     let mut answer = Words::new(alloc);
-    tell_state(inbox.value(), &mut answer);
+    put_state(inbox.value(), &mut answer);
     answer.finish().ok()
 }
 
@@ -171,13 +171,13 @@ fn try_one(alloc: Global, given: &Given, number: usize, end: &[u8], tried: &mut 
 /// Whether deliveries in this order have the right answers and result, however often each operation
 /// is delivered.
 fn ends_alike(alloc: Global, given: &Given, order: &[usize], is_causal: bool, end: &[u8]) -> bool {
-    if !is_so(alloc, given, order, Way::EachTwice, end) {
+    if !ends_with_contents(alloc, given, order, Way::EachTwice, end) {
         return false;
     }
-    if !is_so(alloc, given, order, Way::AllTwice, end) {
+    if !ends_with_contents(alloc, given, order, Way::AllTwice, end) {
         return false;
     }
-    !is_causal || is_so(alloc, given, order, Way::AsTheyCome, end)
+    !is_causal || ends_with_contents(alloc, given, order, Way::AsDelivered, end)
 }
 
 /// How often operations are delivered.
@@ -188,12 +188,12 @@ enum Way {
     /// All, and then all again.
     AllTwice,
     /// Each once, after its causes.
-    AsTheyCome,
+    AsDelivered,
 }
 
 /// Whether an inbox that received the operations that come first gives the right answers to the
 /// others, and has these contents at the end.
-fn is_so(alloc: Global, given: &Given, order: &[usize], way: Way, end: &[u8]) -> bool {
+fn ends_with_contents(alloc: Global, given: &Given, order: &[usize], way: Way, end: &[u8]) -> bool {
     match replica(alloc, given) {
         Some(mut inbox) => {
             let is_answered = is_answered(alloc, &mut inbox, given, order, way);
@@ -207,7 +207,7 @@ fn is_answered(alloc: Global, inbox: &mut Node, given: &Given, order: &[usize], 
     match way {
         Way::EachTwice => each_twice(alloc, inbox, given, order),
         Way::AllTwice => all_twice(alloc, inbox, given, order),
-        Way::AsTheyCome => as_they_come(alloc, inbox, given, order),
+        Way::AsDelivered => as_delivered(alloc, inbox, given, order),
     }
 }
 
@@ -226,7 +226,7 @@ fn is_repeated(alloc: Global, inbox: &mut Node, given: &Given, order: &[usize], 
     let arrival = delivered_at(alloc, inbox, given, at);
     let again = delivered_at(alloc, inbox, given, at);
     let is_held = arrival == Some(Arrival::Held);
-    is_held == comes_early(&given.causes, order, at) && again == Some(Arrival::Repeat)
+    is_held == precedes_a_cause(&given.causes, order, at) && again == Some(Arrival::Repeat)
 }
 
 /// Delivers all operations, and then all again. The first time all are applied, the second time
@@ -250,7 +250,7 @@ fn applied_in_round(alloc: Global, inbox: &mut Node, given: &Given, order: &[usi
 
 /// Delivers operations in a causal order. Each must be applied at once, and they must be listed in
 /// this order.
-fn as_they_come(alloc: Global, inbox: &mut Node, given: &Given, order: &[usize]) -> bool {
+fn as_delivered(alloc: Global, inbox: &mut Node, given: &Given, order: &[usize]) -> bool {
     for at in order {
         if delivered_at(alloc, inbox, given, *at) != Some(Arrival::Applied(1)) {
             return false;
@@ -284,7 +284,7 @@ fn all_applied(alloc: Global, given: &Given, inbox: &Node, end: &[u8]) -> bool {
     if count != Some(given.any.len()) || !inbox.held().is_empty() {
         return false;
     }
-    match told(alloc, inbox) {
+    match contents(alloc, inbox) {
         Some(text) => text.as_slice() == end,
         None => false,
     }

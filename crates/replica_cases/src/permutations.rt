@@ -36,7 +36,7 @@ fn place(order: &[usize], op: usize) -> usize {
 }
 
 /// Whether an operation comes before one of its causes.
-pub fn comes_early(causes: &[(usize, usize)], order: &[usize], op: usize) -> bool {
+pub fn precedes_a_cause(causes: &[(usize, usize)], order: &[usize], op: usize) -> bool {
     for (cause, later) in causes {
         if *later == op && place(order, *cause) > place(order, op) {
             return true;
@@ -48,7 +48,7 @@ pub fn comes_early(causes: &[(usize, usize)], order: &[usize], op: usize) -> boo
 /// Whether no operation comes before one of its causes.
 pub fn is_causal(causes: &[(usize, usize)], order: &[usize]) -> bool {
     for op in order {
-        if comes_early(causes, order, *op) {
+        if precedes_a_cause(causes, order, *op) {
             return false;
         }
     }

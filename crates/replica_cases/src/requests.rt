@@ -2,15 +2,15 @@
 
 use crate::clocks::{ClockWord, answer_clock};
 use crate::fields::add_op;
-use crate::given::{Given, add_any, tell_pairs, tell_replay};
+use crate::given::{Given, add_any, put_pairs, put_replay};
 use crate::inboxes::{InboxWord, answer_inbox};
 use crate::lines::{Plays, played};
-use crate::mutations::{of_cuts, of_octets, tell_damage, tell_findings};
-use crate::operations::{found, tell_finding};
-use crate::orders::tell_orders;
+use crate::mutations::{of_cuts, of_octets, put_damage, put_findings};
+use crate::operations::{finding_of, put_finding};
+use crate::orders::put_orders;
 use crate::sets::{SetWord, answer_set};
-use crate::stage::Stage;
-use case_lines::{Trouble, Words, meaning, octets, parted};
+use crate::setup::Setup;
+use case_lines::{Trouble, Words, meaning, octets, parts_around};
 use imap_types::Escape;
 use std::alloc::{AllocError, Global};
 use std::mem;
@@ -33,9 +33,9 @@ enum TextWord {
 enum GivenWord {
     /// `pairs`: which are the same.
     Pairs,
-    /// `replay`: what they lead to, in their order.
+    /// `replay`: their result, in their order.
     Replay,
-    /// `orders`: what they lead to, in each order.
+    /// `orders`: their result, in each order.
     Orders,
 }
 
@@ -43,7 +43,7 @@ enum GivenWord {
 #[derive(Clone, Copy)]
 enum Word {
     /// Nothing: the line is a comment.
-    Nothing,
+    Empty,
     /// `==`: begins a case.
     Begin,
     /// `given LINE`: adds an operation that comes first.
@@ -65,8 +65,8 @@ enum Asks {
 }
 
 const WORDS: &[(&str, Word)] = &[
-    ("", Word::Nothing),
-    ("#", Word::Nothing),
+    ("", Word::Empty),
+    ("#", Word::Empty),
     ("==", Word::Begin),
     ("given", Word::First),
     ("any", Word::Any),
@@ -90,7 +90,7 @@ const WORDS: &[(&str, Word)] = &[
     ("show", Word::Asks(Asks::Inbox(InboxWord::Show))),
     ("list", Word::Asks(Asks::Inbox(InboxWord::List))),
     ("since", Word::Asks(Asks::Inbox(InboxWord::Since))),
-    ("told", Word::Asks(Asks::Inbox(InboxWord::Told))),
+    ("told", Word::Asks(Asks::Inbox(InboxWord::Contents))),
     ("folder", Word::Asks(Asks::Inbox(InboxWord::Folder))),
     ("pairs", Word::Asks(Asks::Given(GivenWord::Pairs))),
     ("replay", Word::Asks(Asks::Given(GivenWord::Replay))),
@@ -100,18 +100,18 @@ const WORDS: &[(&str, Word)] = &[
 /// Plays cases of operations, clocks and inboxes, and returns them with their new answers. `Err` if
 /// memory runs out.
 pub fn play(alloc: Global, text: &str) -> Result<Vec<u8>, AllocError> {
-    match Stage::new(alloc) {
-        Ok(stage) => played(alloc, stage, text),
+    match Setup::new(alloc) {
+        Ok(setup) => played(alloc, setup, text),
         Err(AllocError) => Err(AllocError),
     }
 }
 
 /// Passes over a comment, begins a case, takes an operation that the case gives, or puts an answer.
-impl Plays for Stage {
-    fn obey(&mut self, asked: &str, answer: &mut Words) {
-        let (word, fields) = parted(asked, " ");
+impl Plays for Setup {
+    fn execute(&mut self, question: &str, answer: &mut Words) {
+        let (word, fields) = parts_around(question, " ");
         match meaning(WORDS, word) {
-            Some(Word::Nothing) => {}
+            Some(Word::Empty) => {}
             Some(Word::Begin) => restart(self, answer),
             Some(Word::First) => take_first(&mut self.given, fields, answer),
             Some(Word::Any) => take_any(&mut self.given, fields, answer),
@@ -121,15 +121,15 @@ impl Plays for Stage {
     }
 }
 
-fn restart(stage: &mut Stage, answer: &mut Words) {
-    match Stage::new(answer.alloc()) {
-        Ok(fresh) => drop(mem::replace(stage, fresh)),
+fn restart(setup: &mut Setup, answer: &mut Words) {
+    match Setup::new(answer.alloc()) {
+        Ok(fresh) => drop(mem::replace(setup, fresh)),
         Err(AllocError) => answer.give_up(),
     }
 }
 
 fn take_first(given: &mut Given, line: &str, answer: &mut Words) {
-    tell_damage(line.as_bytes(), answer);
+    put_damage(line.as_bytes(), answer);
     if let Err(trouble) = add_op(answer.alloc(), &mut given.first, line) {
         answer.put_trouble(" ", trouble);
     }
@@ -141,44 +141,44 @@ fn take_any(given: &mut Given, fields: &str, answer: &mut Words) {
     }
 }
 
-fn answer_asked(stage: &mut Stage, asks: Asks, fields: &str, answer: &mut Words) {
+fn answer_asked(setup: &mut Setup, asks: Asks, fields: &str, answer: &mut Words) {
     answer.put(" =>");
     match asks {
         Asks::Text(word) => answer_text(word, fields, answer),
         Asks::Clock(word) => answer_clock(word, fields, answer),
         Asks::Set(word) => answer_set(word, fields, answer),
-        Asks::Inbox(word) => answer_inbox(&mut stage.inbox, word, fields, answer),
-        Asks::Given(word) => answer_given(&stage.given, word, answer),
+        Asks::Inbox(word) => answer_inbox(&mut setup.inbox, word, fields, answer),
+        Asks::Given(word) => answer_given(&setup.given, word, answer),
     }
 }
 
 fn answer_text(word: TextWord, fields: &str, answer: &mut Words) {
     match word {
-        TextWord::Op => tell_found(fields.as_bytes(), answer),
-        TextWord::Cuts => tell_findings(of_cuts(answer.alloc(), fields.as_bytes()), answer),
-        TextWord::Octets => tell_spelled(fields, answer),
-        TextWord::Replaced => tell_replaced(fields, answer),
+        TextWord::Op => put_finding_of(fields.as_bytes(), answer),
+        TextWord::Cuts => put_findings(of_cuts(answer.alloc(), fields.as_bytes()), answer),
+        TextWord::Octets => put_spelled(fields, answer),
+        TextWord::Replaced => put_replaced(fields, answer),
     }
 }
 
-fn tell_found(text: &[u8], answer: &mut Words) {
-    tell_finding(found(answer.alloc(), text), answer);
-    tell_damage(text, answer);
+fn put_finding_of(text: &[u8], answer: &mut Words) {
+    put_finding(finding_of(answer.alloc(), text), answer);
+    put_damage(text, answer);
 }
 
-fn tell_spelled(fields: &str, answer: &mut Words) {
+fn put_spelled(fields: &str, answer: &mut Words) {
     match octets(answer.alloc(), Escape::Text, fields) {
-        Ok(octets) => tell_found(octets.as_bytes(), answer),
+        Ok(octets) => put_finding_of(octets.as_bytes(), answer),
         Err(trouble) => answer.put_trouble(" ", trouble),
     }
 }
 
-fn tell_replaced(fields: &str, answer: &mut Words) {
-    let (field, line) = parted(fields, " ");
+fn put_replaced(fields: &str, answer: &mut Words) {
+    let (field, line) = parts_around(fields, " ");
     match octets(answer.alloc(), Escape::Field, field) {
         Ok(octets) => {
             let findings = of_octets(answer.alloc(), line.as_bytes(), octets.as_bytes());
-            tell_findings(findings, answer);
+            put_findings(findings, answer);
         }
         Err(trouble) => answer.put_trouble(" ", trouble),
     }
@@ -186,8 +186,8 @@ fn tell_replaced(fields: &str, answer: &mut Words) {
 
 fn answer_given(given: &Given, word: GivenWord, answer: &mut Words) {
     match word {
-        GivenWord::Pairs => tell_pairs(given, answer),
-        GivenWord::Replay => tell_replay(given, answer),
-        GivenWord::Orders => tell_orders(given, answer),
+        GivenWord::Pairs => put_pairs(given, answer),
+        GivenWord::Replay => put_replay(given, answer),
+        GivenWord::Orders => put_orders(given, answer),
     }
 }

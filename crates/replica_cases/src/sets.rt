@@ -1,7 +1,7 @@
 //! Questions about sets of ids and ascending lists of names.
 
 use crate::fields::{Gathers, id, take_each};
-use case_lines::{Trouble, Words, name, parted};
+use case_lines::{Trouble, Words, name, parts_around};
 use crdt_ops::{Ids, insert_name};
 use imap_types::Name;
 use std::alloc::{AllocError, Global};
@@ -19,11 +19,11 @@ pub enum SetWord {
 
 /// Puts the answer to a question about a set.
 pub fn answer_set(word: SetWord, fields: &str, answer: &mut Words) {
-    let (of, ids) = parted(fields, " ");
+    let (of, ids) = parts_around(fields, " ");
     match word {
-        SetWord::Ids => tell_ids(None, fields, answer),
-        SetWord::Contains => tell_ids(Some(of), ids, answer),
-        SetWord::Names => tell_placed(fields, answer),
+        SetWord::Ids => put_id_list(None, fields, answer),
+        SetWord::Contains => put_id_list(Some(of), ids, answer),
+        SetWord::Names => put_name_set(fields, answer),
     }
 }
 
@@ -36,19 +36,19 @@ impl Gathers for Ids {
 }
 
 /// Puts the ids, or whether `of` is among them.
-fn tell_ids(of: Option<&str>, text: &str, answer: &mut Words) {
+fn put_id_list(of: Option<&str>, text: &str, answer: &mut Words) {
     let mut ids = Ids::none(answer.alloc());
     match take_each(answer.alloc(), &mut ids, ',', text) {
         Ok(()) => match of {
-            None => tell_copied(&ids, answer),
-            Some(of) => tell_contained(of, &ids, answer),
+            None => put_copy(&ids, answer),
+            Some(of) => put_contained(of, &ids, answer),
         },
         Err(trouble) => answer.put_trouble(" ", trouble),
     }
 }
 
 /// Puts a copy of the ids.
-fn tell_copied(ids: &Ids, answer: &mut Words) {
+fn put_copy(ids: &Ids, answer: &mut Words) {
     match ids.copy(answer.alloc()) {
         Ok(copied) => {
             answer.put_if(!copied.same(ids), " copied");
@@ -58,17 +58,17 @@ fn tell_copied(ids: &Ids, answer: &mut Words) {
     }
 }
 
-fn tell_contained(of: &str, ids: &Ids, answer: &mut Words) {
+fn put_contained(of: &str, ids: &Ids, answer: &mut Words) {
     match id(of) {
         Ok(of) => answer.put_whether(" ", ids.contains(of)),
         Err(trouble) => answer.put_trouble(" ", trouble),
     }
 }
 
-fn tell_placed(fields: &str, answer: &mut Words) {
+fn put_name_set(fields: &str, answer: &mut Words) {
     let mut names: Vec<Name> = Vec::new(answer.alloc());
     match take_each(answer.alloc(), &mut names, ' ', fields) {
-        Ok(()) => tell_names(&names, answer),
+        Ok(()) => put_names(&names, answer),
         Err(trouble) => answer.put_trouble(" ", trouble),
     }
 }
@@ -82,7 +82,7 @@ impl Gathers for Vec<Name> {
     }
 }
 
-fn tell_names(names: &[Name], answer: &mut Words) {
+fn put_names(names: &[Name], answer: &mut Words) {
     for name in names {
         answer.put_field(" ", name.as_bytes());
     }

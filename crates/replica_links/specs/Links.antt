@@ -19,16 +19,16 @@ use Rattle.replica_lock.specs.declared.event.BookEvent.TheVariants.{Deliver, Dra
 use Rattle.replica_lock.specs.declared.outcome.Outcome.{Outcome}
 use Rattle.replica_lock.specs.declared.outcome.Outcome.TheVariants.{Delivered}
 
--- Nothing is lacking and nothing stalled; one operation is lacking; the result of two deliveries
+-- No operation is lacking or stalled; one operation is lacking; the result of two deliveries
 -- together.
-abbrev pub took_nothing : Took
-took_nothing = record { lacking = false; stalled = false }
+abbrev pub complete_intake : Took
+complete_intake = record { lacking = false; stalled = false }
 
-abbrev pub took_lacking : Took
-took_lacking = record { lacking = true; stalled = false }
+abbrev pub lacking_intake : Took
+lacking_intake = record { lacking = true; stalled = false }
 
-abbrev pub took_both : Took → Took → Took
-took_both one other =
+abbrev pub joined_intake : Took → Took → Took
+joined_intake one other =
     record { lacking = one.lacking || other.lacking; stalled = one.stalled || other.stalled }
 
 -- A delivery, with its result.
@@ -37,23 +37,24 @@ pub record Delivery : Type 0 where
   pub took : Took
 
 -- The result of several deliveries: each field is true if it is true of one of them.
-abbrev pub took_all : List Delivery → Took
-took_all [] = took_nothing
-took_all (g ∷ given) = took_both g.took (took_all given)
+abbrev pub total_intake : List Delivery → Took
+total_intake [] = complete_intake
+total_intake (g ∷ deliveries) = joined_intake g.took (total_intake deliveries)
 
 -- The taker's steps for these deliveries and results lead from one state to the other.
 abbrev pub Steps : {S : Type 0} → (S → Op → Took → S → Type 0) → S → List Delivery → S → Type 0
 Steps takes s [] t = s ≡ t
-Steps {S} takes s (g ∷ given) t = (next : S) × takes s g.op g.took next × Steps takes next given t
+Steps {S} takes s (g ∷ deliveries) t =
+    (next : S) × takes s g.op g.took next × Steps takes next deliveries t
 
 -- Exactly these operations were delivered to the taker, each once and in this order, and the result
 -- is that of all deliveries.
 pub record Takes {S : Type 0} (takes : S → Op → Took → S → Type 0) (s : S) (ops : List Op)
     (result : Took) (t : S) : Type 0 where
-  pub given : List Delivery
-  pub steps : Steps takes s given t
-  pub those : map (λ (g : Delivery). g.op) given ≡ ops
-  pub told : result ≡ took_all given
+  pub deliveries : List Delivery
+  pub steps : Steps takes s deliveries t
+  pub in_order : map (λ (g : Delivery). g.op) deliveries ≡ ops
+  pub total : result ≡ total_intake deliveries
 
 -- The result of a delivery, by the outcome of its call. An operation that conflicts will never be
 -- applied, so that it doesn't lack.
@@ -62,19 +63,19 @@ is_held (Applied count) = false
 is_held Held = true
 is_held Repeat = false
 
-abbrev pub took_of : Outcome → Took
-took_of (Delivered (Ok receipt)) =
+abbrev pub intake_of : Outcome → Took
+intake_of (Delivered (Ok receipt)) =
     record { lacking = is_held receipt.arrival; stalled = receipt.stalled }
-took_of (Delivered (Err (Conflict id))) = took_nothing
-took_of _ = took_lacking
+intake_of (Delivered (Err (Conflict id))) = complete_intake
+intake_of _ = lacking_intake
 
 -- A replica under its lock took an operation by one call, noted in its pass, that delivers only
 -- this operation; or there was no call, and the operation is lacking.
 abbrev pub IsTakenBy : PassState → Op → Took → PassState → Type 0
 IsTakenBy p op took q =
     (IsCalled p (Deliver op) q
-    × ((outcome : Outcome) × (q.last ≡ Some outcome) × (took ≡ took_of outcome)))
-    ⊎ ((q ≡ p) × (took ≡ took_lacking))
+    × ((outcome : Outcome) × (q.last ≡ Some outcome) × (took ≡ intake_of outcome)))
+    ⊎ ((q ≡ p) × (took ≡ lacking_intake))
 
 -- After a delivery that stalled, one call applies held operations.
 abbrev pub IsDrained : {S : Type 0} → (S → S → Type 0) → S → Bool → S → Type 0
@@ -102,9 +103,9 @@ module _ {S P : Type 0} (lacks : S → Type 0) (has : S → List (ℕ × ℕ) �
   IsAsked s p from false q = p ≡ q
 
   -- If a replica asks first, each of these others is asked.
-  abbrev pub IsBegun : List ℕ → Bool → S → P → P → Type 0
-  IsBegun peers true s p q = AreAsked s p peers q
-  IsBegun peers false s p q = p ≡ q
+  abbrev pub AreAskedFirst : List ℕ → Bool → S → P → P → Type 0
+  AreAskedFirst peers true s p q = AreAsked s p peers q
+  AreAskedFirst peers false s p q = p ≡ q
 
 -- Messages of operations, over two further relations: a replica takes an operation; it applies held
 -- ones.
@@ -116,24 +117,24 @@ module _ {S P : Type 0} (takes : S → Op → Took → S → Type 0) (drains : S
   pub record IsTaken (s : S) (p : P) (from : ℕ) (ops : List Op) (t : S) (q : P) : Type 0 where
     pub took : Took
     pub between : S
-    pub handed : Takes takes s ops took between
+    pub delivered : Takes takes s ops took between
     pub drained : IsDrained drains between took.stalled t
     pub asked : IsAsked lacks has asks t p from took.lacking q
 
 -- Operations are sent to a replica, if there are any.
 abbrev pub MaySendOps : {P : Type 0} → (P → ℕ → List Op → P → Type 0) → P → ℕ → List Op → P → Type 0
-MaySendOps hands p to [] q = p ≡ q
-MaySendOps hands p to (op ∷ ops) q = hands p to (op ∷ ops) q
+MaySendOps sends p to [] q = p ≡ q
+MaySendOps sends p to (op ∷ ops) q = sends p to (op ∷ ops) q
 
 -- Answers to requests, over three relations: memory may run out for the operations; the replica
 -- gives these for a clock; another replica is sent operations.
 module _ {S P : Type 0} (lacks : S → Type 0) (gives : S → List (ℕ × ℕ) → List Op → Type 0)
-    (hands : P → ℕ → List Op → P → Type 0) where
+    (sends : P → ℕ → List Op → P → Type 0) where
   -- The result of a request: the sender is sent what the replica gives for its clock, and nothing
   -- if memory runs out for that.
   abbrev pub IsAnswered : S → P → ℕ → List (ℕ × ℕ) → P → Type 0
   IsAnswered s p from clock q =
-      ((ops : List Op) × gives s clock ops × MaySendOps hands p from ops q) ⊎ (lacks s × (p ≡ q))
+      ((ops : List Op) × gives s clock ops × MaySendOps sends p from ops q) ⊎ (lacks s × (p ≡ q))
 
 -- A replica under its lock applied held operations by one call, noted in its pass; or there was no
 -- call.
@@ -161,21 +162,21 @@ MayLack p = Unit {0}
 module _ {S P : Type 0} (takes : S → Op → Took → S → Type 0) (drains : S → S → Type 0)
     (lacks : S → Type 0) (has : S → List (ℕ × ℕ) → Type 0)
     (gives : S → List (ℕ × ℕ) → List Op → Type 0) (asks : P → ℕ → List (ℕ × ℕ) → P → Type 0)
-    (hands : P → ℕ → List Op → P → Type 0) where
+    (sends : P → ℕ → List Op → P → Type 0) where
   -- The result of a message: its operations are taken; a request is answered; and after `Stop` no
   -- message is taken.
-  abbrev pub IsLetterAnswered : ℕ → LinkMsg → Bool → S → P → S → P → Type 0
-  IsLetterAnswered from (Ops ops) more s p t q =
+  abbrev pub IsMsgAnswered : ℕ → LinkMsg → Bool → S → P → S → P → Type 0
+  IsMsgAnswered from (Ops ops) more s p t q =
       (more ≡ true) × IsTaken takes drains lacks has asks s p from ops.items t q
-  IsLetterAnswered from (Have clock) more s p t q =
-      (more ≡ true) × (s ≡ t) × IsAnswered lacks gives hands s p from clock q
-  IsLetterAnswered from Stop more s p t q = (more ≡ false) × (s ≡ t) × (p ≡ q)
+  IsMsgAnswered from (Have clock) more s p t q =
+      (more ≡ true) × (s ≡ t) × IsAnswered lacks gives sends s p from clock q
+  IsMsgAnswered from Stop more s p t q = (more ≡ false) × (s ≡ t) × (p ≡ q)
 
   -- A turn of a link's worker: a message is taken and answered, or these others are asked for what
   -- the replica lacks.
   abbrev pub IsTurn : List ℕ → Option PeerMsg → S → P → S → P → Type 0
-  IsTurn peers (Some letter) s p t q =
-      (more : Bool) × IsLetterAnswered letter.from letter.message more s p t q
+  IsTurn peers (Some msg) s p t q =
+      (more : Bool) × IsMsgAnswered msg.from msg.message more s p t q
   IsTurn peers None s p t q = (s ≡ t) × AreAsked lacks has asks s p peers q
 
   -- These turns, one after another.
@@ -190,6 +191,8 @@ module _ {S P : Type 0} (takes : S → Op → Took → S → Type 0) (drains : S
 
   -- What a link's worker does: it asks the others first, if it is to, and then takes turns and does
   -- nothing else.
-  abbrev pub IsWorked : List ℕ → Bool → S → P → S → P → Type 0
-  IsWorked peers asks_first s p t q =
-      (begun : P) × IsBegun lacks has asks peers asks_first s p begun × TakesTurns peers s begun t q
+  abbrev pub IsWorkerRun : List ℕ → Bool → S → P → S → P → Type 0
+  IsWorkerRun peers asks_first s p t q =
+      (started : P)
+      × AreAskedFirst lacks has asks peers asks_first s p started
+      × TakesTurns peers s started t q

@@ -16,7 +16,7 @@ pub trait PeerLinks {
     ghost asks: { Self → ℕ → List (ℕ × ℕ) → Self → Type 0 };
 
     /// The state after operations were sent to the replica at a place.
-    ghost hands: { Self → ℕ → List Op → Self → Type 0 };
+    ghost sends: { Self → ℕ → List Op → Self → Type 0 };
 
     /// Asks the replica at place `to` for all operations that the clock doesn't cover.
     fn ask(&mut self, to: usize, clock: Clock)
@@ -24,19 +24,24 @@ pub trait PeerLinks {
 
     /// Sends operations to the replica at place `to`.
     fn send_ops(&mut self, to: usize, ops: Vec<SoundOp>)
-        ensures { hands self.old to ops.items self.new };
+        ensures { sends self.old to ops.items self.new };
 }
 
 /// Delivers the operations of a message. If a delivery stalled, held operations are applied; if an
 /// operation is lacking, the sender is asked, once, for all that this replica's clock doesn't cover
 /// then. If memory runs out for the clock, nothing is asked for.
-pub fn take_ops<T: Taker, P: PeerLinks>(taker: &mut T, post: &mut P, from: usize, ops: Vec<SoundOp>)
-    ensures { IsTaken T.takes T.drains T.lacks T.has P.asks taker.old post.old from ops.items
-        taker.new post.new }
+pub fn take_ops<T: Taker, P: PeerLinks>(
+    taker: &mut T,
+    links: &mut P,
+    from: usize,
+    ops: Vec<SoundOp>,
+)
+    ensures { IsTaken T.takes T.drains T.lacks T.has P.asks taker.old links.old from ops.items
+        taker.new links.new }
 {
     let took = hand_on(taker, ops);
     drain_after(taker, took.stalled);
-    ask_after(taker, post, from, took.lacking);
+    ask_after(taker, links, from, took.lacking);
 }
 
 /// Applies held operations if a delivery stalled.
@@ -49,20 +54,20 @@ fn drain_after<T: Taker>(taker: &mut T, stalled: bool)
 }
 
 /// Asks for what this replica hasn't applied if an operation is lacking.
-fn ask_after<T: Taker, P: PeerLinks>(taker: &T, post: &mut P, from: usize, lacking: bool)
-    ensures { IsAsked T.lacks T.has P.asks taker.now post.old from lacking post.new }
+fn ask_after<T: Taker, P: PeerLinks>(taker: &T, links: &mut P, from: usize, lacking: bool)
+    ensures { IsAsked T.lacks T.has P.asks taker.now links.old from lacking links.new }
 {
     if lacking {
-        ask(taker, post, from);
+        ask(taker, links, from);
     }
 }
 
 /// Asks the replica at place `from` for what this one hasn't applied.
-fn ask<T: Taker, P: PeerLinks>(taker: &T, post: &mut P, from: usize)
-    ensures { MayAsk T.lacks T.has P.asks taker.now post.old from post.new }
+fn ask<T: Taker, P: PeerLinks>(taker: &T, links: &mut P, from: usize)
+    ensures { MayAsk T.lacks T.has P.asks taker.now links.old from links.new }
 {
     match taker.clock() {
-        Some(clock) => post.ask(from, clock),
+        Some(clock) => links.ask(from, clock),
         None => {}
     }
 }
@@ -70,34 +75,34 @@ fn ask<T: Taker, P: PeerLinks>(taker: &T, post: &mut P, from: usize)
 /// Asks these replicas, one after another, for all that this one hasn't applied. So an operation
 /// that was lost on the way arrives even if no later one waits for it. If memory runs out for the
 /// clock, nothing is asked for.
-pub fn ask_all<T: Taker, P: PeerLinks>(taker: &T, post: &mut P, peers: &[usize])
-    ensures { AreAsked T.lacks T.has P.asks taker.now post.old peers.now post.new }
+pub fn ask_all<T: Taker, P: PeerLinks>(taker: &T, links: &mut P, peers: &[usize])
+    ensures { AreAsked T.lacks T.has P.asks taker.now links.old peers.now links.new }
 {
     for peer in peers {
-        ask(taker, post, *peer);
+        ask(taker, links, *peer);
     }
 }
 
 /// Answers a request: sends the operations applied that its clock doesn't cover. Nothing is sent if
 /// there are none, or if memory runs out for them.
-pub fn give_ops<T: Taker, P: PeerLinks>(taker: &T, post: &mut P, from: usize, clock: Clock)
-    ensures { IsAnswered T.lacks T.gives P.hands taker.now post.old from clock post.new }
+pub fn answer_request<T: Taker, P: PeerLinks>(taker: &T, links: &mut P, from: usize, clock: Clock)
+    ensures { IsAnswered T.lacks T.gives P.sends taker.now links.old from clock links.new }
 {
-    let found = taker.ops_since(&clock);
+    let uncovered = taker.ops_since(&clock);
     drop(clock);
-    match found {
-        Some(ops) => send_if_any(post, from, ops),
+    match uncovered {
+        Some(ops) => send_if_any(links, from, ops),
         None => {}
     }
 }
 
 /// Sends operations, if there are any.
-fn send_if_any<P: PeerLinks>(post: &mut P, to: usize, ops: Vec<SoundOp>)
-    ensures { MaySendOps P.hands post.old to ops.items post.new }
+fn send_if_any<P: PeerLinks>(links: &mut P, to: usize, ops: Vec<SoundOp>)
+    ensures { MaySendOps P.sends links.old to ops.items links.new }
 {
     if ops.is_empty() {
         drop(ops);
         return;
     }
-    post.send_ops(to, ops);
+    links.send_ops(to, ops);
 }

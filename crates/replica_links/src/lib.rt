@@ -5,13 +5,13 @@
 //! replicas first, if it is to, and that everything else that happens to the replica and to its way
 //! to the others is a sequence of turns: a message is taken and answered, or the others are asked
 //! for what this replica lacks. The operations of a message are delivered each once and in their
-//! order ([`hand_on`]); if a delivery stalled, held operations are applied; and if one is lacking,
+//! order ([`hand_on`]); if a delivery stalled, held ones are applied; and if one is lacking,
 //! its sender is asked. [`ReplicaTaker`] delivers to a replica under its lock, each operation by
 //! one call that its pass notes.
 //!
 //! # Decided
 //!
-//! - `Taker` has `drain`, `clock` and `ops_since` beside `deliver`, and `PeerLinks` sends: what a
+//! - `Taker` has `drain`, `clock` and `ops_since` besides `deliver`, and `PeerLinks` sends: what a
 //!   link asks and answers is then proved over any of them, without a channel or a lock.
 //! - Only the receiver repairs a link. It asks when an operation arrives that it can't apply, and
 //!   asks all others each minute. A sender stores nothing of what it sent. The minute is in no
@@ -33,7 +33,7 @@
 //!   and the answer to a `Have` goes to the replica that sent it.
 //! - `LinkMsg::Stop` ends a link though senders are left, since all threads of a program may share
 //!   the senders.
-//! - In the result of `hand_on`, an operation counts as lacking if the journal had no room or was
+//! - In the result of `hand_on`, an operation is lacking if the journal had no room or was
 //!   cut, or if it is held; not if it conflicts with another one, since it will never be applied.
 #![tactic(auto)]
 
@@ -44,7 +44,7 @@ mod peer_msg;
 mod replica_taker;
 mod took;
 
-pub use have_answer::{PeerLinks, ask_all, give_ops, take_ops};
+pub use have_answer::{PeerLinks, answer_request, ask_all, take_ops};
 pub use link_input::{LinkInput, link_worker};
 pub use op_taker::{Taker, hand_on};
 pub use peer_msg::{LinkMsg, PeerMsg};

@@ -1,8 +1,8 @@
 //! The thread of a link.
 
-ghost use Rattle.replica_links.specs.Links.{IsBegun, IsLetterAnswered, IsWorked, TakesTurns};
+ghost use Rattle.replica_links.specs.Links.{AreAskedFirst, IsMsgAnswered, IsWorkerRun, TakesTurns};
 
-use crate::have_answer::{PeerLinks, ask_all, give_ops, take_ops};
+use crate::have_answer::{PeerLinks, answer_request, ask_all, take_ops};
 use crate::op_taker::Taker;
 use crate::peer_msg::{LinkMsg, PeerMsg};
 use crossbeam_channel::Receiver;
@@ -12,27 +12,27 @@ use std::sync::Wait;
 use std::thread;
 use std::time::{Duration, Instant};
 
-/// How long a worker rests after a message if no other is waiting, in microseconds. Who sends
-/// meanwhile needn't wake it; waking takes longer than sending.
+/// How long a worker rests after a message if no other is waiting, in microseconds. A sender
+/// needn't wake it then; waking takes longer than sending.
 const PAUSE: u64 = 250;
 
 /// A replica's incoming messages, and the replicas that it asks unprompted for what it lacks.
 #[derive(Drop)]
 pub struct LinkInput<'a> {
     /// Messages from the other replicas.
-    pub letters: &'a Receiver<PeerMsg>,
+    pub messages: &'a Receiver<PeerMsg>,
     /// The places of the other replicas.
     pub peers: &'a [usize],
     /// Whether they are asked before the first message is taken, as by a replica that has joined.
     pub asks_first: bool,
-    /// The time between two requests to them, whatever arrives meanwhile.
+    /// The time between two requests to them, whatever arrives in between.
     pub rest: Duration,
 }
 
 /// The next event at a link.
 enum NextEvent {
     /// A message arrived.
-    Letter(PeerMsg),
+    Message(PeerMsg),
     /// It is time to ask the others.
     Due,
     /// No message and no sender is left.
@@ -44,16 +44,16 @@ impl LinkInput<'_> {
     /// `Due`; if there is no such time, a message.
     fn next<R: Wait + Clock>(&self, rt: &R, due: Option<Instant>) -> NextEvent {
         let Some(due) = due else {
-            return match self.letters.recv(rt) {
-                Ok(letter) => NextEvent::Letter(letter),
+            return match self.messages.recv(rt) {
+                Ok(msg) => NextEvent::Message(msg),
                 Err(_) => NextEvent::Over,
             };
         };
-        if has_come(rt, due) {
+        if has_passed(rt, due) {
             return NextEvent::Due;
         }
-        match self.letters.recv_deadline(rt, due) {
-            Ok(letter) => NextEvent::Letter(letter),
+        match self.messages.recv_deadline(rt, due) {
+            Ok(msg) => NextEvent::Message(msg),
             Err(why) if why.is_timeout() => NextEvent::Due,
             Err(_) => NextEvent::Over,
         }
@@ -61,8 +61,8 @@ impl LinkInput<'_> {
 
     /// Rests if the link continues and no message is waiting, so that messages that arrive close
     /// together wake the worker once.
-    fn rest_if_idle<R: Clock>(&self, rt: &R, goes_on: bool) {
-        if goes_on && self.letters.is_empty() {
+    fn rest_if_idle<R: Clock>(&self, rt: &R, continues: bool) {
+        if continues && self.messages.is_empty() {
             thread::sleep(rt, Duration::from_micros(PAUSE));
         }
     }
@@ -74,7 +74,7 @@ impl LinkInput<'_> {
 }
 
 /// Whether a time has passed; false if the clock can't be read.
-fn has_come<R: Clock>(rt: &R, due: Instant) -> bool {
+fn has_passed<R: Clock>(rt: &R, due: Instant) -> bool {
     Instant::now(rt).is_ok_and(|now| now >= due)
 }
 
@@ -82,7 +82,7 @@ fn has_come<R: Clock>(rt: &R, due: Instant) -> bool {
 #[derive(Drop)]
 struct WorkerState {
     /// The number of messages that arrived.
-    letters: u64,
+    messages: u64,
     /// When the others are asked next; `None` if the clock can't be read.
     due: Option<Instant>,
 }
@@ -93,31 +93,31 @@ struct WorkerState {
 pub fn link_worker<R: Wait + Clock, T: Taker, G: Gate, P: PeerLinks>(
     rt: &R,
     gate: &mut G,
-    inbox: &LinkInput<'_>,
+    input: &LinkInput<'_>,
     taker: &mut T,
-    post: &mut P,
+    links: &mut P,
 )
-    ensures { IsWorked T.takes T.drains T.lacks T.has T.gives P.asks P.hands inbox.now.peers.now
-        inbox.now.asks_first taker.old post.old taker.new post.new }
+    ensures { IsWorkerRun T.takes T.drains T.lacks T.has T.gives P.asks P.sends input.now.peers.now
+        input.now.asks_first taker.old links.old taker.new links.new }
 {
-    begin(taker, post, inbox.peers, inbox.asks_first);
-    let mut pace = WorkerState {
-        letters: 0,
-        due: inbox.due(rt),
+    ask_first(taker, links, input.peers, input.asks_first);
+    let mut state = WorkerState {
+        messages: 0,
+        due: input.due(rt),
     };
     for _ in rt.forever() {
-        if !turn(rt, gate, inbox, &mut pace, taker, post) {
+        if !turn(rt, gate, input, &mut state, taker, links) {
             return;
         }
     }
 }
 
 /// Asks these replicas for all that this one lacks, if `asks`.
-fn begin<T: Taker, P: PeerLinks>(taker: &T, post: &mut P, peers: &[usize], asks: bool)
-    ensures { IsBegun T.lacks T.has P.asks peers.now asks taker.now post.old post.new }
+fn ask_first<T: Taker, P: PeerLinks>(taker: &T, links: &mut P, peers: &[usize], asks: bool)
+    ensures { AreAskedFirst T.lacks T.has P.asks peers.now asks taker.now links.old links.new }
 {
     if asks {
-        ask_all(taker, post, peers);
+        ask_all(taker, links, peers);
     }
 }
 
@@ -125,25 +125,25 @@ fn begin<T: Taker, P: PeerLinks>(taker: &T, post: &mut P, peers: &[usize], asks:
 fn turn<R: Wait + Clock, T: Taker, G: Gate, P: PeerLinks>(
     rt: &R,
     gate: &mut G,
-    inbox: &LinkInput<'_>,
-    pace: &mut WorkerState,
+    input: &LinkInput<'_>,
+    state: &mut WorkerState,
     taker: &mut T,
-    post: &mut P,
+    links: &mut P,
 ) -> bool
-    ensures { TakesTurns T.takes T.drains T.lacks T.has T.gives P.asks P.hands inbox.now.peers.now
-        taker.old post.old taker.new post.new }
+    ensures { TakesTurns T.takes T.drains T.lacks T.has T.gives P.asks P.sends input.now.peers.now
+        taker.old links.old taker.new links.new }
 {
-    match inbox.next(rt, pace.due) {
-        NextEvent::Letter(letter) => {
-            pace.letters = pace.letters.saturating_add(1);
-            gate.pass(pace.letters);
-            let goes_on = answer(taker, post, letter);
-            inbox.rest_if_idle(rt, goes_on);
-            goes_on
+    match input.next(rt, state.due) {
+        NextEvent::Message(msg) => {
+            state.messages = state.messages.saturating_add(1);
+            gate.pass(state.messages);
+            let continues = answer(taker, links, msg);
+            input.rest_if_idle(rt, continues);
+            continues
         }
         NextEvent::Due => {
-            ask_all(taker, post, inbox.peers);
-            pace.due = inbox.due(rt);
+            ask_all(taker, links, input.peers);
+            state.due = input.due(rt);
             true
         }
         NextEvent::Over => false,
@@ -151,18 +151,18 @@ fn turn<R: Wait + Clock, T: Taker, G: Gate, P: PeerLinks>(
 }
 
 /// Takes and answers a message. False if the link ends.
-fn answer<T: Taker, P: PeerLinks>(taker: &mut T, post: &mut P, letter: PeerMsg) -> bool
-    ensures { IsLetterAnswered T.takes T.drains T.lacks T.has T.gives P.asks P.hands letter.from
-        letter.message result taker.old post.old taker.new post.new }
+fn answer<T: Taker, P: PeerLinks>(taker: &mut T, links: &mut P, msg: PeerMsg) -> bool
+    ensures { IsMsgAnswered T.takes T.drains T.lacks T.has T.gives P.asks P.sends msg.from
+        msg.message result taker.old links.old taker.new links.new }
 {
-    let PeerMsg { from, message } = letter;
+    let PeerMsg { from, message } = msg;
     match message {
         LinkMsg::Ops(ops) => {
-            take_ops(taker, post, from, ops);
+            take_ops(taker, links, from, ops);
             true
         }
         LinkMsg::Have(clock) => {
-            give_ops(taker, post, from, clock);
+            answer_request(taker, links, from, clock);
             true
         }
         LinkMsg::Stop => false,

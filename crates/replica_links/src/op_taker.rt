@@ -50,7 +50,7 @@ pub trait Taker {
 pub fn hand_on<T: Taker>(taker: &mut T, ops: Vec<SoundOp>) -> Took
     ensures { Takes T.takes taker.old ops.items result taker.new }
 {
-    let mut took = Took::nothing();
+    let mut took = Took::complete();
     for op in ops {
         let one = taker.deliver(op);
         took = took.joined_with(one);

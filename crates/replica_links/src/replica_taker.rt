@@ -3,7 +3,7 @@
 ghost use Rattle.std.specs.Prelude.{◌≡◌, None, Some};
 ghost use Rattle.std.specs.Option.{option_map};
 ghost use Rattle.replica_links.specs.Links.{AreUncoveredOps, IsClockOfList, IsDrainedBy, IsTakenBy};
-ghost use Rattle.replica_links.specs.Links.{MayLack, took_of};
+ghost use Rattle.replica_links.specs.Links.{MayLack, intake_of};
 ghost use Rattle.replica_lock.specs.declared.outcome.Outcome.{Outcome};
 
 use crate::op_taker::Taker;
@@ -106,35 +106,37 @@ fn deliver_in<L: Ledger, R: Wait>(
     ensures { IsTakenBy pass.old op result pass.new }
 {
     match shared.deliver(rt, alloc, pass, op) {
-        Ok(()) => took_of_last(pass.last()),
+        Ok(()) => intake_of_last(pass.last()),
         Err(_) => Took::lacking(),
     }
 }
 
 /// The result of a delivery, from a pass's last outcome; lacking if it has none.
-fn took_of_last(last: Option<&Outcome>) -> Took
+fn intake_of_last(last: Option<&Outcome>) -> Took
     ensures { (outcome : Outcome)
         → option_map (λ o. o.now) last.entry ≡ Some outcome
-        → result ≡ took_of outcome }
+        → result ≡ intake_of outcome }
 {
     match last {
-        Some(outcome) => took_of(outcome),
+        Some(outcome) => intake_of(outcome),
         None => Took::lacking(),
     }
 }
 
 /// The result of a delivery with this outcome.
-fn took_of(outcome: &Outcome) -> Took
-    ensures { result ≡ took_of outcome.now }
+fn intake_of(outcome: &Outcome) -> Took
+    ensures { result ≡ intake_of outcome.now }
 {
     match outcome {
-        Outcome::Delivered { answer: Ok(told) } => Took {
-            lacking: told.arrival == Arrival::Held,
-            stalled: told.stalled,
+        Outcome::Delivered {
+            answer: Ok(receipt),
+        } => Took {
+            lacking: receipt.arrival == Arrival::Held,
+            stalled: receipt.stalled,
         },
         Outcome::Delivered {
             answer: Err(DeliverFault::Conflict { .. }),
-        } => Took::nothing(),
+        } => Took::complete(),
         _ => Took::lacking(),
     }
 }

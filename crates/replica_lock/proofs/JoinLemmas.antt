@@ -14,7 +14,7 @@ use Rattle.imap_node.specs.Deliveries.{Delivers, HoldsRipe}
 use Rattle.imap_node.specs.Nodes.{NodeState, first_numbers, joined_node, received_ops}
 use Rattle.replica_lock.specs.Histories.{BookState}
 use Rattle.imap_node.specs.Operations.{clock_of, id_of}
-use Rattle.replica_lock.specs.JoinedBook.{IsJoinFault, IsApplyFault, Stops, joined_book, applied_entry, join_fault_of, join_fault_of_arrival}
+use Rattle.replica_lock.specs.JoinedBook.{IsJoinFault, IsApplyFault, HasFirstFault, joined_book, applied_entry, join_fault_of, join_fault_of_arrival}
 use Rattle.causal_inbox.specs.OwnIds.{IsLeastOwn}
 use Rattle.replica_lock.specs.Steps.{IsStep}
 use Rattle.replica_lock.specs.declared.book.JournalEntry.{JournalEntry}
@@ -25,11 +25,11 @@ use Rattle.replica_lock.specs.declared.outcome.Outcome.{Outcome}
 use Rattle.replica_lock.specs.declared.outcome.Outcome.TheVariants.{Closed, Delivered, Drained, Opened, PassedOver, Replied}
 use Rattle.uid_projection.specs.Exhaustion.{Exhausts, IsExhausted}
 use Rattle.uid_projection.specs.declared.first_numbers.Counters.{Counters}
-use Rattle.uid_projection.proofs.Coming.{more_exhausted, none_exhausted}
+use Rattle.uid_projection.proofs.ExhaustionLemmas.{more_exhausted, none_exhausted}
 
-pub handed_on : {T E : Type 0} (r : Result T E) (fault : E) (P : E → Type 0) → IsErrAnd r (λ e. e ≡ fault) → P fault → IfErr r P
-handed_on (Ok x) fault P h p = tt
-handed_on (Err e) fault P h p = subst P (sym h) p
+pub if_err_of_equal : {T E : Type 0} (r : Result T E) (fault : E) (P : E → Type 0) → IsErrAnd r (λ e. e ≡ fault) → P fault → IfErr r P
+if_err_of_equal (Ok x) fault P h p = tt
+if_err_of_equal (Err e) fault P h p = subst P (sym h) p
 
 -- ---- one operation, delivered to a replica that holds nothing
 
@@ -45,8 +45,8 @@ not_true true h = absurd (h refl)
 not_true false h = refl
 
 -- The replica took the operation: its journal entry, and the replica then.
-abbrev pub Took : NodeState → Op → Outcome → NodeState → Type 0
-Took old op outcome new =
+abbrev pub HasApplied : NodeState → Op → Outcome → NodeState → Type 0
+HasApplied old op outcome new =
     (outcome ≡ Delivered (Ok (record { arrival = Applied 1; stalled = false })))
     × ((new ≡ record old { applied = old.applied ++ op ∷ [] }) × (IsRipe id_of clock_of old.applied op × (¬ Exhausts old.start old.applied (op ∷ []))))
 
@@ -60,50 +60,50 @@ module _ (old : NodeState) (op : Op) (nothing : old.held ≡ []) where
   none_ripe : (new : NodeState) → new.held ≡ [] → ¬ HoldsRipe new
   none_ripe new e h = absurd (subst (IsIn h.0) e h.1)
 
-  took : (count : ℕ) (stalled : Bool) (new : NodeState) → Delivers old op (Applied count) new → IsTrue stalled ↔ HoldsRipe new → Took old op (Delivered (Ok (record { arrival = Applied count; stalled = stalled }))) new
-  took count stalled new h s =
+  applied_at_once : (count : ℕ) (stalled : Bool) (new : NodeState) → Delivers old op (Applied count) new → IsTrue stalled ↔ HoldsRipe new → HasApplied old op (Delivered (Ok (record { arrival = Applied count; stalled = stalled }))) new
+  applied_at_once count stalled new h s =
       let released = none_released h.arrives.2.0 (record { start = old.start; applied = old.applied ++ op ∷ []; held = old.held }) (received_ops new) nothing h.arrives.2.2 in
       let same = released.1 in
       let one : count ≡ 1 = h.arrives.2.1 ∙ ap (λ (m : ℕ). m + 1) released.0 in
-      let awake : stalled ≡ false = not_true stalled (λ t. none_ripe new (ap (λ (x : ReceivedOps Counters Op). x.held) same ∙ nothing) (s.0 t)) in (
-        (λ i. Delivered (Ok (record { arrival = Applied (one i); stalled = awake i }))),
+      let not_stalled : stalled ≡ false = not_true stalled (λ t. none_ripe new (ap (λ (x : ReceivedOps Counters Op). x.held) same ∙ nothing) (s.0 t)) in (
+        (λ i. Delivered (Ok (record { arrival = Applied (one i); stalled = not_stalled i }))),
         ((λ i. record { start = (same i).start; applied = (same i).applied; held = (same i).held; sessions = h.sessions i }), (h.arrives.1.0, h.arrives.1.1)),
       )
 
   ok_by : (arrival : Arrival) (stalled : Bool) (new : NodeState) → Delivers old op arrival new → IsTrue stalled ↔ HoldsRipe new → (r : Result (Unit {0}) JoinFault) → r ≡ join_fault_of_arrival op.id arrival
-      → OnOk r (Took old op (Delivered (Ok (record { arrival = arrival; stalled = stalled }))) new)
-  ok_by (Applied count) stalled new h s r e = subst (λ (x : Result (Unit {0}) JoinFault). OnOk x (Took old op (Delivered (Ok (record { arrival = Applied count; stalled = stalled }))) new)) (sym e) (took count stalled new h s)
-  ok_by Held stalled new h s r e = subst (λ (x : Result (Unit {0}) JoinFault). OnOk x (Took old op (Delivered (Ok (record { arrival = Held; stalled = stalled }))) new)) (sym e) tt
-  ok_by Repeat stalled new h s r e = subst (λ (x : Result (Unit {0}) JoinFault). OnOk x (Took old op (Delivered (Ok (record { arrival = Repeat; stalled = stalled }))) new)) (sym e) tt
+      → OnOk r (HasApplied old op (Delivered (Ok (record { arrival = arrival; stalled = stalled }))) new)
+  ok_by (Applied count) stalled new h s r e = subst (λ (x : Result (Unit {0}) JoinFault). OnOk x (HasApplied old op (Delivered (Ok (record { arrival = Applied count; stalled = stalled }))) new)) (sym e) (applied_at_once count stalled new h s)
+  ok_by Held stalled new h s r e = subst (λ (x : Result (Unit {0}) JoinFault). OnOk x (HasApplied old op (Delivered (Ok (record { arrival = Held; stalled = stalled }))) new)) (sym e) tt
+  ok_by Repeat stalled new h s r e = subst (λ (x : Result (Unit {0}) JoinFault). OnOk x (HasApplied old op (Delivered (Ok (record { arrival = Repeat; stalled = stalled }))) new)) (sym e) tt
 
   -- if the operation was applied
-  pub take_ok : (outcome : Outcome) (new : NodeState) → IsStep old (Deliver op) outcome new → (r : Result (Unit {0}) JoinFault) → r ≡ join_fault_of op.id outcome → OnOk r (Took old op outcome new)
+  pub take_ok : (outcome : Outcome) (new : NodeState) → IsStep old (Deliver op) outcome new → (r : Result (Unit {0}) JoinFault) → r ≡ join_fault_of op.id outcome → OnOk r (HasApplied old op outcome new)
   take_ok (Delivered (Ok receipt)) new h r e = ok_by receipt.arrival receipt.stalled new h.0 h.1 r e
-  take_ok (Delivered (Err (delivering.Conflict other))) new h r e = subst (λ (x : Result (Unit {0}) JoinFault). OnOk x (Took old op (Delivered (Err (delivering.Conflict other))) new)) (sym e) tt
-  take_ok (Delivered (Err delivering.HeldFull)) new h r e = subst (λ (x : Result (Unit {0}) JoinFault). OnOk x (Took old op (Delivered (Err delivering.HeldFull)) new)) (sym e) tt
-  take_ok (Delivered (Err delivering.Exhausted)) new h r e = subst (λ (x : Result (Unit {0}) JoinFault). OnOk x (Took old op (Delivered (Err delivering.Exhausted)) new)) (sym e) tt
-  take_ok (Delivered (Err delivering.NoMemory)) new h r e = subst (λ (x : Result (Unit {0}) JoinFault). OnOk x (Took old op (Delivered (Err delivering.NoMemory)) new)) (sym e) tt
+  take_ok (Delivered (Err (delivering.Conflict other))) new h r e = subst (λ (x : Result (Unit {0}) JoinFault). OnOk x (HasApplied old op (Delivered (Err (delivering.Conflict other))) new)) (sym e) tt
+  take_ok (Delivered (Err delivering.HeldFull)) new h r e = subst (λ (x : Result (Unit {0}) JoinFault). OnOk x (HasApplied old op (Delivered (Err delivering.HeldFull)) new)) (sym e) tt
+  take_ok (Delivered (Err delivering.Exhausted)) new h r e = subst (λ (x : Result (Unit {0}) JoinFault). OnOk x (HasApplied old op (Delivered (Err delivering.Exhausted)) new)) (sym e) tt
+  take_ok (Delivered (Err delivering.NoMemory)) new h r e = subst (λ (x : Result (Unit {0}) JoinFault). OnOk x (HasApplied old op (Delivered (Err delivering.NoMemory)) new)) (sym e) tt
   take_ok (Opened answer) new h r e = absurd h
   take_ok (Replied reply) new h r e = absurd h
   take_ok (Drained drained) new h r e = absurd h
   take_ok Closed new h r e = absurd h
   take_ok PassedOver new h r e = absurd h
 
-  untaken : (why : JoinFault) (r : Result (Unit {0}) JoinFault) → r ≡ Err why → IsApplyFault old op why → IfErr r (IsApplyFault old op)
-  untaken why r e h = subst (λ (x : Result (Unit {0}) JoinFault). IfErr x (IsApplyFault old op)) (sym e) h
+  apply_fault_of_err : (why : JoinFault) (r : Result (Unit {0}) JoinFault) → r ≡ Err why → IsApplyFault old op why → IfErr r (IsApplyFault old op)
+  apply_fault_of_err why r e h = subst (λ (x : Result (Unit {0}) JoinFault). IfErr x (IsApplyFault old op)) (sym e) h
 
   err_by : (arrival : Arrival) (new : NodeState) → Delivers old op arrival new → (r : Result (Unit {0}) JoinFault) → r ≡ join_fault_of_arrival op.id arrival → IfErr r (IsApplyFault old op)
   err_by (Applied count) new h r e = subst (λ (x : Result (Unit {0}) JoinFault). IfErr x (IsApplyFault old op)) (sym e) tt
-  err_by Held new h r e = untaken (NotCausal op.id) r e (refl, h.arrives.1.0)
-  err_by Repeat new h r e = untaken (NotCausal op.id) r e (refl, received_not_ripe h.arrives.0)
+  err_by Held new h r e = apply_fault_of_err (NotCausal op.id) r e (refl, h.arrives.1.0)
+  err_by Repeat new h r e = apply_fault_of_err (NotCausal op.id) r e (refl, received_not_ripe h.arrives.0)
 
   -- if it wasn't
   pub take_err : (outcome : Outcome) (new : NodeState) → IsStep old (Deliver op) outcome new → (r : Result (Unit {0}) JoinFault) → r ≡ join_fault_of op.id outcome → IfErr r (IsApplyFault old op)
   take_err (Delivered (Ok receipt)) new h r e = err_by receipt.arrival new h.0 r e
-  take_err (Delivered (Err (delivering.Conflict other))) new h r e = untaken (NotCausal op.id) r e (refl, conflict_not_ripe h.0.1)
-  take_err (Delivered (Err delivering.HeldFull)) new h r e = untaken (NotCausal op.id) r e (refl, h.0.1)
-  take_err (Delivered (Err delivering.Exhausted)) new h r e = untaken Exhausted r e (h.0.1, h.0.2)
-  take_err (Delivered (Err delivering.NoMemory)) new h r e = untaken NoMemory r e tt
+  take_err (Delivered (Err (delivering.Conflict other))) new h r e = apply_fault_of_err (NotCausal op.id) r e (refl, conflict_not_ripe h.0.1)
+  take_err (Delivered (Err delivering.HeldFull)) new h r e = apply_fault_of_err (NotCausal op.id) r e (refl, h.0.1)
+  take_err (Delivered (Err delivering.Exhausted)) new h r e = apply_fault_of_err Exhausted r e (h.0.1, h.0.2)
+  take_err (Delivered (Err delivering.NoMemory)) new h r e = apply_fault_of_err NoMemory r e tt
   take_err (Opened answer) new h r e = absurd h
   take_err (Replied reply) new h r e = absurd h
   take_err (Drained drained) new h r e = absurd h
@@ -112,7 +112,7 @@ module _ (old : NodeState) (op : Op) (nothing : old.held ≡ []) where
 
 -- the book after a delivery, which has one further entry
 pub take_written : (old new : BookState) (op given : Op) (outcome : Outcome) (r : Result (Unit {0}) JoinFault) → given ≡ op → new.journal ≡ old.journal ++ record { event = Deliver given; outcome = outcome } ∷ []
-    → OnOk r (Took old.node op outcome new.node)
+    → OnOk r (HasApplied old.node op outcome new.node)
     → OnOk r ((new ≡ record { node = record old.node { applied = old.node.applied ++ op ∷ [] }; journal = old.journal ++ applied_entry op ∷ [] }) × IsRipe id_of clock_of old.node.applied op × (¬ Exhausts old.node.start old.node.applied (op ∷ [])))
 take_written old new op given outcome (Ok x) e j h =
     let entry : new.journal ≡ old.journal ++ applied_entry op ∷ [] = j ∙ (λ i. old.journal ++ record { event = Deliver (e i); outcome = h.0 i } ∷ []) in
@@ -130,61 +130,61 @@ cut_at [] i op l is = absurd (omega (arith, l))
 cut_at (x ∷ ops) zero op l is = (ops, ap (λ (y : Op). y ∷ ops) (sym is))
 cut_at (x ∷ ops) (suc i) op l is = let r = cut_at ops i op (omega (arith, l)) is in (r.0, ap (λ (ys : List Op). x ∷ ys) r.1)
 
-taken_more : (ops : List Op) (op : Op) → map applied_entry (ops ++ op ∷ []) ≡ map applied_entry ops ++ applied_entry op ∷ []
-taken_more [] op = refl
-taken_more (x ∷ ops) op = ap (λ (es : List JournalEntry). applied_entry x ∷ es) (taken_more ops op)
+applied_entries_append : (ops : List Op) (op : Op) → map applied_entry (ops ++ op ∷ []) ≡ map applied_entry ops ++ applied_entry op ∷ []
+applied_entries_append [] op = refl
+applied_entries_append (x ∷ ops) op = ap (λ (es : List JournalEntry). applied_entry x ∷ es) (applied_entries_append ops op)
 
 -- The book after the first operations of a list.
-pub record StandsAt (name : ℕ) (front : List Op) (book : BookState) : Type 0 where
+pub record IsJoinedBook (name : ℕ) (front : List Op) (book : BookState) : Type 0 where
   pub is : book ≡ joined_book name front
   pub causal : IsCausal id_of clock_of front
-  pub lasts : ¬ Exhausts (first_numbers name) [] front
+  pub not_exhausted : ¬ Exhausts (first_numbers name) [] front
 
-module _ (name : ℕ) (ops : List Op) (i : ℕ) (op : Op) (l : i < length ops) (at : op ≡ get_or ops i op) (book : BookState) (s : StandsAt name (take i ops) book) where
+module _ (name : ℕ) (ops : List Op) (i : ℕ) (op : Op) (l : i < length ops) (at : op ≡ get_or ops i op) (book : BookState) (s : IsJoinedBook name (take i ops) book) where
   pub holds_nothing : book.node.held ≡ []
   holds_nothing = ap (λ (b : BookState). b.node.held) s.is
 
-  pub stands_next : (new : BookState) → new ≡ record { node = record book.node { applied = book.node.applied ++ op ∷ [] }; journal = book.journal ++ applied_entry op ∷ [] }
-      → IsRipe id_of clock_of book.node.applied op → ¬ Exhausts book.node.start book.node.applied (op ∷ []) → StandsAt name (take (i + 1) ops) new
-  stands_next new e ripe lasts =
+  pub joined_book_next : (new : BookState) → new ≡ record { node = record book.node { applied = book.node.applied ++ op ∷ [] }; journal = book.journal ++ applied_entry op ∷ [] }
+      → IsRipe id_of clock_of book.node.applied op → ¬ Exhausts book.node.start book.node.applied (op ∷ []) → IsJoinedBook name (take (i + 1) ops) new
+  joined_book_next new e ripe not_exhausted =
       let next = take_next ops i op l at in
       record {
         is = e ∙ ap (λ (b : BookState). record { node = record b.node { applied = b.node.applied ++ op ∷ [] }; journal = b.journal ++ applied_entry op ∷ [] }) s.is
-            ∙ ap (λ (es : List JournalEntry). record { node = joined_node name (take i ops ++ op ∷ []); journal = es }) (sym (taken_more (take i ops) op))
+            ∙ ap (λ (es : List JournalEntry). record { node = joined_node name (take i ops ++ op ∷ []); journal = es }) (sym (applied_entries_append (take i ops) op))
             ∙ ap (joined_book name) (sym next);
         causal = subst (IsCausal id_of clock_of) (sym next) (causal_more id_of clock_of (take i ops) op s.causal (subst (λ (b : BookState). IsRipe id_of clock_of b.node.applied op) s.is ripe));
-        lasts = λ h.
+        not_exhausted = λ h.
             elim (more_exhausted (first_numbers name) [] (take i ops) op (subst (λ (os : List Op). Exhausts (first_numbers name) [] os) next h)) [
-              | inl t ↦ s.lasts t
-              | inr t ↦ subst (λ (b : BookState). ¬ Exhausts b.node.start b.node.applied (op ∷ [])) s.is lasts
+              | inl t ↦ s.not_exhausted t
+              | inr t ↦ subst (λ (b : BookState). ¬ Exhausts b.node.start b.node.applied (op ∷ [])) s.is not_exhausted
                   ([], op, [], refl, subst (λ (os : List Op). IsExhausted (first_numbers name) os op) (sym (append-nil (take i ops))) t)
             ];
       }
 
-  stops : (Why : List Op → Op → Type 0) → Why (take i ops) op → Stops name ops Why
-  stops Why h = let c = cut_at ops i op l at in record { front = take i ops; op = op; back = c.0; cut = c.1; causal = s.causal; lasts = s.lasts; why = h }
+  first_fault : (Why : List Op → Op → Type 0) → Why (take i ops) op → HasFirstFault name ops Why
+  first_fault Why h = let c = cut_at ops i op l at in record { front = take i ops; op = op; back = c.0; cut = c.1; causal = s.causal; not_exhausted = s.not_exhausted; why = h }
 
   -- if it stops
-  pub stops_here : (why : JoinFault) → IsApplyFault book.node op why → IsLeastOwn id_of name ops None → IsJoinFault name ops why
-  stops_here (Own id) h none = absurd h
-  stops_here (NotCausal id) h none = (
+  pub join_fault_at : (why : JoinFault) → IsApplyFault book.node op why → IsLeastOwn id_of name ops None → IsJoinFault name ops why
+  join_fault_at (Own id) h none = absurd h
+  join_fault_at (NotCausal id) h none = (
     none,
-    stops (λ front o. (o.id ≡ id) × ¬ IsRipe id_of clock_of front o) (h.0, subst (λ (b : BookState). ¬ IsRipe id_of clock_of b.node.applied op) s.is h.1),
+    first_fault (λ front o. (o.id ≡ id) × ¬ IsRipe id_of clock_of front o) (h.0, subst (λ (b : BookState). ¬ IsRipe id_of clock_of b.node.applied op) s.is h.1),
   )
-  stops_here Exhausted h none = (
+  join_fault_at Exhausted h none = (
     none,
-    stops (λ front o. IsRipe id_of clock_of front o × Exhausts (first_numbers name) front (o ∷ [])) (
+    first_fault (λ front o. IsRipe id_of clock_of front o × Exhausts (first_numbers name) front (o ∷ [])) (
       subst (λ (b : BookState). IsRipe id_of clock_of b.node.applied op) s.is h.0,
       subst (λ (b : BookState). Exhausts b.node.start b.node.applied (op ∷ [])) s.is h.1,
     ),
   )
-  stops_here NoMemory h none = none
+  join_fault_at NoMemory h none = none
 
-pub stands_first : (name : ℕ) (book : BookState) → book ≡ joined_book name [] → StandsAt name [] book
-stands_first name book e = record {
+pub joined_book_none : (name : ℕ) (book : BookState) → book ≡ joined_book name [] → IsJoinedBook name [] book
+joined_book_none name book e = record {
   is = e;
   causal = λ front o back h. absurd (no_cut front o back h);
-  lasts = λ h. none_exhausted (first_numbers name) [] h;
+  not_exhausted = λ h. none_exhausted (first_numbers name) [] h;
 }
   where
     no_cut : (front : List Op) (o : Op) (back : List Op) → [] ≡ front ++ o ∷ back → ⊥
@@ -192,7 +192,7 @@ stands_first name book e = record {
     no_cut (x ∷ front) o back h = absurd cc
 
 -- a copied clock is that of a list that was applied
-pub clock_had : {E : Type 0} (applied : List Op) (r : Result (List (ℕ × ℕ)) E) → IsCausal id_of clock_of applied → IfOk r (λ clock. IsClockOf id_of applied clock)
-    → IfOk r (λ clock. (had : List Op) × IsCausal id_of clock_of had × IsClockOf id_of had clock)
-clock_had applied (Ok clock) causal is = (applied, causal, is)
-clock_had applied (Err e) causal is = tt
+pub clock_of_applied : {E : Type 0} (applied : List Op) (r : Result (List (ℕ × ℕ)) E) → IsCausal id_of clock_of applied → IfOk r (λ clock. IsClockOf id_of applied clock)
+    → IfOk r (λ clock. (covered : List Op) × IsCausal id_of clock_of covered × IsClockOf id_of covered clock)
+clock_of_applied applied (Ok clock) causal is = (applied, causal, is)
+clock_of_applied applied (Err e) causal is = tt

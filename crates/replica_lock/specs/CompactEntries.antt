@@ -12,7 +12,7 @@ use Rattle.replica_lock.specs.declared.event.BookEvent.TheVariants.{Close, Comma
 use Rattle.replica_lock.specs.declared.compact_entry.CompactForm.{CompactForm}
 use Rattle.replica_lock.specs.declared.compact_entry.CompactForm.TheVariants as forms
 use Rattle.replica_lock.specs.declared.compact_entry.EntryRef.{EntryRef}
-use Rattle.replica_lock.specs.declared.compact_entry.EntryRef.TheVariants as lent
+use Rattle.replica_lock.specs.declared.compact_entry.EntryRef.TheVariants as refs
 use Rattle.replica_lock.specs.declared.outcome.Outcome.TheVariants.{Closed, Replied}
 
 -- The reply to a NOOP with this tag that is only its tagged OK: nothing changed (RFC 9051, section
@@ -36,11 +36,11 @@ closed_entry session = record { event = Close session; outcome = Closed }
 abbrev pub entry_of : CompactForm → JournalEntry
 entry_of (forms.Noop session moment tag) = noop_entry session moment tag
 entry_of (forms.Closed session) = closed_entry session
-entry_of (forms.Told told) = fetch_exchange_entry told.value
+entry_of (forms.Exchange exchange) = fetch_exchange_entry exchange.value
 entry_of (forms.Whole entry) = entry.value
 
 abbrev pub entry_of_ref : EntryRef → JournalEntry
-entry_of_ref (lent.Noop session moment tag) = noop_entry session moment tag.now
-entry_of_ref (lent.Closed session) = closed_entry session
-entry_of_ref (lent.Told told) = fetch_exchange_entry told.now
-entry_of_ref (lent.Whole entry) = entry.now
+entry_of_ref (refs.Noop session moment tag) = noop_entry session moment tag.now
+entry_of_ref (refs.Closed session) = closed_entry session
+entry_of_ref (refs.Exchange exchange) = fetch_exchange_entry exchange.now
+entry_of_ref (refs.Whole entry) = entry.now

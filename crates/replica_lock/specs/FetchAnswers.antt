@@ -32,19 +32,19 @@ flags_of flags =
     }
 
 -- The number, or none for 0.
-abbrev pub told_if_nonzero : ℕ → Option ℕ
-told_if_nonzero number = if number == 0 then None else Some number
+abbrev pub some_if_nonzero : ℕ → Option ℕ
+some_if_nonzero number = if number == 0 then None else Some number
 
 -- The items of a line, with these parts of the message's text, and the FETCH answer that has them
 -- (RFC 9051, section 7.5.2).
 abbrev pub items_of : FetchLine → List SectionData → FetchItems
 items_of line sections =
     record {
-      uid = told_if_nonzero line.uid;
+      uid = some_if_nonzero line.uid;
       flags = option_map flags_of line.flags;
       date = None;
       size = None;
-      modseq = told_if_nonzero line.modseq;
+      modseq = some_if_nonzero line.modseq;
       sections = sections;
     }
 
@@ -71,8 +71,8 @@ fetch_exchange_reply tag word shown = Done (fetch_exchange_answers tag word show
 
 -- The command's entry.
 abbrev pub fetch_exchange_entry : FetchExchange → JournalEntry
-fetch_exchange_entry told =
+fetch_exchange_entry exchange =
     record {
-      event = Command told.session told.moment told.tagged;
-      outcome = Replied (fetch_exchange_reply told.tagged.tag told.word told.shown);
+      event = Command exchange.session exchange.moment exchange.tagged;
+      outcome = Replied (fetch_exchange_reply exchange.tagged.tag exchange.word exchange.shown);
     }

@@ -35,13 +35,13 @@ joined_book name ops = record { node = joined_node name ops; journal = map appli
 
 -- The first of the operations that can't be applied after those before it, and why: it isn't ripe
 -- after them, or a counter of the new replica lacks a number for it.
-pub record Stops (name : ℕ) (ops : List Op) (Why : List Op → Op → Type 0) : Type 0 where
+pub record HasFirstFault (name : ℕ) (ops : List Op) (Why : List Op → Op → Type 0) : Type 0 where
   pub front : List Op
   pub op : Op
   pub back : List Op
   pub cut : ops ≡ front ++ op ∷ back
   pub causal : IsCausal id_of clock_of front
-  pub lasts : ¬ Exhausts (first_numbers name) [] front
+  pub not_exhausted : ¬ Exhausts (first_numbers name) [] front
   pub why : Why front op
 
 -- Why no replica of this name joins with these operations. An operation that bears its name is
@@ -50,10 +50,10 @@ abbrev pub IsJoinFault : ℕ → List Op → JoinFault → Type 0
 IsJoinFault name ops (Own id) = IsLeastOwn id_of name ops (Some id)
 IsJoinFault name ops (NotCausal id) =
     IsLeastOwn id_of name ops None
-    × Stops name ops (λ front op. (op.id ≡ id) × ¬ IsRipe id_of clock_of front op)
+    × HasFirstFault name ops (λ front op. (op.id ≡ id) × ¬ IsRipe id_of clock_of front op)
 IsJoinFault name ops Exhausted =
     IsLeastOwn id_of name ops None
-    × Stops name ops
+    × HasFirstFault name ops
     (λ front op. IsRipe id_of clock_of front op × Exhausts (first_numbers name) front (op ∷ []))
 IsJoinFault name ops NoMemory = IsLeastOwn id_of name ops None
 

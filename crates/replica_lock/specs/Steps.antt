@@ -5,7 +5,7 @@ use Rattle.imap_node.specs.Nodes.{Idles, NodeState}
 use Rattle.imap_node.specs.Replies.{is_done}
 use Rattle.imap_node.specs.Responses.{Responds}
 use Rattle.imap_node.specs.Sessions.{IsOpen, session_at}
-pub use Rattle.imap_node.specs.Steps.{ClosesAt, DeliversAt, DrainsAt, IsAwayAt, OpensAt}
+pub use Rattle.imap_node.specs.Steps.{ClosesAt, DeliversAt, DrainsAt, IsNotOpenAt, OpensAt}
 use Rattle.imap_node.specs.declared.input.Input.{Input}
 use Rattle.imap_node.specs.declared.input.Input.TheVariants as inputs
 use Rattle.replica_lock.specs.declared.event.BookEvent.{BookEvent}
@@ -51,7 +51,7 @@ IsStep old (Poll n) outcome new = TakesInput old n inputs.Poll outcome new
 IsStep old (Deliver op) (Delivered answer) new = DeliversAt old op answer new
 IsStep old Drain (Drained drained) new = DrainsAt old drained new
 IsStep old (Close n) Closed new = ClosesAt old n new
-IsStep old (Close n) PassedOver new = IsAwayAt old n new
+IsStep old (Close n) PassedOver new = IsNotOpenAt old n new
 IsStep old _ _ new = ⊥
 
 -- The event closes an open session.

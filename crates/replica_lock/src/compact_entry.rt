@@ -20,7 +20,7 @@ use std::marker::Model;
 
 /// A journal entry in compact form. A NOOP whose reply is only its tagged OK takes no memory but
 /// its tag, a command whose reply is only FETCH answers and its tagged OK takes a few words for
-/// each, and the close of a session takes no memory beside its place, so that it can't run out.
+/// each, and the close of a session takes no memory besides its place, so that it can't run out.
 pub struct CompactEntry {
     form: CompactForm,
 }
@@ -34,8 +34,8 @@ enum CompactForm {
     Closed {
         session: SessionNo,
     },
-    Told {
-        told: Box<FetchExchange>,
+    Exchange {
+        exchange: Box<FetchExchange>,
     },
     Whole {
         entry: Box<JournalEntry>,
@@ -52,7 +52,7 @@ impl Drop for CompactForm {
                 tag: _,
             } => {}
             Self::Closed { session: _ } => {}
-            Self::Told { told: _ } => {}
+            Self::Exchange { exchange: _ } => {}
             Self::Whole { entry: _ } => {}
         }
     }
@@ -92,9 +92,9 @@ pub enum EntryRef<'a> {
         session: SessionNo,
     },
     /// A command whose reply is only FETCH answers, each in compact form, and its tagged OK.
-    Told {
+    Exchange {
         /// The command and its reply.
-        told: &'a FetchExchange,
+        exchange: &'a FetchExchange,
     },
     /// Any entry.
     Whole {
@@ -127,11 +127,11 @@ impl CompactEntry {
     }
 
     /// The entry of a command whose reply is only FETCH answers and its tagged OK.
-    pub(crate) fn of_exchange(told: Box<FetchExchange>) -> CompactEntry
-        ensures { result ≡ fetch_exchange_entry told.value }
+    pub(crate) fn of_exchange(exchange: Box<FetchExchange>) -> CompactEntry
+        ensures { result ≡ fetch_exchange_entry exchange.value }
     {
         CompactEntry {
-            form: CompactForm::Told { told },
+            form: CompactForm::Exchange { exchange },
         }
     }
 
@@ -150,7 +150,7 @@ impl CompactEntry {
                 tag,
             },
             CompactForm::Closed { session } => EntryRef::Closed { session: *session },
-            CompactForm::Told { told } => EntryRef::Told { told },
+            CompactForm::Exchange { exchange } => EntryRef::Exchange { exchange },
             CompactForm::Whole { entry } => EntryRef::Whole { entry },
         }
     }
@@ -162,7 +162,7 @@ impl CompactEntry {
         match &self.form {
             CompactForm::Noop { tag, .. } => is_replied_done(outcome, tag),
             CompactForm::Closed { .. } => Outcome::Closed.same(outcome),
-            CompactForm::Told { told } => told.has_outcome(outcome),
+            CompactForm::Exchange { exchange } => exchange.has_outcome(outcome),
             CompactForm::Whole { entry } => entry.outcome.same(outcome),
         }
     }
@@ -226,7 +226,7 @@ impl Model for PendingEntry {
 impl PendingEntry {
     /// An entry for this event; `Err` if memory runs out.
     pub fn new(alloc: Global, event: BookEvent) -> Result<PendingEntry, AllocError>
-        ensures { IfOk result (λ begun. begun ≡ event) }
+        ensures { IfOk result (λ pending. pending ≡ event) }
     {
         let outcome = Outcome::PassedOver;
         let entry = Box::new(alloc, JournalEntry { event, outcome })?;

@@ -6,7 +6,7 @@ ghost use Rattle.std.specs.Prelude.{false, true};
 ghost use Rattle.imap_node.specs.SessionFeeds.{IsCurrent};
 ghost use Rattle.imap_node.specs.Replays.{view_at};
 ghost use Rattle.session_view.specs.ViewState.{ViewState};
-ghost use Rattle.replica_lock.specs.Passes.{OutcomesStand, PassState, OutcomeStands, calls_of};
+ghost use Rattle.replica_lock.specs.Passes.{HaveOutcomes, PassState, HasOutcomeAt, calls_of};
 ghost use Rattle.replica_lock.specs.Passes.{parts_of};
 ghost use Rattle.replica_lock.specs.Histories.{may_affect_sessions};
 ghost use Rattle.replica_lock.specs.Steps.{ends_session};
@@ -66,11 +66,11 @@ impl<L: Ledger> CountedBook<L> {
         requires { length book.journal ≡ calls.total }
         ensures { result ≡ book }
     {
-        let news = book.len();
+        let visible = book.len();
         CountedBook {
             book,
             calls,
-            last_visible: news,
+            last_visible: visible,
         }
     }
 
@@ -100,7 +100,7 @@ impl<L: Ledger> CountedBook<L> {
             ⊎ ((view : ViewState) → view_at self.now.node.sessions session ≡ Some view
             → IsCurrent self.now.node.start self.now.node.applied view) }
     {
-        self.last_visible > seen && self.book.node().may_be_behind(session)
+        self.last_visible > seen && self.book.node().may_have_unsent_changes(session)
     }
 
     /// A reference to the book.
@@ -125,11 +125,11 @@ impl<L: Ledger> CountedBook<L> {
         ensures close { pass.old.seen ≤ length self.old.journal
             → ends_session self.old.node event ≡ true → IsOk result }
     {
-        let found = self.book.len();
+        let actual = self.book.len();
         let seen = pass.seen();
-        if found < seen {
+        if actual < seen {
             drop(event);
-            return Err(CallFault::Torn { seen, found });
+            return Err(CallFault::Torn { seen, actual });
         }
         let outcome = match self.book.step(alloc, event) {
             Ok(outcome) => outcome,
@@ -143,7 +143,7 @@ impl<L: Ledger> CountedBook<L> {
     }
 
     /// Takes all passes back, and returns the book. `Missing` if the passes don't count all calls;
-    /// `Strange` if a pass has another outcome than the journal at its place.
+    /// `Strange` if a pass's outcome isn't the journal's at its place.
     pub fn settle(self, passes: Vec<Pass<L>>) -> Result<Book, FinishFault>
         requires { L.parts ≡ 4294967295 }
         ensures same { IfOk result (λ book. book ≡ self) }
@@ -157,7 +157,7 @@ impl<L: Ledger> CountedBook<L> {
             mut calls,
             last_visible: _,
         } = self;
-        let strange = first_mismatch(&book, &passes);
+        let mismatch = first_mismatch(&book, &passes);
         let entries = book.len();
         let made = gather(&mut calls, passes);
         if made != entries {
@@ -167,7 +167,7 @@ impl<L: Ledger> CountedBook<L> {
                 entries,
             });
         }
-        match strange {
+        match mismatch {
             Some(place) => {
                 drop(book);
                 Err(FinishFault::Strange { place })
@@ -207,27 +207,27 @@ fn gather<L: Ledger>(calls: &mut Calls<L>, mut passes: Vec<Pass<L>>) -> u64
 }
 
 /// Whether the journal has the pass's last outcome at the place that the pass saw.
-fn stands<L: Ledger>(book: &Book, pass: &Pass<L>) -> bool
-    ensures { IsTrue result ↔ OutcomeStands book.now.journal pass.now.last pass.now.seen }
+fn has_outcome_at<L: Ledger>(book: &Book, pass: &Pass<L>) -> bool
+    ensures { IsTrue result ↔ HasOutcomeAt book.now.journal pass.now.last pass.now.seen }
 {
     let Some(last) = pass.last() else {
         return true;
     };
     match book.entry(pass.seen()) {
-        Some(kept) => kept.has_outcome(last),
+        Some(stored) => stored.has_outcome(last),
         None => false,
     }
 }
 
 /// The place seen by the first pass whose last outcome isn't the journal's at that place, if any.
 fn first_mismatch<L: Ledger>(book: &Book, passes: &[Pass<L>]) -> Option<u64>
-    ensures all { IfNone result (OutcomesStand book.now.journal passes.now) }
+    ensures all { IfNone result (HaveOutcomes book.now.journal passes.now) }
     ensures one { IfSome result (λ place. (k : ℕ) × (p : PassState)
         × (slice_get passes.now k ≡ Some p) × (p.seen ≡ place)
-        × (OutcomeStands book.now.journal p.last p.seen → ⊥)) }
+        × (HasOutcomeAt book.now.journal p.last p.seen → ⊥)) }
 {
     for pass in passes {
-        if !stands(book, pass) {
+        if !has_outcome_at(book, pass) {
             return Some(pass.seen());
         }
     }

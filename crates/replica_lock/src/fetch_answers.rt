@@ -52,9 +52,9 @@ impl FetchAnswers {
         ensures { IsTrue result ↔ (answers_of self.now ≡ answers.now) }
     {
         match self {
-            FetchAnswers::Lines { lines } => stand_for(lines, answers),
+            FetchAnswers::Lines { lines } => are_lines_of(lines, answers),
             FetchAnswers::Parts { line, sections } => {
-                answers.len() == 1 && line.stands_with(sections, &answers[0])
+                answers.len() == 1 && line.is_line_with(sections, &answers[0])
             }
         }
     }
@@ -84,14 +84,14 @@ fn lines_of(alloc: Global, answers: &[Answer]) -> Option<Vec<FetchLine>>
 }
 
 /// Whether the lines are those of these answers, one for each.
-fn stand_for(lines: &[FetchLine], answers: &[Answer]) -> bool
+fn are_lines_of(lines: &[FetchLine], answers: &[Answer]) -> bool
     ensures { IsTrue result ↔ (map answer_of lines.now ≡ answers.now) }
 {
     if lines.len() != answers.len() {
         return false;
     }
     for i in 0..lines.len() {
-        if !lines[i].stands_for(&answers[i]) {
+        if !lines[i].is_line_of(&answers[i]) {
             return false;
         }
     }

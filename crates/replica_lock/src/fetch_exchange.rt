@@ -53,23 +53,23 @@ impl FetchExchange {
         tagged: Tagged,
         reply: &Reply,
     ) -> Result<Box<FetchExchange>, Tagged>
-        ensures told { IfOk result (λ told. fetch_exchange_entry told.value
+        ensures completed { IfOk result (λ completed. fetch_exchange_entry completed.value
             ≡ record { event = Command session moment tagged; outcome = Replied reply.now }) }
         ensures back { IfErr result (λ back. back ≡ tagged) }
     {
-        let Some(telling) = fetch_reply_of(alloc, &tagged.tag, reply) else {
+        let Some(compact) = fetch_reply_of(alloc, &tagged.tag, reply) else {
             return Err(tagged);
         };
-        let FetchReply { word, shown } = telling;
-        let told = FetchExchange {
+        let FetchReply { word, shown } = compact;
+        let completed = FetchExchange {
             session,
             moment,
             tagged,
             word,
             shown,
         };
-        match Box::new(alloc, told) {
-            Ok(told) => Ok(told),
+        match Box::new(alloc, completed) {
+            Ok(completed) => Ok(completed),
             Err(failed) => Err(unbox_command(failed)),
         }
     }
@@ -152,7 +152,7 @@ struct FetchReply {
 /// runs out.
 fn fetch_reply_of(alloc: Global, tag: &Octets, reply: &Reply) -> Option<FetchReply>
     ensures { IfSome result
-        (λ telling. fetch_exchange_reply tag.now telling.word telling.shown ≡ reply.now) }
+        (λ compact. fetch_exchange_reply tag.now compact.word compact.shown ≡ reply.now) }
 {
     match reply {
         Reply::Done {
@@ -163,7 +163,7 @@ fn fetch_reply_of(alloc: Global, tag: &Octets, reply: &Reply) -> Option<FetchRep
             if !silent.as_slice().is_empty() || !issued.as_slice().is_empty() {
                 return None;
             }
-            told_by(alloc, tag, answers.as_slice())
+            reply_of_answers(alloc, tag, answers.as_slice())
         }
         Reply::Refused { .. } => None,
     }
@@ -171,9 +171,9 @@ fn fetch_reply_of(alloc: Global, tag: &Octets, reply: &Reply) -> Option<FetchRep
 
 /// The compact form of these answers to the command with this tag; `None` if they have none, or if
 /// memory runs out.
-fn told_by(alloc: Global, tag: &Octets, answers: &[Answer]) -> Option<FetchReply>
+fn reply_of_answers(alloc: Global, tag: &Octets, answers: &[Answer]) -> Option<FetchReply>
     ensures { IfSome result
-        (λ telling. fetch_exchange_answers tag.now telling.word telling.shown ≡ answers.now) }
+        (λ compact. fetch_exchange_answers tag.now compact.word compact.shown ≡ answers.now) }
 {
     let (end, others) = answers.split_last()?;
     let word = word_of(end, tag)?;
@@ -202,10 +202,10 @@ pub fn completes(answer: &Answer, tag: &Octets, word: CompletedWord) -> bool
 {
     match answer {
         Answer::Completed {
-            tag: told,
+            tag: completed,
             code: None,
             command,
-        } => told.as_bytes() == tag.as_bytes() && *command == word,
+        } => completed.as_bytes() == tag.as_bytes() && *command == word,
         _ => false,
     }
 }

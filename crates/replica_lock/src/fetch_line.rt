@@ -3,7 +3,7 @@
 ghost use Rattle.std.specs.Prelude.{◌≡◌, ◌↔◌, IfSome, IsTrue};
 ghost use Rattle.std.specs.Option.{option_map};
 ghost use Rattle.replica_lock.specs.FetchAnswers.{answer_of, answer_with, flags_of, items_of};
-ghost use Rattle.replica_lock.specs.FetchAnswers.{told_if_nonzero};
+ghost use Rattle.replica_lock.specs.FetchAnswers.{some_if_nonzero};
 
 use imap_answers::{Answer, FetchItems, Sections};
 use imap_types::Flags;
@@ -91,14 +91,14 @@ impl FetchLine {
         }
         Some(FetchLine {
             number,
-            uid: kept_uid(items.uid)?,
-            modseq: kept_modseq(items.modseq)?,
-            flags: kept_flags(&items.flags)?,
+            uid: stored_uid(items.uid)?,
+            modseq: stored_modseq(items.modseq)?,
+            flags: stored_flags(&items.flags)?,
         })
     }
 
     /// Whether this is the line of the answer, which has no parts of a text.
-    pub(crate) fn stands_for(&self, answer: &Answer) -> bool
+    pub(crate) fn is_line_of(&self, answer: &Answer) -> bool
         ensures { IsTrue result ↔ (answer_of self.now ≡ answer.now) }
     {
         match answer {
@@ -110,7 +110,7 @@ impl FetchLine {
     }
 
     /// Whether this is the line of the answer, which has these parts of the message's text.
-    pub(crate) fn stands_with(&self, sections: &Sections, answer: &Answer) -> bool
+    pub(crate) fn is_line_with(&self, sections: &Sections, answer: &Answer) -> bool
         ensures { IsTrue result ↔ (answer_with sections.now self.now ≡ answer.now) }
     {
         match answer {
@@ -125,29 +125,29 @@ impl FetchLine {
     pub(crate) fn agrees(&self, items: &FetchItems) -> bool
         ensures { IsTrue result ↔ (items_of self.now items.now.sections ≡ items.now) }
     {
-        uid_if_told(self.uid) == items.uid
-            && modseq_if_told(self.modseq) == items.modseq
-            && are_flags_told(&self.flags, &items.flags)
+        uid_if_nonzero(self.uid) == items.uid
+            && modseq_if_nonzero(self.modseq) == items.modseq
+            && are_stored_flags(&self.flags, &items.flags)
             && items.date.is_none()
             && items.size.is_none()
     }
 }
 
-fn uid_if_told(uid: u32) -> Option<u32>
-    ensures { result ≡ told_if_nonzero uid }
+fn uid_if_nonzero(uid: u32) -> Option<u32>
+    ensures { result ≡ some_if_nonzero uid }
 {
     if uid == 0 { None } else { Some(uid) }
 }
 
-fn modseq_if_told(modseq: u64) -> Option<u64>
-    ensures { result ≡ told_if_nonzero modseq }
+fn modseq_if_nonzero(modseq: u64) -> Option<u64>
+    ensures { result ≡ some_if_nonzero modseq }
 {
     if modseq == 0 { None } else { Some(modseq) }
 }
 
 /// The stored form of a UID: 0 for none. `None` if it is 0, which no UID is.
-fn kept_uid(uid: Option<u32>) -> Option<u32>
-    ensures { IfSome result (λ kept. told_if_nonzero kept ≡ uid) }
+fn stored_uid(uid: Option<u32>) -> Option<u32>
+    ensures { IfSome result (λ form. some_if_nonzero form ≡ uid) }
 {
     match uid {
         None => Some(0),
@@ -157,8 +157,8 @@ fn kept_uid(uid: Option<u32>) -> Option<u32>
 }
 
 /// The stored form of a mod-sequence: 0 for none. `None` if it is 0, which no mod-sequence is.
-fn kept_modseq(modseq: Option<u64>) -> Option<u64>
-    ensures { IfSome result (λ kept. told_if_nonzero kept ≡ modseq) }
+fn stored_modseq(modseq: Option<u64>) -> Option<u64>
+    ensures { IfSome result (λ form. some_if_nonzero form ≡ modseq) }
 {
     match modseq {
         None => Some(0),
@@ -168,8 +168,8 @@ fn kept_modseq(modseq: Option<u64>) -> Option<u64>
 }
 
 /// The stored form of flags; `None` if there are keywords among them.
-fn kept_flags(flags: &Option<Flags>) -> Option<Option<SystemFlags>>
-    ensures { IfSome result (λ kept. option_map flags_of kept ≡ flags.now) }
+fn stored_flags(flags: &Option<Flags>) -> Option<Option<SystemFlags>>
+    ensures { IfSome result (λ form. option_map flags_of form ≡ flags.now) }
 {
     match flags {
         None => Some(None),
@@ -178,11 +178,11 @@ fn kept_flags(flags: &Option<Flags>) -> Option<Option<SystemFlags>>
 }
 
 /// Whether the stored flags are these flags.
-fn are_flags_told(told: &Option<SystemFlags>, flags: &Option<Flags>) -> bool
-    ensures { IsTrue result ↔ (option_map flags_of told.now ≡ flags.now) }
+fn are_stored_flags(stored: &Option<SystemFlags>, flags: &Option<Flags>) -> bool
+    ensures { IsTrue result ↔ (option_map flags_of stored.now ≡ flags.now) }
 {
-    match (told, flags) {
-        (Some(told), Some(flags)) => told.are(flags),
+    match (stored, flags) {
+        (Some(stored), Some(flags)) => stored.are(flags),
         (None, None) => true,
         _ => false,
     }

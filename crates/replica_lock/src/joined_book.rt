@@ -92,9 +92,9 @@ fn take(alloc: Global, book: &mut Book, op: &SoundOp) -> Result<(), JoinFault>
     let Ok(outcome) = book.step(alloc, BookEvent::Deliver { op }) else {
         return Err(JoinFault::NoMemory);
     };
-    let told = join_fault_of(id, &outcome);
+    let checked = join_fault_of(id, &outcome);
     drop(outcome);
-    told
+    checked
 }
 
 /// The fault, if any, shown by the outcome of delivering the operation with this id.

@@ -15,12 +15,12 @@
 //!
 //! - `Book::step` returns a `Result`. `NoRoom` is its error and not an outcome, so that no journal
 //!   entry can have it. An outcome is the node's answer to the call, as one enum.
-//! - A journal stores each event, with its operation or command, beside its outcome. The plan
+//! - A journal stores each event, with its operation or command, and its outcome. The plan
 //!   borrows a command (`Node::plan_for`), which then moves into the journal without a copy; an
 //!   operation and a login's credentials are copied first, and plan and commit share the reply. So
 //!   if memory runs out, nothing changes, and it is `NoRoom`.
 //! - A journal stores entries in compact form (`CompactEntry`), which contracts see as the entry.
-//!   Of a NOOP whose reply is only its tagged OK, which clients send all day, it stores session,
+//!   For a NOOP whose reply is only its tagged OK, sent by clients all day, it stores session,
 //!   moment and tag. A command whose reply is only FETCH answers, each of which fits a line of 24
 //!   octets, or one answer with parts of a message's text, is stored as these lines
 //!   (`FetchExchange`), since what clients ask whenever they open a mailbox took 160 octets a
@@ -34,7 +34,7 @@
 //!   items and updates the counts of more chunks after it (300 to 600 for 20,000 items).
 //! - A step needs room in the journal for one entry more than there are sessions open after it, so
 //!   that each open session can be closed; the book counts its open sessions.
-//! - `Shared::wait_session_change` is a call beside `wait_change`. It waits until, after the
+//! - `Shared::wait_session_change` is a call besides `wait_change`. It waits until, after the
 //!   entries seen, there is one that other sessions may have to be sent (one that issued operations
 //!   or may have applied some) and the session's own feed has notes or missed some, or until the
 //!   session is closed. Each session has a condition variable (`SessionSignals`), which such an
@@ -44,7 +44,7 @@
 //! - A session's condition variable is signalled at its IDLE too, since nothing that came before
 //!   signalled it: the waiting thread is woken only if the session idles, not by each read, and
 //!   what came between the last command and the IDLE, whose own reply reports nothing, is sent at
-//!   once. The view of a session for which nothing is noted is current (`Node::may_be_behind`);
+//!   once. The view of a session with no notes is current (`Node::may_have_unsent_changes`);
 //!   that a session with notes is signalled is tested. A poll that is refused since memory ran out
 //!   leaves its notes, and is made again after the next entry that concerns the session.
 //! - A call of `Shared` returns `Ok(())`, and `Pass::last` borrows the outcome: a result that
@@ -52,14 +52,14 @@
 //! - Contracts of `Shared` speak only of the pass. What a lock guards has no name outside it, so
 //!   the contract about the journal is that of `CountedBook::call`, to which the guard lends its
 //!   value and which `Shared` calls once.
-//! - Passes have run-time numbers, parts and calls, beside the ledger's share, which takes no
+//! - Passes have run-time numbers, parts and calls, besides the ledger's share, which takes no
 //!   octets and which no contract outside can name.
 //! - `Shared::finish` states its fault of some journal, since the lock hides which one it is;
 //!   `CountedBook::settle`, which finds the fault, states it of the journal itself
 //!   (`IsFinishFault`).
 //! - `Shared::ops_copy` copies all operations under the lock, except their texts, which the copies
 //!   share: a list returned in parts would need a second call that continues after the first. Other
-//!   calls of that replica wait meanwhile. While a replica joins, the operations are in the peer's
+//!   calls of that replica wait for it. While a replica joins, the operations are in the peer's
 //!   list and journal, in the copies, and in the joining replica's list and journal; each text is
 //!   in memory once.
 //! - `Book::join` makes two copies of each operation, the replica's and the journal's, as each
@@ -68,7 +68,6 @@
 
 mod book;
 mod compact_entry;
-mod comparing;
 mod counted_book;
 mod event;
 mod faults;
@@ -80,6 +79,7 @@ mod laws;
 mod node_step;
 mod outcome;
 mod pass;
+mod reply_equality;
 mod session_signals;
 mod shared;
 

@@ -24,7 +24,7 @@ use std::alloc::{AllocError, Global};
 #[derive(Drop)]
 pub struct StepResult {
     /// The journal entry of the event.
-    pub kept: CompactEntry,
+    pub stored: CompactEntry,
     /// The event's outcome.
     pub outcome: Outcome,
 }
@@ -32,8 +32,8 @@ pub struct StepResult {
 /// Takes an event at a node. `Err` if memory runs out for the journal entry; the node is then as it
 /// was. The close of a session takes no memory.
 pub fn step_node(alloc: Global, node: &mut Node, event: BookEvent) -> Result<StepResult, NoRoom>
-    ensures kept { IfOk result
-        (λ stepped. stepped.kept ≡ record { event = event; outcome = stepped.outcome }) }
+    ensures stored { IfOk result
+        (λ stepped. stepped.stored ≡ record { event = event; outcome = stepped.outcome }) }
     ensures step { IfOk result
         (λ stepped. IsStep node.old.state event stepped.outcome node.new.state) }
     ensures err { OnErr result (node.new.state ≡ node.old.state) }
@@ -56,23 +56,24 @@ pub fn step_node(alloc: Global, node: &mut Node, event: BookEvent) -> Result<Ste
 
 /// Opens a session.
 fn open_step(alloc: Global, node: &mut Node, auth: Auth) -> Result<StepResult, NoRoom>
-    ensures kept { IfOk result
-        (λ stepped. stepped.kept ≡ record { event = events.Open auth; outcome = stepped.outcome }) }
+    ensures stored { IfOk result
+        (λ stepped. stepped.stored
+        ≡ record { event = events.Open auth; outcome = stepped.outcome }) }
     ensures step { IfOk result
         (λ stepped. IsStep node.old.state (events.Open auth) stepped.outcome node.new.state) }
     ensures err { OnErr result (node.new.state ≡ node.old.state) }
 {
-    let Ok(kept) = copy_auth(alloc, &auth) else {
+    let Ok(stored) = copy_auth(alloc, &auth) else {
         drop(auth);
         return Err(NoRoom);
     };
-    let Ok(begun) = PendingEntry::new(alloc, BookEvent::Open { auth: kept }) else {
+    let Ok(pending) = PendingEntry::new(alloc, BookEvent::Open { auth: stored }) else {
         drop(auth);
         return Err(NoRoom);
     };
     let answer = node.open(auth);
     Ok(StepResult {
-        kept: begun.finish(outcome_of_open(&answer)),
+        stored: pending.finish(outcome_of_open(&answer)),
         outcome: outcome_of_open(&answer),
     })
 }
@@ -99,7 +100,7 @@ fn copy_auth(alloc: Global, auth: &Auth) -> Result<Auth, AllocError>
 /// or a poll.
 fn awaits(node: &Node, session: SessionNo, input: &Input) -> bool
     ensures taken { IsTrue result ↔ Awaits node.now.state session input.now }
-    ensures there { IsTrue result → IsOpen node.now.state.sessions session }
+    ensures opened { IsTrue result → IsOpen node.now.state.sessions session }
 {
     if !node.is_open(session) {
         return false;
@@ -117,7 +118,7 @@ fn input_step(
     session: SessionNo,
     input: Input,
 ) -> Result<StepResult, NoRoom>
-    ensures kept { IfOk result (λ stepped. stepped.kept
+    ensures stored { IfOk result (λ stepped. stepped.stored
         ≡ record { event = event_of session input; outcome = stepped.outcome }) }
     ensures step { IfOk result
         (λ stepped. TakesInput node.old.state session input stepped.outcome node.new.state) }
@@ -127,30 +128,30 @@ fn input_step(
         return pass_over(alloc, event_of(session, input));
     }
     let plan = node.plan_for(alloc, session, &input);
-    let Ok(kept) = kept_of(alloc, session, input, plan.reply()) else {
+    let Ok(stored) = input_entry(alloc, session, input, plan.reply()) else {
         drop(plan);
         return Err(NoRoom);
     };
     let reply = node.commit(plan);
     Ok(StepResult {
-        kept,
+        stored,
         outcome: Outcome::Replied { reply },
     })
 }
 
 /// The journal entry of an input of a session with this reply; `Err` if memory runs out.
-fn kept_of(
+fn input_entry(
     alloc: Global,
     session: SessionNo,
     input: Input,
     reply: &Reply,
 ) -> Result<CompactEntry, AllocError>
-    ensures { IfOk result (λ kept. kept
+    ensures { IfOk result (λ stored. stored
         ≡ record { event = event_of session input; outcome = outcomes.Replied reply.now }) }
 {
     match input {
         Input::Command { moment, tagged } => {
-            kept_of_command(alloc, session, moment, tagged, reply)
+            command_entry(alloc, session, moment, tagged, reply)
         }
         Input::Line { line } => whole_entry(alloc, BookEvent::Line { session, line }, reply),
         Input::Poll => whole_entry(alloc, BookEvent::Poll { session }, reply),
@@ -158,14 +159,14 @@ fn kept_of(
 }
 
 /// The journal entry of a command of a session with this reply; `Err` if memory runs out.
-fn kept_of_command(
+fn command_entry(
     alloc: Global,
     session: SessionNo,
     moment: Moment,
     tagged: Tagged,
     reply: &Reply,
 ) -> Result<CompactEntry, AllocError>
-    ensures { IfOk result (λ kept. kept
+    ensures { IfOk result (λ stored. stored
         ≡ record {
           event = events.Command session moment tagged;
           outcome = outcomes.Replied reply.now;
@@ -177,7 +178,7 @@ fn kept_of_command(
         return Ok(CompactEntry::of_noop(session, moment, tag));
     }
     let tagged = match FetchExchange::from_reply(alloc, session, moment, tagged, reply) {
-        Ok(told) => return Ok(CompactEntry::of_exchange(told)),
+        Ok(exchange) => return Ok(CompactEntry::of_exchange(exchange)),
         Err(tagged) => tagged,
     };
     let event = BookEvent::Command {
@@ -201,47 +202,47 @@ fn is_noop(command: &Command) -> bool
 /// The journal entry of any event with this reply, not in compact form; `Err` if memory runs out.
 fn whole_entry(alloc: Global, event: BookEvent, reply: &Reply) -> Result<CompactEntry, AllocError>
     ensures { IfOk result
-        (λ kept. kept ≡ record { event = event; outcome = outcomes.Replied reply.now }) }
+        (λ stored. stored ≡ record { event = event; outcome = outcomes.Replied reply.now }) }
 {
-    let begun = PendingEntry::new(alloc, event)?;
+    let pending = PendingEntry::new(alloc, event)?;
     let reply = reply.copy()?;
-    Ok(begun.finish(Outcome::Replied { reply }))
+    Ok(pending.finish(Outcome::Replied { reply }))
 }
 
 /// Passes over an event that isn't possible. `Err` if memory runs out for its journal entry.
 fn pass_over(alloc: Global, event: BookEvent) -> Result<StepResult, NoRoom>
-    ensures kept { IfOk result
-        (λ stepped. stepped.kept ≡ record { event = event; outcome = stepped.outcome }) }
+    ensures stored { IfOk result
+        (λ stepped. stepped.stored ≡ record { event = event; outcome = stepped.outcome }) }
     ensures outcome { IfOk result (λ stepped. stepped.outcome ≡ outcomes.PassedOver) }
 {
-    let Ok(begun) = PendingEntry::new(alloc, event) else {
+    let Ok(pending) = PendingEntry::new(alloc, event) else {
         return Err(NoRoom);
     };
     Ok(StepResult {
-        kept: begun.finish(Outcome::PassedOver),
+        stored: pending.finish(Outcome::PassedOver),
         outcome: Outcome::PassedOver,
     })
 }
 
 /// Delivers an operation.
 fn deliver_step(alloc: Global, node: &mut Node, op: SoundOp) -> Result<StepResult, NoRoom>
-    ensures kept { IfOk result (λ stepped. stepped.kept
+    ensures stored { IfOk result (λ stepped. stepped.stored
         ≡ record { event = events.Deliver op; outcome = stepped.outcome }) }
     ensures step { IfOk result
         (λ stepped. IsStep node.old.state (events.Deliver op) stepped.outcome node.new.state) }
     ensures err { OnErr result (node.new.state ≡ node.old.state) }
 {
-    let Ok(kept) = op.copy(alloc) else {
+    let Ok(stored) = op.copy(alloc) else {
         drop(op);
         return Err(NoRoom);
     };
-    let Ok(begun) = PendingEntry::new(alloc, BookEvent::Deliver { op: kept }) else {
+    let Ok(pending) = PendingEntry::new(alloc, BookEvent::Deliver { op: stored }) else {
         drop(op);
         return Err(NoRoom);
     };
     let answer = node.deliver(alloc, op);
     Ok(StepResult {
-        kept: begun.finish(outcome_of_delivery(&answer)),
+        stored: pending.finish(outcome_of_delivery(&answer)),
         outcome: outcome_of_delivery(&answer),
     })
 }
@@ -254,25 +255,25 @@ fn outcome_of_delivery(answer: &Result<Delivered, DeliverFault>) -> Outcome
 
 /// Applies held operations whose causes were applied.
 fn drain_step(alloc: Global, node: &mut Node) -> Result<StepResult, NoRoom>
-    ensures kept { IfOk result
-        (λ stepped. stepped.kept ≡ record { event = events.Drain; outcome = stepped.outcome }) }
+    ensures stored { IfOk result
+        (λ stepped. stepped.stored ≡ record { event = events.Drain; outcome = stepped.outcome }) }
     ensures step { IfOk result
         (λ stepped. IsStep node.old.state events.Drain stepped.outcome node.new.state) }
     ensures err { OnErr result (node.new.state ≡ node.old.state) }
 {
-    let Ok(begun) = PendingEntry::new(alloc, BookEvent::Drain) else {
+    let Ok(pending) = PendingEntry::new(alloc, BookEvent::Drain) else {
         return Err(NoRoom);
     };
     let drained = node.drain(alloc);
     Ok(StepResult {
-        kept: begun.finish(Outcome::Drained { drained }),
+        stored: pending.finish(Outcome::Drained { drained }),
         outcome: Outcome::Drained { drained },
     })
 }
 
 /// Closes a session, if it is open.
 fn close_step(alloc: Global, node: &mut Node, session: SessionNo) -> Result<StepResult, NoRoom>
-    ensures kept { IfOk result (λ stepped. stepped.kept
+    ensures stored { IfOk result (λ stepped. stepped.stored
         ≡ record { event = events.Close session; outcome = stepped.outcome }) }
     ensures step { IfOk result
         (λ stepped. IsStep node.old.state (events.Close session) stepped.outcome node.new.state) }
@@ -284,7 +285,7 @@ fn close_step(alloc: Global, node: &mut Node, session: SessionNo) -> Result<Step
     }
     node.close(session);
     Ok(StepResult {
-        kept: CompactEntry::of_close(session),
+        stored: CompactEntry::of_close(session),
         outcome: Outcome::Closed,
     })
 }

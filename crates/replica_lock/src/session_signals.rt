@@ -36,7 +36,7 @@ impl SessionSignals {
     /// The session's condition variable.
     pub fn signal_of(&self, session: SessionNo) -> &Condvar {
         match self.own.get(session.get() - 1) {
-            Some(bell) => bell,
+            Some(signal) => signal,
             None => &self.common,
         }
     }
@@ -46,7 +46,7 @@ impl SessionSignals {
     pub fn notify(&self, node: &Node) {
         for number in 1..node.last_session() + 1 {
             if let Some(session) = SessionNo::new(number) {
-                if node.is_idling(session) && node.may_be_behind(session) {
+                if node.is_idling(session) && node.may_have_unsent_changes(session) {
                     self.signal_of(session).notify_all();
                 }
             }

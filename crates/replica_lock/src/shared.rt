@@ -38,7 +38,7 @@ pub struct Shared<L: Ledger> {
     changed: Condvar,
     /// Signals of each session that it idles and may have something to be sent, that it begins to
     /// idle, or that it was closed.
-    bells: SessionSignals,
+    signals: SessionSignals,
 }
 
 /// A replica whose lock one caller has. No thread is woken before `Shared::end` releases it.
@@ -90,7 +90,7 @@ impl<'a, L: Ledger> LockTurn<'a, L> {
         };
         match self.call(alloc, pass, command) {
             Ok(last) => {
-                pass.keep(last);
+                pass.store_spent(last);
                 Ok(())
             }
             Err(fault) => Err(fault),
@@ -114,12 +114,12 @@ impl<L: Ledger> Shared<L> {
         let (calls, share) = blank.open::<L>();
         let mut calls = calls;
         let entries = book.len();
-        let bells = SessionSignals::new(book.alloc());
+        let signals = SessionSignals::new(book.alloc());
         let pass = Pass::whole(&mut calls, share, entries);
         let shared = Shared {
             locked: Mutex::new(CountedBook::new(book, calls)),
             changed: Condvar::new(),
-            bells,
+            signals,
         };
         (shared, pass)
     }
@@ -135,18 +135,18 @@ impl<L: Ledger> Shared<L> {
         ensures unchanged { OnErr result (pass.new ≡ pass.old) }
         ensures refused { IfErr result (IsCallRefused pass.old.seen) }
     {
-        let roused = session_roused_by(&event);
+        let woken = session_woken_by(&event);
         let mut turn = self.turn(rt);
         let result = turn.call(alloc, pass, event);
         self.end(turn);
-        if let Some(session) = roused {
-            self.bells.signal_of(session).notify_all();
+        if let Some(session) = woken {
+            self.signals.signal_of(session).notify_all();
         }
         // The outcome of the call before is dropped only here, after the lock was released: it may
         // be long.
         match result {
             Ok(last) => {
-                pass.keep(last);
+                pass.store_spent(last);
                 Ok(())
             }
             Err(fault) => Err(fault),
@@ -165,7 +165,7 @@ impl<L: Ledger> Shared<L> {
     pub fn end(&self, turn: LockTurn<'_, L>) {
         let LockTurn { locked, before } = turn;
         if locked.last_visible() != before {
-            self.bells.notify(locked.book().node());
+            self.signals.notify(locked.book().node());
         }
         drop(locked);
         self.changed.notify_all();
@@ -299,7 +299,7 @@ impl<L: Ledger> Shared<L> {
     pub fn wait_session_change<R: Wait>(&self, rt: &R, session: SessionNo, seen: u64) -> Option<u64>
         ensures { IfSome result (λ length. seen < length) }
     {
-        let locked = self.bells.signal_of(session).wait_while(
+        let locked = self.signals.signal_of(session).wait_while(
             rt,
             self.locked.lock(rt),
             |locked| !locked.has_session_change(session, seen)
@@ -316,7 +316,7 @@ impl<L: Ledger> Shared<L> {
     ///
     /// It holds the lock for one pass over the list, and copies each operation; a text's memory is
     /// shared. Other calls wait for as long as that takes. The copies take as much memory as the
-    /// list does, at once, beside the replica's and the journal's own.
+    /// list does, at once, besides the replica's and the journal's own.
     pub fn ops_copy<R: Wait>(
         &self,
         rt: &R,
@@ -351,8 +351,8 @@ impl<L: Ledger> Shared<L> {
         ops_in(alloc, self.locked.lock(rt).book(), clock)
     }
 
-    /// Removes the lock and returns the book, if no pass is missing. `Missing` if one is, `Strange`
-    /// if a pass has another outcome than the journal at its place.
+    /// Removes the lock and returns the book if no pass is missing. `Missing` if one is, `Strange`
+    /// if a pass's outcome isn't the journal's at its place.
     pub fn finish(self, passes: Vec<Pass<L>>) -> Result<Book, FinishFault>
         requires { L.parts ≡ 4294967295 }
         ensures fits { IfOk result (λ book. PassesFit book.journal passes.items) }
@@ -364,7 +364,7 @@ impl<L: Ledger> Shared<L> {
         let Shared {
             locked,
             changed: _,
-            bells: _,
+            signals: _,
         } = self;
         locked.into_inner().settle(passes)
     }
@@ -379,7 +379,7 @@ impl<L: Ledger> Shared<L> {
 
 /// The session that an event closes, or lets idle. Threads that wait for its changes look again,
 /// since nothing that came while it didn't idle signalled them.
-fn session_roused_by(event: &BookEvent) -> Option<SessionNo> {
+fn session_woken_by(event: &BookEvent) -> Option<SessionNo> {
     match event {
         BookEvent::Close { session } => Some(*session),
         BookEvent::Command {

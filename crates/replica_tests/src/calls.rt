@@ -1,7 +1,7 @@
 //! Calls that may answer that memory ran out, made once with ample memory.
 
 use crate::fixtures::{Mailboxes, Trouble, empty, operations};
-use crate::telling::tell_mailboxes;
+use crate::state_text::write_mailboxes;
 use causal_inbox::Inbox;
 use merge_laws::{FirstFollower, Follower, NotReady, Replicated, Unfollowed};
 use std::alloc::{AllocError, Global};
@@ -21,7 +21,7 @@ fn prepared(alloc: Global) -> Result<Vec<u8>, Trouble> {
     let mut pair = empty(alloc);
     prepare_each(alloc, &mut pair)?;
     let mut text = Vec::new(alloc);
-    tell_mailboxes(alloc, &pair.first, &pair.second, &mut text)?;
+    write_mailboxes(alloc, &pair.first, &pair.second, &mut text)?;
     Ok(text)
 }
 

@@ -86,7 +86,7 @@ fn some_date(dice: &mut Dice) -> Result<DateTime, Trouble> {
     };
     match DateTime::new(octets) {
         Some(date) => Ok(date),
-        None => Err(Trouble::NotTheForm),
+        None => Err(Trouble::NotInForm),
     }
 }
 
@@ -123,16 +123,16 @@ fn change_of(
     folder: &Name,
     origin: &OpId,
 ) -> Result<Kind, Trouble> {
-    let olds = versions_seen(alloc, clock, ops, folder, origin)?;
+    let old_ids = versions_seen(alloc, clock, ops, folder, origin)?;
     let folder = folder.copy(alloc)?;
     if dice.below(4) == 0 {
-        return Ok(Kind::Expunge { folder, olds });
+        return Ok(Kind::Expunge { folder, old_ids });
     }
     let flags = some_flags(alloc, dice)?;
     Ok(Kind::Store {
         folder,
         flags,
-        olds,
+        old_ids,
         origin: *origin,
     })
 }

@@ -3,7 +3,7 @@
 use crate::fixtures::Trouble;
 use crate::generated::{LISTS, generated};
 use crate::plain_inbox::{PlainInbox, is_at};
-use crate::reluctant::Hesitant;
+use crate::refused_values::RefusingFollower;
 use causal_inbox::Inbox;
 use crdt_ops::SoundOp;
 use merge_laws::{Caused, Replicated};
@@ -39,7 +39,7 @@ impl Replicated for Unchanged {
     fn apply(&mut self, _op: &SoundOp) {}
 }
 
-type Filing = Inbox<Unchanged, Hesitant>;
+type Filing = Inbox<Unchanged, RefusingFollower>;
 
 /// Whether both have the same operations in the same order.
 fn are_alike(filing: &Filing, plain: &PlainInbox) -> bool {
@@ -83,7 +83,7 @@ fn is_answered_alike(
     }
 }
 
-/// Whether both drain alike if the delivery stalled, and have equally many operations then.
+/// Whether both drain equally if the delivery stalled, and then have as many operations.
 fn is_drained_alike(
     alloc: Global,
     filing: &mut Filing,
@@ -117,7 +117,7 @@ fn is_since_alike(
     Ok(plain.are_since(clock, &since))
 }
 
-/// Whether both give the same answer to each delivery, and end alike.
+/// Whether both give the same answer to each delivery, and end in the same state.
 fn are_answered_alike(
     alloc: Global,
     filing: &mut Filing,
@@ -137,7 +137,7 @@ fn are_answered_alike(
 fn is_list_alike(alloc: Global, number: u32) -> Result<bool, Trouble> {
     let ops = generated(alloc, number)?;
     let before = Some(number);
-    let mut filing = Inbox::new(alloc, Unchanged, Hesitant { before })?;
+    let mut filing = Inbox::new(alloc, Unchanged, RefusingFollower { before })?;
     let mut plain = PlainInbox::new(alloc, before);
     let alike = are_answered_alike(alloc, &mut filing, &mut plain, &ops);
     drop(filing);

@@ -6,7 +6,7 @@ ghost use Rattle.folder_state.specs.Tables.{contents_of};
 ghost use Rattle.subs_state.specs.Subscriptions.{no_subscriptions};
 ghost use Rattle.subs_state.specs.Table.{subscriptions_of};
 
-use crate::telling::{tell_delivered, tell_drained, tell_received, tell_stall};
+use crate::state_text::{write_delivered, write_drained, write_received, write_stall};
 use causal_inbox::Inbox;
 use crdt_ops::{Op, OpFault, SoundOp, into_sound_op, read_op};
 use folder_state::Folders;
@@ -23,7 +23,7 @@ pub enum Trouble {
     /// Memory ran out.
     NoMemory,
     /// A line or a generated value is no sound operation.
-    NotTheForm,
+    NotInForm,
 }
 
 impl From<AllocError> for Trouble {
@@ -43,13 +43,13 @@ pub fn operation(alloc: Global, line: &str) -> Result<SoundOp, Trouble> {
     match read_op(alloc, line.as_bytes()) {
         Ok(op) => sound(op),
         Err(OpFault::NoMemory) => Err(Trouble::NoMemory),
-        Err(OpFault::NotTheForm) => Err(Trouble::NotTheForm),
+        Err(OpFault::NotInForm) => Err(Trouble::NotInForm),
     }
 }
 
 /// The same operation, if it is sound.
 pub fn sound(op: Op) -> Result<SoundOp, Trouble> {
-    into_sound_op(op).ok_or(Trouble::NotTheForm)
+    into_sound_op(op).ok_or(Trouble::NotInForm)
 }
 
 /// The operations that these lines spell.
@@ -102,11 +102,11 @@ pub fn play<R: Replicated<Op = SoundOp>, F: Follower<R>>(
     line: &str,
     text: &mut String,
 ) -> Result<(), Trouble> {
-    let told = match line {
-        "drain" => tell_drained(text, inbox.drain(alloc)),
-        "stall" => tell_stall(text, inbox.stall(alloc)),
-        "show" => tell_received(inbox.op_list(), &inbox.held(), text),
-        _ => tell_delivered(text, inbox.deliver(alloc, operation(alloc, line)?)),
+    let done = match line {
+        "drain" => write_drained(text, inbox.drain(alloc)),
+        "stall" => write_stall(text, inbox.stall(alloc)),
+        "show" => write_received(inbox.op_list(), &inbox.held(), text),
+        _ => write_delivered(text, inbox.deliver(alloc, operation(alloc, line)?)),
     };
-    Ok(told?)
+    Ok(done?)
 }

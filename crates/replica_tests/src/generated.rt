@@ -33,7 +33,7 @@ fn peers(alloc: Global, dice: &mut Dice) -> Result<Vec<Peer>, Trouble> {
 }
 
 /// The replica at `at` learns all that the one at `of` knows.
-fn hear(alloc: Global, peers: &mut [Peer], at: usize, of: usize) -> Result<(), Trouble> {
+fn receive(alloc: Global, peers: &mut [Peer], at: usize, of: usize) -> Result<(), Trouble> {
     let Some(other) = peers.get(of) else {
         return Ok(());
     };
@@ -64,7 +64,7 @@ fn issue(
 ) -> Result<(), Trouble> {
     let number = peer.clock.get(peer.replica).saturating_add(1);
     let Some(id) = OpId::new(peer.replica, number) else {
-        return Err(Trouble::NotTheForm);
+        return Err(Trouble::NotInForm);
     };
     let clock = peer.clock.copy(alloc)?;
     let kind = draft(alloc, dice, &peer.clock, ops)?;
@@ -94,7 +94,7 @@ fn step(
     let at = dice.below(peers.len());
     if dice.below(2) == 0 {
         let of = dice.below(peers.len());
-        hear(alloc, peers, at, of)?;
+        receive(alloc, peers, at, of)?;
     }
     match peers.get_mut(at) {
         None => Ok(()),
@@ -125,14 +125,22 @@ fn shuffle(dice: &mut Dice, ops: &mut [SoundOp]) {
     }
 }
 
-/// The list with this number, of at most 300 operations in the order of their delivery. Few lists
-/// are long.
+/// The number of operations that replicas issue in the list with this number: 160 to 260 in every
+/// third list, and 1 to 60 in the others.
+fn issue_count(dice: &mut Dice, number: u32) -> usize {
+    if number % 3 == 0 {
+        dice.below(101).saturating_add(160)
+    } else {
+        dice.below(60).saturating_add(1)
+    }
+}
+
+/// The list with this number, of at most 300 operations in the order of their delivery.
 pub fn generated(alloc: Global, number: u32) -> Result<Vec<SoundOp>, Trouble> {
     let mut dice = Dice::new(number);
     let mut peers = peers(alloc, &mut dice)?;
     let mut ops = Vec::new(alloc);
-    let most = if number % 8 == 0 { 260 } else { 60 };
-    for _ in 0..dice.below(most).saturating_add(1) {
+    for _ in 0..issue_count(&mut dice, number) {
         step(alloc, &mut dice, &mut peers, &mut ops)?;
     }
     repeat(alloc, &mut dice, &mut ops)?;

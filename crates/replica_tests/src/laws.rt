@@ -2,7 +2,7 @@
 
 use crate::fixtures::Mailboxes;
 use causal_inbox::{
-    delivery_is_received, filed_by_least_missing_cause, issue_is_received, nothing_ripe_is_left,
+    delivery_is_received, indexed_by_least_missing_cause, issue_is_received, nothing_ripe_is_left,
     release_loses_nothing, what_is_received_is_consistent,
 };
 use crdt_ops::{SoundOp, one_operation};
@@ -44,5 +44,5 @@ fn inboxes() {
     issue_is_received::<Mailboxes, Unfollowed>();
     what_is_received_is_consistent::<Mailboxes, Unfollowed>();
     nothing_ripe_is_left::<Mailboxes, Unfollowed>();
-    filed_by_least_missing_cause::<SoundOp>();
+    indexed_by_least_missing_cause::<SoundOp>();
 }

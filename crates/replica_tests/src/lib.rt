@@ -8,7 +8,8 @@
 //! Tables are compared with plain lists: 200 generated lists of operations, shuffled, repeated and
 //! forged, are delivered to `Inbox` and to an inbox in plain lists, which must answer alike. The
 //! operations that were applied are then replayed, and folders, subscriptions, UIDs and
-//! mod-sequences are compared with those that plain lists compute.
+//! mod-sequences are compared with those that plain lists compute. Of fifty lists and more, 150 to
+//! 300 operations are applied.
 #![tactic(auto)]
 
 #[cfg(test)]
@@ -22,9 +23,11 @@ mod filed_inbox;
 #[cfg(test)]
 mod fixtures;
 #[cfg(test)]
+mod found_rows;
+#[cfg(test)]
 mod generated;
 #[cfg(test)]
-mod holding;
+mod held_count;
 #[cfg(test)]
 mod laws;
 #[cfg(test)]
@@ -36,14 +39,14 @@ mod plain_mailboxes;
 #[cfg(test)]
 mod refusals;
 #[cfg(test)]
-mod refusing;
+mod refused_call;
 #[cfg(test)]
-mod reluctant;
+mod refused_values;
 #[cfg(test)]
 mod retries;
 #[cfg(test)]
 mod shown;
 #[cfg(test)]
-mod tables;
+mod state_text;
 #[cfg(test)]
-mod telling;
+mod tables;

@@ -4,27 +4,35 @@
 use crate::drafts::added_origin;
 use crate::fixtures::Trouble;
 use crate::plain_mailboxes::PlainMailboxes;
-use crdt_ops::{Kind, Op};
+use crdt_ops::{Kind, Message, Op};
 use imap_types::Name;
 use std::alloc::{AllocError, Global};
 use tags_clocks::OpId;
 
+/// The numbers of a message.
+#[derive(Drop)]
+struct PlainLine {
+    origin: OpId,
+    uid: u32,
+    modseq: u64,
+}
+
 /// A message with its numbers.
 #[derive(Drop)]
-pub struct PlainLine {
-    /// Its origin.
-    pub origin: OpId,
+pub struct PlainRow {
     /// Its UID.
     pub uid: u32,
     /// Its mod-sequence.
     pub modseq: u64,
+    /// Its origin, versions, flags, date and text.
+    pub message: Message,
 }
 
 /// The numbers of a folder.
 #[derive(Drop)]
 struct PlainChart {
     folder: Name,
-    there: bool,
+    is_present: bool,
     k: u32,
     uidnext: u32,
     highest: u64,
@@ -70,7 +78,7 @@ impl PlainReplica {
     /// `lost` lost a version.
     fn note(&mut self, alloc: Global, op: &Op, lost: &[OpId]) -> Result<(), Trouble> {
         let folder = op.kind.name();
-        let there = self.mailboxes.exists(folder);
+        let is_present = self.mailboxes.exists(folder);
         let at = match place_of(&self.charts, folder) {
             Some(at) => at,
             None => {
@@ -82,11 +90,11 @@ impl PlainReplica {
         match self.charts.get_mut(at) {
             None => Ok(()),
             Some(chart) => {
-                if there && !chart.there {
+                if is_present && !chart.is_present {
                     chart.k = self.next_k;
                     self.next_k = self.next_k.saturating_add(1);
                 }
-                step(chart, &self.mailboxes, there, op, lost)
+                step(chart, &self.mailboxes, is_present, op, lost)
             }
         }
     }
@@ -97,7 +105,7 @@ impl PlainReplica {
             return Some(self.number);
         }
         match self.chart(folder) {
-            Some(chart) if chart.there => {
+            Some(chart) if chart.is_present => {
                 Some(chart.k.saturating_mul(65536).saturating_add(self.number))
             }
             _ => None,
@@ -113,7 +121,21 @@ impl PlainReplica {
     }
 
     /// The folder's messages with their numbers, by ascending UIDs.
-    pub fn lines(&self, folder: &Name) -> &[PlainLine] {
+    pub fn rows(&self, alloc: Global, folder: &Name) -> Result<Vec<PlainRow>, AllocError> {
+        let mut rows = Vec::new(alloc);
+        for line in self.lines(folder) {
+            let message = self.mailboxes.message(alloc, folder, &line.origin)?;
+            rows.push(PlainRow {
+                uid: line.uid,
+                modseq: line.modseq,
+                message,
+            })?;
+        }
+        Ok(rows)
+    }
+
+    /// The numbers of the folder's messages, by ascending UIDs.
+    fn lines(&self, folder: &Name) -> &[PlainLine] {
         match self.chart(folder) {
             Some(chart) => &chart.lines,
             None => &[],
@@ -131,10 +153,10 @@ impl PlainReplica {
     }
 }
 
-fn chart_of(alloc: Global, folder: Name, there: bool) -> PlainChart {
+fn chart_of(alloc: Global, folder: Name, is_present: bool) -> PlainChart {
     PlainChart {
         folder,
-        there,
+        is_present,
         k: 1,
         uidnext: 1,
         highest: 1,
@@ -155,12 +177,12 @@ fn place_of(charts: &[PlainChart], folder: &Name) -> Option<usize> {
 fn step(
     chart: &mut PlainChart,
     mailboxes: &PlainMailboxes,
-    there: bool,
+    is_present: bool,
     op: &Op,
     lost: &[OpId],
 ) -> Result<(), Trouble> {
-    chart.there = there;
-    if !there {
+    chart.is_present = is_present;
+    if !is_present {
         chart.uidnext = 1;
         chart.highest = 1;
         chart.lines.clear();
@@ -168,7 +190,7 @@ fn step(
     }
     chart.highest = chart.highest.saturating_add(1);
     let added = added_origin(op);
-    renew(&mut chart.lines, lost, &added, chart.highest);
+    set_modseq(&mut chart.lines, lost, &added, chart.highest);
     let folder = &chart.folder;
     chart
         .lines
@@ -180,7 +202,7 @@ fn step(
 }
 
 /// Gives this mod-sequence to the messages that lost a version and to the one that got one.
-fn renew(lines: &mut [PlainLine], lost: &[OpId], added: &Option<OpId>, modseq: u64) {
+fn set_modseq(lines: &mut [PlainLine], lost: &[OpId], added: &Option<OpId>, modseq: u64) {
     for line in lines.iter_mut() {
         if *added == Some(line.origin) || lost.contains(&line.origin) {
             line.modseq = modseq;

@@ -4,7 +4,7 @@
 ghost use Rattle.std.specs.Prelude.{◌<◌, ◌≤◌, length, IfSome};
 
 use crate::fixtures::Trouble;
-use crate::refusing::is_refused;
+use crate::refused_call::is_refused;
 use causal_inbox::{Arrival, DeliverFault, Delivered, Drained, find_in};
 use crdt_ops::SoundOp;
 use merge_laws::Caused;

@@ -24,7 +24,7 @@ struct PlainVersion {
 
 /// The date and text of an Append.
 #[derive(Drop)]
-struct PlainLetter {
+struct PlainDatedText {
     id: OpId,
     date: DateTime,
     text: Text,
@@ -36,7 +36,7 @@ pub struct PlainMailboxes {
     /// The present folder tags.
     pub folder_tags: Vec<PlainTag>,
     versions: Vec<PlainVersion>,
-    letters: Vec<PlainLetter>,
+    dated_texts: Vec<PlainDatedText>,
     /// The present subscription tags.
     pub subscriptions: Vec<PlainTag>,
 }
@@ -47,7 +47,7 @@ impl PlainMailboxes {
         PlainMailboxes {
             folder_tags: Vec::new(alloc),
             versions: Vec::new(alloc),
-            letters: Vec::new(alloc),
+            dated_texts: Vec::new(alloc),
             subscriptions: Vec::new(alloc),
         }
     }
@@ -85,7 +85,7 @@ impl PlainMailboxes {
                 ..
             } => {
                 add_version(alloc, &mut self.versions, name, op.id, op.id, flags)?;
-                add_letter(&mut self.letters, op.id, date, text)
+                add_dated_text(&mut self.dated_texts, op.id, date, text)
             }
             Kind::Store { flags, origin, .. } => {
                 add_version(alloc, &mut self.versions, name, op.id, *origin, flags)
@@ -111,6 +111,17 @@ impl PlainMailboxes {
         false
     }
 
+    /// The ids of the origin's versions in the folder, ascending.
+    pub fn versions(&self, alloc: Global, folder: &Name, origin: &OpId) -> Result<Ids, AllocError> {
+        let mut ids = Ids::none(alloc);
+        for version in &self.versions {
+            if version.origin == *origin && version.folder.same(folder) {
+                ids.insert(version.id)?;
+            }
+        }
+        Ok(ids)
+    }
+
     /// The names of the folders, ascending.
     pub fn names(&self, alloc: Global) -> Result<Vec<Name>, AllocError> {
         let mut names = Vec::new(alloc);
@@ -122,7 +133,7 @@ impl PlainMailboxes {
         Ok(names)
     }
 
-    /// The names that are subscribed to, ascending.
+    /// The subscribed names, ascending.
     pub fn subscribed_names(&self, alloc: Global) -> Result<Vec<Name>, AllocError> {
         let mut names = Vec::new(alloc);
         place_names(alloc, &mut names, &self.subscriptions)?;
@@ -186,7 +197,7 @@ impl PlainMailboxes {
                 add_flags(alloc, &mut flags, &version.flags)?;
             }
         }
-        let (date, text) = self.letter(alloc, origin)?;
+        let (date, text) = self.dated_text(alloc, origin)?;
         Ok(Message {
             origin: *origin,
             versions,
@@ -196,10 +207,10 @@ impl PlainMailboxes {
         })
     }
 
-    fn letter(&self, alloc: Global, origin: &OpId) -> Result<(DateTime, Text), AllocError> {
-        for letter in &self.letters {
-            if letter.id == *origin {
-                return Ok((letter.date.copy(), letter.text.copy()?));
+    fn dated_text(&self, alloc: Global, origin: &OpId) -> Result<(DateTime, Text), AllocError> {
+        for dated_text in &self.dated_texts {
+            if dated_text.id == *origin {
+                return Ok((dated_text.date.copy(), dated_text.text.copy()?));
             }
         }
         Ok((DateTime::epoch(), Text::new(Vec::new(alloc))?))
@@ -259,15 +270,15 @@ fn add_version(
     Ok(())
 }
 
-fn add_letter(
-    letters: &mut Vec<PlainLetter>,
+fn add_dated_text(
+    dated_texts: &mut Vec<PlainDatedText>,
     id: OpId,
     date: &DateTime,
     text: &Text,
 ) -> Result<(), Trouble> {
     let date = date.copy();
     let text = text.copy()?;
-    letters.push(PlainLetter { id, date, text })?;
+    dated_texts.push(PlainDatedText { id, date, text })?;
     Ok(())
 }
 

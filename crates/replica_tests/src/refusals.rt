@@ -5,8 +5,8 @@ ghost use Rattle.std.specs.Prelude.{◌≡◌, ◌+◌, ◌<◌, ◌≤◌, leng
 ghost use Rattle.replica_tests.specs.Counting.{first_fits};
 
 use crate::fixtures::{Trouble, operations, play_all};
-use crate::reluctant::Reluctant;
-use crate::telling::tell_folders;
+use crate::refused_values::RefusingValue;
+use crate::state_text::write_folders;
 use causal_inbox::{Inbox, IssueFault};
 use crdt_ops::SoundOp;
 use folder_state::Folders;
@@ -53,7 +53,7 @@ impl<R: Replicated> Follower<R> for Counted {
 }
 
 /// Whether the inbox gives these answers to the lines.
-fn answers_so<R: Replicated<Op = SoundOp>, F: Follower<R>>(
+fn has_answers<R: Replicated<Op = SoundOp>, F: Follower<R>>(
     alloc: Global,
     inbox: &mut Inbox<R, F>,
     lines: &[&str],
@@ -65,9 +65,9 @@ fn answers_so<R: Replicated<Op = SoundOp>, F: Follower<R>>(
 }
 
 /// Whether the dump of the folders is these lines.
-fn tells(alloc: Global, folders: &Folders, lines: &[u8]) -> Result<bool, AllocError> {
+fn has_lines(alloc: Global, folders: &Folders, lines: &[u8]) -> Result<bool, AllocError> {
     let mut text = Vec::new(alloc);
-    tell_folders(alloc, folders, &mut text)?;
+    write_folders(alloc, folders, &mut text)?;
     Ok(text.as_slice() == lines)
 }
 
@@ -106,30 +106,33 @@ const REFUSED: &[(u32, &str)] = &[
 ];
 
 /// The dump of the folders after the chain.
-const CHAIN_TOLD: &[u8] = b"folder INBOX -\nfolder a 1:1\nfolder b 1:2\nfolder c 1:3\n";
+const CHAIN_TEXT: &[u8] = b"folder INBOX -\nfolder a 1:1\nfolder b 1:2\nfolder c 1:3\n";
 
-type Refused = Inbox<Reluctant<Folders>, Unfollowed>;
+type Refused = Inbox<RefusingValue<Folders>, Unfollowed>;
 
 /// Whether an inbox that is refused memory after `before` calls gives these answers, and ends as
 /// with ample memory.
-fn is_refused_so(alloc: Global, before: u32, answers: &str) -> Result<bool, Trouble> {
-    let value = Reluctant {
+fn is_refused_as_expected(alloc: Global, before: u32, answers: &str) -> Result<bool, Trouble> {
+    let value = RefusingValue {
         value: Folders::new(alloc),
         before: Some(before),
     };
     let mut inbox = Inbox::new(alloc, value, Unfollowed)?;
-    let is_so = ends_so(alloc, &mut inbox, answers);
+    let is_expected = ends_as_expected(alloc, &mut inbox, answers);
     drop(inbox);
-    is_so
+    is_expected
 }
 
-fn ends_so(alloc: Global, inbox: &mut Refused, answers: &str) -> Result<bool, Trouble> {
-    Ok(answers_so(alloc, inbox, CHAIN, answers)? && tells(alloc, &inbox.value().value, CHAIN_TOLD)?)
+fn ends_as_expected(alloc: Global, inbox: &mut Refused, answers: &str) -> Result<bool, Trouble> {
+    Ok(
+        has_answers(alloc, inbox, CHAIN, answers)?
+            && has_lines(alloc, &inbox.value().value, CHAIN_TEXT)?,
+    )
 }
 
 fn first_wrong_refusal(alloc: Global) -> Result<Option<usize>, Trouble> {
     for (at, (before, answers)) in REFUSED.iter().enumerate() {
-        if !is_refused_so(alloc, *before, answers)? {
+        if !is_refused_as_expected(alloc, *before, answers)? {
             return Ok(Some(at));
         }
     }
@@ -182,9 +185,9 @@ fn with_counter(alloc: Global, limit: usize) -> Result<Inbox<Folders, Counted>, 
 }
 
 /// Whether an inbox with this limit gives these answers, and its follower noted `limit` operations.
-fn is_counted_so(alloc: Global, limit: usize, answers: &str) -> Result<bool, Trouble> {
+fn is_counted_as_expected(alloc: Global, limit: usize, answers: &str) -> Result<bool, Trouble> {
     let mut inbox = with_counter(alloc, limit)?;
-    let is_answered = answers_so(alloc, &mut inbox, USED_UP, answers);
+    let is_answered = has_answers(alloc, &mut inbox, USED_UP, answers);
     let noted = inbox.follower().noted;
     drop(inbox);
     match is_answered {
@@ -195,7 +198,7 @@ fn is_counted_so(alloc: Global, limit: usize, answers: &str) -> Result<bool, Tro
 
 fn first_wrong_count(alloc: Global) -> Result<Option<usize>, Trouble> {
     for (at, (limit, answers)) in COUNTED.iter().enumerate() {
-        if !is_counted_so(alloc, *limit, answers)? {
+        if !is_counted_as_expected(alloc, *limit, answers)? {
             return Ok(Some(at));
         }
     }

@@ -2,8 +2,8 @@
 //! with ample memory.
 
 use crate::fixtures::{Node, Trouble, node, operation, play};
-use crate::reluctant::{Hesitant, Reluctant};
-use crate::telling::{is_text, tell_held_ops, tell_mailboxes, tell_ops};
+use crate::refused_values::{RefusingFollower, RefusingValue};
+use crate::state_text::{is_text, write_held_ops, write_mailboxes, write_ops};
 use causal_inbox::{DeliverFault, Delivered, HeldOps, Inbox};
 use crdt_ops::SoundOp;
 use folder_state::Folders;
@@ -22,10 +22,10 @@ fn shown_of(
     subs: &Subs,
 ) -> Result<Vec<u8>, AllocError> {
     let mut text = Vec::new(alloc);
-    tell_ops(alloc, applied, &mut text)?;
+    write_ops(alloc, applied, &mut text)?;
     text.extend_from_slice(b"held\n")?;
-    tell_held_ops(alloc, held, &mut text)?;
-    tell_mailboxes(alloc, folders, subs, &mut text)?;
+    write_held_ops(alloc, held, &mut text)?;
+    write_mailboxes(alloc, folders, subs, &mut text)?;
     Ok(text)
 }
 
@@ -100,15 +100,15 @@ fn calls_before(part: Part, refused: Part, before: u32) -> Option<u32> {
     if part == refused { Some(before) } else { None }
 }
 
-type Wary = Inbox<Pair<Reluctant<Folders>, Reluctant<Subs>>, Hesitant>;
+type RefusingInbox = Inbox<Pair<RefusingValue<Folders>, RefusingValue<Subs>>, RefusingFollower>;
 
 /// An inbox in which this part is refused memory once, after `before` calls.
-fn refused_at(alloc: Global, refused: Part, before: u32) -> Result<Wary, AllocError> {
-    let folders = Reluctant {
+fn refused_at(alloc: Global, refused: Part, before: u32) -> Result<RefusingInbox, AllocError> {
+    let folders = RefusingValue {
         value: Folders::new(alloc),
         before: calls_before(Part::Folders, refused, before),
     };
-    let subs = Reluctant {
+    let subs = RefusingValue {
         value: Subs::new(alloc),
         before: calls_before(Part::Subs, refused, before),
     };
@@ -116,13 +116,13 @@ fn refused_at(alloc: Global, refused: Part, before: u32) -> Result<Wary, AllocEr
         first: folders,
         second: subs,
     };
-    let follower = Hesitant {
+    let follower = RefusingFollower {
         before: calls_before(Part::Follower, refused, before),
     };
     Inbox::new(alloc, value, follower)
 }
 
-fn shown_wary(alloc: Global, inbox: &Wary) -> Result<Vec<u8>, AllocError> {
+fn shown_refusing(alloc: Global, inbox: &RefusingInbox) -> Result<Vec<u8>, AllocError> {
     let value = inbox.value();
     shown_of(
         alloc,
@@ -137,11 +137,11 @@ fn shown_wary(alloc: Global, inbox: &Wary) -> Result<Vec<u8>, AllocError> {
 /// inbox if it stalls. Appends the answers, and returns whether a refusal changed nothing.
 fn retried(
     alloc: Global,
-    inbox: &mut Wary,
+    inbox: &mut RefusingInbox,
     line: &str,
     text: &mut String,
 ) -> Result<bool, Trouble> {
-    let before = shown_wary(alloc, inbox)?;
+    let before = shown_refusing(alloc, inbox)?;
     play(alloc, inbox, line, text)?;
     if text.ends_with("NoMemory\n") {
         retried_after(alloc, inbox, line, &before, text)
@@ -153,18 +153,22 @@ fn retried(
 /// Delivers again after a refusal, and returns whether the refusal had changed nothing.
 fn retried_after(
     alloc: Global,
-    inbox: &mut Wary,
+    inbox: &mut RefusingInbox,
     line: &str,
     before: &[u8],
     text: &mut String,
 ) -> Result<bool, Trouble> {
-    let unchanged = is_text(shown_wary(alloc, inbox), before)?;
+    let unchanged = is_text(shown_refusing(alloc, inbox), before)?;
     play(alloc, inbox, line, text)?;
     Ok(unchanged)
 }
 
 /// Drains if the delivery stalled. Always true, since nothing was refused.
-fn drained_after(alloc: Global, inbox: &mut Wary, text: &mut String) -> Result<bool, Trouble> {
+fn drained_after(
+    alloc: Global,
+    inbox: &mut RefusingInbox,
+    text: &mut String,
+) -> Result<bool, Trouble> {
     if text.ends_with("stalled\n") {
         play(alloc, inbox, "drain", text)?;
     }
@@ -173,28 +177,32 @@ fn drained_after(alloc: Global, inbox: &mut Wary, text: &mut String) -> Result<b
 
 /// Whether the inbox gives these answers if this part is refused memory after `before` calls, and
 /// ends as with ample memory.
-fn is_refused_so(
+fn is_refused_as_expected(
     alloc: Global,
     refused: Part,
     before: u32,
     answers: &str,
 ) -> Result<bool, Trouble> {
     let mut inbox = refused_at(alloc, refused, before)?;
-    let is_so = ends_so(alloc, &mut inbox, answers);
+    let is_expected = ends_as_expected(alloc, &mut inbox, answers);
     drop(inbox);
-    is_so
+    is_expected
 }
 
 /// Whether the inbox gives these answers to the mixed lines, no refusal changes anything, and it
 /// ends as with ample memory.
-fn ends_so(alloc: Global, inbox: &mut Wary, answers: &str) -> Result<bool, Trouble> {
+fn ends_as_expected(
+    alloc: Global,
+    inbox: &mut RefusingInbox,
+    answers: &str,
+) -> Result<bool, Trouble> {
     let mut text = String::new(alloc);
     let unchanged = retry_all(alloc, inbox, &mut text)?;
-    let is_end = is_text(shown_wary(alloc, inbox), MIXED_END.as_bytes())?;
+    let is_end = is_text(shown_refusing(alloc, inbox), MIXED_END.as_bytes())?;
     Ok(unchanged && text.as_str() == answers && is_end)
 }
 
-fn retry_all(alloc: Global, inbox: &mut Wary, text: &mut String) -> Result<bool, Trouble> {
+fn retry_all(alloc: Global, inbox: &mut RefusingInbox, text: &mut String) -> Result<bool, Trouble> {
     for line in MIXED {
         if !retried(alloc, inbox, line, text)? {
             return Ok(false);
@@ -205,7 +213,7 @@ fn retry_all(alloc: Global, inbox: &mut Wary, text: &mut String) -> Result<bool,
 
 fn first_wrong(alloc: Global, refused: Part) -> Result<Option<usize>, Trouble> {
     for (at, (before, answers)) in REFUSED_MIXED.iter().enumerate() {
-        if !is_refused_so(alloc, refused, *before, answers)? {
+        if !is_refused_as_expected(alloc, refused, *before, answers)? {
             return Ok(Some(at));
         }
     }
@@ -213,7 +221,7 @@ fn first_wrong(alloc: Global, refused: Part) -> Result<Option<usize>, Trouble> {
 }
 
 /// Whether the answers are right for each part that is refused memory.
-fn is_each_refused_so(alloc: Global) -> Result<bool, Trouble> {
+fn are_refused_as_expected(alloc: Global) -> Result<bool, Trouble> {
     for refused in [Part::Follower, Part::Folders, Part::Subs] {
         if first_wrong(alloc, refused)?.is_some() {
             return Ok(false);
@@ -227,7 +235,7 @@ fn is_each_refused_so(alloc: Global) -> Result<bool, Trouble> {
 /// clock comes from the allocator itself, which no test can make refuse.
 #[test]
 fn each_part_is_refused_once(rt: HostRuntime) -> Result<(), Fail> {
-    assert!(rt; is_each_refused_so(rt.alloc())?);
+    assert!(rt; are_refused_as_expected(rt.alloc())?);
     Ok(())
 }
 
@@ -257,13 +265,13 @@ fn deliver(
 fn is_delivered_in_the_end(alloc: Global, inbox: &mut Node, line: &str) -> Result<bool, Trouble> {
     let before = shown(alloc, inbox)?;
     match deliver(alloc, inbox, line)? {
-        Ok(delivered) => Ok(goes_on(alloc, inbox, delivered.stalled)),
+        Ok(delivered) => Ok(continues(alloc, inbox, delivered.stalled)),
         Err(DeliverFault::NoMemory) => is_delivered_again(alloc, inbox, line, &before),
         Err(_) => Ok(false),
     }
 }
 
-fn goes_on(alloc: Global, inbox: &mut Node, stalled: bool) -> bool {
+fn continues(alloc: Global, inbox: &mut Node, stalled: bool) -> bool {
     !stalled || !inbox.drain(alloc).stalled
 }
 
@@ -281,9 +289,9 @@ fn is_delivered_again(
 /// Whether each of the mixed lines is delivered in the end, and the inbox ends as it must.
 fn are_all_delivered(alloc: Global) -> Result<bool, Trouble> {
     let mut inbox = node(alloc)?;
-    let is_so = is_each_delivered(alloc, &mut inbox);
+    let is_expected = is_each_delivered(alloc, &mut inbox);
     drop(inbox);
-    is_so
+    is_expected
 }
 
 fn is_each_delivered(alloc: Global, inbox: &mut Node) -> Result<bool, Trouble> {

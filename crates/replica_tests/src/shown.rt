@@ -1,6 +1,6 @@
 //! Comparisons of names, ids, messages and rows in tables with those in plain lists.
 
-use crate::plain_charts::{PlainLine, PlainReplica};
+use crate::plain_charts::PlainRow;
 use crdt_ops::{Ids, Message};
 use imap_types::Name;
 use mailbox_rows::{Row, Rows};
@@ -58,19 +58,17 @@ fn have_same_messages(messages: &[Message], others: &[Message]) -> bool {
     messages.len() == others.len()
 }
 
-/// Whether the rows are those of the folder's messages whose mod-sequences are greater than
-/// `since`.
+/// Whether the rows are those of the plain ones whose mod-sequences are greater than `since`.
 pub fn are_rows_alike(
     alloc: Global,
     rows: &Rows<'_>,
-    plain: &PlainReplica,
-    name: &Name,
+    plain: &[PlainRow],
     since: u64,
 ) -> Result<bool, AllocError> {
     let mut place = 0usize;
-    for line in plain.lines(name) {
-        if line.modseq > since {
-            if !is_row_alike(alloc, rows, place, line, plain, name)? {
+    for plain_row in plain {
+        if plain_row.modseq > since {
+            if !is_row_at_alike(alloc, rows, place, plain_row)? {
                 return Ok(false);
             }
             place = place.saturating_add(1);
@@ -79,27 +77,27 @@ pub fn are_rows_alike(
     Ok(rows.count() as usize == place)
 }
 
-/// Whether the row at this place is the row of the folder's message.
-fn is_row_alike(
+/// Whether the row at this place is this plain one.
+fn is_row_at_alike(
     alloc: Global,
     rows: &Rows<'_>,
     place: usize,
-    line: &PlainLine,
-    plain: &PlainReplica,
-    name: &Name,
+    plain: &PlainRow,
 ) -> Result<bool, AllocError> {
     match rows.row_at(place) {
         None => Ok(false),
-        Some(row) => {
-            let message = plain.mailboxes.message(alloc, name, &line.origin)?;
-            let flags = row.versions.flags(alloc)?;
-            Ok(flags.same(&message.flags) && has_numbers(&row, line) && has_text(&row, &message))
-        }
+        Some(row) => is_row_alike(alloc, &row, plain),
     }
 }
 
-fn has_numbers(row: &Row<'_>, line: &PlainLine) -> bool {
-    row.origin == line.origin && row.uid == line.uid && row.modseq == line.modseq
+/// Whether the row is this plain one.
+pub fn is_row_alike(alloc: Global, row: &Row<'_>, plain: &PlainRow) -> Result<bool, AllocError> {
+    let flags = row.versions.flags(alloc)?;
+    Ok(flags.same(&plain.message.flags) && has_numbers(row, plain) && has_text(row, &plain.message))
+}
+
+fn has_numbers(row: &Row<'_>, plain: &PlainRow) -> bool {
+    row.origin == plain.message.origin && row.uid == plain.uid && row.modseq == plain.modseq
 }
 
 /// Whether the row has the message's versions, date and text.

@@ -5,6 +5,9 @@ ghost use Rattle.uid_projection.specs.Following.{Follows};
 
 use crate::drafts::NAMES;
 use crate::fixtures::{Mailboxes, Trouble, empty};
+use crate::found_rows::{
+    are_changes_alike, are_later_origins_alike, are_origins_alike, are_uids_alike,
+};
 use crate::generated::{LISTS, generated};
 use crate::plain_charts::PlainReplica;
 use crate::plain_inbox::PlainInbox;
@@ -15,7 +18,6 @@ use crdt_ops::SoundOp;
 use folder_state::Folders;
 use imap_types::Name;
 use merge_laws::{Caused, FirstFollower};
-use modseq_index::changed_since;
 use std::alloc::{AllocError, Global};
 use std::test::Fail;
 use subs_state::Subs;
@@ -27,7 +29,7 @@ type Replica = Inbox<Mailboxes, FirstFollower<Charts>>;
 /// A replica whose counters begin at 1, which has received nothing.
 fn replica(alloc: Global, number: u32) -> Result<Replica, Trouble> {
     let Some(replica) = ReplicaId::new(number) else {
-        return Err(Trouble::NotTheForm);
+        return Err(Trouble::NotInForm);
     };
     let follower = charts(alloc, replica)?;
     Ok(Inbox::new(alloc, empty(alloc), FirstFollower { follower })?)
@@ -46,15 +48,15 @@ fn charts(alloc: Global, replica: ReplicaId) -> Result<Charts, AllocError>
 
 /// The tables of a replica.
 #[derive(Clone, Copy)]
-struct Told<'a> {
+struct Actual<'a> {
     folders: &'a Folders,
     subs: &'a Subs,
     charts: &'a Charts,
 }
 
-fn told_by(replica: &Replica) -> Told<'_> {
+fn actual_of(replica: &Replica) -> Actual<'_> {
     let value = replica.value();
-    Told {
+    Actual {
         folders: &value.first,
         subs: &value.second,
         charts: &replica.follower().follower,
@@ -83,23 +85,23 @@ fn recounted(alloc: Global, number: u32, ops: &[SoundOp]) -> Result<PlainReplica
 /// Whether the names of folders and of subscriptions are equal in tables and in plain lists.
 fn are_all_names_alike(
     alloc: Global,
-    told: &Told<'_>,
+    actual: &Actual<'_>,
     plain: &PlainMailboxes,
 ) -> Result<bool, Trouble> {
     Ok(
-        are_names_alike(told.folders.names(alloc), plain.names(alloc))?
-            && are_names_alike(told.subs.names(alloc), plain.subscribed_names(alloc))?,
+        are_names_alike(actual.folders.names(alloc), plain.names(alloc))?
+            && are_names_alike(actual.subs.names(alloc), plain.subscribed_names(alloc))?,
     )
 }
 
 /// Whether the ids of a name's tags are equal in tables and in plain lists.
 fn are_tags_alike(
     alloc: Global,
-    told: &Told<'_>,
+    actual: &Actual<'_>,
     plain: &PlainMailboxes,
     name: &Name,
 ) -> Result<bool, AllocError> {
-    let folders = told.folders;
+    let folders = actual.folders;
     Ok(
         are_ids_alike(
             folders.tags(alloc, name),
@@ -108,7 +110,7 @@ fn are_tags_alike(
             folders.delete_set(alloc, name),
             plain.delete_set(alloc, name),
         )? && are_ids_alike(
-            told.subs.tags(alloc, name),
+            actual.subs.tags(alloc, name),
             ids_of(alloc, &plain.subscriptions, name),
         )?,
     )
@@ -136,56 +138,78 @@ fn are_numbers_alike(charts: &Charts, plain: &PlainReplica, name: &Name) -> bool
         && charts.highest(name) == highest
 }
 
-/// Whether a folder's listing is equal in tables and in plain lists.
+/// Whether the folder's listing, and the rows found in it, are equal in tables and in plain lists.
 fn is_listing_alike(
     alloc: Global,
-    told: &Told<'_>,
+    actual: &Actual<'_>,
     plain: &PlainReplica,
     name: &Name,
 ) -> Result<bool, AllocError> {
-    let rows = told.charts.rows(alloc, told.folders, name)?;
-    are_rows_alike(alloc, &rows, plain, name, 0)
+    let charts = actual.charts;
+    let folders = actual.folders;
+    let (uidnext, highest) = plain.counters(name);
+    let end = uidnext.saturating_add(2);
+    let plain_rows = plain.rows(alloc, name)?;
+    let rows = charts.rows(alloc, folders, name)?;
+    Ok(
+        are_rows_alike(alloc, &rows, &plain_rows, 0)?
+            && are_uids_alike(alloc, charts, folders, name, &plain_rows, end)?
+            && are_changes_alike(alloc, charts, folders, name, &plain_rows, highest)?,
+    )
 }
 
-/// Whether the rows of a folder that changed since a mod-sequence are equal in tables and in plain
-/// lists.
-fn are_changes_alike(
-    alloc: Global,
-    told: &Told<'_>,
-    plain: &PlainReplica,
-    name: &Name,
-) -> Result<bool, AllocError> {
-    let (_, highest) = plain.counters(name);
-    let since = highest / 2;
-    let rows = changed_since(told.charts, alloc, told.folders, name, since)?;
-    are_rows_alike(alloc, &rows, plain, name, since)
+/// A moment of a replay, in plain lists.
+#[derive(Clone, Copy)]
+struct Moment<'a> {
+    /// The state now.
+    now: &'a PlainReplica,
+    /// The operations that come next, six at most.
+    next: &'a [SoundOp],
+    /// The state after these.
+    later: &'a PlainReplica,
+    /// All operations that are still to come.
+    rest: &'a [SoundOp],
+    /// The state at the end.
+    last: &'a PlainReplica,
+    /// All operations.
+    ops: &'a [SoundOp],
 }
 
-/// Whether all that concerns a name is equal in tables and in plain lists.
+/// Whether all that concerns a name is equal in tables and in plain lists now.
 fn is_name_alike(
     alloc: Global,
-    told: &Told<'_>,
-    plain: &PlainReplica,
+    actual: &Actual<'_>,
+    moment: &Moment<'_>,
     name: &Name,
 ) -> Result<bool, AllocError> {
+    let now = moment.now;
     Ok(
-        are_tags_alike(alloc, told, &plain.mailboxes, name)?
-            && are_folders_alike(alloc, told.folders, &plain.mailboxes, name)?
-            && are_numbers_alike(told.charts, plain, name)
-            && is_listing_alike(alloc, told, plain, name)?
-            && are_changes_alike(alloc, told, plain, name)?,
+        are_tags_alike(alloc, actual, &now.mailboxes, name)?
+            && are_folders_alike(alloc, actual.folders, &now.mailboxes, name)?
+            && are_origins_alike(alloc, actual.folders, &now.mailboxes, name, moment.ops)?
+            && are_numbers_alike(actual.charts, now, name)
+            && is_listing_alike(alloc, actual, now, name)?,
     )
+}
+
+/// Whether the folder's existence and origins after the next operations, and its existence at the
+/// end, are those of the later plain lists.
+fn is_later_folder_alike(folders: &Folders, moment: &Moment<'_>, name: &Name) -> bool {
+    let later = &moment.later.mailboxes;
+    folders.exists_after(name, moment.next) == later.exists(name)
+        && folders.exists_after(name, moment.rest) == moment.last.mailboxes.exists(name)
+        && are_later_origins_alike(folders, later, name, moment.next, moment.ops)
 }
 
 /// Whether a folder's numbers after these operations are those of the later plain lists.
 fn are_later_numbers_alike(
-    told: &Told<'_>,
+    actual: &Actual<'_>,
     later: &PlainReplica,
     name: &Name,
     ops: &[SoundOp],
 ) -> bool {
-    let charts = told.charts;
-    let folders = told.folders;
+    let charts = actual.charts;
+    let folders = actual.folders;
     let (uidnext, highest) = later.counters(name);
     charts.uidvalidity_after(folders, name, ops) == later.uidvalidity(name)
         && charts.uidnext_after(folders, name, ops) == uidnext
@@ -195,72 +219,109 @@ fn are_later_numbers_alike(
 /// Whether a folder's listing after these operations is that of the later plain lists.
 fn is_later_listing_alike(
     alloc: Global,
-    told: &Told<'_>,
+    actual: &Actual<'_>,
     later: &PlainReplica,
     name: &Name,
     ops: &[SoundOp],
 ) -> Result<bool, AllocError> {
-    let rows = told.charts.rows_after(alloc, told.folders, name, ops)?;
-    are_rows_alike(alloc, &rows, later, name, 0)
+    let rows = actual.charts.rows_after(alloc, actual.folders, name, ops)?;
+    let plain_rows = later.rows(alloc, name)?;
+    are_rows_alike(alloc, &rows, &plain_rows, 0)
 }
 
-/// Whether the tables equal the plain lists now, and the later ones after these operations.
+/// Whether all that concerns a name is equal in tables and in plain lists after the next
+/// operations.
+fn is_later_name_alike(
+    alloc: Global,
+    actual: &Actual<'_>,
+    moment: &Moment<'_>,
+    name: &Name,
+) -> Result<bool, AllocError> {
+    let later = moment.later;
+    Ok(
+        is_later_folder_alike(actual.folders, moment, name)
+            && are_later_numbers_alike(actual, later, name, moment.next)
+            && is_later_listing_alike(alloc, actual, later, name, moment.next)?,
+    )
+}
+
+/// Whether the tables equal the plain lists now, and later ones after further operations.
 fn is_moment_alike(
     alloc: Global,
-    told: &Told<'_>,
-    plain: &PlainReplica,
-    later: &PlainReplica,
-    behind: &[SoundOp],
+    actual: &Actual<'_>,
+    moment: &Moment<'_>,
 ) -> Result<bool, Trouble> {
     for octets in NAMES {
-        if !is_name_alike_now_and_later(alloc, told, plain, later, octets, behind)? {
+        if !is_name_alike_now_and_later(alloc, actual, moment, octets)? {
             return Ok(false);
         }
     }
-    are_all_names_alike(alloc, told, &plain.mailboxes)
+    are_all_names_alike(alloc, actual, &moment.now.mailboxes)
 }
 
-/// Whether all that concerns the name with these octets is equal now, and after these operations.
+/// Whether all that concerns the name with these octets is equal now, and after further operations.
 fn is_name_alike_now_and_later(
     alloc: Global,
-    told: &Told<'_>,
-    plain: &PlainReplica,
-    later: &PlainReplica,
+    actual: &Actual<'_>,
+    moment: &Moment<'_>,
     octets: &[u8],
-    behind: &[SoundOp],
 ) -> Result<bool, AllocError> {
     let name = Name::from_slice(alloc, octets)?;
     Ok(
-        is_name_alike(alloc, told, plain, &name)?
-            && are_later_numbers_alike(told, later, &name, behind)
-            && is_later_listing_alike(alloc, told, later, &name, behind)?,
+        is_name_alike(alloc, actual, moment, &name)?
+            && is_later_name_alike(alloc, actual, moment, &name)?,
     )
+}
+
+/// A list of operations in the order in which a replica applies them.
+#[derive(Drop)]
+struct PlayedList {
+    /// The replica's number.
+    number: u32,
+    ops: Vec<SoundOp>,
+    /// The state in plain lists after all operations.
+    last: PlainReplica,
+}
+
+/// The list with this number, played by one of nine replicas.
+fn played(alloc: Global, list: u32) -> Result<PlayedList, Trouble> {
+    let number = 1 + list % 9;
+    let ops = applied(alloc, list)?;
+    let last = recounted(alloc, number, &ops)?;
+    Ok(PlayedList { number, ops, last })
 }
 
 /// Whether the tables equal the plain lists after the first `at` operations, and after some further
 /// ones.
 fn is_cut_alike(
     alloc: Global,
-    told: &Told<'_>,
-    number: u32,
-    ops: &[SoundOp],
+    actual: &Actual<'_>,
+    list: &PlayedList,
     at: usize,
 ) -> Result<bool, Trouble> {
-    let (front, behind) = ops.split_at(at.min(ops.len()));
-    let (next, _) = behind.split_at((at % 7).min(behind.len()));
-    let plain = recounted(alloc, number, front)?;
+    let ops = list.ops.as_slice();
+    let (front, rest) = ops.split_at(at.min(ops.len()));
+    let (next, _) = rest.split_at((at % 7).min(rest.len()));
+    let now = recounted(alloc, list.number, front)?;
     let (both, _) = ops.split_at(front.len().saturating_add(next.len()).min(ops.len()));
-    let later = recounted(alloc, number, both)?;
-    is_moment_alike(alloc, told, &plain, &later, next)
+    let later = recounted(alloc, list.number, both)?;
+    let moment = Moment {
+        now: &now,
+        next,
+        later: &later,
+        rest,
+        last: &list.last,
+        ops,
+    };
+    is_moment_alike(alloc, actual, &moment)
 }
 
 /// The first place of a list at which tables and plain lists differ.
 fn first_unlike_place(alloc: Global, list: u32) -> Result<Option<usize>, Trouble> {
-    let ops = applied(alloc, list)?;
-    let number = 1 + list % 9;
-    let mut replica = replica(alloc, number)?;
-    for at in 0..ops.len() {
-        if !is_place_alike(alloc, &mut replica, number, &ops, at)? {
+    let list = played(alloc, list)?;
+    let mut replica = replica(alloc, list.number)?;
+    for at in 0..list.ops.len() {
+        if !is_place_alike(alloc, &mut replica, &list, at)? {
             return Ok(Some(at));
         }
     }
@@ -272,11 +333,10 @@ fn first_unlike_place(alloc: Global, list: u32) -> Result<Option<usize>, Trouble
 fn is_place_alike(
     alloc: Global,
     replica: &mut Replica,
-    number: u32,
-    ops: &[SoundOp],
+    list: &PlayedList,
     at: usize,
 ) -> Result<bool, Trouble> {
-    let Some(op) = ops.get(at) else {
+    let Some(op) = list.ops.get(at) else {
         return Ok(false);
     };
     let copy = op.copy(alloc)?;
@@ -284,24 +344,69 @@ fn is_place_alike(
         return Ok(false);
     }
     let count = at.saturating_add(1);
-    if count % 25 != 0 && count != ops.len() {
+    if count % 25 != 0 && count != list.ops.len() {
         return Ok(true);
     }
-    is_cut_alike(alloc, &told_by(replica), number, ops, count)
+    is_cut_alike(alloc, &actual_of(replica), list, count)
 }
 
-/// The first list for which tables and plain lists differ, and the place.
-fn first_unlike(alloc: Global) -> Result<Option<(u32, usize)>, Trouble> {
+/// The number of parts into which the lists are divided, each with a test of its own.
+const PARTS: u32 = 4;
+
+/// The first list of this part for which tables and plain lists differ, and the place.
+fn first_unlike(alloc: Global, part: u32) -> Result<Option<(u32, usize)>, Trouble> {
     for number in 0..LISTS {
-        if let Some(at) = first_unlike_place(alloc, number)? {
-            return Ok(Some((number, at)));
+        if number % PARTS == part {
+            if let Some(at) = first_unlike_place(alloc, number)? {
+                return Ok(Some((number, at)));
+            }
         }
     }
     Ok(None)
 }
 
+fn is_long(length: usize) -> bool {
+    length >= 150 && length <= 300
+}
+
+/// The number of lists of which 150 to 300 operations are applied.
+fn long_list_count(alloc: Global) -> Result<u32, Trouble> {
+    let mut count = 0u32;
+    for number in 0..LISTS {
+        let ops = applied(alloc, number)?;
+        if is_long(ops.len()) {
+            count = count.saturating_add(1);
+        }
+    }
+    Ok(count)
+}
+
 #[test]
-fn tables_tell_what_plain_lists_tell(rt: HostRuntime) -> Result<(), Fail> {
-    assert!(rt; first_unlike(rt.alloc())?.is_none());
+fn fifty_lists_are_long(rt: HostRuntime) -> Result<(), Fail> {
+    assert!(rt; long_list_count(rt.alloc())? >= 50);
+    Ok(())
+}
+
+#[test]
+fn tables_give_what_plain_lists_give(rt: HostRuntime) -> Result<(), Fail> {
+    assert!(rt; first_unlike(rt.alloc(), 0)?.is_none());
+    Ok(())
+}
+
+#[test]
+fn tables_give_what_plain_lists_give_in_the_second_part(rt: HostRuntime) -> Result<(), Fail> {
+    assert!(rt; first_unlike(rt.alloc(), 1)?.is_none());
+    Ok(())
+}
+
+#[test]
+fn tables_give_what_plain_lists_give_in_the_third_part(rt: HostRuntime) -> Result<(), Fail> {
+    assert!(rt; first_unlike(rt.alloc(), 2)?.is_none());
+    Ok(())
+}
+
+#[test]
+fn tables_give_what_plain_lists_give_in_the_fourth_part(rt: HostRuntime) -> Result<(), Fail> {
+    assert!(rt; first_unlike(rt.alloc(), 3)?.is_none());
     Ok(())
 }

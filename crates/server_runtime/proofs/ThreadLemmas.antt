@@ -14,30 +14,30 @@ use Rattle.std.specs.declared.sync.ledger.Ledger as ledger
 use Rattle.replica_lock.proofs.ThreadLemmas.{shared_sync}
 use Rattle.replica_lock.proofs.pass.Pass.TheSendSync as passes
 use Rattle.replica_lock.specs.contracts.pass.Pass as pass
-use Rattle.server_runtime.proofs.server_state.ServerState.TheSendSync as house
-use Rattle.server_runtime.proofs.shared_phase.SharedPhase.TheSendSync as outlet
+use Rattle.server_runtime.proofs.server_state.ServerState.TheSendSync as server
+use Rattle.server_runtime.proofs.shared_phase.SharedPhase.TheSendSync as phase
 use Rattle.server_runtime.proofs.replica_threads.ReplicaInputs.TheSendSync as ends
-use Rattle.server_runtime.specs.contracts.connection_threads.ReplicaContext as desk
-use Rattle.server_runtime.specs.contracts.connection_threads.ConnectionContext as line
-use Rattle.server_runtime.specs.contracts.replica_threads.ServedReplica as post
+use Rattle.server_runtime.specs.contracts.connection_threads.ReplicaContext as context
+use Rattle.server_runtime.specs.contracts.connection_threads.ConnectionContext as connection
+use Rattle.server_runtime.specs.contracts.replica_threads.ServedReplica as served
 
 module _ (L : RattleType) (g : ledger.Ghosts L.Denot) where
   pub pass_shared : IsSync (locked.the_row (pass.the_row L g))
   pass_shared = mutex.the_sync _ (passes.the_send L g)
 
-  pub back_shared : IsSync (locked.the_row (list.the_row (pass.the_row L g) heap.the_row ghosts))
-  back_shared = mutex.the_sync _ (Vec-send _ (passes.the_send L g))
+  pub returned_shared : IsSync (locked.the_row (list.the_row (pass.the_row L g) heap.the_row ghosts))
+  returned_shared = mutex.the_sync _ (Vec-send _ (passes.the_send L g))
 
 module _ (a : NamedLft) (L : RattleType) (g : ledger.Ghosts L.Denot) where
-  pub desk_sync : IsSend L → IsSync L → IsSync (desk.the_row a L g)
-  desk_sync ledger shares = recorded_sync (desk.the_field a L g).row _ _ (desk.the_type a L g).to_one
-      (struct_sync (shape (desk.the_type a L g)) (search (house.the_sync, sendable), (search sendable, (search (shared_sync, sendable), tt))))
+  pub context_sync : IsSend L → IsSync L → IsSync (context.the_row a L g)
+  context_sync ledger shares = recorded_sync (context.the_field a L g).row _ _ (context.the_type a L g).to_one
+      (struct_sync (shape (context.the_type a L g)) (search (server.the_sync, sendable), (search sendable, (search (shared_sync, sendable), tt))))
 
-  pub line_sync : IsSend L → IsSync L → IsSync (line.the_row a L g)
-  line_sync ledger shares = recorded_sync (line.the_field a L g).row _ _ (line.the_type a L g).to_one
-      (struct_sync (shape (line.the_type a L g))
-      (search (desk_sync, sendable), (search (stream.the_sync, sendable), (search (pass_shared, sendable), (search (outlet.the_sync, sendable), tt)))))
+  pub connection_sync : IsSend L → IsSync L → IsSync (connection.the_row a L g)
+  connection_sync ledger shares = recorded_sync (connection.the_field a L g).row _ _ (connection.the_type a L g).to_one
+      (struct_sync (shape (connection.the_type a L g))
+      (search (context_sync, sendable), (search (stream.the_sync, sendable), (search (pass_shared, sendable), (search (phase.the_sync, sendable), tt)))))
 
-  pub post_sync : IsSend L → IsSync L → IsSync (post.the_row a L g)
-  post_sync ledger shares = recorded_sync (post.the_field a L g).row _ _ (post.the_type a L g).to_one
-      (struct_sync (shape (post.the_type a L g)) (search (desk_sync, sendable), (search (ends.the_sync, sendable), (search (back_shared, sendable), tt))))
+  pub served_sync : IsSend L → IsSync L → IsSync (served.the_row a L g)
+  served_sync ledger shares = recorded_sync (served.the_field a L g).row _ _ (served.the_type a L g).to_one
+      (struct_sync (shape (served.the_type a L g)) (search (context_sync, sendable), (search (ends.the_sync, sendable), (search (returned_shared, sendable), tt))))

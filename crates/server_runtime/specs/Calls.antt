@@ -3,7 +3,7 @@
 
 use Rattle.std.specs.Prelude.{◌≡◌, ◌⊎◌, ◌≤◌, ℕ, List, [], Option, None, Some, Result, Ok, Err}
 use Rattle.std.specs.List.{flat_map}
-use Rattle.imap_answers.specs.Printed.{text_of_answer}
+use Rattle.imap_answers.specs.AnswerText.{text_of_answer}
 use Rattle.imap_answers.specs.declared.fixed_words.Login.{Login}
 use Rattle.imap_node.specs.declared.reply.Reply.{Reply}
 use Rattle.imap_node.specs.declared.sessions.OpenFault.TheVariants as refusals
@@ -12,7 +12,7 @@ use Rattle.server_runtime.specs.Logins.{auth_of, login_of}
 use Rattle.server_runtime.specs.declared.session_port.SessionPosition.{SessionPosition}
 use Rattle.server_settings.specs.declared.settings.Access.{Access}
 use Rattle.imap_connection.specs.PortCalls.{PortCall}
-use Rattle.imap_connection.specs.PortCalls as asked
+use Rattle.imap_connection.specs.PortCalls as calls
 use Rattle.imap_connection.specs.declared.fault.PortFault.{PortFault}
 use Rattle.imap_connection.specs.declared.fault.PortFault.TheVariants.{TooManySessions}
 use Rattle.imap_connection.specs.Replies.{polled_answers}
@@ -62,20 +62,20 @@ OpensIn access p (Err fault) q = Unit {0}
 -- call with exactly this command, at some moment, or with exactly this line, in the session of the
 -- pass.
 abbrev pub StepsIn : PassState → PortCall → Result Reply PortFault → PassState → Type 0
-StepsIn p (asked.Command tagged) (Ok reply) q =
+StepsIn p (calls.Command tagged) (Ok reply) q =
     (moment : ℕ)
     × IsCalledIn p (λ n. events.Command n moment tagged) q
     × (q.last ≡ Some (Replied reply))
-StepsIn p (asked.Line line) (Ok reply) q =
+StepsIn p (calls.Line line) (Ok reply) q =
     IsCalledIn p (λ n. events.Line n line) q × (q.last ≡ Some (Replied reply))
 StepsIn p call (Err fault) q = Unit {0}
 
 -- The result of a command or line, by at most one call.
 abbrev pub StepsOnce : PassState → PortCall → Result Reply PortFault → PassState → Type 0
-StepsOnce p (asked.Command tagged) told q =
-    StepsIn p (asked.Command tagged) told q × CommandsOnce p tagged q
-StepsOnce p (asked.Line line) told q =
-    StepsIn p (asked.Line line) told q × CallsOnceIn p (λ n. events.Line n line) q
+StepsOnce p (calls.Command tagged) response q =
+    StepsIn p (calls.Command tagged) response q × CommandsOnce p tagged q
+StepsOnce p (calls.Line line) response q =
+    StepsIn p (calls.Line line) response q × CallsOnceIn p (λ n. events.Line n line) q
 
 -- A pass that had seen at least as much of the journal as a connection opened a session for it, and
 -- the connection's new position is the pass's.
@@ -84,8 +84,8 @@ BeginsFrom from p q to = (from.seen ≤ p.seen) × (to.session ≡ q.session) ×
 
 -- A pass in the session of a connection, which had seen at least as much of the journal, has now
 -- seen it up to the connection's new position, in the same session.
-abbrev pub GoesFrom : SessionPosition → PassState → PassState → SessionPosition → Type 0
-GoesFrom from p q to =
+abbrev pub ContinuesFrom : SessionPosition → PassState → PassState → SessionPosition → Type 0
+ContinuesFrom from p q to =
     (from.session ≡ p.session)
     × (from.seen ≤ p.seen)
     × (to.session ≡ from.session)
@@ -110,5 +110,5 @@ OpensByCall access from (Err fault) to = Unit {0}
 abbrev pub StepsByCall : SessionPosition → PortCall → Result Reply PortFault → SessionPosition
     → Type 0
 StepsByCall from call (Ok reply) to =
-    (p : PassState) × (q : PassState) × GoesFrom from p q to × StepsIn p call (Ok reply) q
+    (p : PassState) × (q : PassState) × ContinuesFrom from p q to × StepsIn p call (Ok reply) q
 StepsByCall from call (Err fault) to = (to.session ≡ from.session) × (from.seen ≤ to.seen)

@@ -11,12 +11,12 @@ use Rattle.replica_lock.specs.declared.outcome.Outcome.TheVariants.{Opened}
 use Rattle.server_runtime.specs.declared.totals.Totals.{Totals}
 
 -- Whether a session was opened.
-abbrev pub opened_sessions : Outcome → Bool
-opened_sessions (Opened (Ok n)) = true
-opened_sessions _ = false
+abbrev pub is_session_opened : Outcome → Bool
+is_session_opened (Opened (Ok n)) = true
+is_session_opened _ = false
 
 abbrev pub has_opened : JournalEntry → Bool
-has_opened entry = opened_sessions entry.outcome
+has_opened entry = is_session_opened entry.outcome
 
 -- Whether the event is a command.
 abbrev pub commands : BookEvent → Bool

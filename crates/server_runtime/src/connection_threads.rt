@@ -1,7 +1,7 @@
 //! The threads of one connection.
 
 ghost use Rattle.std.specs.Prelude.{◌≡◌, ◌<◌};
-ghost use Rattle.imap_connection.specs.Conversing.{Talked};
+ghost use Rattle.imap_connection.specs.Conversations.{IsConversation};
 ghost use Rattle.server_runtime.specs.Calls.{OpensByCall, StepsByCall};
 
 use crate::feeder::feed;
@@ -51,7 +51,7 @@ pub struct ConnectionContext<'a, L: Ledger> {
 
 /// Holds the conversation with the client of a connection, closes the connection in an orderly way,
 /// and returns its pass. The gate is passed before each command, the first time with 1.
-pub fn connection_worker<
+pub fn converse_and_close<
     L: Ledger + Send + Sync,
     R: Threads + Wait + Clock + Log + Sync,
     G: Gate + Send,
@@ -66,7 +66,7 @@ pub fn connection_worker<
     let _ = stream.set_nodelay(true);
     let pass = Mutex::new(pass);
     let shared_phase = SharedPhase::new();
-    let ended = talk_and_feed(
+    let ended = converse_and_feed(
         rt,
         alloc,
         gate,
@@ -77,7 +77,7 @@ pub fn connection_worker<
             shared_phase: &shared_phase,
         },
     );
-    tell_end(rt, ended);
+    log_end(rt, ended);
     if !is_gone(ended) {
         drain_and_close(stream);
     }
@@ -86,42 +86,47 @@ pub fn connection_worker<
 
 /// Holds the conversation, while a second thread sends the session what changed when it idles;
 /// returns once both have ended.
-fn talk_and_feed<L: Ledger + Send + Sync, R: Threads + Wait + Clock + Log + Sync, G: Gate + Send>(
-    rt: &R,
-    alloc: Global,
-    gate: &mut G,
-    line: &ConnectionContext<'_, L>,
-) -> Ended {
+fn converse_and_feed<
+    L: Ledger + Send + Sync,
+    R: Threads + Wait + Clock + Log + Sync,
+    G: Gate + Send,
+>(rt: &R, alloc: Global, gate: &mut G, connection: &ConnectionContext<'_, L>) -> Ended {
     let (ended, ()) = thread::join(
         rt,
-        || talk(rt, alloc, gate, line),
+        || converse_on_stream(rt, alloc, gate, connection),
         || {
             feed(
                 rt,
                 alloc,
-                line.context.shared,
-                line.pass,
-                line.shared_phase,
-                line.stream,
+                connection.context.shared,
+                connection.pass,
+                connection.shared_phase,
+                connection.stream,
             )
         },
     );
     ended
 }
 
-fn talk<L: Ledger, R: Wait + Clock, G: Gate>(
+fn converse_on_stream<L: Ledger, R: Wait + Clock, G: Gate>(
     rt: &R,
     alloc: Global,
     gate: &mut G,
-    line: &ConnectionContext<'_, L>,
+    connection: &ConnectionContext<'_, L>,
 ) -> Ended {
-    let mut port = SessionPort::new(rt, line.context, line.pass, line.shared_phase, gate);
-    let device = SocketReader::new(rt, line.stream);
-    let mut source = SessionReader::new(rt, line.shared_phase, line.pass, device);
-    let mut sink = Wire::new(SocketWriter::new(line.stream));
-    let ended = talk_over(rt, alloc, &mut source, &mut sink, &mut port);
+    let mut port = SessionPort::new(
+        rt,
+        connection.context,
+        connection.pass,
+        connection.shared_phase,
+        gate,
+    );
+    let device = SocketReader::new(rt, connection.stream);
+    let mut source = SessionReader::new(rt, connection.shared_phase, connection.pass, device);
+    let mut sink = Wire::new(SocketWriter::new(connection.stream));
+    let ended = converse_over(rt, alloc, &mut source, &mut sink, &mut port);
     drop(port);
-    line.shared_phase.end(rt);
+    connection.shared_phase.end(rt);
     ended
 }
 
@@ -131,7 +136,7 @@ fn talk<L: Ledger, R: Wait + Clock, G: Gate>(
 /// their order, which is also the order of their entries in the journal. What is written is the
 /// greeting, the printed outcomes of these calls in that order, and the BYE that the end names; or,
 /// if a write failed, a beginning of that.
-pub fn talk_over<L: Ledger, R: Wait + Clock, G: Gate, S: Source, K: Sink>(
+pub fn converse_over<L: Ledger, R: Wait + Clock, G: Gate, S: Source, K: Sink>(
     rt: &R,
     alloc: Global,
     source: &mut S,
@@ -140,7 +145,7 @@ pub fn talk_over<L: Ledger, R: Wait + Clock, G: Gate, S: Source, K: Sink>(
 ) -> Ended
     requires source { S.failures source.old < 18446744073709551615 }
     requires sink { K.failures sink.old < 18446744073709551615 }
-    ensures { Talked (λ s r t. OpensByCall s.server.now.access s.at r t.at)
+    ensures { IsConversation (λ s r t. OpensByCall s.server.now.access s.at r t.at)
         (λ s call r t. StepsByCall s.at call r t.at) (λ s t. Unit {0}) port.old port.new
         Limits.STANDARD (S.left source.old) (S.left source.new) (S.is_ended source.new)
         (K.taken sink.old) (K.taken sink.new) result }
@@ -148,7 +153,7 @@ pub fn talk_over<L: Ledger, R: Wait + Clock, G: Gate, S: Source, K: Sink>(
     converse(rt, alloc, source, sink, port)
 }
 
-fn tell_end<R: Log>(rt: &R, ended: Ended) {
+fn log_end<R: Log>(rt: &R, ended: Ended) {
     info!(rt; "connection ended: {}", name_of(ended));
 }
 

@@ -3,7 +3,7 @@
 ghost use Rattle.std.specs.Prelude.{◌≡◌, IfOk};
 ghost use Rattle.std.specs.List.{flat_map};
 ghost use Rattle.std.specs.Option.{option_map};
-ghost use Rattle.imap_answers.specs.Printed.{text_of_answer as printed_answer};
+ghost use Rattle.imap_answers.specs.AnswerText.{text_of_answer as printed_answer};
 ghost use Rattle.server_runtime.specs.Calls.{text_of_poll};
 
 use crate::shared_phase::SharedPhase;
@@ -80,12 +80,12 @@ fn poll_and_write<L: Ledger, R: Wait>(
     if !phase.reads || !phase.idles {
         return PollOutcome::Busy;
     }
-    let told = match poll_text(rt, alloc, shared, pass) {
+    let written = match poll_text(rt, alloc, shared, pass) {
         Some(text) => write_all(stream, &text),
         None => false,
     };
     drop(phase);
-    if told {
+    if written {
         PollOutcome::Done
     } else {
         PollOutcome::Failed

@@ -39,23 +39,23 @@ pub struct JoinedReplica {
     pub peers: Vec<usize>,
 }
 
-/// Whether a replica joined. As a text, what the program prints of it.
+/// Whether a replica joined. Its text is what the program prints.
 #[derive(Clone, Copy, Debug, PartialEq, Eq)]
-pub enum JoinEnd<'a> {
+pub enum JoinOutcome<'a> {
     /// It joined, and listens.
     Joined(Join<'a>),
     /// It couldn't join.
     Failed(Join<'a>),
 }
 
-impl fmt::Display for JoinEnd<'_> {
+impl fmt::Display for JoinOutcome<'_> {
     fn fmt<W: fmt::Write>(&self, f: &mut fmt::Formatter<W>) -> fmt::Result {
         match self {
-            JoinEnd::Joined(Join { place, peer }) => {
+            JoinOutcome::Joined(Join { place, peer }) => {
                 let Place { replica, address } = place;
                 write!(f, "joined {replica} {peer}\nlistening {replica} {address}")
             }
-            JoinEnd::Failed(Join { place, peer }) => {
+            JoinOutcome::Failed(Join { place, peer }) => {
                 let Place { replica, .. } = place;
                 write!(f, "cannot join {replica} {peer}")
             }
@@ -65,7 +65,7 @@ impl fmt::Display for JoinEnd<'_> {
 
 impl JoiningReplica<'_> {
     /// Waits for the signal to join, and joins: it listens, takes the operations that its peer
-    /// applied, and is open for the others from then on. Prints whether it joined, and signals that
+    /// applied, and from then on is open to the others. Prints whether it joined, and signals that
     /// it is done. `None` if it couldn't join.
     pub fn join<R: Print + Wait + Clock + Net<Listener = TcpListener, Stream = TcpStream>>(
         &self,
@@ -78,8 +78,8 @@ impl JoiningReplica<'_> {
         self.begin.recv(rt).ok()?;
         let joined = self.try_join(rt, alloc, server, replica, own);
         let end = match joined {
-            Some(_) => JoinEnd::Joined(self.join),
-            None => JoinEnd::Failed(self.join),
+            Some(_) => JoinOutcome::Joined(self.join),
+            None => JoinOutcome::Failed(self.join),
         };
         let _ = println!(rt; "{end}");
         let _ = self.done.send(rt, ());
@@ -105,7 +105,7 @@ impl JoiningReplica<'_> {
             drop(listener);
             return None;
         };
-        let Some(book) = book_with(rt, alloc, server, replica, self.peer) else {
+        let Some(book) = book_of_joining(rt, alloc, server, replica, self.peer) else {
             drop(peers);
             drop(listener);
             return None;
@@ -119,16 +119,16 @@ impl JoiningReplica<'_> {
     }
 }
 
-/// The book of a replica that joins with the operations that the one at place `peer` applied.
-/// `None` if it gets no copies of them, or can't join with these.
-fn book_with<R: Wait + Clock>(
+/// The book of a replica that joins with the operations of the replica at place `peer`.
+/// `None` if it gets no copies of them, or can't join with them.
+fn book_of_joining<R: Wait + Clock>(
     rt: &R,
     alloc: Global,
     server: &ServerState<'_>,
     replica: ReplicaId,
     peer: usize,
 ) -> Option<Book> {
-    let ops = copies_at(rt, alloc, server, peer)?;
+    let ops = copies_of_applied(rt, alloc, server, peer)?;
     let book = Book::join(alloc, replica, &ops);
     drop(ops);
     book.ok()
@@ -136,7 +136,7 @@ fn book_with<R: Wait + Clock>(
 
 /// Copies of the operations that the replica at a place applied. `None` if it hasn't joined, if
 /// memory runs out for the copies, or if it doesn't answer within a minute.
-fn copies_at<R: Wait + Clock>(
+fn copies_of_applied<R: Wait + Clock>(
     rt: &R,
     alloc: Global,
     server: &ServerState<'_>,
@@ -147,21 +147,24 @@ fn copies_at<R: Wait + Clock>(
         return None;
     }
     let (reply, copies) = unbounded(alloc).ok()?;
-    handle.orders.send(rt, CopyRequest::Copy(reply)).ok()?;
+    handle
+        .copy_requests
+        .send(rt, CopyRequest::Copy(reply))
+        .ok()?;
     copies.recv_timeout(rt, Duration::from_secs(60)).ok()?
 }
 
 /// Answers requests for copies of a replica's operations until one says `Stop`, and returns the
 /// pass.
-pub fn lend_copies<L: Ledger, R: Wait>(
+pub fn send_copies<L: Ledger, R: Wait>(
     rt: &R,
     alloc: Global,
     shared: &Shared<L>,
     pass: Pass<L>,
-    orders: &Receiver<CopyRequest>,
+    copy_requests: &Receiver<CopyRequest>,
 ) -> Pass<L> {
     for _ in rt.forever() {
-        match orders.recv(rt) {
+        match copy_requests.recv(rt) {
             Ok(CopyRequest::Copy(reply)) => {
                 let copies = shared.ops_copy(rt, alloc, &pass).ok();
                 let _ = reply.send(rt, copies);

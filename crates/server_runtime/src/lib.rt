@@ -5,7 +5,7 @@
 //! own. A replica's threads share its [`ReplicaContext`], and others reach it by its
 //! [`ReplicaHandle`].
 //!
-//! Contracts speak of one connection at a time. That of [`talk_over`] says: one call of the replica
+//! Contracts are about one connection. That of [`converse_over`] says: one call of the replica
 //! opens the session, each command and each line of IDLE that the octets read spell is one call in
 //! that session, with entries in the journal in the same order, and what is written is the
 //! greeting, the printed outcomes of these calls, and a BYE. That of [`totals_of`] says that the
@@ -16,7 +16,7 @@
 //!
 //! - `serve` takes the allocator, the server's state (who may log in, when to stop) and one setup
 //!   for each replica, with its listener: a thread of a replica needs all three, and one list keeps
-//!   them together. The thread of a connection is no public call; `talk_over` is, so that tests can
+//!   them together. A connection's thread is no public call; `converse_over` is, so that tests can
 //!   give it other devices.
 //! - The server raises the C library's thresholds at its start, by a block of 33 MB that it takes
 //!   and gives back (`raise_memory_thresholds`): the program can't call `mallopt`, and a variable
@@ -32,7 +32,7 @@
 //!   a name that only its own threads know. A replica that gets no copies within a minute can't
 //!   join.
 //! - The thread whose connection ended first starts the joins, and waits for each; a connection
-//!   that ends meanwhile waits too. So `--stop-after` is checked after all joins.
+//!   that ends in the meantime waits too. So `--stop-after` is checked after all joins.
 //! - A replica whose list of others can't be made since memory runs out can't join, like one that
 //!   can't listen: the program prints `cannot join`, and the run continues.
 //! - The port's clauses name no pass and no node before and after a call (`OpensByCall`,
@@ -61,10 +61,9 @@
 //! - The feeder waits for changes only while its pass has a session: the close is then still to
 //!   come, and ends the wait. Otherwise a connection that ended just before would wait for another
 //!   client's command.
-//! - A command that may issue operations holds its replica's lock `ReplicaHandle::order` until they
+//! - A command that may issue operations holds its replica's `ReplicaHandle::send_lock` until they
 //!   are sent, so that those of several connections don't overtake each other on the way. If they
-//!   did, the receiving replica would hold them and ask for what it lacks, and the sender would
-//!   search all operations that it applied, under the lock.
+//!   did, the receiving replica would hold them and have to ask for what it lacks.
 //! - A read of a connection polls for octets for 50 microseconds before it sleeps, if those before
 //!   came within that time (`SocketReader`), and lets other threads run between two polls: waking a
 //!   thread takes longer than answering most commands. So a client that sends one command after
@@ -75,6 +74,8 @@
 //!   more than a socket holds seldom waits for each command, and reads that used the clock to find
 //!   out whether they slept made STOREs slower (20,669 and 23,655 a second by turns, seven rounds).
 //!   The reason isn't known; perhaps a poll that lets others run sometimes takes long too.
+//! - A connection's gate is passed once for each command, with its number, before the turn is taken
+//!   in which several brief commands are carried out.
 //! - Passes of connections that ended are used again, so that a server that runs for long doesn't
 //!   run out of them.
 //! - After the end of a conversation the server shuts down its side of the connection and drops
@@ -100,8 +101,8 @@ mod shared_phase;
 mod socket;
 mod totals;
 
-pub use connection_threads::{ReplicaContext, talk_over};
-pub use joining_replica::{JoinEnd, JoiningReplica};
+pub use connection_threads::{ReplicaContext, converse_over};
+pub use joining_replica::{JoinOutcome, JoiningReplica};
 pub use peer_sender::PeerSender;
 pub use program::{RunFault, open_all, run};
 pub use replica_handle::{CopyRequest, JoinSignal, JoiningReplicas, ReplicaHandle};

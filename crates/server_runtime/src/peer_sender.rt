@@ -28,17 +28,17 @@ impl<'a, R: Wait> PeerSender<'a, R> {
     }
 
     fn send(&self, to: usize, message: LinkMsg) {
-        let letter = PeerMsg {
+        let msg = PeerMsg {
             from: self.own,
             message,
         };
         if let Some(handle) = self.server.replicas.get(to) {
-            handle.send(self.rt, letter);
+            handle.send(self.rt, msg);
         }
     }
 
-    /// Sends these operations to all other replicas that run. A replica for which memory runs out
-    /// is left out, and asks for what it lacks.
+    /// Sends these operations to all other open replicas. If memory runs out for one, it is left
+    /// out, and asks for what it lacks.
     pub fn send_to_all(&self, alloc: Global, ops: &[SoundOp]) {
         if ops.is_empty() {
             return;
@@ -60,7 +60,7 @@ impl<'a, R: Wait> PeerSender<'a, R> {
 impl<'a, R: Wait> PeerLinks for PeerSender<'a, R> {
     ghost asks = { λ p to clock q. Unit {0} };
 
-    ghost hands = { λ p to ops q. Unit {0} };
+    ghost sends = { λ p to ops q. Unit {0} };
 
     fn ask(&mut self, to: usize, clock: Clock) {
         self.send(to, LinkMsg::Have(clock));

@@ -7,7 +7,7 @@ use crate::server_state::{ServerState, StopCounter};
 use crossbeam_channel::{Receiver, Sender, unbounded};
 use log::{Log, error};
 use replica_links::PeerMsg;
-use server_settings::{CommandLine, Join, Place, listen_at, settings_or_status, tell_fault};
+use server_settings::{CommandLine, Join, Place, listen_at, print_fault, settings_or_status};
 use std::alloc::{AllocError, AllocFailed, Global};
 use std::net::{Net, SocketAddr, TcpListener, TcpStream};
 use std::rt::{Clock, Env};
@@ -20,12 +20,12 @@ use tags_clocks::ReplicaId;
 /// MiB.
 const LARGEST_BLOCK: usize = 33_000_000;
 
-/// Why the server can't run. As a text, what the log says of it.
+/// Why the server can't run. Its text is what the log prints.
 #[derive(Debug, Drop, thiserror::Error)]
 pub enum RunFault {
     /// An address can't be listened at. This was printed already.
     #[error("an address can't be listened at")]
-    Told,
+    CannotListen,
     /// Memory ran out.
     #[error("there is no memory for it")]
     NoMemory,
@@ -34,7 +34,7 @@ pub enum RunFault {
     Device(io::Error),
     /// A replica has no number, or its peer isn't among the replicas.
     #[error("a replica has no number or no peer")]
-    Unnamed,
+    UnknownReplica,
     /// A replica that ran didn't return its journal.
     #[error("a replica's journal was not handed out")]
     Unfinished,
@@ -72,8 +72,8 @@ pub fn run<
         + Net<Listener = TcpListener, Stream = TcpStream>,
 >(rt: &R) -> u8 {
     match words(rt) {
-        Ok(words) => obey(rt, &words),
-        Err(_) => tell_fault(rt),
+        Ok(words) => run_words(rt, &words),
+        Err(_) => print_fault(rt),
     }
 }
 
@@ -82,7 +82,7 @@ fn words<R: Env + AllocGlobal>(rt: &R) -> io::Result<Vec<String>> {
     Ok(words)
 }
 
-fn obey<
+fn run_words<
     R: Print
         + AllocGlobal
         + Threads
@@ -98,10 +98,10 @@ fn obey<
     };
     match run_as(rt, rt.alloc(), &settings) {
         Ok(()) => 0,
-        Err(RunFault::Told) => 1,
+        Err(RunFault::CannotListen) => 1,
         Err(why) => {
             error!(rt; "the server can't run: {why}");
-            tell_fault(rt)
+            print_fault(rt)
         }
     }
 }
@@ -145,7 +145,7 @@ struct Opened<'a> {
     /// Each replica's setup.
     parts: Vec<ReplicaSetup<'a>>,
     /// The signals for the replicas that are to join.
-    calls: Vec<JoinSignal>,
+    signals: Vec<JoinSignal>,
 }
 
 /// Listens at the addresses, in their order. Returns the state that the server's threads will
@@ -158,21 +158,21 @@ pub fn open_all<'a, R: Print + Log + Net<Listener = TcpListener, Stream = TcpStr
     let mut opened = Opened {
         replicas: Vec::new(alloc),
         parts: Vec::new(alloc),
-        calls: Vec::new(alloc),
+        signals: Vec::new(alloc),
     };
     if let Err(fault) = open_each(rt, alloc, settings, &mut opened) {
         drop(opened);
         return Err(fault);
     }
     let Opened {
-        replicas: stations,
+        replicas: handles,
         parts,
-        calls,
+        signals,
     } = opened;
     let server = ServerState {
         access: settings.access,
-        replicas: stations,
-        joining: JoiningReplicas::new(calls),
+        replicas: handles,
+        joining: JoiningReplicas::new(signals),
         stop: StopCounter::after(settings.stop_after),
     };
     Ok((server, parts))
@@ -201,10 +201,10 @@ fn open_place<R: Print + Log + Net<Listener = TcpListener, Stream = TcpStream>>(
     opened: &mut Opened<'_>,
 ) -> Result<(), RunFault> {
     let Some((listener, address)) = listen_at(rt, place)? else {
-        return Err(RunFault::Told);
+        return Err(RunFault::CannotListen);
     };
-    let beginning = StartMode::Listening(listener);
-    add_setup(alloc, place.replica, beginning, Some(address), opened)
+    let start_mode = StartMode::Listening(listener);
+    add_setup(alloc, place.replica, start_mode, Some(address), opened)
 }
 
 /// Adds a replica that is to join, with its signals.
@@ -215,27 +215,27 @@ fn await_join<'a>(
     opened: &mut Opened<'a>,
 ) -> Result<(), RunFault> {
     let Some(peer) = settings.place_of_name(join.peer) else {
-        return Err(RunFault::Unnamed);
+        return Err(RunFault::UnknownReplica);
     };
-    let (begin, done) = add_join_signal(alloc, &mut opened.calls)?;
+    let (begin, done) = add_join_signal(alloc, &mut opened.signals)?;
     let joiner = JoiningReplica {
         join: *join,
         peer,
         begin,
         done,
     };
-    let beginning = StartMode::Joining(joiner);
-    add_setup(alloc, join.place.replica, beginning, None, opened)
+    let start_mode = StartMode::Joining(joiner);
+    add_setup(alloc, join.place.replica, start_mode, None, opened)
 }
 
 /// Adds the signals for a replica that is to join, and returns the replica's sides of them.
 fn add_join_signal(
     alloc: Global,
-    calls: &mut Vec<JoinSignal>,
+    signals: &mut Vec<JoinSignal>,
 ) -> Result<(Receiver<()>, Sender<()>), RunFault> {
     let (begin, begins) = unbounded(alloc)?;
     let (ends, done) = unbounded(alloc)?;
-    calls.push(JoinSignal { begin, done })?;
+    signals.push(JoinSignal { begin, done })?;
     Ok((begins, ends))
 }
 
@@ -243,28 +243,28 @@ fn add_join_signal(
 fn add_setup<'a>(
     alloc: Global,
     name: u16,
-    beginning: StartMode<'a>,
+    start_mode: StartMode<'a>,
     address: Option<SocketAddr>,
     opened: &mut Opened<'a>,
 ) -> Result<(), RunFault> {
     let Some(replica) = ReplicaId::new(u32::from(name)) else {
-        drop(beginning);
-        return Err(RunFault::Unnamed);
+        drop(start_mode);
+        return Err(RunFault::UnknownReplica);
     };
     let own = opened.replicas.len();
-    let (letters, orders) = match add_replica(alloc, address, &mut opened.replicas) {
+    let (messages, copy_requests) = match add_replica(alloc, address, &mut opened.replicas) {
         Ok(ends) => ends,
         Err(fault) => {
-            drop(beginning);
+            drop(start_mode);
             return Err(fault);
         }
     };
     let part = ReplicaSetup {
         replica,
         own,
-        letters,
-        orders,
-        beginning,
+        messages,
+        copy_requests,
+        start_mode,
     };
     match opened.parts.push(part) {
         Ok(()) => Ok(()),
@@ -276,15 +276,15 @@ fn add_setup<'a>(
 fn add_replica(
     alloc: Global,
     address: Option<SocketAddr>,
-    stations: &mut Vec<ReplicaHandle>,
+    handles: &mut Vec<ReplicaHandle>,
 ) -> Result<(Receiver<PeerMsg>, Receiver<CopyRequest>), RunFault> {
-    let (link, letters) = unbounded(alloc)?;
-    let (orders, copies) = unbounded(alloc)?;
-    stations.push(ReplicaHandle {
+    let (link, messages) = unbounded(alloc)?;
+    let (copy_requests, copies) = unbounded(alloc)?;
+    handles.push(ReplicaHandle {
         link,
-        orders,
+        copy_requests,
         address: Mutex::new(address),
-        order: Mutex::new(()),
+        send_lock: Mutex::new(()),
     })?;
-    Ok((letters, copies))
+    Ok((messages, copies))
 }

@@ -26,12 +26,12 @@ pub struct ReplicaHandle {
     /// Sends messages to it.
     pub link: Sender<PeerMsg>,
     /// Sends requests for copies of its operations.
-    pub orders: Sender<CopyRequest>,
+    pub copy_requests: Sender<CopyRequest>,
     /// The address at which it listens; `None` as long as it hasn't joined.
     pub address: Mutex<Option<SocketAddr>>,
     /// Locked from a client's command until what it issued was sent, so that the others get a
     /// replica's operations in their order.
-    pub order: Mutex<()>,
+    pub send_lock: Mutex<()>,
 }
 
 impl ReplicaHandle {
@@ -46,9 +46,9 @@ impl ReplicaHandle {
     }
 
     /// Sends a message to the replica, if it runs.
-    pub fn send<R: Wait>(&self, rt: &R, letter: PeerMsg) {
+    pub fn send<R: Wait>(&self, rt: &R, msg: PeerMsg) {
         if self.is_open(rt) {
-            let _ = self.link.send(rt, letter);
+            let _ = self.link.send(rt, msg);
         }
     }
 
@@ -64,12 +64,12 @@ impl ReplicaHandle {
             return;
         };
         let _ = TcpStream::connect(rt, address);
-        let letter = PeerMsg {
+        let msg = PeerMsg {
             from: place,
             message: LinkMsg::Stop,
         };
-        let _ = self.link.send(rt, letter);
-        let _ = self.orders.send(rt, CopyRequest::Stop);
+        let _ = self.link.send(rt, msg);
+        let _ = self.copy_requests.send(rt, CopyRequest::Stop);
     }
 }
 
@@ -86,27 +86,27 @@ pub struct JoinSignal {
 /// The replicas that are to join once the first connection has ended.
 #[derive(Drop)]
 pub struct JoiningReplicas {
-    calls: Mutex<Vec<JoinSignal>>,
+    signals: Mutex<Vec<JoinSignal>>,
 }
 
 impl JoiningReplicas {
     /// The replicas with these signals, in their order.
-    pub fn new(calls: Vec<JoinSignal>) -> JoiningReplicas {
+    pub fn new(signals: Vec<JoinSignal>) -> JoiningReplicas {
         JoiningReplicas {
-            calls: Mutex::new(calls),
+            signals: Mutex::new(signals),
         }
     }
 
     /// At its first call, signals each replica to join, in their order, and waits until it did or
-    /// couldn't. A caller that comes meanwhile waits too.
+    /// couldn't. A caller that arrives in the meantime waits too.
     pub fn begin_all<R: Wait>(&self, rt: &R) {
-        let mut calls = self.calls.lock(rt);
-        for call in calls.iter() {
-            if call.begin.send(rt, ()).is_ok() {
-                let _ = call.done.recv(rt);
+        let mut signals = self.signals.lock(rt);
+        for signal in signals.iter() {
+            if signal.begin.send(rt, ()).is_ok() {
+                let _ = signal.done.recv(rt);
             }
         }
-        calls.clear();
+        signals.clear();
     }
 }
 

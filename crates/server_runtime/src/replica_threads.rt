@@ -2,8 +2,8 @@
 
 ghost use Rattle.std.specs.Prelude.{◌≡◌};
 
-use crate::connection_threads::{ReplicaContext, connection_worker, refuse_connection};
-use crate::joining_replica::{JoinedReplica, JoiningReplica, lend_copies};
+use crate::connection_threads::{ReplicaContext, converse_and_close, refuse_connection};
+use crate::joining_replica::{JoinedReplica, JoiningReplica, send_copies};
 use crate::peer_sender::PeerSender;
 use crate::replica_handle::{CopyRequest, others};
 use crate::server_state::ServerState;
@@ -42,23 +42,23 @@ pub struct ReplicaSetup<'a> {
     /// Its place among all.
     pub own: usize,
     /// Messages from the other replicas.
-    pub letters: Receiver<PeerMsg>,
+    pub messages: Receiver<PeerMsg>,
     /// Requests for copies of its operations.
-    pub orders: Receiver<CopyRequest>,
+    pub copy_requests: Receiver<CopyRequest>,
     /// How it starts.
-    pub beginning: StartMode<'a>,
+    pub start_mode: StartMode<'a>,
 }
 
 /// A replica's setup, until its thread takes it.
 #[derive(Drop)]
 struct SetupSlot<'a> {
-    part: Mutex<Option<ReplicaSetup<'a>>>,
+    setup: Mutex<Option<ReplicaSetup<'a>>>,
 }
 
 impl<'a> SetupSlot<'a> {
     /// The setup; `None` if it was taken already.
     fn take<R: Wait>(&self, rt: &R) -> Option<ReplicaSetup<'a>> {
-        self.part.lock(rt).take()
+        self.setup.lock(rt).take()
     }
 }
 
@@ -70,9 +70,9 @@ pub struct ReplicaInputs {
     /// Its listener.
     pub listener: TcpListener,
     /// Messages from the other replicas.
-    pub letters: Receiver<PeerMsg>,
+    pub messages: Receiver<PeerMsg>,
     /// Requests for copies of its operations.
-    pub orders: Receiver<CopyRequest>,
+    pub copy_requests: Receiver<CopyRequest>,
     /// The places of the others.
     pub peers: Vec<usize>,
     /// Whether it first asks the others for what it lacks.
@@ -85,9 +85,9 @@ pub struct ServedReplica<'a, L: Ledger> {
     /// What all its connections share.
     pub context: &'a ReplicaContext<'a, L>,
     /// What reaches it, and the replicas that it asks.
-    pub ends: &'a ReplicaInputs,
+    pub inputs: &'a ReplicaInputs,
     /// The passes of connections that ended.
-    pub back: &'a Mutex<Vec<Pass<L>>>,
+    pub returned: &'a Mutex<Vec<Pass<L>>>,
 }
 
 /// A connection that is to be served.
@@ -119,31 +119,31 @@ pub fn serve<
         + Print
         + Sync
         + Net<Listener = TcpListener, Stream = TcpStream>,
->(rt: &R, alloc: Global, server: &ServerState<'_>, parts: Vec<ReplicaSetup<'_>>) -> bool {
-    let Ok((rooms, places)) = rooms_of(alloc, parts) else {
+>(rt: &R, alloc: Global, server: &ServerState<'_>, setups: Vec<ReplicaSetup<'_>>) -> bool {
+    let Ok((slots, places)) = slots_of(alloc, setups) else {
         return false;
     };
-    let rooms = rooms.as_slice();
-    match thread::map_vec(rt, places, &|place| run_at(rt, alloc, server, rooms, place)) {
-        Ok(ends) => ends.iter().all(|end| *end),
+    let slots = slots.as_slice();
+    match thread::map_vec(rt, places, &|place| run_at(rt, alloc, server, slots, place)) {
+        Ok(results) => results.iter().all(|is_whole| *is_whole),
         Err(_) => false,
     }
 }
 
 /// The setups, each in a slot from which its thread takes it, and the places of the slots.
-fn rooms_of<'a>(
+fn slots_of<'a>(
     alloc: Global,
-    parts: Vec<ReplicaSetup<'a>>,
+    setups: Vec<ReplicaSetup<'a>>,
 ) -> Result<(Vec<SetupSlot<'a>>, Vec<usize>), AllocError> {
-    let mut rooms = Vec::new(alloc);
+    let mut slots = Vec::new(alloc);
     let mut places = Vec::new(alloc);
-    for part in parts {
-        places.push(rooms.len())?;
-        rooms.push(SetupSlot {
-            part: Mutex::new(Some(part)),
+    for setup in setups {
+        places.push(slots.len())?;
+        slots.push(SetupSlot {
+            setup: Mutex::new(Some(setup)),
         })?;
     }
-    Ok((rooms, places))
+    Ok((slots, places))
 }
 
 /// Runs the replica whose setup is in the slot at this place.
@@ -155,19 +155,19 @@ fn run_at<
         + Print
         + Sync
         + Net<Listener = TcpListener, Stream = TcpStream>,
->(rt: &R, alloc: Global, server: &ServerState<'_>, rooms: &[SetupSlot<'_>], place: usize) -> bool {
-    let Some(room) = rooms.get(place) else {
+>(rt: &R, alloc: Global, server: &ServerState<'_>, slots: &[SetupSlot<'_>], place: usize) -> bool {
+    let Some(slot) = slots.get(place) else {
         return false;
     };
-    match room.take(rt) {
-        Some(part) => run_part(rt, alloc, server, part),
+    match slot.take(rt) {
+        Some(setup) => run_setup(rt, alloc, server, setup),
         None => false,
     }
 }
 
 /// Runs a replica in a call of its own, so that its ledger has a name of its own. True also if a
 /// replica couldn't join.
-fn run_part<
+fn run_setup<
     R: Threads
         + Wait
         + Clock
@@ -175,15 +175,15 @@ fn run_part<
         + Print
         + Sync
         + Net<Listener = TcpListener, Stream = TcpStream>,
->(rt: &R, alloc: Global, server: &ServerState<'_>, part: ReplicaSetup<'_>) -> bool {
+>(rt: &R, alloc: Global, server: &ServerState<'_>, setup: ReplicaSetup<'_>) -> bool {
     let ReplicaSetup {
         replica,
         own,
-        letters,
-        orders,
-        beginning,
-    } = part;
-    let (begun, asks) = match beginning {
+        messages,
+        copy_requests,
+        start_mode,
+    } = setup;
+    let (started, asks) = match start_mode {
         StartMode::Listening(listener) => (
             start_listening(alloc, server, replica, own, listener),
             false,
@@ -199,19 +199,19 @@ fn run_part<
             listener,
             peers,
         },
-    ) = begun
+    ) = started
     else {
         return false;
     };
-    let ends = ReplicaInputs {
+    let inputs = ReplicaInputs {
         own,
         listener,
-        letters,
-        orders,
+        messages,
+        copy_requests,
         peers,
         asks,
     };
-    run_replica::<Brand, R>(rt, alloc, Blank::new(4_294_967_295), server, book, ends)
+    run_replica::<Brand, R>(rt, alloc, Blank::new(4_294_967_295), server, book, inputs)
 }
 
 /// A new replica with its listener; `None` if memory runs out.
@@ -261,34 +261,34 @@ fn run_replica<
     blank: Blank,
     server: &ServerState<'_>,
     book: Book,
-    ends: ReplicaInputs,
+    inputs: ReplicaInputs,
 ) -> bool
     requires { (blank.name ≡ L.name) × (blank.parts ≡ L.parts) × (L.parts ≡ 4294967295) }
 {
     let (shared, first) = Shared::<L>::new(blank, book);
     let context = ReplicaContext {
         server: server,
-        own: ends.own,
+        own: inputs.own,
         shared: &shared,
     };
-    let back = Mutex::new(Vec::new(alloc));
+    let returned = Mutex::new(Vec::new(alloc));
     let first = serve_listener(
         rt,
         alloc,
         first,
         &ServedReplica {
             context: &context,
-            ends: &ends,
-            back: &back,
+            inputs: &inputs,
+            returned: &returned,
         },
     );
-    let mut passes = back.into_inner();
+    let mut passes = returned.into_inner();
     if passes.push(first).is_err() {
         return false;
     }
     match shared.finish(passes) {
         Ok(book) => {
-            tell_totals(rt, &book);
+            log_totals(rt, &book);
             true
         }
         Err(_) => false,
@@ -296,7 +296,7 @@ fn run_replica<
 }
 
 /// Logs what a replica served.
-fn tell_totals<R: Log>(rt: &R, book: &Book) {
+fn log_totals<R: Log>(rt: &R, book: &Book) {
     let Totals {
         sessions,
         commands,
@@ -314,36 +314,36 @@ fn run_link<L: Ledger, R: Wait + Clock>(
     alloc: Global,
     context: &ReplicaContext<'_, L>,
     pass: Pass<L>,
-    ends: &ReplicaInputs,
+    inputs: &ReplicaInputs,
 ) -> Pass<L> {
     if pass.session().is_some() {
         return pass;
     }
     let mut taker = ReplicaTaker::new(rt, alloc, context.shared, pass);
-    let mut mail = PeerSender::new(rt, context.server, context.own);
-    let inbox = LinkInput {
-        letters: &ends.letters,
-        peers: &ends.peers,
-        asks_first: ends.asks,
+    let mut sender = PeerSender::new(rt, context.server, context.own);
+    let input = LinkInput {
+        messages: &inputs.messages,
+        peers: &inputs.peers,
+        asks_first: inputs.asks,
         rest: Duration::from_secs(60),
     };
-    link_worker(rt, &mut OpenGate, &inbox, &mut taker, &mut mail);
+    link_worker(rt, &mut OpenGate, &input, &mut taker, &mut sender);
     taker.into_pass()
 }
 
 /// Adds a pass to those that can be used again. If memory runs out, the pass is lost.
-fn give_back<L: Ledger, R: Wait>(rt: &R, back: &Mutex<Vec<Pass<L>>>, pass: Pass<L>) {
-    let _ = back.lock(rt).push(pass);
+fn give_back<L: Ledger, R: Wait>(rt: &R, returned: &Mutex<Vec<Pass<L>>>, pass: Pass<L>) {
+    let _ = returned.lock(rt).push(pass);
 }
 
 /// A pass without a session: one of a connection that ended, or a new one. `None` if no pass is
 /// left.
 fn next_pass<L: Ledger, R: Wait>(
     rt: &R,
-    back: &Mutex<Vec<Pass<L>>>,
+    returned: &Mutex<Vec<Pass<L>>>,
     first: &mut Pass<L>,
 ) -> Option<Pass<L>> {
-    match back.lock(rt).pop() {
+    match returned.lock(rt).pop() {
         Some(pass) => Some(pass),
         None => first.cut(),
     }
@@ -365,7 +365,7 @@ fn serve_connection<
         mut gate,
         pass,
     } = accepted;
-    connection_worker(rt, alloc, &mut gate, context, &stream, pass)
+    converse_and_close(rt, alloc, &mut gate, context, &stream, pass)
 }
 
 /// Serves these connections at once, each in a thread of its own and with the gate at the same
@@ -384,10 +384,10 @@ pub fn serve_over<
     connections: Vec<TcpStream>,
     gates: Vec<G>,
 ) -> Result<Vec<Pass<L>>, AllocError> {
-    let visits = accepted_connections(alloc, first, connections, gates)?;
+    let pending = accepted_connections(alloc, first, connections, gates)?;
     thread::map_vec(
         rt,
-        visits,
+        pending,
         &|accepted: AcceptedConnection<L, G>| { serve_connection(rt, alloc, context, accepted) },
     )
 }
@@ -399,15 +399,15 @@ fn accepted_connections<L: Ledger, G: Gate + Drop>(
     connections: Vec<TcpStream>,
     gates: Vec<G>,
 ) -> Result<Vec<AcceptedConnection<L, G>>, AllocError> {
-    let mut visits = Vec::new(alloc);
+    let mut pending = Vec::new(alloc);
     for (stream, gate) in connections.into_iter().zip(gates) {
         let Some(pass) = first.cut() else {
             refuse_connection(&stream);
             continue;
         };
-        visits.push(AcceptedConnection { stream, gate, pass })?;
+        pending.push(AcceptedConnection { stream, gate, pass })?;
     }
-    Ok(visits)
+    Ok(pending)
 }
 
 /// Serves the connections of a listener, each in a thread of its own, and in two further threads
@@ -415,31 +415,37 @@ fn accepted_connections<L: Ledger, G: Gate + Drop>(
 fn serve_listener<
     L: Ledger + Send + Sync,
     R: Threads + Wait + Clock + Log + Sync + Net<Listener = TcpListener, Stream = TcpStream>,
->(rt: &R, alloc: Global, first: Pass<L>, post: &ServedReplica<'_, L>) -> Pass<L> {
+>(rt: &R, alloc: Global, first: Pass<L>, served: &ServedReplica<'_, L>) -> Pass<L> {
     let mut first = first;
     let link_pass = first.cut();
     let copy_pass = first.cut();
     thread::scope(thread::scope_env(), rt, |scope| {
         if let Some(pass) = link_pass {
             let _ = scope.spawn(move || {
-                let pass = run_link(rt, alloc, post.context, pass, post.ends);
-                give_back(rt, post.back, pass)
+                let pass = run_link(rt, alloc, served.context, pass, served.inputs);
+                give_back(rt, served.returned, pass)
             });
         }
         if let Some(pass) = copy_pass {
             let _ = scope.spawn(move || {
-                let pass = lend_copies(rt, alloc, post.context.shared, pass, &post.ends.orders);
-                give_back(rt, post.back, pass)
+                let pass = send_copies(
+                    rt,
+                    alloc,
+                    served.context.shared,
+                    pass,
+                    &served.inputs.copy_requests,
+                );
+                give_back(rt, served.returned, pass)
             });
         }
-        for stream in post.ends.listener.incoming() {
-            if post.context.server.stop.is_over(rt) {
+        for stream in served.inputs.listener.incoming() {
+            if served.context.server.stop.is_over(rt) {
                 break;
             }
             let Ok(stream) = stream else {
                 continue;
             };
-            let Some(pass) = next_pass(rt, post.back, &mut first) else {
+            let Some(pass) = next_pass(rt, served.returned, &mut first) else {
                 refuse_connection(&stream);
                 continue;
             };
@@ -449,9 +455,9 @@ fn serve_listener<
                 pass,
             };
             let _ = scope.spawn(move || {
-                let pass = serve_connection(rt, alloc, post.context, accepted);
-                give_back(rt, post.back, pass);
-                end_one(rt, post.context.server)
+                let pass = serve_connection(rt, alloc, served.context, accepted);
+                give_back(rt, served.returned, pass);
+                end_one(rt, served.context.server)
             });
         }
         first

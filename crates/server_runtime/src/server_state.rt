@@ -61,8 +61,8 @@ pub fn login_of(access: Access<'_>) -> Login
     ensures { result ≡ login_of access.entry }
 {
     match access {
-        Access::Preauth => Login::Given,
-        Access::Password { .. } => Login::Wanted,
+        Access::Preauth => Login::PreAuthenticated,
+        Access::Password { .. } => Login::Required,
     }
 }
 

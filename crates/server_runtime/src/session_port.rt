@@ -4,8 +4,8 @@ ghost use Rattle.std.specs.Prelude.{◌≡◌, ◌⊎◌, ◌≤◌, ◌<◌, �
 ghost use Rattle.std.specs.Prelude.{OnErr, OnOk, Some, length, vec_capacity};
 ghost use Rattle.std.specs.Option.{option_map};
 ghost use Rattle.imap_node.specs.declared.sessions.OpenFault.TheVariants as refusals;
-ghost use Rattle.imap_connection.specs.PortCalls as asked;
-ghost use Rattle.imap_connection.specs.Batches.{Carries};
+ghost use Rattle.imap_connection.specs.PortCalls as calls;
+ghost use Rattle.imap_connection.specs.Batches.{CarriesCommands};
 ghost use Rattle.imap_connection.specs.declared.fault.PortFault.TheVariants.{NoRoom};
 ghost use Rattle.imap_connection.specs.declared.fault.PortFault.TheVariants.{TooManySessions, Torn};
 ghost use Rattle.server_runtime.specs.Calls.{CallsOnce, CallsOnceIn, CommandsOnce, IsClosedIn};
@@ -85,7 +85,7 @@ impl<'a, L: Ledger, R: Wait + Clock, G: Gate> SessionPort<'a, L, R, G> {
 impl<'a, L: Ledger, R: Wait + Clock, G: Gate> SessionPort<'a, L, R, G> {
     /// Opens the session in its pass, by at most one call.
     fn open_in(&self, alloc: Global, pass: &mut Pass<L>) -> Result<Login, PortFault>
-        ensures told { OpensIn self.now.server.now.access pass.old result pass.new }
+        ensures response { OpensIn self.now.server.now.access pass.old result pass.new }
         ensures once { CallsOnce pass.old (events.Open (auth_of self.now.server.now.access))
             pass.new }
     {
@@ -108,7 +108,7 @@ impl<'a, L: Ledger, R: Wait + Clock, G: Gate> SessionPort<'a, L, R, G> {
         pass: &mut Pass<L>,
         tagged: Tagged,
     ) -> Result<Reply, PortFault>
-        ensures told { StepsIn pass.old (asked.Command tagged) result pass.new }
+        ensures response { StepsIn pass.old (calls.Command tagged) result pass.new }
         ensures once { CommandsOnce pass.old tagged pass.new }
     {
         if pass.session().is_none() {
@@ -117,7 +117,7 @@ impl<'a, L: Ledger, R: Wait + Clock, G: Gate> SessionPort<'a, L, R, G> {
         }
         let idles = matches!(&tagged.command, Command::Idle);
         let moment = moment_now(self.rt);
-        let _order = self.order_for(&tagged.command);
+        let _send_lock = self.send_lock_for(&tagged.command);
         match self.shared.command(self.rt, alloc, pass, moment, tagged) {
             Ok(()) => {
                 self.follow(alloc, idles, pass.last());
@@ -138,7 +138,8 @@ impl<'a, L: Ledger, R: Wait + Clock, G: Gate> SessionPort<'a, L, R, G> {
         requires some { 0 < length commands.items }
         requires none { replies.old.items ≡ [] }
         requires room { length commands.items ≤ vec_capacity replies.old }
-        ensures { Carries StepsOnce pass.old commands.items replies.new.items result pass.new }
+        ensures { CarriesCommands StepsOnce pass.old commands.items replies.new.items result
+            pass.new }
     {
         if pass.session().is_none() {
             drop(commands);
@@ -146,14 +147,14 @@ impl<'a, L: Ledger, R: Wait + Clock, G: Gate> SessionPort<'a, L, R, G> {
         }
         let moment = moment_now(self.rt);
         let mut turn = self.shared.turn(self.rt);
-        let told = give_all(alloc, &mut turn, pass, moment, commands, replies);
+        let response = give_all(alloc, &mut turn, pass, moment, commands, replies);
         self.shared.end(turn);
-        told
+        response
     }
 
     /// Gives the session a line of IDLE in its pass, by at most one call.
     fn line_in(&self, alloc: Global, pass: &mut Pass<L>, line: IdleLine) -> Result<Reply, PortFault>
-        ensures told { StepsIn pass.old (asked.Line line) result pass.new }
+        ensures response { StepsIn pass.old (calls.Line line) result pass.new }
         ensures once { CallsOnceIn pass.old (λ n. events.Line n line) pass.new }
     {
         if pass.session().is_none() {
@@ -190,18 +191,18 @@ impl<'a, L: Ledger, R: Wait + Clock, G: Gate> SessionPort<'a, L, R, G> {
     /// The lock that orders the sending of the replica's operations, for a command that may issue
     /// some. If operations overtook each other, the receiving replica would have to ask for them,
     /// and this one would have to search all that it applied.
-    fn order_for(&self, command: &Command) -> Option<MutexGuard<'_, ()>> {
+    fn send_lock_for(&self, command: &Command) -> Option<MutexGuard<'_, ()>> {
         if !may_issue(command) {
             return None;
         }
         let handle = self.server.replicas.get(self.own)?;
-        Some(handle.order.lock(self.rt))
+        Some(handle.send_lock.lock(self.rt))
     }
 
     /// Sends the others what a command issued, and notes whether the session idles after it.
     fn follow(&self, alloc: Global, idles: bool, last: Option<&Outcome>) {
-        let mail = PeerSender::new(self.rt, self.server, self.own);
-        mail.send_to_all(alloc, issued_ops(last));
+        let sender = PeerSender::new(self.rt, self.server, self.own);
+        sender.send_to_all(alloc, issued_ops(last));
         self.shared_phase.set_idles(self.rt, idles && is_done(last));
     }
 }
@@ -218,25 +219,24 @@ impl<'a, L: Ledger, R: Wait + Clock, G: Gate> Port for SessionPort<'a, L, R, G> 
         if pass.seen() < self.at.seen {
             return Err(PortFault::Torn);
         }
-        let told = self.open_in(alloc, &mut pass);
+        let response = self.open_in(alloc, &mut pass);
         self.at = SessionPosition {
             session: pass.session(),
             seen: pass.seen(),
         };
-        told
+        response
     }
 
     fn command(&mut self, alloc: Global, tagged: Tagged) -> Result<Reply, PortFault> {
-        self.commands = self.commands.saturating_add(1);
-        self.gate.pass(self.commands);
+        pass_gate(self.gate, &mut self.commands, 1);
         let mut pass = self.pass.lock(self.rt);
         if !self.knows(&pass) {
             drop(tagged);
             return Err(PortFault::Torn);
         }
-        let told = self.command_in(alloc, &mut pass, tagged);
+        let response = self.command_in(alloc, &mut pass, tagged);
         self.at.seen = pass.seen();
-        told
+        response
     }
 
     fn commands(
@@ -245,16 +245,15 @@ impl<'a, L: Ledger, R: Wait + Clock, G: Gate> Port for SessionPort<'a, L, R, G> 
         commands: Vec<Tagged>,
         replies: &mut Vec<Reply>,
     ) -> Result<(), PortFault> {
-        self.commands = self.commands.saturating_add(1);
-        self.gate.pass(self.commands);
+        pass_gate(self.gate, &mut self.commands, commands.len());
         let mut pass = self.pass.lock(self.rt);
         if !self.knows(&pass) {
             drop(commands);
             return Err(PortFault::Torn);
         }
-        let told = self.commands_in(alloc, &mut pass, commands, replies);
+        let response = self.commands_in(alloc, &mut pass, commands, replies);
         self.at.seen = pass.seen();
-        told
+        response
     }
 
     fn done(&mut self, alloc: Global, line: IdleLine) -> Result<Reply, PortFault> {
@@ -262,14 +261,23 @@ impl<'a, L: Ledger, R: Wait + Clock, G: Gate> Port for SessionPort<'a, L, R, G> 
         if !self.knows(&pass) {
             return Err(PortFault::Torn);
         }
-        let told = self.line_in(alloc, &mut pass, line);
+        let response = self.line_in(alloc, &mut pass, line);
         self.at.seen = pass.seen();
-        told
+        response
     }
 
     fn close(&mut self, alloc: Global) {
         let mut pass = self.pass.lock(self.rt);
         let _ = self.close_in(alloc, &mut pass);
+    }
+}
+
+/// Passes the gate once for each of `count` commands, each time with the number of the command.
+/// `passed` is the number of commands so far.
+fn pass_gate<G: Gate>(gate: &mut G, passed: &mut u64, count: usize) {
+    for _ in 0..count {
+        *passed = passed.saturating_add(1);
+        gate.pass(*passed);
     }
 }
 
@@ -286,7 +294,7 @@ fn give_all<L: Ledger>(
     requires session { IsSome pass.old.session }
     requires none { replies.old.items ≡ [] }
     requires room { length commands.items ≤ vec_capacity replies.old }
-    ensures { Carries StepsOnce pass.old commands.items replies.new.items result pass.new }
+    ensures { CarriesCommands StepsOnce pass.old commands.items replies.new.items result pass.new }
 {
     for tagged in commands {
         match give_command(alloc, turn, pass, moment, tagged) {
@@ -306,7 +314,7 @@ fn give_command<L: Ledger>(
     tagged: Tagged,
 ) -> Result<Reply, PortFault>
     requires session { IsSome pass.old.session }
-    ensures told { StepsOnce pass.old (asked.Command tagged) result pass.new }
+    ensures response { StepsOnce pass.old (calls.Command tagged) result pass.new }
     ensures session { IsOk result → IsSome pass.new.session }
 {
     match turn.command(alloc, pass, moment, tagged) {
@@ -326,7 +334,7 @@ fn fault_of(fault: CallFault) -> PortFault
 
 /// The result of opening a session, for its connection: `login` if the session was opened.
 fn login_of_outcome(last: Option<&Outcome>, login: Login) -> Result<Login, PortFault>
-    ensures ok { IfOk result (λ told. (told ≡ login)
+    ensures ok { IfOk result (λ response. (response ≡ login)
         × ((n : ℕ) × (option_map (λ o. o.now) last.entry ≡ Some (Opened (Ok n))))) }
     ensures full { result ≡ Err TooManySessions
         → option_map (λ o. o.now) last.entry ≡ Some (Opened (Err refusals.TooManySessions)) }

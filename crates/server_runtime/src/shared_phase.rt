@@ -1,5 +1,5 @@
-//! The phase of a connection, which its own thread and the thread that sends an idling session what
-//! changed share.
+//! The phase of a connection, shared by its own thread and the thread that sends changes to an
+//! idling session.
 
 use std::sync::{Condvar, Mutex, Wait};
 

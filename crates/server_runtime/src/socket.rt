@@ -15,7 +15,7 @@ use std::{io, thread};
 const SOON: u64 = 50;
 
 /// The number of times that a read polls at most, whatever the clock says.
-const MAX_LOOKS: u32 = 100_000;
+const MAX_POLLS: u32 = 100_000;
 
 /// A reader of what a client sends. If the last octets came soon, as from a client that sends one
 /// command after another, a read polls for the next ones for a while, and lets other threads run
@@ -26,7 +26,7 @@ pub struct SocketReader<'a, R: Clock> {
     rt: &'a R,
     stream: &'a TcpStream,
     /// Whether the next read polls before it sleeps. The socket doesn't block then.
-    looks: bool,
+    polls: bool,
 }
 
 impl<'a, R: Clock> SocketReader<'a, R> {
@@ -35,21 +35,21 @@ impl<'a, R: Clock> SocketReader<'a, R> {
         SocketReader {
             rt,
             stream,
-            looks: false,
+            polls: false,
         }
     }
 
     /// Polls until there are octets, an end or a fault. `None` if they don't come soon.
-    fn poll_soon(&self, begun: Option<Instant>, buf: &mut [u8]) -> Option<io::Result<usize>>
-        ensures { IfSome result (λ told. ReadsAtMost told buf.new) }
+    fn poll_soon(&self, started: Option<Instant>, buf: &mut [u8]) -> Option<io::Result<usize>>
+        ensures { IfSome result (λ outcome. ReadsAtMost outcome buf.new) }
     {
         let mut stream = self.stream;
-        for _ in 0..MAX_LOOKS {
-            let told = stream.read(buf);
-            if !would_wait(&told) {
-                return Some(told);
+        for _ in 0..MAX_POLLS {
+            let outcome = stream.read(buf);
+            if !would_wait(&outcome) {
+                return Some(outcome);
             }
-            if !self.is_soon(begun) {
+            if !self.is_soon(started) {
                 return None;
             }
             thread::yield_now();
@@ -62,17 +62,17 @@ impl<'a, R: Clock> SocketReader<'a, R> {
         ensures { ReadsAtMost result buf.new }
     {
         let mut stream = self.stream;
-        if self.looks {
-            self.looks = false;
+        if self.polls {
+            self.polls = false;
             stream.set_nonblocking(false)?;
         }
         stream.read(buf)
     }
 
     /// Whether less than `SOON` has passed since a read began; false if the clock can't be read.
-    fn is_soon(&self, begun: Option<Instant>) -> bool {
-        match begun {
-            Some(begun) => begun
+    fn is_soon(&self, started: Option<Instant>) -> bool {
+        match started {
+            Some(started) => started
                 .elapsed(self.rt)
                 .is_ok_and(|time| time < Duration::from_micros(SOON)),
             None => false,
@@ -82,15 +82,15 @@ impl<'a, R: Clock> SocketReader<'a, R> {
 
 impl<'a, R: Clock> Read for SocketReader<'a, R> {
     fn read(&mut self, buf: &mut [u8]) -> io::Result<usize> {
-        let begun = Instant::now(self.rt).ok();
-        if self.looks {
-            if let Some(told) = self.poll_soon(begun, buf) {
-                return told;
+        let started = Instant::now(self.rt).ok();
+        if self.polls {
+            if let Some(outcome) = self.poll_soon(started, buf) {
+                return outcome;
             }
         }
-        let told = self.wait_octets(buf);
-        self.looks = self.is_soon(begun) && self.stream.set_nonblocking(true).is_ok();
-        told
+        let outcome = self.wait_octets(buf);
+        self.polls = self.is_soon(started) && self.stream.set_nonblocking(true).is_ok();
+        outcome
     }
 }
 
@@ -125,8 +125,8 @@ impl<'a> Write for SocketWriter<'a> {
 }
 
 /// Whether a socket would have had to block.
-fn would_wait(told: &io::Result<usize>) -> bool {
-    match told {
+fn would_wait(outcome: &io::Result<usize>) -> bool {
+    match outcome {
         Ok(_) => false,
         Err(why) => why.kind() == ErrorKind::WouldBlock,
     }

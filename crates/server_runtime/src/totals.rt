@@ -25,11 +25,11 @@ pub fn totals_of(book: &Book) -> Totals
     let mut sessions = 0;
     let mut commands = 0;
     for place in 0..book.len() {
-        let Some(kept) = book.entry(place + 1) else {
+        let Some(stored) = book.entry(place + 1) else {
             unreachable!()
         };
-        sessions = count_if(sessions, has_opened(kept));
-        commands = count_if(commands, is_command(kept));
+        sessions = count_if(sessions, has_opened(stored));
+        commands = count_if(commands, is_command(stored));
     }
     Totals {
         sessions,
@@ -48,13 +48,13 @@ fn count_if(count: u64, is_so: bool) -> u64
 }
 
 /// Whether the entry opened a session.
-fn has_opened(kept: &CompactEntry) -> bool
-    ensures { result ≡ has_opened kept.now }
+fn has_opened(stored: &CompactEntry) -> bool
+    ensures { result ≡ has_opened stored.now }
 {
-    match kept.as_entry() {
+    match stored.as_entry() {
         EntryRef::Noop { .. } => false,
         EntryRef::Closed { .. } => false,
-        EntryRef::Told { .. } => false,
+        EntryRef::Exchange { .. } => false,
         EntryRef::Whole { entry } => match &entry.outcome {
             Outcome::Opened { answer: Ok(_) } => true,
             _ => false,
@@ -63,13 +63,13 @@ fn has_opened(kept: &CompactEntry) -> bool
 }
 
 /// Whether the entry is of a command.
-fn is_command(kept: &CompactEntry) -> bool
-    ensures { result ≡ is_command kept.now }
+fn is_command(stored: &CompactEntry) -> bool
+    ensures { result ≡ is_command stored.now }
 {
-    match kept.as_entry() {
+    match stored.as_entry() {
         EntryRef::Noop { .. } => true,
         EntryRef::Closed { .. } => false,
-        EntryRef::Told { .. } => true,
+        EntryRef::Exchange { .. } => true,
         EntryRef::Whole { entry } => match &entry.event {
             BookEvent::Command { .. } => true,
             _ => false,

@@ -1,5 +1,5 @@
 use Rattle.std.proofs.Common.{◌≡◌, ◌<◌, ℕ, false, true, List, [], ◌∷◌, ◌++◌, append-nil, append_assoc, ap, refl, sym, subst}
-use Rattle.server_settings.specs.Settings.{AreNames, AreNew, HavePeers, is_named, newcomers_of}
+use Rattle.server_settings.specs.Settings.{AreNames, AreNew, HavePeers, is_named, join_names_of}
 use Rattle.server_settings.specs.declared.settings.Join.{Join}
 
 new_more : (before names : List ℕ) (name : ℕ) → AreNew before names → 0 < name → name < 65536 → is_named name (before ++ names) ≡ false → AreNew before (names ++ name ∷ [])
@@ -12,11 +12,11 @@ pub names_more : (names : List ℕ) (name : ℕ) → AreNames names → 0 < name
 names_more names name a p b n = new_more [] names name a p b n
 
 -- one further replica that joins
-pub peers_more : (names : List ℕ) (joins : List Join) (join : Join) → HavePeers names joins → is_named join.peer (names ++ newcomers_of joins) ≡ true → HavePeers names (joins ++ join ∷ [])
+pub peers_more : (names : List ℕ) (joins : List Join) (join : Join) → HavePeers names joins → is_named join.peer (names ++ join_names_of joins) ≡ true → HavePeers names (joins ++ join ∷ [])
 peers_more names [] join h n = (subst (λ (xs : List ℕ). is_named join.peer xs ≡ true) (append-nil names) n, tt)
 peers_more names (first ∷ joins) join h n =
-    (h.0, peers_more (names ++ first.place.replica ∷ []) joins join h.1 (subst (λ (xs : List ℕ). is_named join.peer xs ≡ true) (sym (append_assoc names (first.place.replica ∷ []) (newcomers_of joins))) n))
+    (h.0, peers_more (names ++ first.place.replica ∷ []) joins join h.1 (subst (λ (xs : List ℕ). is_named join.peer xs ≡ true) (sym (append_assoc names (first.place.replica ∷ []) (join_names_of joins))) n))
 
-pub newcomers_more : (joins : List Join) (join : Join) → newcomers_of (joins ++ join ∷ []) ≡ newcomers_of joins ++ join.place.replica ∷ []
-newcomers_more [] join = refl
-newcomers_more (first ∷ joins) join = ap (λ (xs : List ℕ). first.place.replica ∷ xs) (newcomers_more joins join)
+pub join_names_append : (joins : List Join) (join : Join) → join_names_of (joins ++ join ∷ []) ≡ join_names_of joins ++ join.place.replica ∷ []
+join_names_append [] join = refl
+join_names_append (first ∷ joins) join = ap (λ (xs : List ℕ). first.place.replica ∷ xs) (join_names_append joins join)

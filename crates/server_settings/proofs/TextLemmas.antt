@@ -36,8 +36,8 @@ module _ (text : List ℕ) where
 
   module _ (name : ℕ) (is : IsNameText text name) where
     -- the number that a name's text spells
-    pub name_again : {E : Type 0} (r : Result ℕ E) → ParsesUnsigned 16 10 text r → r ≡ Ok name
-    name_again r h = parse-decimal 16 name text r (omega (arith, is.1)) (omega (arith, is.1)) is.2 h
+    pub parsed_name : {E : Type 0} (r : Result ℕ E) → ParsesUnsigned 16 10 text r → r ≡ Ok name
+    parsed_name r h = parse-decimal 16 name text r (omega (arith, is.1)) (omega (arith, is.1)) is.2 h
 
     pub name_digits : list_all is_ascii_digit text ≡ true
     name_digits = subst (λ (ds : List ℕ). list_all is_ascii_digit ds ≡ true) (sym is.2) (digits_decimal digits_model name (omega (arith, is.1)))
@@ -48,7 +48,7 @@ module _ (text : List ℕ) where
         let g : get_or (decimal name) 0 0 ≡ 48 = ap (λ (ds : List ℕ). get_or ds 0 0) (sym is.2) ∙ e in
         omega arith
 
--- digits don't have what is no digit
+-- a text of digits has no other character
 pub digits_lack : (c : ℕ) → is_ascii_digit c ≡ false → (ds : List ℕ) → list_all is_ascii_digit ds ≡ true → (i : ℕ) → i < length ds → get_or ds i 0 ≢ c
 digits_lack c n [] h i l e = omega arith
 digits_lack c n (d ∷ ds) h zero l e =
@@ -72,13 +72,13 @@ rsplit_after c bs xs ys None h low e free =
 rsplit_after c bs xs ys (Some x) h low e free =
     let i = h.0 in
     let j = h.1 in
-    let found : NoCharPasses (λ d. nat_eq d c) (drop j bs) = h.2.0 in
+    let no_char : NoCharPasses (λ d. nat_eq d c) (drop j bs) = h.2.0 in
     let at : HasCharAt c bs i j = h.2.1 in
     let n : length bs ≡ length xs + suc (length ys) = ap length e ∙ length-append xs (c ∷ ys) in
     let next : j ≡ i + 1 = omega (arith, at.ends, len_utf8_ascii c low) in
     let not_before : i < length xs → ⊥ = λ l.
     let k : length xs ≡ j + (length xs - j) = omega arith in
-    NoCharPasses-char c (drop j bs) (length xs - j) found low (omega (arith, length-drop j bs))
+    NoCharPasses-char c (drop j bs) (length xs - j) no_char low (omega (arith, length-drop j bs))
     (get_or-drop j bs (length xs - j) 0 ∙ ap (λ (m : ℕ). get_or bs m 0) (sym k) ∙ ap (λ (l : List ℕ). get_or l (length xs) 0) e ∙ get_or-append_seam xs c ys 0) in
     let inside : i < length bs = omega (arith, h.5, h.6, h.7) in
     let not_after : length xs < i → ⊥ = λ l.

@@ -7,7 +7,7 @@ use Rattle.clap.specs.Walk.{Row, first_of, one_of, rows_of}
 use Rattle.clap.specs.declared.parser.matches.Found.{Found}
 use Rattle.clap.specs.Simple.{is_simple}
 use Rattle.clap.proofs.OnLiterals.{clap_on_literals}
-use Rattle.clap_laws.proofs.FoundLemmas.{first_found, one_found}
+use Rattle.clap_laws.proofs.MatchesLemmas.{first_value_of_rows, one_text_of_rows}
 use Rattle.server_settings.specs.Options.{NamesAccess, server_words}
 use Rattle.server_settings.specs.Settings.{access_of}
 use Rattle.server_settings.specs.declared.settings.Access.{Access}
@@ -23,26 +23,26 @@ some_is {T} {a} e = ap (λ (o : Option T). or_else o) e
     or_else (Some x) = x
 
 module _ (rows : List Row) where
-  named : (is_preauth : Bool) (user pass : Option (Bor (List ℕ))) (access : Access) → access_of is_preauth user pass ≡ Some access
+  rows_name_access : (is_preauth : Bool) (user pass : Option (Bor (List ℕ))) (access : Access) → access_of is_preauth user pass ≡ Some access
       → ((one_of (codes "preauth") rows ≡ None) → is_preauth ≡ false) → ((one_of (codes "preauth") rows ≡ Some (codes "true")) → is_preauth ≡ true)
       → ((one_of (codes "preauth") rows ≡ Some (codes "false")) → is_preauth ≡ false)
       → option_map (λ s. s.now) user ≡ first_of (codes "user") rows → option_map (λ s. s.now) pass ≡ first_of (codes "pass") rows → NamesAccess rows access
-  named true None None access e none on off u p =
+  rows_name_access true None None access e none on off u p =
       subst (NamesAccess rows) (some_is e) (((λ h. false≢true (sym (none h))), (λ h. false≢true (sym (off h)))), sym u, sym p)
-  named false (Some user) (Some pass) access e none on off u p = subst (NamesAccess rows) (some_is e) ((λ h. false≢true (on h)), sym u, sym p)
-  named true (Some user) pass access e none on off u p = let k : ◌≡◌ {A = Option Access} None (Some access) = e in cc
-  named true None (Some pass) access e none on off u p = let k : ◌≡◌ {A = Option Access} None (Some access) = e in cc
-  named false None pass access e none on off u p = let k : ◌≡◌ {A = Option Access} None (Some access) = e in cc
-  named false (Some user) None access e none on off u p = let k : ◌≡◌ {A = Option Access} None (Some access) = e in cc
+  rows_name_access false (Some user) (Some pass) access e none on off u p = subst (NamesAccess rows) (some_is e) ((λ h. false≢true (on h)), sym u, sym p)
+  rows_name_access true (Some user) pass access e none on off u p = let k : ◌≡◌ {A = Option Access} None (Some access) = e in cc
+  rows_name_access true None (Some pass) access e none on off u p = let k : ◌≡◌ {A = Option Access} None (Some access) = e in cc
+  rows_name_access false None pass access e none on off u p = let k : ◌≡◌ {A = Option Access} None (Some access) = e in cc
+  rows_name_access false (Some user) None access e none on off u p = let k : ◌≡◌ {A = Option Access} None (Some access) = e in cc
 
-pub access_found : (found : Found) (is_preauth : Bool) (user pass : Option (Bor (List ℕ))) (r : Option Access) → r ≡ access_of is_preauth user pass
+pub access_is_named : (found : Found) (is_preauth : Bool) (user pass : Option (Bor (List ℕ))) (r : Option Access) → r ≡ access_of is_preauth user pass
     → ((one_text found (codes "preauth") ≡ None) → is_preauth ≡ false) → ((one_text found (codes "preauth") ≡ Some (codes "true")) → is_preauth ≡ true)
     → ((one_text found (codes "preauth") ≡ Some (codes "false")) → is_preauth ≡ false)
     → option_map (λ s. s.now) user ≡ first_value found (codes "user") → option_map (λ s. s.now) pass ≡ first_value found (codes "pass") → IfSome r (NamesAccess (rows_of found))
-access_found found is_preauth user pass None e none on off u p = tt
-access_found found is_preauth user pass (Some access) e none on off u p =
-    let one = one_found found (codes "preauth") in
-    named (rows_of found) is_preauth user pass access (sym e) (λ h. none (one ∙ h)) (λ h. on (one ∙ h)) (λ h. off (one ∙ h)) (u ∙ first_found found (codes "user")) (p ∙ first_found found (codes "pass"))
+access_is_named found is_preauth user pass None e none on off u p = tt
+access_is_named found is_preauth user pass (Some access) e none on off u p =
+    let one = one_text_of_rows found (codes "preauth") in
+    rows_name_access (rows_of found) is_preauth user pass access (sym e) (λ h. none (one ∙ h)) (λ h. on (one ∙ h)) (λ h. off (one ∙ h)) (u ∙ first_value_of_rows found (codes "user")) (p ∙ first_value_of_rows found (codes "pass"))
 
 -- clap's matches of the words that the program knows
 pub server_is_simple : is_simple server_words ≡ true

@@ -32,8 +32,8 @@ abbrev pub AreNames : List ℕ → Type 0
 AreNames names = AreNew [] names
 
 -- The names of the replicas that are to join.
-abbrev pub newcomers_of : List Join → List ℕ
-newcomers_of joins = map (λ (join : Join). join.place.replica) joins
+abbrev pub join_names_of : List Join → List ℕ
+join_names_of joins = map (λ (join : Join). join.place.replica) joins
 
 -- Each takes the operations of a replica with one of these names, or of one that joins before it.
 abbrev pub HavePeers : List ℕ → List Join → Type 0

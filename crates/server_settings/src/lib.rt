@@ -25,4 +25,4 @@ pub use listener::listen_at;
 pub use settings::{
     Access, CommandLine, Join, Place, SettingsFault, UsageFault, access_of, read_settings,
 };
-pub use settings_output::{settings_or_status, tell_fault};
+pub use settings_output::{print_fault, settings_or_status};

@@ -9,7 +9,7 @@ ghost use Rattle.server_settings.specs.Options.{replica_word, server_words, stop
 ghost use Rattle.server_settings.specs.Options.{with_access_words, with_replica_words};
 ghost use Rattle.server_settings.specs.Settings.{AreNames, HavePeers, IsJoinText, IsNameText};
 ghost use Rattle.server_settings.specs.Settings.{IsPlaceText, access_of, is_named, names_of};
-ghost use Rattle.server_settings.specs.Settings.{newcomers_of};
+ghost use Rattle.server_settings.specs.Settings.{join_names_of};
 ghost use Rattle.server_settings.specs.declared.settings.Join.{Join};
 ghost use Rattle.server_settings.specs.declared.settings.Place.{Place};
 
@@ -56,7 +56,7 @@ pub struct Join<'a> {
 pub struct CommandLine<'a> {
     /// Who may use the server.
     pub access: Access<'a>,
-    /// The number of connections after whose end the server stops, if it does.
+    /// The number of connections after which the server stops, if it does.
     pub stop_after: Option<u32>,
     /// The replicas in the order in which they were given; their names are distinct.
     pub places: Vec<Place<'a>>,
@@ -69,10 +69,10 @@ impl CommandLine<'_> {
     /// others. `None` if no replica has the name.
     pub fn place_of_name(&self, name: u16) -> Option<usize>
         ensures some { IfSome result (λ place. slice_get
-            (names_of self.now.places.items ++ newcomers_of self.now.joins.items) place
+            (names_of self.now.places.items ++ join_names_of self.now.joins.items) place
             ≡ Some name) }
         ensures none { IfNone result (is_named name
-            (names_of self.now.places.items ++ newcomers_of self.now.joins.items) ≡ false) }
+            (names_of self.now.places.items ++ join_names_of self.now.joins.items) ≡ false) }
     {
         if let Some(place) = place_among(&self.places, name) {
             return Some(place);
@@ -83,7 +83,7 @@ impl CommandLine<'_> {
 }
 
 /// The place of the replica with this name, if any.
-#[tactic(auto, using(crate::proofs::PlaceLemmas::name_there, crate::proofs::PlaceLemmas::unnamed_more))]
+#[tactic(auto, using(crate::proofs::PlaceLemmas::name_at, crate::proofs::PlaceLemmas::unnamed_more))]
 fn place_among(places: &[Place<'_>], name: u16) -> Option<usize>
     ensures some { IfSome result (λ place. slice_get (names_of places.now) place ≡ Some name) }
     ensures none { IfNone result (is_named name (names_of places.now) ≡ false) }
@@ -97,10 +97,10 @@ fn place_among(places: &[Place<'_>], name: u16) -> Option<usize>
 }
 
 /// The place of the replica with this name among those that are to join, if any.
-#[tactic(auto, using(crate::proofs::PlaceLemmas::newcomer_there, crate::proofs::PlaceLemmas::unjoined_more))]
+#[tactic(auto, using(crate::proofs::PlaceLemmas::join_name_at, crate::proofs::PlaceLemmas::unjoined_more))]
 fn joining_among(joins: &[Join<'_>], name: u16) -> Option<usize>
-    ensures some { IfSome result (λ place. slice_get (newcomers_of joins.now) place ≡ Some name) }
-    ensures none { IfNone result (is_named name (newcomers_of joins.now) ≡ false) }
+    ensures some { IfSome result (λ place. slice_get (join_names_of joins.now) place ≡ Some name) }
+    ensures none { IfNone result (is_named name (join_names_of joins.now) ≡ false) }
 {
     for at in 0..joins.len() {
         if joins[at].place.replica == name {
@@ -119,7 +119,7 @@ pub enum SettingsFault<'a> {
     Usage(UsageFault<'a>),
 }
 
-/// Which value of a word can't be used. As a text, what the program prints of it.
+/// Which value of a word can't be used. Its text is what the program prints.
 #[derive(Clone, Copy, Debug, PartialEq, Eq, thiserror::Error)]
 pub enum UsageFault<'a> {
     /// The words name no access, or two.
@@ -139,7 +139,7 @@ pub enum UsageFault<'a> {
     NoMemory,
 }
 
-/// Reads the words of a command line, of which the first is the program's name. Errors are found in
+/// Reads the words of a command line; the first is the program's name. Errors are found in
 /// this order: in the words, in the access, in the replicas in their order, and in those that are
 /// to join in theirs. The access is the one that clap finds in the words: only `--preauth`, or
 /// `--user` and `--pass` without it. The replicas' names are distinct, from 1 to 65,535; each that
@@ -151,7 +151,7 @@ pub fn read_settings<'a>(
     ensures access { IfOk result (λ settings. NamesAccess
         (matches_of server_words (map ⟦<String as AsStr>⟧.text words.entry.now)) settings.access) }
     ensures names { IfOk result (λ settings. AreNames
-        (names_of settings.places.items ++ newcomers_of settings.joins.items)) }
+        (names_of settings.places.items ++ join_names_of settings.joins.items)) }
     ensures peers { IfOk result
         (λ settings. HavePeers (names_of settings.places.items) settings.joins.items) }
 {
@@ -259,7 +259,7 @@ fn stop_after<'a>(alloc: Global) -> Arg<'a>
     word_with_value(
         alloc,
         "stop-after",
-        "The server stops behind so many connections. Else it runs until it is ended.",
+        "The server stops after this many connections. Otherwise it runs until it is ended.",
     )
     .value_parser(ValueParser::unsigned(0, 4_294_967_295))
 }
@@ -271,7 +271,7 @@ fn joining<'a>(alloc: Global) -> Arg<'a>
         .long("join")
         .action(ArgAction::Append)
         .help(
-            "A further replica joins when the first connection has ended: its number, its address and, behind a slash, the replica whose operations it takes, as in 3=127.0.0.1:1433/1.",
+            "A further replica joins when the first connection has ended: its number, its address and, after a slash, the replica whose operations it takes, as in 3=127.0.0.1:1433/1.",
         )
 }
 
@@ -331,7 +331,7 @@ fn joins_of<'a>(
     texts: &[&'a str],
 ) -> Result<Vec<Join<'a>>, UsageFault<'a>>
     requires { AreNames names.old.items }
-    ensures names { IfOk result (λ joins. AreNames (names.old.items ++ newcomers_of joins.items)) }
+    ensures names { IfOk result (λ joins. AreNames (names.old.items ++ join_names_of joins.items)) }
     ensures peers { IfOk result (λ joins. HavePeers names.old.items joins.items) }
 {
     let mut joins = Vec::new(alloc);
@@ -464,6 +464,6 @@ fn name_of(digits: &str) -> Option<u16>
 }
 
 /// Whether the words were refused since memory ran out.
-pub fn is_without_memory(error: &Error) -> bool {
+pub fn is_out_of_memory(error: &Error) -> bool {
     error.kind() == ErrorKind::OutOfMemory
 }

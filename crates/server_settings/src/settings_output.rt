@@ -3,9 +3,9 @@
 ghost use Rattle.std.specs.Prelude.{◌++◌, IfOk, map};
 ghost use Rattle.clap.specs.Words.{matches_of};
 ghost use Rattle.server_settings.specs.Options.{NamesAccess, server_words};
-ghost use Rattle.server_settings.specs.Settings.{AreNames, HavePeers, names_of, newcomers_of};
+ghost use Rattle.server_settings.specs.Settings.{AreNames, HavePeers, names_of, join_names_of};
 
-use crate::settings::{CommandLine, SettingsFault, UsageFault, is_without_memory, read_settings};
+use crate::settings::{CommandLine, SettingsFault, UsageFault, is_out_of_memory, read_settings};
 use clap::Error;
 use std::convert::AsStr;
 
@@ -19,7 +19,7 @@ pub fn settings_or_status<'a, R: Print + AllocGlobal>(
     ensures access { IfOk result (λ settings. NamesAccess
         (matches_of server_words (map ⟦<String as AsStr>⟧.text words.entry.now)) settings.access) }
     ensures names { IfOk result (λ settings. AreNames
-        (names_of settings.places.items ++ newcomers_of settings.joins.items)) }
+        (names_of settings.places.items ++ join_names_of settings.joins.items)) }
     ensures peers { IfOk result
         (λ settings. HavePeers (names_of settings.places.items) settings.joins.items) }
 {
@@ -34,18 +34,18 @@ pub fn settings_or_status<'a, R: Print + AllocGlobal>(
 fn explain<R: Print>(rt: &R, why: SettingsFault<'_>) -> u8 {
     match why {
         SettingsFault::Words(error) => explain_words(rt, error),
-        SettingsFault::Usage(UsageFault::NoMemory) => tell_fault(rt),
-        SettingsFault::Usage(why) => tell_usage(rt, why),
+        SettingsFault::Usage(UsageFault::NoMemory) => print_fault(rt),
+        SettingsFault::Usage(why) => print_usage(rt, why),
     }
 }
 
 /// Prints that the program can't run, and returns its status, 1.
-pub fn tell_fault<R: Print>(rt: &R) -> u8 {
+pub fn print_fault<R: Print>(rt: &R) -> u8 {
     let _ = println!(rt; "run fault");
     1
 }
 
-fn tell_usage<R: Print>(rt: &R, why: UsageFault<'_>) -> u8 {
+fn print_usage<R: Print>(rt: &R, why: UsageFault<'_>) -> u8 {
     match println!(rt; "{why}") {
         Ok(()) => 2,
         Err(_) => 1,
@@ -53,8 +53,8 @@ fn tell_usage<R: Print>(rt: &R, why: UsageFault<'_>) -> u8 {
 }
 
 fn explain_words<R: Print>(rt: &R, error: Error) -> u8 {
-    if is_without_memory(&error) {
-        return tell_fault(rt);
+    if is_out_of_memory(&error) {
+        return print_fault(rt);
     }
     let status = if error.use_stderr() { 2 } else { 0 };
     match rt.print(error) {

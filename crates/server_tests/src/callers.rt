@@ -1,6 +1,6 @@
 //! Clients over sockets, each in a thread of its own.
 
-use crate::doors::{Signs, Way, wait_for};
+use crate::gates::{Signs, Way, wait_for};
 use std::alloc::{AllocError, Global};
 use std::io;
 use std::io::{Read, Write};
@@ -12,7 +12,7 @@ use std::sync::atomic::Ordering;
 #[derive(Clone, Copy)]
 pub enum Manner {
     /// It closes its side for writing, and reads everything.
-    Hears,
+    Reads,
     /// It waits until this number of other clients read everything, and then closes its side for
     /// writing and reads everything.
     Waits(u64),
@@ -25,7 +25,7 @@ pub enum Manner {
 #[derive(Drop)]
 pub struct Caller {
     /// The octets that it sends.
-    pub said: Vec<u8>,
+    pub input: Vec<u8>,
     /// How it behaves.
     pub manner: Manner,
     /// The gate that is passed before each of its commands.
@@ -42,43 +42,43 @@ pub struct Line {
 }
 
 /// What a client reads; empty if it reads nothing or fails.
-pub fn hear<R: Wait>(rt: &R, alloc: Global, signs: &Signs, line: Line) -> Vec<u8> {
+pub fn receive<R: Wait>(rt: &R, alloc: Global, signs: &Signs, line: Line) -> Vec<u8> {
     let Line { stream, caller } = line;
     let Caller {
-        said,
+        input,
         manner,
         way: _,
     } = caller;
     let mut writer = &stream;
-    let _ = writer.write_all(&said);
+    let _ = writer.write_all(&input);
     match manner {
-        Manner::Hears => {
-            let told = hear_all(alloc, &stream);
-            let _ = signs.heard.fetch_add(1, Ordering::SeqCst);
-            told
+        Manner::Reads => {
+            let output = receive_rest(alloc, &stream);
+            let _ = signs.received.fetch_add(1, Ordering::SeqCst);
+            output
         }
         Manner::Waits(others) => {
-            wait_for(rt, &signs.heard, others);
-            hear_all(alloc, &stream)
+            wait_for(rt, &signs.received, others);
+            receive_rest(alloc, &stream)
         }
         Manner::Deaf(others) => {
-            wait_for(rt, &signs.heard, others);
+            wait_for(rt, &signs.received, others);
             Vec::new(alloc)
         }
     }
 }
 
 /// Closes the client's side for writing, and reads until the connection ends; empty if that fails.
-fn hear_all(alloc: Global, stream: &TcpStream) -> Vec<u8> {
-    let mut told = Vec::new(alloc);
+fn receive_rest(alloc: Global, stream: &TcpStream) -> Vec<u8> {
+    let mut output = Vec::new(alloc);
     let _ = stream.shutdown(Shutdown::Write);
-    match read_all(stream, &mut told) {
-        Ok(()) => told,
+    match read_all(stream, &mut output) {
+        Ok(()) => output,
         Err(_) => Vec::new(alloc),
     }
 }
 
-fn read_all(stream: &TcpStream, told: &mut Vec<u8>) -> io::Result<()> {
+fn read_all(stream: &TcpStream, output: &mut Vec<u8>) -> io::Result<()> {
     let mut piece = [0u8; 4_096];
     let mut reader = stream;
     for _ in 0..100_000u32 {
@@ -86,14 +86,14 @@ fn read_all(stream: &TcpStream, told: &mut Vec<u8>) -> io::Result<()> {
         if count == 0 {
             return Ok(());
         }
-        told.extend_from_slice(&piece[..count])?;
+        output.extend_from_slice(&piece[..count])?;
     }
     Ok(())
 }
 
 /// A copy of the octets that a client sends.
-pub fn said(alloc: Global, text: &[u8]) -> Result<Vec<u8>, AllocError> {
-    let mut said = Vec::new(alloc);
-    said.extend_from_slice(text)?;
-    Ok(said)
+pub fn input(alloc: Global, text: &[u8]) -> Result<Vec<u8>, AllocError> {
+    let mut input = Vec::new(alloc);
+    input.extend_from_slice(text)?;
+    Ok(input)
 }

@@ -6,12 +6,12 @@ use std::io::{Read, Write};
 use std::net::{Net, SocketAddr, TcpListener, TcpStream};
 use std::time::Duration;
 
-/// A client's side of a connection, with all that it read.
+/// A client's side of a connection, with all that it has read.
 #[derive(Drop)]
 pub struct Client {
     stream: TcpStream,
-    told: Vec<u8>,
-    is_served: bool,
+    output: Vec<u8>,
+    has_succeeded: bool,
 }
 
 impl Client {
@@ -26,61 +26,61 @@ impl Client {
         stream.set_read_timeout(Some(Duration::from_secs(20)))?;
         let mut client = Client {
             stream,
-            told: Vec::new(alloc),
-            is_served: true,
+            output: Vec::new(alloc),
+            has_succeeded: true,
         };
         client.await_text(b"ready\r\n");
         Ok(client)
     }
 
-    /// Whether it received all that it waited for so far.
-    pub fn is_served(&self) -> bool {
-        self.is_served
+    /// Whether it has received all that it has waited for.
+    pub fn has_succeeded(&self) -> bool {
+        self.has_succeeded
     }
 
-    /// Whether it received a text.
-    pub fn was_told(&self, text: &[u8]) -> bool {
-        self.told
+    /// Whether it has received a text.
+    pub fn has_received(&self, text: &[u8]) -> bool {
+        self.output
             .windows(text.len().max(1))
             .any(|part| part == text)
     }
 
-    /// Waits until it received a text. After a failed wait it does nothing.
+    /// Waits until it has received a text. After a failed wait it does nothing.
     pub fn await_text(&mut self, text: &[u8]) {
-        if self.is_served {
-            self.is_served = matches!(self.hear(text), Ok(true));
+        if self.has_succeeded {
+            self.has_succeeded = matches!(self.read_until(text), Ok(true));
         }
     }
 
     /// Sends commands, and waits for a text. After a failed wait it does nothing.
-    pub fn say(&mut self, said: &[u8], told: &[u8]) {
-        if self.is_served {
-            self.is_served = self.send(said).is_ok();
-            self.await_text(told)
+    pub fn exchange(&mut self, input: &[u8], output: &[u8]) {
+        if self.has_succeeded {
+            self.has_succeeded = self.send(input).is_ok();
+            self.await_text(output)
         }
     }
 
     /// Sends commands, and waits for nothing. After a failed wait it does nothing.
-    pub fn ask(&mut self, said: &[u8]) {
-        if self.is_served {
-            self.is_served = self.send(said).is_ok();
+    pub fn send_only(&mut self, input: &[u8]) {
+        if self.has_succeeded {
+            self.has_succeeded = self.send(input).is_ok();
         }
     }
 
-    /// Forgets all that it received.
-    pub fn forget(&mut self) {
-        self.told.clear();
+    /// Drops all that it has received.
+    pub fn clear_output(&mut self) {
+        self.output.clear();
     }
 
-    /// Waits for `count` further octets, and forgets them. After a failed wait it does nothing.
+    /// Waits for `count` more octets, and drops them. After a failed wait it does nothing.
     pub fn skip(&mut self, count: usize) {
-        if self.is_served {
-            self.is_served = matches!(self.pass_over(count), Ok(true));
+        if self.has_succeeded {
+            self.has_succeeded = matches!(self.discard(count), Ok(true));
         }
     }
 
     /// Reads `count` octets, at most 4,096 at once; false if the connection ends first.
-    fn pass_over(&self, count: usize) -> io::Result<bool> {
+    fn discard(&self, count: usize) -> io::Result<bool> {
         let mut piece = [0u8; 4_096];
         let mut reader = &self.stream;
         let mut left = count;
@@ -98,15 +98,15 @@ impl Client {
         Ok(false)
     }
 
-    fn send(&self, said: &[u8]) -> io::Result<()> {
+    fn send(&self, input: &[u8]) -> io::Result<()> {
         let mut writer = &self.stream;
-        writer.write_all(said)
+        writer.write_all(input)
     }
 
-    /// Reads until it received a text; false if the connection ends first.
-    fn hear(&mut self, text: &[u8]) -> io::Result<bool> {
+    /// Reads until it has received a text; false if the connection ends first.
+    fn read_until(&mut self, text: &[u8]) -> io::Result<bool> {
         for _ in 0..100_000u32 {
-            if self.was_told(text) {
+            if self.has_received(text) {
                 return Ok(true);
             }
             if !self.read()? {
@@ -121,7 +121,7 @@ impl Client {
         let mut piece = [0u8; 512];
         let mut reader = &self.stream;
         let count = reader.read(&mut piece)?;
-        self.told.extend_from_slice(&piece[..count])?;
+        self.output.extend_from_slice(&piece[..count])?;
         Ok(count != 0)
     }
 }

@@ -1,8 +1,8 @@
-//! Connections side by side, while a replica's lock is held.
+//! Concurrent connections, while a replica's lock is held.
 
-use crate::callers::{Caller, Manner, said};
-use crate::doors::{PATIENCE, TURNS, Way};
-use crate::scene::{Course, Plan, play};
+use crate::callers::{Caller, Manner, input};
+use crate::gates::{PATIENCE, TURNS, Way};
+use crate::scene::{Outcome, Plan, play};
 use log::Log;
 use std::alloc::{AllocError, Global};
 use std::net::{Net, TcpListener, TcpStream};
@@ -20,12 +20,12 @@ const TWO: &[u8] =
     b"* PREAUTH [CAPABILITY IMAP4rev2 IDLE CONDSTORE] ready\r\na OK NOOP completed\r\nb OK NOOP completed\r\n* BYE logging out\r\nc OK LOGOUT completed\r\n";
 
 /// A client that appends, fetches and stores.
-const MAILING: &[u8] =
+const CROWD_INPUT: &[u8] =
     b"a SELECT INBOX\r\nb APPEND INBOX {3+}\r\nabc\r\nc FETCH 1:* FLAGS\r\nd STORE 1 +FLAGS (\\Seen)\r\ne LOGOUT\r\n";
 
 /// The answers to each such client, whatever the others do; between these are numbers and the
 /// others' messages.
-const MAILED: [&[u8]; 6] = [
+const CROWD_ANSWERS: [&[u8]; 6] = [
     b"a OK [READ-WRITE] SELECT completed\r\n",
     b"b OK [APPENDUID ",
     b"c OK FETCH completed\r\n",
@@ -34,16 +34,16 @@ const MAILED: [&[u8]; 6] = [
     b"e OK LOGOUT completed\r\n",
 ];
 
-/// A client that sends this text after such a gate, and reads everything.
+/// A client that sends this text after a gate of this kind, and reads everything.
 fn caller(alloc: Global, way: Way, text: &[u8]) -> Result<Caller, AllocError> {
     Ok(Caller {
-        said: said(alloc, text)?,
-        manner: Manner::Hears,
+        input: input(alloc, text)?,
+        manner: Manner::Reads,
         way,
     })
 }
 
-/// `count` clients that send this text after such a gate, and read everything.
+/// `count` clients that send this text after a gate of this kind, and read everything.
 fn callers(alloc: Global, count: u64, way: Way, text: &[u8]) -> Result<Vec<Caller>, AllocError> {
     let mut callers = Vec::new(alloc);
     for _ in 0..count {
@@ -54,9 +54,9 @@ fn callers(alloc: Global, count: u64, way: Way, text: &[u8]) -> Result<Vec<Calle
 
 /// Two clients of one replica; the first waits before its first command until the second has
 /// passed the gate of its second.
-fn one_behind_another(alloc: Global) -> Result<Plan, AllocError> {
-    let mut first = callers(alloc, 1, Way::Behind(2), b"a NOOP\r\nb LOGOUT\r\n")?;
-    first.push(caller(alloc, Way::Telling, b"a NOOP\r\nb NOOP\r\nc LOGOUT\r\n")?)?;
+fn one_after_another(alloc: Global) -> Result<Plan, AllocError> {
+    let mut first = callers(alloc, 1, Way::After(2), b"a NOOP\r\nb LOGOUT\r\n")?;
+    first.push(caller(alloc, Way::Counting, b"a NOOP\r\nb NOOP\r\nc LOGOUT\r\n")?)?;
     Ok(Plan {
         first,
         second: Vec::new(alloc),
@@ -85,11 +85,9 @@ fn while_held(
     })
 }
 
-fn course<R: Threads + Wait + Clock + Log + Sync + Net<Listener = TcpListener, Stream = TcpStream>>(
-    rt: &R,
-    alloc: Global,
-    plan: Result<Plan, AllocError>,
-) -> Option<Course> {
+fn outcome<
+    R: Threads + Wait + Clock + Log + Sync + Net<Listener = TcpListener, Stream = TcpStream>,
+>(rt: &R, alloc: Global, plan: Result<Plan, AllocError>) -> Option<Outcome> {
     match plan {
         Ok(plan) => play(rt, alloc, plan),
         Err(_) => None,
@@ -97,12 +95,12 @@ fn course<R: Threads + Wait + Clock + Log + Sync + Net<Listener = TcpListener, S
 }
 
 /// Whether the clients, in their order, read these texts.
-fn are(heard: &[Vec<u8>], wanted: &[&[u8]]) -> bool {
-    if heard.len() != wanted.len() {
+fn are(received: &[Vec<u8>], expected: &[&[u8]]) -> bool {
+    if received.len() != expected.len() {
         return false;
     }
-    for at in 0..wanted.len() {
-        if heard[at].as_slice() != wanted[at] {
+    for at in 0..expected.len() {
+        if received[at].as_slice() != expected[at] {
             return false;
         }
     }
@@ -110,10 +108,10 @@ fn are(heard: &[Vec<u8>], wanted: &[&[u8]]) -> bool {
 }
 
 /// Whether the second client was answered while the first waited, and the first afterwards.
-fn second_goes_on(course: &Option<Course>) -> bool {
-    match course {
-        Some(course) => {
-            course.seen == 1 && are(&course.first, &[ONE, TWO]) && course.entries == (9, 0)
+fn second_is_served(outcome: &Option<Outcome>) -> bool {
+    match outcome {
+        Some(outcome) => {
+            outcome.satisfied == 1 && are(&outcome.first, &[ONE, TWO]) && outcome.entries == (9, 0)
         }
         None => false,
     }
@@ -121,36 +119,68 @@ fn second_goes_on(course: &Option<Course>) -> bool {
 
 #[test]
 fn a_connection_waits_for_another(rt: HostRuntime) {
-    let course = course(&rt, rt.alloc(), one_behind_another(rt.alloc()));
-    assert!(rt; second_goes_on(&course));
+    let outcome = outcome(&rt, rt.alloc(), one_after_another(rt.alloc()));
+    assert!(rt; second_is_served(&outcome));
 }
 
-/// Whether the other replica's client was answered while the lock was held.
-fn other_goes_on(course: &Option<Course>) -> bool {
-    match course {
-        Some(course) => {
-            (course.seen, course.heard) == (1, 1)
-                && are(&course.second, &[ONE])
-                && course.entries == (0, 4)
+/// A client that sends two NOOPs and a LOGOUT in one piece, after a gate that records.
+fn two_in_one_piece(alloc: Global) -> Result<Plan, AllocError> {
+    Ok(Plan {
+        first: callers(
+            alloc,
+            1,
+            Way::Recording,
+            b"a NOOP\r\nb NOOP\r\nc LOGOUT\r\n",
+        )?,
+        second: Vec::new(alloc),
+        called: 0,
+        until: 0,
+        turns: 0,
+    })
+}
+
+/// Whether the gate was passed with the number of each command, and each was answered.
+fn each_command_passes(outcome: &Option<Outcome>) -> bool {
+    match outcome {
+        Some(outcome) => {
+            outcome.numbers == 123 && are(&outcome.first, &[TWO]) && outcome.entries == (5, 0)
         }
         None => false,
     }
 }
 
 #[test]
-fn a_connection_goes_on_beside_a_held_replica(rt: HostRuntime) {
+fn a_gate_is_passed_for_each_command(rt: HostRuntime) {
+    let outcome = outcome(&rt, rt.alloc(), two_in_one_piece(rt.alloc()));
+    assert!(rt; each_command_passes(&outcome));
+}
+
+/// Whether the other replica's client was answered while the lock was held.
+fn other_is_served(outcome: &Option<Outcome>) -> bool {
+    match outcome {
+        Some(outcome) => {
+            (outcome.satisfied, outcome.received) == (1, 1)
+                && are(&outcome.second, &[ONE])
+                && outcome.entries == (0, 4)
+        }
+        None => false,
+    }
+}
+
+#[test]
+fn a_connection_is_served_while_a_replica_is_held(rt: HostRuntime) {
     let plan = while_held(rt.alloc(), 0, 1, b"a NOOP\r\nb LOGOUT\r\n", 1, PATIENCE);
-    let course = course(&rt, rt.alloc(), plan);
-    assert!(rt; other_goes_on(&course));
+    let outcome = outcome(&rt, rt.alloc(), plan);
+    assert!(rt; other_is_served(&outcome));
 }
 
 /// Whether the client was answered, and not while the lock was held.
-fn own_waits(course: &Option<Course>) -> bool {
-    match course {
-        Some(course) => {
-            (course.seen, course.heard) == (1, 0)
-                && are(&course.first, &[ONE])
-                && course.entries == (4, 0)
+fn own_waits(outcome: &Option<Outcome>) -> bool {
+    match outcome {
+        Some(outcome) => {
+            (outcome.satisfied, outcome.received) == (1, 0)
+                && are(&outcome.first, &[ONE])
+                && outcome.entries == (4, 0)
         }
         None => false,
     }
@@ -159,31 +189,29 @@ fn own_waits(course: &Option<Course>) -> bool {
 #[test]
 fn a_connection_waits_for_its_replica(rt: HostRuntime) {
     let plan = while_held(rt.alloc(), 1, 0, b"a NOOP\r\nb LOGOUT\r\n", 1, TURNS);
-    let course = course(&rt, rt.alloc(), plan);
-    assert!(rt; own_waits(&course));
+    let outcome = outcome(&rt, rt.alloc(), plan);
+    assert!(rt; own_waits(&outcome));
 }
 
 /// Whether a text is part of another.
-fn has(told: &[u8], text: &[u8]) -> bool {
-    told.windows(text.len().max(1)).any(|part| part == text)
+fn has(output: &[u8], text: &[u8]) -> bool {
+    output.windows(text.len().max(1)).any(|part| part == text)
 }
 
-/// Whether all of these clients mailed.
-fn all_mailed(heard: &[Vec<u8>]) -> bool {
-    heard
-        .iter()
-        .all(|told| MAILED.iter().all(|text| has(told, text)))
+/// Whether all of these clients were served.
+fn are_all_served(received: &[Vec<u8>]) -> bool {
+    received.iter().all(|output| CROWD_ANSWERS.iter().all(|text| has(output, text)))
 }
 
 /// The UID of the message that a client appended, after this prefix of its answer; 0 if there is
 /// none.
-fn uid_of(told: &[u8], front: &[u8]) -> u32 {
+fn uid_of(output: &[u8], front: &[u8]) -> u32 {
     let mut uid = 0u32;
-    if let Some(at) = told
+    if let Some(at) = output
         .windows(front.len().max(1))
         .position(|part| part == front)
     {
-        for octet in told.iter().skip(at).skip(front.len()) {
+        for octet in output.iter().skip(at).skip(front.len()) {
             if !octet.is_ascii_digit() {
                 break;
             }
@@ -195,10 +223,10 @@ fn uid_of(told: &[u8], front: &[u8]) -> u32 {
 }
 
 /// Whether each UID from 1 to 50 was reported once, after this prefix.
-fn each_uid_once(alloc: Global, front: &[u8], heard: &[Vec<u8>]) -> bool {
+fn each_uid_once(alloc: Global, front: &[u8], received: &[Vec<u8>]) -> bool {
     let mut uids = Vec::new(alloc);
-    for told in heard {
-        if uids.push(uid_of(told, front)).is_err() {
+    for output in received {
+        if uids.push(uid_of(output, front)).is_err() {
             return false;
         }
     }
@@ -223,29 +251,29 @@ fn times_of(uids: &[u32], uid: u32) -> u32 {
 
 /// The result of fifty clients of each replica: how many gates saw the lock held, how many clients
 /// read everything while it was, how many calls each replica counted, and whether at both all
-/// mailed and each UID was given once; the UIDVALIDITY of INBOX is the replica's number.
-fn crowds_mailed(alloc: Global, course: &Option<Course>) -> Option<(u64, u64, u64, u64, bool)> {
-    let course = course.as_ref()?;
-    let first = all_mailed(&course.first)
-        && each_uid_once(alloc, b"b OK [APPENDUID 1 ", &course.first);
-    let second = all_mailed(&course.second)
-        && each_uid_once(alloc, b"b OK [APPENDUID 2 ", &course.second);
+/// were served and each UID was assigned once; the UIDVALIDITY of INBOX is the replica's number.
+fn crowds_result(alloc: Global, outcome: &Option<Outcome>) -> Option<(u64, u64, u64, u64, bool)> {
+    let outcome = outcome.as_ref()?;
+    let first = are_all_served(&outcome.first)
+        && each_uid_once(alloc, b"b OK [APPENDUID 1 ", &outcome.first);
+    let second = are_all_served(&outcome.second)
+        && each_uid_once(alloc, b"b OK [APPENDUID 2 ", &outcome.second);
     Some((
-        course.seen,
-        course.heard,
-        course.entries.0,
-        course.entries.1,
+        outcome.satisfied,
+        outcome.received,
+        outcome.entries.0,
+        outcome.entries.1,
         first && second,
     ))
 }
 
 #[test]
-fn a_crowd_goes_on_beside_a_held_replica(rt: HostRuntime) {
+fn a_crowd_is_served_while_a_replica_is_held(rt: HostRuntime) {
     let alloc = rt.alloc();
-    let plan = while_held(alloc, 50, 50, MAILING, 50, 100_000_000);
-    let course = course(&rt, alloc, plan);
+    let plan = while_held(alloc, 50, 50, CROWD_INPUT, 50, 100_000_000);
+    let outcome = outcome(&rt, alloc, plan);
     assert_eq!(rt;
-        crowds_mailed(alloc, &course),
+        crowds_result(alloc, &outcome),
         Some((100, 50, 350, 350, true))
     );
 }

@@ -1,8 +1,8 @@
 //! Clients that send what no client should, or don't read.
 
-use crate::callers::{Caller, Manner, said};
-use crate::doors::Way;
-use crate::scene::{Course, Plan, play};
+use crate::callers::{Caller, Manner, input};
+use crate::gates::Way;
+use crate::scene::{Outcome, Plan, play};
 use log::Log;
 use std::alloc::{AllocError, Global};
 use std::net::{Net, TcpListener, TcpStream};
@@ -15,7 +15,7 @@ use std::thread::Threads;
 const LONG: &[u8] =
     b"* PREAUTH [CAPABILITY IMAP4rev2 IDLE CONDSTORE] ready\r\n* BYE line too long\r\n";
 
-/// The answer to a literal that doesn't come.
+/// The answer to a literal that is never sent.
 const READY: &[u8] = b"* PREAUTH [CAPABILITY IMAP4rev2 IDLE CONDSTORE] ready\r\n+ ready\r\n";
 
 /// The answers to a NOOP and a NUL after it.
@@ -31,11 +31,11 @@ const GOOD: &[u8] =
     b"* PREAUTH [CAPABILITY IMAP4rev2 IDLE CONDSTORE] ready\r\na OK NOOP completed\r\n* BYE logging out\r\nb OK LOGOUT completed\r\n";
 
 /// How many clients read everything, whatever the others do.
-const GOING: u64 = 4;
+const READERS: u64 = 4;
 
 fn caller(alloc: Global, manner: Manner, way: Way, text: &[u8]) -> Result<Caller, AllocError> {
     Ok(Caller {
-        said: said(alloc, text)?,
+        input: input(alloc, text)?,
         manner,
         way,
     })
@@ -43,29 +43,31 @@ fn caller(alloc: Global, manner: Manner, way: Way, text: &[u8]) -> Result<Caller
 
 /// A client that sends a text, and then octets without an end of line, up to `count` octets in all.
 fn endless(alloc: Global, text: &[u8], count: usize) -> Result<Caller, AllocError> {
-    let mut caller = caller(alloc, Manner::Hears, Way::Open, text)?;
-    caller.said.resize(count, 120)?;
+    let mut caller = caller(alloc, Manner::Reads, Way::Open, text)?;
+    caller.input.resize(count, 120)?;
     Ok(caller)
 }
 
 /// A client that appends a message of a million octets, asks for it forty times, and reads nothing.
 fn deaf(alloc: Global) -> Result<Caller, AllocError> {
     let begin = b"a SELECT INBOX\r\nb APPEND INBOX {1000000+}\r\n";
-    let mut caller = caller(alloc, Manner::Deaf(GOING), Way::Telling, begin)?;
-    let length = caller.said.len().saturating_add(1_000_000);
-    caller.said.resize(length, 120)?;
-    caller.said.extend_from_slice(b"\r\n")?;
+    let mut caller = caller(alloc, Manner::Deaf(READERS), Way::Counting, begin)?;
+    let length = caller.input.len().saturating_add(1_000_000);
+    caller.input.resize(length, 120)?;
+    caller.input.extend_from_slice(b"\r\n")?;
     for _ in 0..40u32 {
-        caller.said.extend_from_slice(b"c FETCH 1 BODY.PEEK[]\r\n")?;
+        caller
+            .input
+            .extend_from_slice(b"c FETCH 1 BODY.PEEK[]\r\n")?;
     }
     Ok(caller)
 }
 
-/// Adds a client that doesn't read, one whose literal doesn't come, and one whose line doesn't end.
+/// Adds a client that doesn't read, one that sends no literal, and one whose line doesn't end.
 fn add_endless(alloc: Global, clients: &mut Vec<Caller>) -> Result<(), AllocError> {
     clients.push(deaf(alloc)?)?;
-    let begun = b"a APPEND INBOX {10}\r\nabc";
-    clients.push(caller(alloc, Manner::Waits(GOING), Way::Open, begun)?)?;
+    let partial = b"a APPEND INBOX {10}\r\nabc";
+    clients.push(caller(alloc, Manner::Waits(READERS), Way::Open, partial)?)?;
     clients.push(endless(alloc, b"a NOOP ", 10_000_000)?)?;
     Ok(())
 }
@@ -73,10 +75,10 @@ fn add_endless(alloc: Global, clients: &mut Vec<Caller>) -> Result<(), AllocErro
 /// Adds a client that sends a NUL, one whose literal is too long, and one that behaves well.
 fn add_others(alloc: Global, clients: &mut Vec<Caller>) -> Result<(), AllocError> {
     let nul = b"a NOOP\r\n\0b NOOP\r\n";
-    clients.push(caller(alloc, Manner::Hears, Way::Behind(4), nul)?)?;
+    clients.push(caller(alloc, Manner::Reads, Way::After(4), nul)?)?;
     clients.push(endless(alloc, b"a APPEND INBOX {1048577+}\r\n", 1_050_000)?)?;
     let good = b"a NOOP\r\nb LOGOUT\r\n";
-    clients.push(caller(alloc, Manner::Hears, Way::Behind(4), good)?)?;
+    clients.push(caller(alloc, Manner::Reads, Way::After(4), good)?)?;
     Ok(())
 }
 
@@ -100,10 +102,9 @@ fn plan(alloc: Global) -> Result<Plan, AllocError> {
     })
 }
 
-fn course<R: Threads + Wait + Clock + Log + Sync + Net<Listener = TcpListener, Stream = TcpStream>>(
-    rt: &R,
-    alloc: Global,
-) -> Option<Course> {
+fn outcome<
+    R: Threads + Wait + Clock + Log + Sync + Net<Listener = TcpListener, Stream = TcpStream>,
+>(rt: &R, alloc: Global) -> Option<Outcome> {
     match plan(alloc) {
         Ok(plan) => play(rt, alloc, plan),
         Err(_) => None,
@@ -113,25 +114,25 @@ fn course<R: Threads + Wait + Clock + Log + Sync + Net<Listener = TcpListener, S
 /// Whether each client received the expected answers. The client that doesn't read gave four
 /// commands at least, and stopped before its fortieth FETCH, after what its connection holds; the
 /// others made 15 calls.
-fn are_told(course: &Option<Course>) -> bool {
-    let wanted: [&[u8]; 6] = [b"", READY, LONG, NUL, UNASKED, GOOD];
-    match course {
-        Some(course) => {
-            course.first.len() == wanted.len()
-                && course
+fn are_served(outcome: &Option<Outcome>) -> bool {
+    let expected: [&[u8]; 6] = [b"", READY, LONG, NUL, UNASKED, GOOD];
+    match outcome {
+        Some(outcome) => {
+            outcome.first.len() == expected.len()
+                && outcome
                     .first
                     .iter()
-                    .zip(wanted)
-                    .all(|(told, text)| told.as_slice() == text)
-                && course.entries.0 >= 19
-                && course.entries.0 < 57
+                    .zip(expected)
+                    .all(|(output, text)| output.as_slice() == text)
+                && outcome.entries.0 >= 19
+                && outcome.entries.0 < 57
         }
         None => false,
     }
 }
 
 #[test]
-fn bad_clients_harm_themselves(rt: HostRuntime) {
-    let course = course(&rt, rt.alloc());
-    assert!(rt; are_told(&course));
+fn bad_clients_affect_no_others(rt: HostRuntime) {
+    let outcome = outcome(&rt, rt.alloc());
+    assert!(rt; are_served(&outcome));
 }

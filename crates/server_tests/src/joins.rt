@@ -1,19 +1,19 @@
 //! The lines that are printed of joining replicas.
 
-use server_runtime::{Join, JoinEnd, Place};
+use server_runtime::{Join, JoinOutcome, Place};
 use std::alloc::Global;
 use std::test::*;
 
 /// Whether this is printed of a replica that was to join.
-fn is_printed(alloc: Global, end: JoinEnd<'_>, wanted: &str) -> bool {
+fn is_printed(alloc: Global, end: JoinOutcome<'_>, expected: &str) -> bool {
     match format!(in alloc; "{end}") {
-        Ok(text) => text.as_str() == wanted,
+        Ok(text) => text.as_str() == expected,
         Err(_) => false,
     }
 }
 
 #[test]
-fn joins_are_told(rt: HostRuntime) {
+fn joins_are_printed(rt: HostRuntime) {
     let join = Join {
         place: Place {
             replica: 3,
@@ -24,9 +24,9 @@ fn joins_are_told(rt: HostRuntime) {
     assert!(rt;
         is_printed(
             rt.alloc(),
-            JoinEnd::Joined(join),
+            JoinOutcome::Joined(join),
             "joined 3 1\nlistening 3 127.0.0.1:1433"
         )
     );
-    assert!(rt; is_printed(rt.alloc(), JoinEnd::Failed(join), "cannot join 3 1"));
+    assert!(rt; is_printed(rt.alloc(), JoinOutcome::Failed(join), "cannot join 3 1"));
 }

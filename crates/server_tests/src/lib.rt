@@ -3,8 +3,8 @@
 //! Servers run as their command lines ask: what one client does at one replica another sees at
 //! another, a replica joins when the first connection has ended, a run continues if a replica can't
 //! join, nobody logs in without both user and password, messages are dated by the clock, and a
-//! client that reads late receives everything. Connections are served side by side: one continues
-//! while another waits, while a replica's lock is held and beside clients that send what no client
+//! client that reads late receives everything. Connections are served concurrently: one continues
+//! while another waits, while a replica's lock is held, and with clients that send what no client
 //! should. Messages reach the replicas that have joined, and the lines printed of joining replicas
 //! are compared.
 //!
@@ -21,16 +21,16 @@ mod clients;
 #[cfg(test)]
 mod crowd;
 #[cfg(test)]
-mod doors;
+mod gates;
 #[cfg(test)]
 mod hostile;
 #[cfg(test)]
 mod joins;
 #[cfg(test)]
-mod letters;
-#[cfg(test)]
 mod loopback;
 #[cfg(test)]
-mod scene;
+mod messages;
 #[cfg(test)]
-mod visits;
+mod scenarios;
+#[cfg(test)]
+mod scene;

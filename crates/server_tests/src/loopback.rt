@@ -1,7 +1,7 @@
 //! Servers over sockets: what one client does at one replica, another sees at another; replicas
 //! that join; logins; the server's clock; and a client that reads late.
 
-use crate::visits::Visit;
+use crate::scenarios::Scenario;
 use log::Log;
 use server_runtime::{CommandLine, open_all, read_settings, serve};
 use std::alloc::{AllocError, Global};
@@ -14,7 +14,7 @@ use std::thread::Threads;
 
 /// Serves as these settings ask while clients connect; true if the server ended well and the
 /// clients received the expected answers.
-fn visited<
+fn scenario_passes<
     R: Threads
         + Wait
         + Clock
@@ -22,14 +22,14 @@ fn visited<
         + Print
         + Sync
         + Net<Listener = TcpListener, Stream = TcpStream>,
->(rt: &R, alloc: Global, settings: &CommandLine<'_>, visit: Visit) -> Option<bool> {
-    let (house, parts) = open_all(rt, alloc, settings).ok()?;
-    let (whole, visited) = thread::join(
+>(rt: &R, alloc: Global, settings: &CommandLine<'_>, scenario: Scenario) -> Option<bool> {
+    let (server, parts) = open_all(rt, alloc, settings).ok()?;
+    let (whole, scenario_passes) = thread::join(
         rt,
-        || serve(rt, alloc, &house, parts),
-        || visit.pay(rt, alloc, &house),
+        || serve(rt, alloc, &server, parts),
+        || scenario.play(rt, alloc, &server),
     );
-    Some(whole && visited == Some(true))
+    Some(whole && scenario_passes == Some(true))
 }
 
 /// The words of a command line, cut at spaces.
@@ -43,7 +43,7 @@ fn words_of(alloc: Global, line: &str) -> Result<Vec<String>, AllocError> {
 
 /// Serves as this command line asks while clients connect; true if the server ended well and the
 /// clients received the expected answers.
-fn served<
+fn serves_well<
     R: Threads
         + Wait
         + Clock
@@ -51,10 +51,10 @@ fn served<
         + Print
         + Sync
         + Net<Listener = TcpListener, Stream = TcpStream>,
->(rt: &R, alloc: Global, line: &str, visit: Visit) -> Option<bool> {
+>(rt: &R, alloc: Global, line: &str, scenario: Scenario) -> Option<bool> {
     let words = words_of(alloc, line).ok()?;
     match read_settings(alloc, &words) {
-        Ok(settings) => visited(rt, alloc, &settings, visit),
+        Ok(settings) => scenario_passes(rt, alloc, &settings, scenario),
         Err(_) => None,
     }
 }
@@ -62,19 +62,25 @@ fn served<
 #[test]
 fn replicas_serve_over_sockets(rt: HostRuntime) {
     let line = "imap_server --preauth --stop-after 3 1=127.0.0.1:0 2=127.0.0.1:0";
-    assert_eq!(rt; served(&rt, rt.alloc(), line, Visit::Two), Some(true));
+    assert_eq!(rt;
+        serves_well(&rt, rt.alloc(), line, Scenario::Two),
+        Some(true)
+    );
 }
 
 #[test]
 fn a_replica_joins_when_the_first_connection_has_ended(rt: HostRuntime) {
     let line =
         "imap_server --preauth --stop-after 3 --join 3=127.0.0.1:0/1 1=127.0.0.1:0 2=127.0.0.1:0";
-    assert_eq!(rt; served(&rt, rt.alloc(), line, Visit::Three), Some(true));
+    assert_eq!(rt;
+        serves_well(&rt, rt.alloc(), line, Scenario::Three),
+        Some(true)
+    );
 }
 
 /// Serves one replica while another can't join, since its address is taken; true if the server
 /// ended well and the clients received the expected answers.
-fn served_alone<
+fn serves_alone<
     R: Threads
         + Wait
         + Clock
@@ -88,30 +94,39 @@ fn served_alone<
     let line = format!(in alloc;
         "imap_server --preauth --stop-after 2 --join 2={address}/1 1=127.0.0.1:0"
     ).ok()?;
-    let fine = served(rt, alloc, &line, Visit::Alone);
+    let fine = serves_well(rt, alloc, &line, Scenario::Alone);
     drop(taken);
     fine
 }
 
 #[test]
-fn the_run_goes_on_where_a_replica_cannot_join(rt: HostRuntime) {
-    assert_eq!(rt; served_alone(&rt, rt.alloc()), Some(true));
+fn the_run_continues_if_a_replica_cannot_join(rt: HostRuntime) {
+    assert_eq!(rt; serves_alone(&rt, rt.alloc()), Some(true));
 }
 
 #[test]
-fn nobody_is_let_in_without_user_and_password(rt: HostRuntime) {
+fn nobody_logs_in_without_user_and_password(rt: HostRuntime) {
     let line = "imap_server --user me --pass secret --stop-after 1 1=127.0.0.1:0";
-    assert_eq!(rt; served(&rt, rt.alloc(), line, Visit::Password), Some(true));
+    assert_eq!(rt;
+        serves_well(&rt, rt.alloc(), line, Scenario::Password),
+        Some(true)
+    );
 }
 
 #[test]
-fn messages_come_by_the_clock(rt: HostRuntime) {
+fn messages_are_dated_by_the_clock(rt: HostRuntime) {
     let line = "imap_server --preauth --stop-after 1 1=127.0.0.1:0";
-    assert_eq!(rt; served(&rt, rt.alloc(), line, Visit::Clock), Some(true));
+    assert_eq!(rt;
+        serves_well(&rt, rt.alloc(), line, Scenario::Clock),
+        Some(true)
+    );
 }
 
 #[test]
-fn a_quick_client_that_reads_late_is_told_all(rt: HostRuntime) {
+fn a_quick_client_that_reads_late_receives_everything(rt: HostRuntime) {
     let line = "imap_server --preauth --stop-after 1 1=127.0.0.1:0";
-    assert_eq!(rt; served(&rt, rt.alloc(), line, Visit::Late), Some(true));
+    assert_eq!(rt;
+        serves_well(&rt, rt.alloc(), line, Scenario::Late),
+        Some(true)
+    );
 }

@@ -2,8 +2,8 @@
 
 ghost use Rattle.std.specs.Prelude.{◌≡◌};
 
-use crate::callers::{Caller, Line, hear};
-use crate::doors::{Door, Keeper, Signs, Way, wait_for};
+use crate::callers::{Caller, Line, receive};
+use crate::gates::{ClientGate, LockHolder, Signs, Way, wait_for};
 use imap_node::Node;
 use log::Log;
 use replica_lock::{Book, Pass, Shared};
@@ -39,15 +39,17 @@ pub struct Plan {
 
 /// The result of a plan.
 #[derive(Drop)]
-pub struct Course {
+pub struct Outcome {
     /// What the clients of the first replica read, in their order.
     pub first: Vec<Vec<u8>>,
     /// What the clients of the second replica read, in their order.
     pub second: Vec<Vec<u8>>,
     /// How many clients had read everything when the lock was released.
-    pub heard: u64,
+    pub received: u64,
     /// How many gates saw what they waited for.
-    pub seen: u64,
+    pub satisfied: u64,
+    /// The numbers with which a recording gate was passed, a digit each.
+    pub numbers: u64,
     /// How many calls each replica's journal counts.
     pub entries: (u64, u64),
 }
@@ -160,7 +162,7 @@ fn connected<R: Net<Listener = TcpListener, Stream = TcpStream>>(
 }
 
 /// Both sides of the connections of the first replica's clients, and of the second one's.
-fn both_connected<R: Net<Listener = TcpListener, Stream = TcpStream>>(
+fn connect_both<R: Net<Listener = TcpListener, Stream = TcpStream>>(
     rt: &R,
     alloc: Global,
     first: Vec<Caller>,
@@ -181,16 +183,16 @@ fn both_connected<R: Net<Listener = TcpListener, Stream = TcpStream>>(
 }
 
 /// Gates of these kinds.
-fn doors_of<'a>(
+fn gates_of<'a>(
     alloc: Global,
     ways: &[Way],
     signs: &'a Signs,
-) -> Result<Vec<Door<'a>>, AllocError> {
-    let mut doors = Vec::new(alloc);
+) -> Result<Vec<ClientGate<'a>>, AllocError> {
+    let mut gates = Vec::new(alloc);
     for way in ways {
-        doors.push(Door { way: *way, signs })?;
+        gates.push(ClientGate { way: *way, signs })?;
     }
-    Ok(doors)
+    Ok(gates)
 }
 
 /// How long a lock is held.
@@ -206,35 +208,42 @@ struct Hold {
 
 /// Holds a lock once `called` gates were reached, until `until` clients read everything, and
 /// returns how many had.
-fn keep<L: Ledger, R: Wait>(rt: &R, shared: &Shared<L>, signs: &Signs, hold: &Hold) -> u64 {
+fn hold_lock<L: Ledger, R: Wait>(rt: &R, shared: &Shared<L>, signs: &Signs, hold: &Hold) -> u64 {
     if hold.until == 0 {
         return 0;
     }
     wait_for(rt, &signs.called, hold.called);
-    let mut keeper = Keeper {
+    let mut holder = LockHolder {
         signs,
         least: hold.until,
         turns: hold.turns,
-        heard: 0,
+        received: 0,
     };
-    shared.hold(rt, &mut keeper, 1);
-    keeper.heard
+    shared.hold(rt, &mut holder, 1);
+    holder.received
 }
 
 /// The passes of one replica's connections, and what its clients read.
 type Served<L> = Result<(Vec<Pass<L>>, Vec<Vec<u8>>), AllocError>;
 
 /// Serves one replica's connections, while its clients call.
-fn side_served<L: Ledger + Send + Sync, R: Threads + Wait + Clock + Log + Sync>(
+fn serve_side<L: Ledger + Send + Sync, R: Threads + Wait + Clock + Log + Sync>(
     rt: &R,
     alloc: Global,
-    desk: &ReplicaContext<'_, L>,
+    context: &ReplicaContext<'_, L>,
     first: &mut Pass<L>,
     signs: &Signs,
     side: Side,
 ) -> Served<L> {
-    match doors_of(alloc, &side.ways, signs) {
-        Ok(doors) => served_behind(rt, alloc, desk, first, signs, Entrance { side, doors }),
+    match gates_of(alloc, &side.ways, signs) {
+        Ok(gates) => serve_through_gates(
+            rt,
+            alloc,
+            context,
+            first,
+            signs,
+            GatedSide { side, gates },
+        ),
         Err(_) => {
             drop(side);
             Err(AllocError)
@@ -244,45 +253,45 @@ fn side_served<L: Ledger + Send + Sync, R: Threads + Wait + Clock + Log + Sync>(
 
 /// Connections, and the gates that they pass.
 #[derive(Drop)]
-struct Entrance<'a> {
+struct GatedSide<'a> {
     side: Side,
-    doors: Vec<Door<'a>>,
+    gates: Vec<ClientGate<'a>>,
 }
 
 /// Serves one replica's connections through their gates, while its clients call.
-fn served_behind<L: Ledger + Send + Sync, R: Threads + Wait + Clock + Log + Sync>(
+fn serve_through_gates<L: Ledger + Send + Sync, R: Threads + Wait + Clock + Log + Sync>(
     rt: &R,
     alloc: Global,
-    desk: &ReplicaContext<'_, L>,
+    context: &ReplicaContext<'_, L>,
     first: &mut Pass<L>,
     signs: &Signs,
-    entrance: Entrance<'_>,
+    gated: GatedSide<'_>,
 ) -> Served<L> {
-    let Entrance { side, doors } = entrance;
+    let GatedSide { side, gates } = gated;
     let Side {
         streams,
         ways: _,
         lines,
     } = side;
-    let (heard, passes) = thread::join(
+    let (received, passes) = thread::join(
         rt,
-        || thread::map_vec(rt, lines, &|line: Line| hear(rt, alloc, signs, line)),
-        || serve_over(rt, alloc, desk, first, streams, doors),
+        || thread::map_vec(rt, lines, &|line: Line| receive(rt, alloc, signs, line)),
+        || serve_over(rt, alloc, context, first, streams, gates),
     );
-    both_given(passes, heard)
+    both_results(passes, received)
 }
 
 /// Both results; `Err` if memory ran out for one.
-fn both_given<L: Ledger>(
+fn both_results<L: Ledger>(
     passes: Result<Vec<Pass<L>>, AllocError>,
-    heard: Result<Vec<Vec<u8>>, AllocError>,
+    received: Result<Vec<Vec<u8>>, AllocError>,
 ) -> Served<L> {
-    Ok((passes?, heard?))
+    Ok((passes?, received?))
 }
 
 /// Two replicas as the threads of their connections and clients see them.
 #[derive(Drop)]
-struct Stage<'a, L: Ledger, M: Ledger> {
+struct Setup<'a, L: Ledger, M: Ledger> {
     server: &'a ServerState<'a>,
     one: &'a Shared<L>,
     two: &'a Shared<M>,
@@ -291,51 +300,51 @@ struct Stage<'a, L: Ledger, M: Ledger> {
 }
 
 /// Holds the first replica's lock.
-fn keep_first<L: Ledger, M: Ledger, R: Wait>(rt: &R, stage: &Stage<'_, L, M>) -> u64 {
-    keep(rt, stage.one, stage.signs, stage.hold)
+fn hold_first_lock<L: Ledger, M: Ledger, R: Wait>(rt: &R, setup: &Setup<'_, L, M>) -> u64 {
+    hold_lock(rt, setup.one, setup.signs, setup.hold)
 }
 
 /// Serves the first replica's connections.
-fn first_served<L: Ledger + Send + Sync, M: Ledger, R: Threads + Wait + Clock + Log + Sync>(
+fn serve_first<L: Ledger + Send + Sync, M: Ledger, R: Threads + Wait + Clock + Log + Sync>(
     rt: &R,
     alloc: Global,
-    stage: &Stage<'_, L, M>,
+    setup: &Setup<'_, L, M>,
     pass: &mut Pass<L>,
     side: Side,
 ) -> Served<L> {
-    let desk = ReplicaContext {
-        server: stage.server,
+    let context = ReplicaContext {
+        server: setup.server,
         own: 0,
-        shared: stage.one,
+        shared: setup.one,
     };
-    side_served(rt, alloc, &desk, pass, stage.signs, side)
+    serve_side(rt, alloc, &context, pass, setup.signs, side)
 }
 
 /// Serves the second replica's connections.
-fn second_served<L: Ledger, M: Ledger + Send + Sync, R: Threads + Wait + Clock + Log + Sync>(
+fn serve_second<L: Ledger, M: Ledger + Send + Sync, R: Threads + Wait + Clock + Log + Sync>(
     rt: &R,
     alloc: Global,
-    stage: &Stage<'_, L, M>,
+    setup: &Setup<'_, L, M>,
     pass: &mut Pass<M>,
     side: Side,
 ) -> Served<M> {
-    let desk = ReplicaContext {
-        server: stage.server,
+    let context = ReplicaContext {
+        server: setup.server,
         own: 0,
-        shared: stage.two,
+        shared: setup.two,
     };
-    side_served(rt, alloc, &desk, pass, stage.signs, side)
+    serve_side(rt, alloc, &context, pass, setup.signs, side)
 }
 
 /// Serves both replicas' connections, each in a thread.
-fn both_served<
+fn serve_both<
     L: Ledger + Send + Sync,
     M: Ledger + Send + Sync,
     R: Threads + Wait + Clock + Log + Sync,
 >(
     rt: &R,
     alloc: Global,
-    stage: &Stage<'_, L, M>,
+    setup: &Setup<'_, L, M>,
     near: &mut Pass<L>,
     far: &mut Pass<M>,
     sides: (Side, Side),
@@ -343,45 +352,45 @@ fn both_served<
     let (side, other_side) = sides;
     thread::join(
         rt,
-        || first_served(rt, alloc, stage, near, side),
-        || second_served(rt, alloc, stage, far, other_side),
+        || serve_first(rt, alloc, setup, near, side),
+        || serve_second(rt, alloc, setup, far, other_side),
     )
 }
 
 /// Serves both replicas' connections, while the first one's lock is held.
-fn served_beside<
+fn serve_while_held<
     L: Ledger + Send + Sync,
     M: Ledger + Send + Sync,
     R: Threads + Wait + Clock + Log + Sync,
 >(
     rt: &R,
     alloc: Global,
-    stage: &Stage<'_, L, M>,
+    setup: &Setup<'_, L, M>,
     near: &mut Pass<L>,
     far: &mut Pass<M>,
     sides: (Side, Side),
 ) -> (u64, (Served<L>, Served<M>)) {
     thread::join(
         rt,
-        || keep_first(rt, stage),
-        || both_served(rt, alloc, stage, near, far, sides),
+        || hold_first_lock(rt, setup),
+        || serve_both(rt, alloc, setup, near, far, sides),
     )
 }
 
-/// Serves both replicas' connections as `served_beside`, and owns the context meanwhile.
-fn served_on<
+/// Serves both replicas' connections as `serve_while_held`, and owns the context meanwhile.
+fn serve_stage<
     L: Ledger + Send + Sync,
     M: Ledger + Send + Sync,
     R: Threads + Wait + Clock + Log + Sync,
 >(
     rt: &R,
     alloc: Global,
-    stage: Stage<'_, L, M>,
+    setup: Setup<'_, L, M>,
     near: &mut Pass<L>,
     far: &mut Pass<M>,
     sides: (Side, Side),
 ) -> (u64, (Served<L>, Served<M>)) {
-    served_beside(rt, alloc, &stage, near, far, sides)
+    serve_while_held(rt, alloc, &setup, near, far, sides)
 }
 
 /// How many calls the journal counts; 0 if a pass is missing.
@@ -406,45 +415,50 @@ fn entries_of<L: Ledger>(
 
 /// The result of one replica.
 #[derive(Drop)]
-struct Ending {
+struct ReplicaResult {
     /// What its clients read, in their order.
-    heard: Vec<Vec<u8>>,
+    received: Vec<Vec<u8>>,
     /// How many calls its journal counts.
     entries: u64,
 }
 
 /// The result of a replica that was served.
-fn ending_of<L: Ledger>(shared: Shared<L>, first: Pass<L>, served: Served<L>) -> Option<Ending>
+fn replica_result<L: Ledger>(
+    shared: Shared<L>,
+    first: Pass<L>,
+    served: Served<L>,
+) -> Option<ReplicaResult>
     requires { L.parts ≡ 4294967295 }
 {
-    let Ok((passes, heard)) = served else {
+    let Ok((passes, received)) = served else {
         drop(first);
         drop(shared);
         return None;
     };
     match entries_of(shared, first, passes) {
-        Ok(entries) => Some(Ending { heard, entries }),
+        Ok(entries) => Some(ReplicaResult { received, entries }),
         Err(_) => {
-            drop(heard);
+            drop(received);
             None
         }
     }
 }
 
 /// The result of both replicas; `None` if one has none.
-fn course_of(
-    heard: u64,
-    seen: u64,
-    first: Option<Ending>,
-    second: Option<Ending>,
-) -> Option<Course> {
+fn outcome_of(
+    received: u64,
+    signs: &Signs,
+    first: Option<ReplicaResult>,
+    second: Option<ReplicaResult>,
+) -> Option<Outcome> {
     let first = first?;
     let second = second?;
-    Some(Course {
-        first: first.heard,
-        second: second.heard,
-        heard,
-        seen,
+    Some(Outcome {
+        first: first.received,
+        second: second.received,
+        received,
+        satisfied: signs.satisfied.load(Ordering::SeqCst),
+        numbers: signs.numbers.load(Ordering::SeqCst),
         entries: (first.entries, second.entries),
     })
 }
@@ -456,24 +470,24 @@ fn played<L: Ledger + Send + Sync, M: Ledger + Send + Sync, R: Threads + Wait + 
     books: (Book, Book),
     sides: (Side, Side),
     hold: &Hold,
-) -> Option<Course>
+) -> Option<Outcome>
     requires one { (blanks.0.name ≡ L.name) × (blanks.0.parts ≡ L.parts) × (L.parts ≡ 4294967295) }
     requires two { (blanks.1.name ≡ M.name) × (blanks.1.parts ≡ M.parts) × (M.parts ≡ 4294967295) }
 {
     let (one, mut near) = Shared::<L>::new(blanks.0, books.0);
     let (two, mut far) = Shared::<M>::new(blanks.1, books.1);
-    let house = ServerState {
+    let state = ServerState {
         access: Access::Preauth,
         replicas: Vec::new(alloc),
         joining: JoiningReplicas::new(Vec::new(alloc)),
         stop: StopCounter::after(None),
     };
     let signs = Signs::new();
-    let (heard, (served, other_served)) = served_on(
+    let (received, (served, other_served)) = serve_stage(
         rt,
         alloc,
-        Stage {
-            server: &house,
+        Setup {
+            server: &state,
             one: &one,
             two: &two,
             signs: &signs,
@@ -483,15 +497,15 @@ fn played<L: Ledger + Send + Sync, M: Ledger + Send + Sync, R: Threads + Wait + 
         &mut far,
         sides,
     );
-    let first = ending_of(one, near, served);
-    let second = ending_of(two, far, other_served);
-    course_of(heard, signs.seen.load(Ordering::SeqCst), first, second)
+    let first = replica_result(one, near, served);
+    let second = replica_result(two, far, other_served);
+    outcome_of(received, &signs, first, second)
 }
 
 /// Serves the clients of a plan at two new replicas; `None` if that fails.
 pub fn play<
     R: Threads + Wait + Clock + Log + Sync + Net<Listener = TcpListener, Stream = TcpStream>,
->(rt: &R, alloc: Global, plan: Plan) -> Option<Course> {
+>(rt: &R, alloc: Global, plan: Plan) -> Option<Outcome> {
     let Plan {
         first,
         second,
@@ -504,7 +518,7 @@ pub fn play<
         until,
         turns,
     };
-    let sides = both_connected(rt, alloc, first, second)?;
+    let sides = connect_both(rt, alloc, first, second)?;
     let Some(books) = fresh_books(alloc) else {
         drop(sides);
         return None;

@@ -9,14 +9,14 @@ use Rattle.mailbox_rows.specs.ListedMessage.{ListedMessage}
 use Rattle.mailbox_rows.specs.RowViews.{rows_after_uid, row_of}
 use Rattle.session_view.specs.NoteChanges.{NoteAllChanges, flags_at}
 use Rattle.session_view.specs.Notes.{Covers, IsSame, is_named}
-use Rattle.session_view.specs.Sync.{exists_of_sync, fetches_of_sync, expunges, is_listed, expunges_of_sync, refreshed_entry, entries_staying, sync_answers, view_after_sync}
+use Rattle.session_view.specs.Sync.{exists_of_sync, fetches_of_sync, expunges, is_listed, expunges_of_sync, refreshed_entry, staying_entries, sync_answers, view_after_sync}
 use Rattle.session_view.specs.Views.{AreRising, entries_of, last_from, last_uid}
 use Rattle.session_view.specs.declared.view_entry.ViewEntry.{ViewEntry}
 use Rattle.session_view.specs.declared.view_entry.SyncKind.{SyncKind}
 use Rattle.session_view.specs.declared.view_entry.SyncKind.TheVariants.{Full, Partial}
-use Rattle.session_view.proofs.ChangeLemmas.{covers_told}
+use Rattle.session_view.proofs.ChangeLemmas.{covers_noted}
 use Rattle.session_view.proofs.NoteLemmas.{no_change, no_loss}
-use Rattle.session_view.proofs.SyncLemmas.{rising_count, same_flags_tells}
+use Rattle.session_view.proofs.SyncLemmas.{rising_count, same_flags_equal}
 
 -- ---- nothing arrived
 
@@ -48,19 +48,19 @@ none_beyond n (row ∷ rows) h =
           ]))
     ]
 
--- ---- nothing is gone, and nothing changed
+-- ---- no message is gone or changed
 
 module _ (rows : List ListedMessage) where
-  all_there : (es : List ViewEntry) → Covers [] rows es → filter (is_listed rows) es ≡ es
-  all_there [] h = refl
-  all_there (e ∷ es) h =
+  all_listed : (es : List ViewEntry) → Covers [] rows es → filter (is_listed rows) es ≡ es
+  all_listed [] h = refl
+  all_listed (e ∷ es) h =
       elim h.0 [
         | inl named ↦ let no : ◌≡◌ {A = Bool} false true = named in cc
-        | inr s ↦ rw (s.1) (ap (λ (es' : List ViewEntry). e ∷ es') (all_there es h.1))
+        | inr s ↦ rw (s.1) (ap (λ (es' : List ViewEntry). e ∷ es') (all_listed es h.1))
       ]
 
-  all_stay : (kind : SyncKind) (es : List ViewEntry) → Covers [] rows es → entries_staying kind rows es ≡ es
-  all_stay Full es h = all_there es h
+  all_stay : (kind : SyncKind) (es : List ViewEntry) → Covers [] rows es → staying_entries kind rows es ≡ es
+  all_stay Full es h = all_listed es h
   all_stay Partial es h = refl
 
   no_losses_from : (n : ℕ) (es : List ViewEntry) → Covers [] rows es → expunges rows n es ≡ []
@@ -89,20 +89,20 @@ module _ (rows : List ListedMessage) where
       elim h.0 [
         | inl named ↦ let no : ◌≡◌ {A = Bool} false true = named in cc
         | inr s ↦
-            let same : s.0.flags ≡ e.flags = sym (same_flags_tells e.flags s.0.flags s.2) in
+            let same : s.0.flags ≡ e.flags = sym (same_flags_equal e.flags s.0.flags s.2) in
             rw (s.1, same) (ap (λ (es' : List ViewEntry). e ∷ es') (all_fresh es h.1))
       ]
 
 -- ---- views that show what is listed
 
 pub covered : (rows : List ListedMessage) (view : List ViewEntry) → AreRising 1 view → NoteAllChanges [] rows view → Covers [] rows view
-covered rows view r h = covers_told [] [] rows view r refl (λ uid. refl) h
+covered rows view r h = covers_noted [] [] rows view r refl (λ uid. refl) h
 
-pub none_came : (rows : List ListedMessage) (view : List ViewEntry) → AreRising 1 view → NoteAllChanges [] rows view → rows_after_uid (last_uid view) rows ≡ []
-none_came rows view r h =
+pub no_new_rows : (rows : List ListedMessage) (view : List ViewEntry) → AreRising 1 view → NoteAllChanges [] rows view → rows_after_uid (last_uid view) rows ≡ []
+no_new_rows rows view r h =
     none_beyond (last_uid view) rows (λ uid l. elim (h uid) [
       | inl same ↦ sym same ∙ none_above 0 uid view r l
-      | inr told ↦ let no : ◌≡◌ {A = Bool} false true = told in cc
+      | inr noted ↦ let no : ◌≡◌ {A = Bool} false true = noted in cc
     ])
 
 no_arrivals : (rows : List ListedMessage) (view : List ViewEntry) → rows_after_uid (last_uid view) rows ≡ [] → exists_of_sync rows view ≡ []
@@ -113,9 +113,9 @@ no_arrivals rows view h =
 pub nothing_sent : (kind : SyncKind) (modseq : Bool) (rows : List ListedMessage) (view : List ViewEntry) → AreRising 1 view → NoteAllChanges [] rows view → sync_answers kind modseq rows view ≡ []
 nothing_sent kind modseq rows view r h =
     let c = covered rows view r h in
-    rw (no_losses rows kind view c, all_stay rows kind view c, no_arrivals rows view (none_came rows view r h), no_changes rows modseq 1 view c) refl
+    rw (no_losses rows kind view c, all_stay rows kind view c, no_arrivals rows view (no_new_rows rows view r h), no_changes rows modseq 1 view c) refl
 
 pub view_stays : (kind : SyncKind) (rows : List ListedMessage) (view : List ViewEntry) → AreRising 1 view → NoteAllChanges [] rows view → view_after_sync kind rows view ≡ view
 view_stays kind rows view r h =
     let c = covered rows view r h in
-    rw (all_stay rows kind view c, none_came rows view r h, all_fresh rows view c) (append-nil view)
+    rw (all_stay rows kind view c, no_new_rows rows view r h, all_fresh rows view c) (append-nil view)

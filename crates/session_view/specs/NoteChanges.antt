@@ -97,7 +97,7 @@ all_fetched_flags answers = flat_map fetched_flags answers
 -- The view's messages without those that are gone, with the new ones, and with these flags.
 abbrev pub patched_entries : List ViewEntry → List ℕ → List ViewEntry → List SilentFlags
     → List ViewEntry
-patched_entries view gone came flags = after_silent (without_from gone view ++ came) flags
+patched_entries view gone arrivals flags = after_silent (without_from gone view ++ arrivals) flags
 
 -- The note of the message with this number.
 abbrev pub silent_notes : List ViewEntry → ℕ → List Note
@@ -111,8 +111,8 @@ named_by_silent uid (e ∷ es) k = if k == 1 then e.uid == uid else named_by_sil
 -- There is room for the new messages after the view's, if there are any.
 abbrev pub HasRoomForArrivals : List ViewEntry → Patch → Type 0
 HasRoomForArrivals view patch =
-    (patch.came.items ≡ [])
-    ⊎ ((length view ≤ patch.place.most) × (length patch.came.items ≤ patch.place.room))
+    (patch.arrivals.items ≡ [])
+    ⊎ ((length view ≤ patch.place.most) × (length patch.arrivals.items ≤ patch.place.room))
 
 -- The flags are of messages with numbers up to this one.
 abbrev pub AreUpTo : ℕ → List SilentFlags → Type 0
@@ -132,15 +132,15 @@ with_flags_restored view (s ∷ silents) =
 -- The plan is that of a sync of this view with this listing: its answers, its changes to the view,
 -- with room for them, and the notes of what it leaves unsent.
 pub record IsSyncPlan (kind : SyncKind) (modseq : Bool) (rows : List ListedMessage)
-    (view : List ViewEntry) (told : SyncPlan) : Type 0 where
-  pub answers : told.answers.items ≡ sync_answers kind modseq rows view
-  pub patch : patched_entries view told.patch.gone.items told.patch.came.items
-      told.patch.flags.items ≡ view_after_sync kind rows view
-  pub place : HasRoomForArrivals view told.patch
+    (view : List ViewEntry) (planned : SyncPlan) : Type 0 where
+  pub answers : planned.answers.items ≡ sync_answers kind modseq rows view
+  pub patch : patched_entries view planned.patch.gone.items planned.patch.arrivals.items
+      planned.patch.flags.items ≡ view_after_sync kind rows view
+  pub place : HasRoomForArrivals view planned.patch
   pub rising : AreRising 1 (view_after_sync kind rows view)
-  pub left : told.left.items ≡ notes_left_by_sync kind rows view
-  pub whole : told.whole ≡ true
-      → NoteAllChanges told.left.items rows (view_after_sync kind rows view)
+  pub left : planned.left.items ≡ notes_left_by_sync kind rows view
+  pub whole : planned.whole ≡ true
+      → NoteAllChanges planned.left.items rows (view_after_sync kind rows view)
 
 -- The answer shifts messages' numbers or shows new messages.
 abbrev pub is_shifting : Answer → Bool

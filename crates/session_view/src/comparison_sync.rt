@@ -6,9 +6,10 @@ ghost use Rattle.mailbox_rows.specs.RowViews.{AreRisingRows, rows_after_uid, lis
 ghost use Rattle.session_view.specs.Views.{AreRising, entries_of, same_flags};
 ghost use Rattle.session_view.specs.declared.view_entry.ViewEntry.{ViewEntry};
 ghost use Rattle.session_view.specs.Sync.{exists_if_more, exists_of_sync, fetch_if_changed};
-ghost use Rattle.session_view.specs.Sync.{fetch_of_row, fetches_of_sync, expunges, staying_entries};
+ghost use Rattle.session_view.specs.Sync.{fetch_of_row, fetches_of_sync, expunges};
+ghost use Rattle.session_view.specs.Sync.{refreshed_entries};
 ghost use Rattle.session_view.specs.Sync.{staying_entry, expunge_if_gone, expunges_of_sync};
-ghost use Rattle.session_view.specs.Sync.{entries_staying, sync_answers, view_after_sync};
+ghost use Rattle.session_view.specs.Sync.{staying_entries, sync_answers, view_after_sync};
 
 use crate::message_list::MessageList;
 use crate::view_entry::{SyncKind, ViewEntries, ViewEntry, count_of, last_uid, uid_at};
@@ -68,10 +69,10 @@ fn refresh_view(
     ensures rising { IfOk result (λ entries. AreRising 1 entries.items) }
     ensures answers { OnOk result (answers.new.items
         ≡ answers.old.items
-        ++ exists_of_sync rows.now (entries_staying kind rows.now view.now.items)) }
+        ++ exists_of_sync rows.now (staying_entries kind rows.now view.now.items)) }
 {
     let _count = rows.count();
-    let mut entries = staying_entries(alloc, kind, rows, view)?;
+    let mut entries = refreshed_entries(alloc, kind, rows, view)?;
     let before = count_of(&entries);
     let last = last_uid(&entries);
     push_new(alloc, last, rows, &mut entries)?;
@@ -155,7 +156,7 @@ fn push_changes(
     requires { length view.now.items < 2 ^ 32 }
     ensures { OnOk result (answers.new.items
         ≡ answers.old.items
-        ++ fetches_of_sync modseq rows.now 1 (entries_staying kind rows.now view.now.items)) }
+        ++ fetches_of_sync modseq rows.now 1 (staying_entries kind rows.now view.now.items)) }
 {
     let mut number = 0;
     for entry in view.iter_from(0) {
@@ -224,41 +225,42 @@ pub fn are_same(flags: &Flags, row: &Row<'_>) -> bool
 }
 
 /// The messages that stay, with the listing's flags. `Err` if memory runs out.
-fn staying_entries(
+fn refreshed_entries(
     alloc: Global,
     kind: SyncKind,
     rows: &Rows<'_>,
     view: &ViewEntries,
 ) -> Result<ViewEntries, AllocError>
-    ensures { IfOk result (λ kept. kept.items ≡ staying_entries kind rows.now view.now.items) }
+    ensures { IfOk result
+        (λ staying. staying.items ≡ refreshed_entries kind rows.now view.now.items) }
 {
-    let mut kept = ChunkList::new(alloc);
+    let mut staying = ChunkList::new(alloc);
     for entry in view.iter_from(0) {
-        push_kept(alloc, kind, rows, entry, &mut kept)?;
+        push_staying(alloc, kind, rows, entry, &mut staying)?;
     }
-    Ok(kept)
+    Ok(staying)
 }
 
 /// Appends the message to those that stay, if it does.
-fn push_kept(
+fn push_staying(
     alloc: Global,
     kind: SyncKind,
     rows: &Rows<'_>,
     entry: &ViewEntry,
-    kept: &mut ViewEntries,
+    staying: &mut ViewEntries,
 ) -> Result<(), AllocError>
     ensures { OnOk result
-        (kept.new.items ≡ kept.old.items ++ staying_entry kind rows.now entry.now) }
+        (staying.new.items ≡ staying.old.items ++ staying_entry kind rows.now entry.now) }
 {
-    match rows.row_near(kept.len(), entry.uid) {
+    match rows.row_near(staying.len(), entry.uid) {
         Some(row) => {
             let flags = row.versions.flags(alloc)?;
             let uid = entry.uid;
-            kept.push(alloc, ViewEntry { uid, flags })?;
+            staying.push(alloc, ViewEntry { uid, flags })?;
         }
         None => {
             if kind == SyncKind::Partial {
-                kept.push(alloc, entry.copy(alloc)?)?;
+                staying.push(alloc, entry.copy(alloc)?)?;
             }
         }
     }

@@ -83,7 +83,7 @@ fn take_answer(
     }
 }
 
-/// Takes out the message with this number, if there is one. Never fails.
+/// Removes the message with this number, if there is one. Never fails.
 fn take_out(number: u32, entries: &mut ViewEntries) -> Result<(), AllocError>
     ensures { OnOk result (entries.new.items ≡ without_message entries.old.items number) }
 {
@@ -91,7 +91,7 @@ fn take_out(number: u32, entries: &mut ViewEntries) -> Result<(), AllocError>
     Ok(())
 }
 
-/// Takes out the message with this number, if there is one. Takes no memory.
+/// Removes the message with this number, if there is one. Takes no memory.
 pub fn take_number(number: u32, entries: &mut ViewEntries)
     ensures { entries.new.items ≡ without_message entries.old.items number }
 {
@@ -115,13 +115,13 @@ fn take_in(
         (entries.new.items ≡ entries.old.items ++ arrivals_up_to rows.now entries.old.items count) }
 {
     let uid = last_uid(entries);
-    let wanted = (count as usize).saturating_sub(entries.len());
+    let missing = (count as usize).saturating_sub(entries.len());
     let _count = rows.count();
     push_rows(
         alloc,
         rows,
         rows.place_after_uid(uid),
-        wanted as u32,
+        missing as u32,
         entries,
     )
 }

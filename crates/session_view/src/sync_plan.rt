@@ -9,7 +9,7 @@ ghost use Rattle.session_view.specs.NoteChanges.{AreAscending, HasRoomForArrival
 ghost use Rattle.session_view.specs.NoteChanges.{all_fetched_flags, expunges_of_numbers};
 ghost use Rattle.session_view.specs.NoteChanges.{notes_left_by_sync, patched_entries, without_from};
 ghost use Rattle.session_view.specs.Notes.{Covers};
-ghost use Rattle.session_view.specs.Sync.{exists_if_more, fetch_if_changed, entries_staying};
+ghost use Rattle.session_view.specs.Sync.{exists_if_more, fetch_if_changed, staying_entries};
 ghost use Rattle.session_view.specs.Sync.{sync_answers, view_after_sync};
 ghost use Rattle.session_view.specs.Views.{AreRising, last_from, last_uid};
 ghost use Rattle.session_view.specs.Walks.{IsWalk, gone_numbers, notes_left};
@@ -30,7 +30,7 @@ use std::alloc::{AllocError, Global};
 #[derive(Drop)]
 pub struct Patch {
     pub(crate) gone: Vec<u32>,
-    pub(crate) came: Vec<ViewEntry>,
+    pub(crate) arrivals: Vec<ViewEntry>,
     pub(crate) flags: Vec<SilentFlags>,
     /// Room for the new messages, if there are any. It is here because a view doesn't say whether
     /// it has room itself.
@@ -51,13 +51,13 @@ pub struct SyncPlan {
     pub whole: bool,
 }
 
-/// The plan of a sync before which flags are set.
+/// The plan of a sync that first sets flags.
 #[derive(Drop)]
 pub struct SyncPlanAfterFlags {
     /// The flags that are set first.
     pub first: Vec<SilentFlags>,
     /// The plan of the sync.
-    pub told: SyncPlan,
+    pub planned: SyncPlan,
 }
 
 /// The progress of a sync through a view.
@@ -89,50 +89,53 @@ pub fn plan_sync(
     requires ascending { AreAscending 0 uids.now }
     requires covers { Covers uids.now rows.now view.now.items }
     ensures answers { IfOk result
-        (λ told. told.answers.items ≡ sync_answers form.kind form.modseq rows.now view.now.items) }
-    ensures patch { IfOk result (λ told. patched_entries view.now.items told.patch.gone.items
-        told.patch.came.items told.patch.flags.items
+        (λ planned. planned.answers.items
+        ≡ sync_answers form.kind form.modseq rows.now view.now.items) }
+    ensures patch { IfOk result (λ planned. patched_entries view.now.items planned.patch.gone.items
+        planned.patch.arrivals.items planned.patch.flags.items
         ≡ view_after_sync form.kind rows.now view.now.items) }
     ensures left { IfOk result
-        (λ told. told.left.items ≡ notes_left_by_sync form.kind rows.now view.now.items) }
-    ensures whole { IfOk result (λ told. told.whole ≡ true
-        → NoteAllChanges told.left.items rows.now
+        (λ planned. planned.left.items ≡ notes_left_by_sync form.kind rows.now view.now.items) }
+    ensures whole { IfOk result (λ planned. planned.whole ≡ true
+        → NoteAllChanges planned.left.items rows.now
         (view_after_sync form.kind rows.now view.now.items)) }
-    ensures place { IfOk result (λ told. HasRoomForArrivals view.now.items told.patch) }
+    ensures place { IfOk result (λ planned. HasRoomForArrivals view.now.items planned.patch) }
 {
     let count = count_of(view);
     let listed = rows.count();
     let walk = walk_view(alloc, form, rows, view, uids)?;
-    let mut came = Vec::new(alloc);
-    let last = last_uid_that_stays(form.kind, rows, view);
-    push_new(alloc, last, rows, &mut came)?;
-    let _last = last_from(last, &came);
-    finish_walk(alloc, count, listed, walk, came)
+    let mut arrivals = Vec::new(alloc);
+    let last = last_staying_uid(form.kind, rows, view);
+    push_new(alloc, last, rows, &mut arrivals)?;
+    let _last = last_from(last, &arrivals);
+    finish_walk(alloc, count, listed, walk, arrivals)
 }
 
 /// The plan of a sync after all messages were looked at: the view has `count` messages, the listing
-/// has `listed`, and `came` holds the new ones. `Err` if memory runs out.
+/// has `listed`, and `arrivals` holds the new ones. `Err` if memory runs out.
 fn finish_walk(
     alloc: Global,
     count: u32,
     listed: u32,
     walk: SyncWalk,
-    came: Vec<ViewEntry>,
+    arrivals: Vec<ViewEntry>,
 ) -> Result<SyncPlan, AllocError>
     requires few { length walk.gone.items ≤ count }
-    requires fits { count - length walk.gone.items + length came.items < 2 ^ 32 }
-    ensures answers { IfOk result (λ told. told.answers.items
+    requires fits { count - length walk.gone.items + length arrivals.items < 2 ^ 32 }
+    ensures answers { IfOk result (λ planned. planned.answers.items
         ≡ expunges_of_numbers walk.gone.items
         ++ (exists_if_more (count - length walk.gone.items)
-        (count - length walk.gone.items + length came.items) ++ walk.fetches.items)) }
-    ensures gone { IfOk result (λ told. told.patch.gone.items ≡ walk.gone.items) }
-    ensures came { IfOk result (λ told. told.patch.came.items ≡ came.items) }
-    ensures flags { IfOk result (λ told. told.patch.flags.items ≡ walk.flags.items) }
-    ensures left { IfOk result (λ told. told.left.items ≡ walk.left.items) }
-    ensures whole { IfOk result (λ told. told.whole ≡ true
-        → count - length walk.gone.items + length came.items ≡ listed + length walk.left.items) }
-    ensures place { IfOk result (λ told. (came.items ≡ [])
-        ⊎ ((count ≤ told.patch.place.most) × (length came.items ≤ told.patch.place.room))) }
+        (count - length walk.gone.items + length arrivals.items) ++ walk.fetches.items)) }
+    ensures gone { IfOk result (λ planned. planned.patch.gone.items ≡ walk.gone.items) }
+    ensures arrivals { IfOk result (λ planned. planned.patch.arrivals.items ≡ arrivals.items) }
+    ensures flags { IfOk result (λ planned. planned.patch.flags.items ≡ walk.flags.items) }
+    ensures left { IfOk result (λ planned. planned.left.items ≡ walk.left.items) }
+    ensures whole { IfOk result (λ planned. planned.whole ≡ true
+        → count - length walk.gone.items + length arrivals.items
+        ≡ listed + length walk.left.items) }
+    ensures place { IfOk result (λ planned. (arrivals.items ≡ [])
+        ⊎ ((count ≤ planned.patch.place.most)
+        × (length arrivals.items ≤ planned.patch.place.room))) }
 {
     let SyncWalk {
         gone,
@@ -141,18 +144,18 @@ fn finish_walk(
         left,
         ..
     } = walk;
-    let answers = answers_of_walk(alloc, count, &gone, &came, fetches)?;
+    let answers = answers_of_walk(alloc, count, &gone, &arrivals, fetches)?;
     let whole = is_whole(
-        count as usize - gone.len() + came.len(),
+        count as usize - gone.len() + arrivals.len(),
         listed as usize,
         left.len(),
     );
-    let place = place_for(alloc, count as usize, &came)?;
+    let place = place_for(alloc, count as usize, &arrivals)?;
     Ok(SyncPlan {
         answers,
         patch: Patch {
             gone,
-            came,
+            arrivals,
             flags,
             place,
         },
@@ -173,15 +176,16 @@ fn is_whole(count: usize, listed: usize, left: usize) -> bool
 fn place_for(
     alloc: Global,
     count: usize,
-    came: &[ViewEntry],
+    arrivals: &[ViewEntry],
 ) -> Result<ReservedRoom<ViewEntry>, AllocError>
     ensures { IfOk result
-        (λ place. (came.now ≡ []) ⊎ ((count ≤ place.most) × (length came.now ≤ place.room))) }
+        (λ place. (arrivals.now ≡ [])
+        ⊎ ((count ≤ place.most) × (length arrivals.now ≤ place.room))) }
 {
-    if came.is_empty() {
+    if arrivals.is_empty() {
         return Ok(ReservedRoom::none(alloc));
     }
-    ReservedRoom::new(alloc, count, came.len())
+    ReservedRoom::new(alloc, count, arrivals.len())
 }
 
 /// The last message's UID, or `low` if there is no message.
@@ -200,20 +204,24 @@ fn answers_of_walk(
     alloc: Global,
     count: u32,
     gone: &[u32],
-    came: &[ViewEntry],
+    arrivals: &[ViewEntry],
     fetches: Vec<Answer>,
 ) -> Result<Vec<Answer>, AllocError>
     requires few { length gone.now ≤ count }
-    requires fits { count - length gone.now + length came.now < 2 ^ 32 }
+    requires fits { count - length gone.now + length arrivals.now < 2 ^ 32 }
     ensures { IfOk result (λ answers. answers.items
         ≡ expunges_of_numbers gone.now
-        ++ (exists_if_more (count - length gone.now) (count - length gone.now + length came.now)
+        ++ (exists_if_more (count - length gone.now) (count - length gone.now + length arrivals.now)
         ++ fetches.items)) }
 {
     let mut answers = Vec::new(alloc);
     push_expunged(gone, &mut answers)?;
     let staying = count as usize - gone.len();
-    push_exists(staying as u32, (staying + came.len()) as u32, &mut answers)?;
+    push_exists(
+        staying as u32,
+        (staying + arrivals.len()) as u32,
+        &mut answers,
+    )?;
     let mut fetches = fetches;
     answers.append(&mut fetches)?;
     Ok(answers)
@@ -231,8 +239,8 @@ fn push_expunged(gone: &[u32], answers: &mut Vec<Answer>) -> Result<(), AllocErr
 
 /// The UID of the last message that stays, or 0 if none does. In a full sync it looks up the last
 /// messages until one is listed.
-fn last_uid_that_stays(kind: SyncKind, rows: &Rows<'_>, view: &ViewEntries) -> u32
-    ensures { result ≡ last_uid (entries_staying kind rows.now view.now.items) }
+fn last_staying_uid(kind: SyncKind, rows: &Rows<'_>, view: &ViewEntries) -> u32
+    ensures { result ≡ last_uid (staying_entries kind rows.now view.now.items) }
 {
     match kind {
         SyncKind::Full => last_listed(rows, view),
@@ -241,7 +249,7 @@ fn last_uid_that_stays(kind: SyncKind, rows: &Rows<'_>, view: &ViewEntries) -> u
 }
 
 fn last_listed(rows: &Rows<'_>, view: &ViewEntries) -> u32
-    ensures { result ≡ last_uid (entries_staying Full rows.now view.now.items) }
+    ensures { result ≡ last_uid (staying_entries Full rows.now view.now.items) }
 {
     for i in (0..view.len()).rev() {
         let uid = uid_at(view, i);
@@ -293,7 +301,7 @@ fn walk_one(
     requires count { length view.now.items < 2 ^ 32 }
     requires few { length walk.now.gone.items ≤ walk.now.done }
     ensures few { OnOk result (length walk.new.gone.items ≤ walk.new.done) }
-    ensures stands { OnOk result ((rest : List ℕ)
+    ensures is_walk { OnOk result ((rest : List ℕ)
         → IsWalk form.kind form.modseq rows.now view.now.items (uid ∷ rest) walk.old
         → IsWalk form.kind form.modseq rows.now view.now.items rest walk.new) }
 {
@@ -329,7 +337,7 @@ fn take_noted(
     requires few { length walk.now.gone.items ≤ walk.now.done }
     requires fits { walk.now.done + 1 < 2 ^ 32 }
     ensures few { OnOk result (length walk.new.gone.items ≤ walk.new.done) }
-    ensures stands { OnOk result ((view : List ViewEntry) → (rest : List ℕ)
+    ensures is_walk { OnOk result ((view : List ViewEntry) → (rest : List ℕ)
         → (back : List ViewEntry) → drop walk.old.done view ≡ entry.now ∷ back
         → Covers rest rows.now back
         → IsWalk form.kind form.modseq rows.now view (entry.now.uid ∷ rest) walk.old
@@ -402,23 +410,24 @@ fn push_gone(
 pub fn patch_in(entries: &mut ViewEntries, patch: Patch)
     requires { HasRoomForArrivals entries.now.items patch }
     ensures { entries.new.items
-        ≡ patched_entries entries.old.items patch.gone.items patch.came.items patch.flags.items }
+        ≡ patched_entries entries.old.items patch.gone.items patch.arrivals.items
+        patch.flags.items }
 {
     let Patch {
         gone,
-        came,
+        arrivals,
         flags,
         place,
     } = patch;
     take_all_out(&gone, entries);
-    append_in_room(came, place, entries);
+    append_in_room(arrivals, place, entries);
     for silent in flags {
         let SilentFlags { number, flags } = silent;
         set_flags(number, flags, entries);
     }
 }
 
-/// Takes out the messages with these numbers, the last one first.
+/// Removes the messages with these numbers, the last one first.
 fn take_all_out(gone: &[u32], entries: &mut ViewEntries)
     ensures { entries.new.items ≡ without_from gone.now entries.old.items }
 {
@@ -428,24 +437,28 @@ fn take_all_out(gone: &[u32], entries: &mut ViewEntries)
 }
 
 /// Appends messages, for which `place` is room. Takes no memory.
-fn append_in_room(came: Vec<ViewEntry>, place: ReservedRoom<ViewEntry>, entries: &mut ViewEntries)
-    requires { (came.items ≡ [])
-        ⊎ ((length entries.now.items ≤ place.most) × (length came.items ≤ place.room)) }
-    ensures { entries.new.items ≡ entries.old.items ++ came.items }
+fn append_in_room(
+    arrivals: Vec<ViewEntry>,
+    place: ReservedRoom<ViewEntry>,
+    entries: &mut ViewEntries,
+)
+    requires { (arrivals.items ≡ [])
+        ⊎ ((length entries.now.items ≤ place.most) × (length arrivals.items ≤ place.room)) }
+    ensures { entries.new.items ≡ entries.old.items ++ arrivals.items }
 {
-    if came.is_empty() {
+    if arrivals.is_empty() {
         return;
     }
     entries.adopt_room(place);
-    move_to_end(came, entries);
+    move_to_end(arrivals, entries);
 }
 
 /// Appends messages, for which the list has room.
-fn move_to_end(came: Vec<ViewEntry>, entries: &mut ViewEntries)
-    requires { length came.items ≤ entries.now.room }
-    ensures { entries.new.items ≡ entries.old.items ++ came.items }
+fn move_to_end(arrivals: Vec<ViewEntry>, entries: &mut ViewEntries)
+    requires { length arrivals.items ≤ entries.now.room }
+    ensures { entries.new.items ≡ entries.old.items ++ arrivals.items }
 {
-    for entry in came {
+    for entry in arrivals {
         entries.push_reserved(entry);
     }
 }

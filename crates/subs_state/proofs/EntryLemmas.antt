@@ -30,13 +30,13 @@ abbrev same_key : Vec ℕ → Vec ℕ → Bool
 same_key x y = bytes_eq x.items y.items
 
 -- An entry is found by its name, since no other has it.
-found_by_name : (tags : List Named) → IsDistinct same_key (keys_of tags) → (e : Named) → IsIn e tags → ids_entry e.0.items tags ≡ Some e.1
+entry_by_name : (tags : List Named) → IsDistinct same_key (keys_of tags) → (e : Named) → IsIn e tags → ids_entry e.0.items tags ≡ Some e.1
 unfolding IsDistinct
-found_by_name [] d e h = absurd h
-found_by_name (x ∷ xs) d e (inl k) =
+entry_by_name [] d e h = absurd h
+entry_by_name (x ∷ xs) d e (inl k) =
     ap (λ t. cond t (Some x.1) (ids_entry e.0.items xs)) ((bytes_eq-Decides e.0.items x.0.items).1 (sym (ap (λ (y : Named). y.0.items) k))) ∙ ap (λ (y : Named). Some y.1) k
-found_by_name (x ∷ xs) d e (inr k) =
-    ap (λ t. cond t (Some x.1) (ids_entry e.0.items xs)) (other_name xs d.0 k) ∙ found_by_name xs d.1 e k
+entry_by_name (x ∷ xs) d e (inr k) =
+    ap (λ t. cond t (Some x.1) (ids_entry e.0.items xs)) (other_name xs d.0 k) ∙ entry_by_name xs d.1 e k
   where
     other_name : (ys : List Named) → AllByRecursion (λ (y : Vec ℕ). same_key x.0 y ≡ false) (keys_of ys) → IsIn e ys → bytes_eq e.0.items x.0.items ≡ false
     other_name [] a h = absurd h
@@ -67,19 +67,19 @@ id_of_some [] name n h = absurd cc
 id_of_some (j ∷ ids) name n h = (let e : Some name ≡ Some n = sym (ap (λ t. if t then None else Some name) (eqb-suc-zero (length ids))) ∙ h in cc, (j, ap (λ t. t || list_any (same_id j) ids) ((ids_decide j j).1 (λ k. j))))
 
 -- the names of the tags
-pub names_told : (tags : List Named) (names : List (List ℕ)) → IsDistinct same_key (keys_of tags) → names ≡ sorted_set octet_order (filter_map name_with_ids tags) → IsListOf octet_order (IsSubscribed (tag_in tags)) names
-names_told tags names d e =
+pub names_by_entries : (tags : List Named) (names : List (List ℕ)) → IsDistinct same_key (keys_of tags) → names ≡ sorted_set octet_order (filter_map name_with_ids tags) → IsListOf octet_order (IsSubscribed (tag_in tags)) names
+names_by_entries tags names d e =
     lists_by names_total names_same (IsSubscribed (tag_in tags)) names (filter_map name_with_ids tags) e (λ n.
     let at = in_filter_map name_with_ids tags n in (
       λ h. let w = entry_of tags n h.0 h.1 in at.1 (w.0, w.1, some_ids h.0 w.0.1.ids.keys w.0.0.items w.3 ∙ ap (λ z. Some z) w.2),
       λ h. let w = at.0 h in
           let s = id_of_some w.0.1.ids.keys w.0.0.items n w.2 in
-          (s.1.0, subst (λ (m : List ℕ). tag_in tags m s.1.0 ≡ true) s.0 (ap (λ o. list_any (same_id s.1.0) (ids_in o)) (found_by_name tags d w.0 w.1) ∙ s.1.1)),
+          (s.1.0, subst (λ (m : List ℕ). tag_in tags m s.1.0 ≡ true) s.0 (ap (λ o. list_any (same_id s.1.0) (ids_in o)) (entry_by_name tags d w.0 w.1) ∙ s.1.1)),
     ))
 
 -- the ids of a name's tags
-pub tags_told : (tags : List Named) (n : List ℕ) (ids : List OpId) → ids ≡ sorted_set id_order (ids_in (ids_entry n tags)) → IsListOf id_order (λ i. tag_in tags n i ≡ true) ids
-tags_told tags n ids e =
+pub tags_by_entries : (tags : List Named) (n : List ℕ) (ids : List OpId) → ids ≡ sorted_set id_order (ids_in (ids_entry n tags)) → IsListOf id_order (λ i. tag_in tags n i ≡ true) ids
+tags_by_entries tags n ids e =
     lists_by id_order_total id_order_same (λ i. tag_in tags n i ≡ true) ids (ids_in (ids_entry n tags)) e (λ i.
     let any = any_in (same_id i) (ids_in (ids_entry n tags)) in (
       λ h. let w = any.0 h in subst (λ (j : OpId). IsIn j (ids_in (ids_entry n tags))) (sym ((ids_decide i w.0).0 w.2)) w.1,
@@ -88,12 +88,12 @@ tags_told tags n ids e =
 
 -- ---- subscriptions by a set of operations
 
-folded : (n : List ℕ) (i : OpId) (os : List Op) (v : Subscriptions) → fold_of effect_of v os n i ≡ fold_of (changed (SubscriptionTag n i)) (v n i) os
-folded n i [] v = refl
-folded n i (o ∷ os) v = folded n i os (effect_of v o)
+fold_at : (n : List ℕ) (i : OpId) (os : List Op) (v : Subscriptions) → fold_of effect_of v os n i ≡ fold_of (changed (SubscriptionTag n i)) (v n i) os
+fold_at n i [] v = refl
+fold_at n i (o ∷ os) v = fold_at n i os (effect_of v o)
 
 pub subscriptions_after : (os : List Op) → AreSound IsSound os → IsCausal id_of clock_of os → fold_of effect_of no_subscriptions os ≡ subscriptions_by os
-subscriptions_after os s c = λ k n i. (folded n i os no_subscriptions ∙ present_after (SubscriptionTag n i) os s c) k
+subscriptions_after os s c = λ k n i. (fold_at n i os no_subscriptions ∙ present_after (SubscriptionTag n i) os s c) k
 
 made : (v : Subscriptions) (os : List Op) → IsMadeBy v os → v ≡ subscriptions_by os
 made v os m = m.made ∙ subscriptions_after os m.sound m.causal

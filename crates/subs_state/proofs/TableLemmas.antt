@@ -32,50 +32,50 @@ itself : (name : List ℕ) → bytes_eq name name ≡ true
 itself name = (bytes_eq-Decides name name).1 (λ k. name)
 
 -- Another name's tags stay.
-beside : (name : List ℕ) (old new : List Named) → KeepsOthers same_key (has_name name) old new → (other : List ℕ) → bytes_eq other name ≡ false → ids_entry other new ≡ ids_entry other old
+other_entry : (name : List ℕ) (old new : List Named) → KeepsOthers same_key (has_name name) old new → (other : List ℕ) → bytes_eq other name ≡ false → ids_entry other new ≡ ids_entry other old
 unfolding KeepsOthers
-beside name old new keeps other d =
+other_entry name old new keeps other d =
     keeps (has_name other)
     (λ x y t. ap (λ (n : List ℕ). bytes_eq n y.items) (same_name other x.items t))
     (λ k t. ap (bytes_eq other) (sym (same_name name k.items t)) ∙ d)
 
 -- What holds of one name's tags before and after, and of all that stays, holds of each name's.
-one_changed : (P : List ℕ → Option NameTags → Option NameTags → Type 0) (name : List ℕ) (old new : List Named) (a b : Option NameTags) → KeepsOthers same_key (has_name name) old new → ids_entry name old ≡ a → ids_entry name new ≡ b → P name a b → ((other : List ℕ) → bytes_eq other name ≡ false → (held : Option NameTags) → P other held held) → (n : List ℕ) → P n (ids_entry n old) (ids_entry n new)
+one_changed : (P : List ℕ → Option NameTags → Option NameTags → Type 0) (name : List ℕ) (old new : List Named) (a b : Option NameTags) → KeepsOthers same_key (has_name name) old new → ids_entry name old ≡ a → ids_entry name new ≡ b → P name a b → ((other : List ℕ) → bytes_eq other name ≡ false → (name_tags : Option NameTags) → P other name_tags name_tags) → (n : List ℕ) → P n (ids_entry n old) (ids_entry n new)
 one_changed P name old new a b keeps was is here others n =
     elim (cases_Bool (bytes_eq n name)) [
       | inl t ↦
           subst (λ (m : List ℕ). P m (ids_entry m old) (ids_entry m new)) (sym (same_name n name t))
           (subst (λ (o : Option NameTags). P name o (ids_entry name new)) (sym was) (subst (P name a) (sym is) here))
-      | inr d ↦ subst (P n (ids_entry n old)) (sym (beside name old new keeps n d)) (others n d (ids_entry n old))
+      | inr d ↦ subst (P n (ids_entry n old)) (sym (other_entry name old new keeps n d)) (others n d (ids_entry n old))
     ]
 
 -- A further tag of a name.
-pub put_found : (name : List ℕ) (id : OpId) (old new : List Named) (a b : NameTags) → KeepsOthers same_key (has_name name) old new → ids_entry name old ≡ Some a → ids_entry name new ≡ Some b → ((i : OpId) → list_any (same_id i) b.ids.keys ≡ (same_id i id || list_any (same_id i) a.ids.keys)) → (n : List ℕ) (i : OpId) → tag_in new n i ≡ (is_at n i name id || tag_in old n i)
-put_found name id old new a b keeps was is says n i =
+pub tags_put : (name : List ℕ) (id : OpId) (old new : List Named) (a b : NameTags) → KeepsOthers same_key (has_name name) old new → ids_entry name old ≡ Some a → ids_entry name new ≡ Some b → ((i : OpId) → list_any (same_id i) b.ids.keys ≡ (same_id i id || list_any (same_id i) a.ids.keys)) → (n : List ℕ) (i : OpId) → tag_in new n i ≡ (is_at n i name id || tag_in old n i)
+tags_put name id old new a b keeps was is post n i =
     one_changed (λ m o p. list_any (same_id i) (ids_in p) ≡ (is_at m i name id || list_any (same_id i) (ids_in o))) name old new (Some a) (Some b) keeps was is
-    (says i ∙ ap (λ t. (t && same_id i id) || list_any (same_id i) a.ids.keys) (sym (itself name)))
-    (λ other d held. ap (λ t. (t && same_id i id) || list_any (same_id i) (ids_in held)) (sym d)) n
+    (post i ∙ ap (λ t. (t && same_id i id) || list_any (same_id i) a.ids.keys) (sym (itself name)))
+    (λ other d name_tags. ap (λ t. (t && same_id i id) || list_any (same_id i) (ids_in name_tags)) (sym d)) n
 
 pub put_room : (name : List ℕ) (old new : List Named) (a b : NameTags) → KeepsOthers same_key (has_name name) old new → ids_entry name old ≡ Some a → ids_entry name new ≡ Some b → spare a.ids ≤ spare b.ids + 1 → (n : List ℕ) → room_of n old ≤ room_of n new + (if bytes_eq n name then 1 else 0)
-put_room name old new a b keeps was is says =
+put_room name old new a b keeps was is post =
     one_changed (λ m o p. room_in o ≤ room_in p + (if bytes_eq m name then 1 else 0)) name old new (Some a) (Some b) keeps was is
-    (subst (λ t. spare a.ids ≤ spare b.ids + (if t then 1 else 0)) (sym (itself name)) says)
-    (λ other d held. omega arith)
+    (subst (λ t. spare a.ids ≤ spare b.ids + (if t then 1 else 0)) (sym (itself name)) post)
+    (λ other d name_tags. omega arith)
 
 -- Tags of a name taken out.
-pub left_found : (name : List ℕ) (ids : List OpId) (old new : List Named) (a b : Option NameTags) → KeepsOthers same_key (has_name name) old new → ids_entry name old ≡ a → ids_entry name new ≡ b → ((i : OpId) → list_any (same_id i) (ids_in b) ≡ (not (list_any (same_id i) ids) && list_any (same_id i) (ids_in a))) → (n : List ℕ) (i : OpId) → tag_in new n i ≡ (not (is_among n i name ids) && tag_in old n i)
-left_found name ids old new a b keeps was is says n i =
+pub tags_left : (name : List ℕ) (ids : List OpId) (old new : List Named) (a b : Option NameTags) → KeepsOthers same_key (has_name name) old new → ids_entry name old ≡ a → ids_entry name new ≡ b → ((i : OpId) → list_any (same_id i) (ids_in b) ≡ (not (list_any (same_id i) ids) && list_any (same_id i) (ids_in a))) → (n : List ℕ) (i : OpId) → tag_in new n i ≡ (not (is_among n i name ids) && tag_in old n i)
+tags_left name ids old new a b keeps was is post n i =
     one_changed (λ m o p. list_any (same_id i) (ids_in p) ≡ (not (is_among m i name ids) && list_any (same_id i) (ids_in o))) name old new a b keeps was is
-    (says i ∙ ap (λ t. not (t && list_any (same_id i) ids) && list_any (same_id i) (ids_in a)) (sym (itself name)))
-    (λ other d held. ap (λ t. not (t && list_any (same_id i) ids) && list_any (same_id i) (ids_in held)) (sym d)) n
+    (post i ∙ ap (λ t. not (t && list_any (same_id i) ids) && list_any (same_id i) (ids_in a)) (sym (itself name)))
+    (λ other d name_tags. ap (λ t. not (t && list_any (same_id i) ids) && list_any (same_id i) (ids_in name_tags)) (sym d)) n
 
 none_left : (b : Bool) → false ≡ (not b && false)
 none_left true = refl
 none_left false = refl
 
 -- A name without tags loses none.
-pub none_found : (name : List ℕ) (ids : List OpId) (tags : List Named) → ids_entry name tags ≡ None → (n : List ℕ) (i : OpId) → tag_in tags n i ≡ (not (is_among n i name ids) && tag_in tags n i)
-none_found name ids tags was n i =
+pub tags_absent : (name : List ℕ) (ids : List OpId) (tags : List Named) → ids_entry name tags ≡ None → (n : List ℕ) (i : OpId) → tag_in tags n i ≡ (not (is_among n i name ids) && tag_in tags n i)
+tags_absent name ids tags was n i =
     elim (cases_Bool (bytes_eq n name)) [
       | inl t ↦
           subst (λ (m : List ℕ). tag_in tags m i ≡ (not (is_among m i name ids) && tag_in tags m i)) (sym (same_name n name t))
@@ -84,13 +84,13 @@ none_found name ids tags was n i =
     ]
 
 -- A name's tags are the same, with other room.
-pub same_found : (name : List ℕ) (old new : List Named) (a b : Option NameTags) → KeepsOthers same_key (has_name name) old new → ids_entry name old ≡ a → ids_entry name new ≡ b → ids_in b ≡ ids_in a → (n : List ℕ) (i : OpId) → tag_in new n i ≡ tag_in old n i
-same_found name old new a b keeps was is same n i =
-    one_changed (λ m o p. list_any (same_id i) (ids_in p) ≡ list_any (same_id i) (ids_in o)) name old new a b keeps was is (ap (list_any (same_id i)) same) (λ other d held. refl) n
+pub tags_same : (name : List ℕ) (old new : List Named) (a b : Option NameTags) → KeepsOthers same_key (has_name name) old new → ids_entry name old ≡ a → ids_entry name new ≡ b → ids_in b ≡ ids_in a → (n : List ℕ) (i : OpId) → tag_in new n i ≡ tag_in old n i
+tags_same name old new a b keeps was is same n i =
+    one_changed (λ m o p. list_any (same_id i) (ids_in p) ≡ list_any (same_id i) (ids_in o)) name old new a b keeps was is (ap (list_any (same_id i)) same) (λ other d name_tags. refl) n
 
-pub room_kept : (name : List ℕ) (old new : List Named) (a b : Option NameTags) → KeepsOthers same_key (has_name name) old new → ids_entry name old ≡ a → ids_entry name new ≡ b → room_in a ≤ room_in b → (n : List ℕ) → room_of n old ≤ room_of n new
-room_kept name old new a b keeps was is less =
-    one_changed (λ m o p. room_in o ≤ room_in p) name old new a b keeps was is less (λ other d held. omega arith)
+pub room_preserved : (name : List ℕ) (old new : List Named) (a b : Option NameTags) → KeepsOthers same_key (has_name name) old new → ids_entry name old ≡ a → ids_entry name new ≡ b → room_in a ≤ room_in b → (n : List ℕ) → room_of n old ≤ room_of n new
+room_preserved name old new a b keeps was is less =
+    one_changed (λ m o p. room_in o ≤ room_in p) name old new a b keeps was is less (λ other d name_tags. omega arith)
 
 same_back : (i j : OpId) → same_id i j ≡ same_id j i
 same_back i j =
@@ -109,10 +109,10 @@ taken false true n = refl
 taken false false n = refl
 
 -- One id taken out, and those still to be taken out.
-pub one_taken : (id i : OpId) (behind now new : List OpId) → list_any (same_id i) new ≡ cond (same_id id i) false (list_any (same_id i) now) → (not (list_any (same_id i) behind) && list_any (same_id i) new) ≡ (not (same_id i id || list_any (same_id i) behind) && list_any (same_id i) now)
-one_taken id i behind now new e =
-    ap (λ t. not (list_any (same_id i) behind) && t) (e ∙ ap (λ s. cond s false (list_any (same_id i) now)) (same_back id i))
-    ∙ taken (same_id i id) (list_any (same_id i) behind) (list_any (same_id i) now)
+pub one_taken : (id i : OpId) (tail now new : List OpId) → list_any (same_id i) new ≡ cond (same_id id i) false (list_any (same_id i) now) → (not (list_any (same_id i) tail) && list_any (same_id i) new) ≡ (not (same_id i id || list_any (same_id i) tail) && list_any (same_id i) now)
+one_taken id i tail now new e =
+    ap (λ t. not (list_any (same_id i) tail) && t) (e ∙ ap (λ s. cond s false (list_any (same_id i) now)) (same_back id i))
+    ∙ taken (same_id i id) (list_any (same_id i) tail) (list_any (same_id i) now)
 
 none_filtered : {X : Type 0} (p : X → Bool) (xs : List X) → list_any p xs ≡ false → length (filter p xs) ≡ 0
 none_filtered p [] e = refl

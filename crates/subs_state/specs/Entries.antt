@@ -22,7 +22,7 @@ ids_entry name tags = lookup (λ (key : Vec ℕ). bytes_eq name key.items) tags
 -- The ids of an entry; none without an entry.
 abbrev pub ids_in : Option NameTags → List OpId
 ids_in None = []
-ids_in (Some held) = held.ids.keys
+ids_in (Some name_tags) = name_tags.ids.keys
 
 -- Whether there is a tag of this name and id.
 abbrev pub tag_in : List (Vec ℕ × NameTags) → List ℕ → OpId → Bool
@@ -35,7 +35,7 @@ name_with_ids entry = if length entry.1.ids.keys == 0 then None else Some entry.
 -- How many further ids an entry takes with no more memory.
 abbrev pub room_in : Option NameTags → ℕ
 room_in None = 0
-room_in (Some held) = spare held.ids
+room_in (Some name_tags) = spare name_tags.ids
 
 -- How many further tags of a name fit with no more memory.
 abbrev pub room_of : List ℕ → List (Vec ℕ × NameTags) → ℕ
@@ -46,8 +46,8 @@ abbrev pub is_subscribe : List ℕ → Kind → Bool
 is_subscribe name (Create folder) = false
 is_subscribe name (Delete folder seen) = false
 is_subscribe name (Append folder flags date text) = false
-is_subscribe name (Expunge folder olds) = false
-is_subscribe name (Store folder flags olds origin) = false
+is_subscribe name (Expunge folder old_ids) = false
+is_subscribe name (Store folder flags old_ids origin) = false
 is_subscribe name (Subscribe other) = bytes_eq name other
 is_subscribe name (Unsubscribe other seen) = false
 

@@ -31,7 +31,7 @@ impl Subs {
     ghost use Rattle.subs_state.specs.Subscriptions.{IsMadeBy, IsSubscribed, no_subscriptions};
     ghost use Rattle.subs_state.specs.Table.{subscriptions_of};
 
-    /// No subscriptions; takes no memory.
+    /// No subscriptions; doesn't allocate.
     pub fn new(alloc: Global) -> Subs
         ensures { subscriptions_of result ≡ no_subscriptions }
     {

@@ -32,9 +32,9 @@ impl Drop for NameTags {
     }
 }
 
-/// Takes out the subscription tags that the operation removes. Names stay, with their room.
+/// Removes the subscription tags that the operation removes. Names stay, with their room.
 pub fn remove_tags_of(tags: &mut IndexMap<Vec<u8>, NameTags>, op: &Op)
-    ensures found { (n : List ℕ) (i : OpId)
+    ensures listed { (n : List ℕ) (i : OpId)
         → tag_in tags.new.entries n i
         ≡ (not (removes (SubscriptionTag n i) op.now) && tag_in tags.old.entries n i) }
     ensures room { (n : List ℕ) → room_of n tags.old.entries ≤ room_of n tags.new.entries }
@@ -50,10 +50,10 @@ pub fn remove_tags_of(tags: &mut IndexMap<Vec<u8>, NameTags>, op: &Op)
     }
 }
 
-/// Puts in the subscription tag that the operation adds, for which there is room. Takes no memory.
+/// Inserts the subscription tag that the operation adds, for which there is room. Takes no memory.
 pub fn add_tag_of(tags: &mut IndexMap<Vec<u8>, NameTags>, op: &Op)
     requires { (n : List ℕ) → (if subscribes n op.now then 1 else 0) ≤ room_of n tags.old.entries }
-    ensures found { (n : List ℕ) (i : OpId)
+    ensures listed { (n : List ℕ) (i : OpId)
         → tag_in tags.new.entries n i
         ≡ (adds (SubscriptionTag n i) op.now || tag_in tags.old.entries n i) }
     ensures room { (n : List ℕ)
@@ -71,53 +71,53 @@ pub fn add_tag_of(tags: &mut IndexMap<Vec<u8>, NameTags>, op: &Op)
     }
 }
 
-/// Takes out the name's tags with these ids.
+/// Removes the name's tags with these ids.
 fn remove_ids(tags: &mut IndexMap<Vec<u8>, NameTags>, name: &[u8], ids: &[OpId])
-    ensures found { (n : List ℕ) (i : OpId)
+    ensures listed { (n : List ℕ) (i : OpId)
         → tag_in tags.new.entries n i
         ≡ (not (is_among n i name.now ids.now) && tag_in tags.old.entries n i) }
     ensures room { (n : List ℕ) → room_of n tags.old.entries ≤ room_of n tags.new.entries }
 {
     match tags.get_mut(name) {
-        Some(held) => remove_matching_ids(held, ids),
+        Some(name_tags) => remove_matching_ids(name_tags, ids),
         None => {}
     }
 }
 
-fn remove_matching_ids(held: &mut NameTags, ids: &[OpId])
-    ensures found { (i : OpId)
-        → list_any (same_id i) held.new.ids.keys
-        ≡ (not (list_any (same_id i) ids.now) && list_any (same_id i) held.old.ids.keys) }
-    ensures room { spare held.old.ids ≤ spare held.new.ids }
+fn remove_matching_ids(name_tags: &mut NameTags, ids: &[OpId])
+    ensures listed { (i : OpId)
+        → list_any (same_id i) name_tags.new.ids.keys
+        ≡ (not (list_any (same_id i) ids.now) && list_any (same_id i) name_tags.old.ids.keys) }
+    ensures room { spare name_tags.old.ids ≤ spare name_tags.new.ids }
 {
     for id in ids {
-        held.ids.swap_remove(id);
+        name_tags.ids.swap_remove(id);
     }
 }
 
-/// Puts in a tag, for which there is room.
+/// Inserts a tag, for which there is room.
 fn put_tag(tags: &mut IndexMap<Vec<u8>, NameTags>, name: &[u8], id: &OpId)
     requires { 0 < room_of name.now tags.old.entries }
-    ensures found { (n : List ℕ) (i : OpId)
+    ensures listed { (n : List ℕ) (i : OpId)
         → tag_in tags.new.entries n i ≡ (is_at n i name.now id.now || tag_in tags.old.entries n i) }
     ensures room { (n : List ℕ)
         → room_of n tags.old.entries
         ≤ room_of n tags.new.entries + (if bytes_eq n name.now then 1 else 0) }
 {
     match tags.get_mut(name) {
-        Some(held) => put_id(held, id),
+        Some(name_tags) => put_id(name_tags, id),
         None => unreachable!(),
     }
 }
 
-fn put_id(held: &mut NameTags, id: &OpId)
-    requires { 0 < spare held.old.ids }
-    ensures found { (i : OpId)
-        → list_any (same_id i) held.new.ids.keys
-        ≡ (same_id i id.now || list_any (same_id i) held.old.ids.keys) }
-    ensures room { spare held.old.ids ≤ spare held.new.ids + 1 }
+fn put_id(name_tags: &mut NameTags, id: &OpId)
+    requires { 0 < spare name_tags.old.ids }
+    ensures listed { (i : OpId)
+        → list_any (same_id i) name_tags.new.ids.keys
+        ≡ (same_id i id.now || list_any (same_id i) name_tags.old.ids.keys) }
+    ensures room { spare name_tags.old.ids ≤ spare name_tags.new.ids + 1 }
 {
-    if held.ids.insert(*id).is_err() {
+    if name_tags.ids.insert(*id).is_err() {
         unreachable!();
     }
 }
@@ -129,7 +129,7 @@ pub fn make_room(
     tags: &mut IndexMap<Vec<u8>, NameTags>,
     ops: &[SoundOp],
 ) -> Result<(), AllocError>
-    ensures found { (n : List ℕ) (i : OpId)
+    ensures listed { (n : List ℕ) (i : OpId)
         → tag_in tags.new.entries n i ≡ tag_in tags.old.entries n i }
     ensures room { OnOk result
         ((n : List ℕ) → length (filter (subscribes n) ops.now) ≤ room_of n tags.new.entries) }
@@ -147,7 +147,7 @@ fn make_room_of(
     op: &Op,
     ops: &[SoundOp],
 ) -> Result<(), AllocError>
-    ensures found { (n : List ℕ) (i : OpId)
+    ensures listed { (n : List ℕ) (i : OpId)
         → tag_in tags.new.entries n i ≡ tag_in tags.old.entries n i }
     ensures ok { OnOk result ((n : List ℕ) → subscribes n op.now ≡ true
         → length (filter (subscribes n) ops.now) ≤ room_of n tags.new.entries) }
@@ -197,13 +197,13 @@ fn make_room_for(
     name: &[u8],
     more: usize,
 ) -> Result<(), AllocError>
-    ensures found { (n : List ℕ) (i : OpId)
+    ensures listed { (n : List ℕ) (i : OpId)
         → tag_in tags.new.entries n i ≡ tag_in tags.old.entries n i }
     ensures ok { OnOk result (more ≤ room_of name.now tags.new.entries) }
     ensures room { (n : List ℕ) → room_of n tags.old.entries ≤ room_of n tags.new.entries }
 {
     match tags.get_mut(name) {
-        Some(held) => held.ids.reserve(more),
+        Some(name_tags) => name_tags.ids.reserve(more),
         None => put_name(alloc, tags, name, more),
     }
 }
@@ -216,7 +216,7 @@ fn put_name(
     more: usize,
 ) -> Result<(), AllocError>
     requires { ids_entry name.now tags.old.entries ≡ None }
-    ensures found { (n : List ℕ) (i : OpId)
+    ensures listed { (n : List ℕ) (i : OpId)
         → tag_in tags.new.entries n i ≡ tag_in tags.old.entries n i }
     ensures ok { OnOk result (more ≤ room_of name.now tags.new.entries) }
     ensures room { (n : List ℕ) → room_of n tags.old.entries ≤ room_of n tags.new.entries }
@@ -239,8 +239,8 @@ pub fn subscribed_names(
         (λ names. IsListOf octet_order (IsSubscribed (tag_in tags.now.entries)) names.items) }
 {
     let mut names = Vec::new(alloc);
-    for (key, held) in tags.iter() {
-        insert_if_tagged(alloc, &mut names, key, held)?;
+    for (key, name_tags) in tags.iter() {
+        insert_if_tagged(alloc, &mut names, key, name_tags)?;
     }
     Ok(names)
 }
@@ -250,13 +250,13 @@ fn insert_if_tagged(
     alloc: Global,
     names: &mut Vec<Name>,
     key: &[u8],
-    held: &NameTags,
+    name_tags: &NameTags,
 ) -> Result<(), AllocError>
     ensures { OnOk result (names.new.items
-        ≡ (if length held.now.ids.keys == 0 then names.old.items
+        ≡ (if length name_tags.now.ids.keys == 0 then names.old.items
         else insert_ordered octet_order key.now names.old.items)) }
 {
-    if held.ids.len() > 0 {
+    if name_tags.ids.len() > 0 {
         let name = Name::from_slice(alloc, key)?;
         insert_name(alloc, names, &name)?;
     }
@@ -273,17 +273,17 @@ pub fn tag_ids(
         (λ ids. ids ≡ sorted_set id_order (ids_in (ids_entry name.now tags.now.entries))) }
 {
     let mut ids = Ids::none(alloc);
-    if let Some(held) = tags.get(name.as_bytes()) {
-        place_ids(&mut ids, held.ids.as_slice())?;
+    if let Some(name_tags) = tags.get(name.as_bytes()) {
+        place_ids(&mut ids, name_tags.ids.as_slice())?;
     }
     Ok(ids)
 }
 
-fn place_ids(ids: &mut Ids, found: &[OpId]) -> Result<(), AllocError>
+fn place_ids(ids: &mut Ids, listed: &[OpId]) -> Result<(), AllocError>
     ensures { OnOk result
-        (ids.new ≡ fold (λ done id. insert_ordered id_order id done) ids.old found.now) }
+        (ids.new ≡ fold (λ done id. insert_ordered id_order id done) ids.old listed.now) }
 {
-    for id in found {
+    for id in listed {
         ids.insert(*id)?;
     }
     Ok(())

@@ -11,7 +11,7 @@ use Rattle.std.specs.Option.{SomeIff}
 use Rattle.std.specs.Result.{OkIff, result_ok}
 use Rattle.std.specs.Str.{IsUtf8}
 use Rattle.std.specs.Str.Parse.{ParsesUnsigned, digits_value}
-use Rattle.text_fields.specs.FieldReading.{◌>>=◌, cut_at, has_no_leading_zero, id_at, in_front, number_at, pair_at, positive, replica_at}
+use Rattle.text_fields.specs.FieldReading.{◌>>=◌, cut_at, has_no_leading_zero, id_at, before_first_part, number_at, pair_at, positive, replica_at}
 use Rattle.text_fields.specs.Fields.{IsEntry, IsId, IsNumber, IsReplica, entry_text, id_text}
 use Rattle.tags_clocks.specs.declared.id.OpId.{OpId}
 
@@ -33,7 +33,7 @@ ok_part (Err e) len value l h = λ k. h (l, k)
 pub parsed_digits : {E : Type 0} (ds : List ℕ) (r : Result ℕ E) → has_no_leading_zero ds ≡ true → list_all is_ascii_digit ds ≡ true → ParsesUnsigned 64 10 ds r → SomeIff (result_ok r) (digits_value 10 ds < 2 ^ 64) (digits_value 10 ds)
 parsed_digits ds r z d h = ok_part r (length ds) (digits_value 10 ds) (some_digit ds z) (parse_digits digits_model 64 ds r h d)
 
--- digits without a leading zero are the text of the number that they write
+-- digits without a leading zero are the text of the number that they spell
 one_digit : (ds : List ℕ) → has_no_leading_zero ds ≡ true → get_or ds 0 0 ≡ 48 → length ds ≡ 1
 one_digit [] h k = absurd (let e : false ≡ true = h in cc)
 one_digit (d ∷ []) h k = refl
@@ -96,9 +96,9 @@ bind_some (Some x) f y h = (x, refl, h)
 pub bound : {A B : Type 0} (r : Option A) (f : A → Option B) (x : A) → r ≡ Some x → (r >>= f) ≡ f x
 bound r f x h = ap (λ o. o >>= f) h
 
-pub front_some : (front : List ℕ) (r : Option (List ℕ × List ℕ)) (x : List ℕ × List ℕ) → in_front front r ≡ Some x → (y : List ℕ × List ℕ) × (r ≡ Some y) × (x.0 ≡ front ++ y.0) × (x.1 ≡ y.1)
-front_some front None x h = absurd cc
-front_some front (Some y) x h =
+pub before_first_part_some : (front : List ℕ) (r : Option (List ℕ × List ℕ)) (x : List ℕ × List ℕ) → before_first_part front r ≡ Some x → (y : List ℕ × List ℕ) × (r ≡ Some y) × (x.0 ≡ front ++ y.0) × (x.1 ≡ y.1)
+before_first_part_some front None x h = absurd cc
+before_first_part_some front (Some y) x h =
     let e : ◌≡◌ {A = List ℕ × List ℕ} (front ++ y.0, y.1) x = cc in (y, refl, sym (ap (λ z. z.0) e), sym (ap (λ z. z.1) e))
 
 pub chosen : {A : Type 0} (b : Bool) (x y z : A) → cond b x y ≡ z → ((b ≡ true) × (x ≡ z)) ⊎ ((b ≡ false) × (y ≡ z))
@@ -113,13 +113,13 @@ not_true false h = refl
 pub cut_takes : (separator : ℕ) (text : List ℕ) (parts : List ℕ × List ℕ) → cut_at separator text ≡ Some parts → text ≡ parts.0 ++ separator ∷ parts.1
 cut_takes separator [] parts h = absurd cc
 cut_takes separator (octet ∷ octets) parts h =
-    elim (chosen (eqb octet separator) (Some ([], octets)) (in_front (octet ∷ []) (cut_at separator octets)) (Some parts) h) [
+    elim (chosen (eqb octet separator) (Some ([], octets)) (before_first_part (octet ∷ []) (cut_at separator octets)) (Some parts) h) [
       | inl t ↦
           let e : ◌≡◌ {A = List ℕ × List ℕ} ([], octets) parts = let k = t.1 in cc in
           let s : octet ≡ separator = eqb-true octet separator t.0 in
           (λ i. s i ∷ octets) ∙ ap (λ (z : List ℕ × List ℕ). z.0 ++ separator ∷ z.1) e
       | inr f ↦
-          let y = front_some (octet ∷ []) (cut_at separator octets) parts f.1 in
+          let y = before_first_part_some (octet ∷ []) (cut_at separator octets) parts f.1 in
           ap (λ (t : List ℕ). octet ∷ t) (cut_takes separator octets y.0 y.1) ∙ sym (λ i. y.2 i ++ separator ∷ y.3 i)
     ]
 
@@ -129,7 +129,7 @@ cut_again separator [] back h = let t : eqb separator separator ≡ true = eq-eq
 cut_again separator (octet ∷ front) back h =
     let p = and_parts (not (eqb octet separator)) (list_all (λ octet. not (eqb octet separator)) front) h in
     let f : eqb octet separator ≡ false = not_true _ p.0 in
-    rw f (ap (in_front (octet ∷ [])) (cut_again separator front back p.1))
+    rw f (ap (before_first_part (octet ∷ [])) (cut_again separator front back p.1))
 
 pub all_of : (p q : ℕ → Bool) → ((octet : ℕ) → p octet ≡ true → q octet ≡ true) → (octets : List ℕ) → list_all p octets ≡ true → list_all q octets ≡ true
 all_of p q h [] a = refl
@@ -150,30 +150,30 @@ positive_again n h = let f : eqb n 0 ≡ false = ne_eqb n 0 (omega arith) in rw 
 -- ---- octets that a text lacks
 
 abbrev pub lacks : ℕ → List ℕ → Bool
-lacks mark text = list_all (λ octet. not (eqb octet mark)) text
+lacks delimiter text = list_all (λ octet. not (eqb octet delimiter)) text
 
 pub both : (p : ℕ → Bool) (xs ys : List ℕ) → list_all p xs ≡ true → list_all p ys ≡ true → list_all p (xs ++ ys) ≡ true
 both p xs ys h k = list_all-append p xs ys ∙ and_from (list_all p xs) (list_all p ys) h k
 
-pub digit_apart : (mark octet : ℕ) → is_ascii_digit mark ≡ false → is_ascii_digit octet ≡ true → not (eqb octet mark) ≡ true
-digit_apart mark octet h k =
-    elim (cases_Bool (eqb octet mark)) [
-      | inl t ↦ absurd (let e : is_ascii_digit octet ≡ false = ap is_ascii_digit (eqb-true octet mark t) ∙ h in let z : false ≡ true = sym e ∙ k in false≢true z)
+pub digit_apart : (delimiter octet : ℕ) → is_ascii_digit delimiter ≡ false → is_ascii_digit octet ≡ true → not (eqb octet delimiter) ≡ true
+digit_apart delimiter octet h k =
+    elim (cases_Bool (eqb octet delimiter)) [
+      | inl t ↦ absurd (let e : is_ascii_digit octet ≡ false = ap is_ascii_digit (eqb-true octet delimiter t) ∙ h in let z : false ≡ true = sym e ∙ k in false≢true z)
       | inr f ↦ ap not f
     ]
 
-pub decimal_lacks : (mark n : ℕ) → is_ascii_digit mark ≡ false → n < 2 ^ 64 → lacks mark (decimal n) ≡ true
-decimal_lacks mark n h l = all_of is_ascii_digit (λ octet. not (eqb octet mark)) (λ octet k. digit_apart mark octet h k) (decimal n) (digits_decimal digits_model n l)
+pub decimal_lacks : (delimiter n : ℕ) → is_ascii_digit delimiter ≡ false → n < 2 ^ 64 → lacks delimiter (decimal n) ≡ true
+decimal_lacks delimiter n h l = all_of is_ascii_digit (λ octet. not (eqb octet delimiter)) (λ octet k. digit_apart delimiter octet h k) (decimal n) (digits_decimal digits_model n l)
 
-pub id_lacks : (mark : ℕ) (id : OpId) → is_ascii_digit mark ≡ false → not (eqb 58 mark) ≡ true → IsId id → lacks mark (id_text id) ≡ true
-id_lacks mark id h k w =
-    both (λ octet. not (eqb octet mark)) (decimal id.replica) (58 ∷ decimal id.number) (decimal_lacks mark id.replica h (omega arith))
-    (and_from (not (eqb 58 mark)) (lacks mark (decimal id.number)) k (decimal_lacks mark id.number h (omega arith)))
+pub id_lacks : (delimiter : ℕ) (id : OpId) → is_ascii_digit delimiter ≡ false → not (eqb 58 delimiter) ≡ true → IsId id → lacks delimiter (id_text id) ≡ true
+id_lacks delimiter id h k w =
+    both (λ octet. not (eqb octet delimiter)) (decimal id.replica) (58 ∷ decimal id.number) (decimal_lacks delimiter id.replica h (omega arith))
+    (and_from (not (eqb 58 delimiter)) (lacks delimiter (decimal id.number)) k (decimal_lacks delimiter id.number h (omega arith)))
 
-pub entry_lacks : (mark : ℕ) (entry : ℕ × ℕ) → is_ascii_digit mark ≡ false → not (eqb 61 mark) ≡ true → IsEntry entry → lacks mark (entry_text entry) ≡ true
-entry_lacks mark entry h k w =
-    both (λ octet. not (eqb octet mark)) (decimal entry.0) (61 ∷ decimal entry.1) (decimal_lacks mark entry.0 h (omega arith))
-    (and_from (not (eqb 61 mark)) (lacks mark (decimal entry.1)) k (decimal_lacks mark entry.1 h (omega arith)))
+pub entry_lacks : (delimiter : ℕ) (entry : ℕ × ℕ) → is_ascii_digit delimiter ≡ false → not (eqb 61 delimiter) ≡ true → IsEntry entry → lacks delimiter (entry_text entry) ≡ true
+entry_lacks delimiter entry h k w =
+    both (λ octet. not (eqb octet delimiter)) (decimal entry.0) (61 ∷ decimal entry.1) (decimal_lacks delimiter entry.0 h (omega arith))
+    (and_from (not (eqb 61 delimiter)) (lacks delimiter (decimal entry.1)) k (decimal_lacks delimiter entry.1 h (omega arith)))
 
 -- ---- replicas, ids and entries
 
@@ -192,10 +192,10 @@ pub replica_again : (replica : ℕ) → IsReplica replica → replica_at (decima
 unfolding replica_at
 replica_again replica r = bound (number_at 65535 (decimal replica)) positive replica (number_again 65535 replica (omega arith) r.1) ∙ positive_again replica r.0
 
-pub pair_takes : (mark : ℕ) (text : List ℕ) (pair : ℕ × ℕ) → pair_at mark text ≡ Some pair → IsEntry pair × (text ≡ decimal pair.0 ++ mark ∷ decimal pair.1)
+pub pair_takes : (delimiter : ℕ) (text : List ℕ) (pair : ℕ × ℕ) → pair_at delimiter text ≡ Some pair → IsEntry pair × (text ≡ decimal pair.0 ++ delimiter ∷ decimal pair.1)
 unfolding pair_at
-pair_takes mark text pair h =
-    let c = bind_some (cut_at mark text) _ pair h in
+pair_takes delimiter text pair h =
+    let c = bind_some (cut_at delimiter text) _ pair h in
     let r = bind_some (replica_at c.0.0) _ pair c.2 in
     let s = bind_some (number_at 4294967295 c.0.1) _ pair r.2 in
     let n = bind_some (positive s.0) _ pair s.2 in
@@ -206,15 +206,15 @@ pair_takes mark text pair h =
     let second : s.0 ≡ n.0 = b.1 in
     let low' : 0 < s.0 = b.0 in
     let high' : s.0 ≤ 4294967295 = u.0 in
-    subst (λ (pair : ℕ × ℕ). IsEntry pair × (text ≡ decimal pair.0 ++ mark ∷ decimal pair.1)) e (
+    subst (λ (pair : ℕ × ℕ). IsEntry pair × (text ≡ decimal pair.0 ++ delimiter ∷ decimal pair.1)) e (
       (t.0, (omega arith, omega arith)),
-      cut_takes mark text c.0 c.1 ∙ (λ i. t.1 i ++ mark ∷ (u.1 ∙ ap decimal second) i),
+      cut_takes delimiter text c.0 c.1 ∙ (λ i. t.1 i ++ delimiter ∷ (u.1 ∙ ap decimal second) i),
     )
 
-pub pair_again : (mark replica number : ℕ) → is_ascii_digit mark ≡ false → IsReplica replica → IsNumber number → pair_at mark (decimal replica ++ mark ∷ decimal number) ≡ Some (replica, number)
+pub pair_again : (delimiter replica number : ℕ) → is_ascii_digit delimiter ≡ false → IsReplica replica → IsNumber number → pair_at delimiter (decimal replica ++ delimiter ∷ decimal number) ≡ Some (replica, number)
 unfolding pair_at
-pair_again mark replica number h r n =
-    bound (cut_at mark (decimal replica ++ mark ∷ decimal number)) _ (decimal replica, decimal number) (cut_again mark (decimal replica) (decimal number) (decimal_lacks mark replica h (omega arith)))
+pair_again delimiter replica number h r n =
+    bound (cut_at delimiter (decimal replica ++ delimiter ∷ decimal number)) _ (decimal replica, decimal number) (cut_again delimiter (decimal replica) (decimal number) (decimal_lacks delimiter replica h (omega arith)))
     ∙ bound (replica_at (decimal replica)) _ replica (replica_again replica r)
     ∙ bound (number_at 4294967295 (decimal number)) _ number (number_again 4294967295 number (omega arith) n.1)
     ∙ bound (positive number) _ number (positive_again number n.0)

@@ -14,16 +14,16 @@ abbrev pub ◌>>=◌ : {A B : Type 0} → Option A → (A → Option B) → Opti
 read >>= next = option_and_then next read
 
 -- Octets before the first part of a cut.
-abbrev pub in_front : List ℕ → Option (List ℕ × List ℕ) → Option (List ℕ × List ℕ)
-in_front front None = None
-in_front front (Some cut) = Some (front ++ cut.0, cut.1)
+abbrev pub before_first_part : List ℕ → Option (List ℕ × List ℕ) → Option (List ℕ × List ℕ)
+before_first_part front None = None
+before_first_part front (Some cut) = Some (front ++ cut.0, cut.1)
 
 -- What comes before the first separator, and what comes after it.
 abbrev pub cut_at : ℕ → List ℕ → Option (List ℕ × List ℕ)
 cut_at separator [] = None
 cut_at separator (octet ∷ octets) =
     if octet == separator then Some ([], octets)
-    else in_front (octet ∷ []) (cut_at separator octets)
+    else before_first_part (octet ∷ []) (cut_at separator octets)
 
 -- Whether a text isn't empty, and doesn't begin with zero (48) unless that is all of it.
 abbrev pub has_no_leading_zero : List ℕ → Bool
@@ -31,7 +31,7 @@ has_no_leading_zero [] = false
 has_no_leading_zero (digit ∷ []) = true
 has_no_leading_zero (digit ∷ next ∷ digits) = not (digit == 48)
 
--- The number that the digits write without a leading zero, if it is at most the limit.
+-- The number spelled by the digits without a leading zero, if it is at most the limit.
 unfoldable pub number_at : ℕ → List ℕ → Option ℕ
 number_at limit text =
     if (has_no_leading_zero text && list_all is_ascii_digit text)
@@ -48,10 +48,10 @@ replica_at text = do
   number ← number_at 65535 text
   positive number
 
--- The replica before the first mark, and the number after it.
+-- The replica before the first delimiter, and the number after it.
 unfoldable pub pair_at : ℕ → List ℕ → Option (ℕ × ℕ)
-pair_at mark text = do
-  parts ← cut_at mark text
+pair_at delimiter text = do
+  parts ← cut_at delimiter text
   replica ← replica_at parts.0
   second ← number_at 4294967295 parts.1
   number ← positive second

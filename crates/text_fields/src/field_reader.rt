@@ -46,7 +46,7 @@ fn has_no_leading_zero(text: &[u8]) -> bool
     }
 }
 
-/// The number that decimal digits write without a leading zero, if it is at most `limit`; else
+/// The number spelled by decimal digits without a leading zero, if it is at most `limit`; else
 /// `None`.
 #[tactic(auto, unfolding(crate::specs::FieldReading::number_at))]
 pub fn number(text: &[u8], limit: u64) -> Option<u64>
@@ -67,7 +67,7 @@ pub fn number(text: &[u8], limit: u64) -> Option<u64>
     }
 }
 
-/// The number that digits write, if it fits into 64 bits.
+/// The number spelled by digits, if it fits into 64 bits.
 fn parse_digits(digits: &[u8]) -> Option<u64>
     requires { (has_no_leading_zero digits.now && list_all is_ascii_digit digits.now) ≡ true }
     ensures { SomeIff result (digits_value 10 digits.now < 2 ^ 64) (digits_value 10 digits.now) }
@@ -87,14 +87,14 @@ pub fn replica(text: &[u8]) -> Option<ReplicaId>
     ReplicaId::new(number as u32)
 }
 
-/// The replica before the first `mark`, and the number from 1 to 4,294,967,295 after it; `None` if
+/// The replica before the first `delimiter`, then a number from 1 to 4,294,967,295; `None` if
 /// the text isn't such a pair.
 #[tactic(auto, unfolding(crate::specs::FieldReading::pair_at))]
-pub fn pair(mark: u8, text: &[u8]) -> Option<(ReplicaId, u32)>
-    ensures read { option_map (λ pair. (pair.0, pair.1)) result ≡ pair_at mark text.now }
+pub fn pair(delimiter: u8, text: &[u8]) -> Option<(ReplicaId, u32)>
+    ensures read { option_map (λ pair. (pair.0, pair.1)) result ≡ pair_at delimiter text.now }
     ensures positive { IfSome result (λ pair. 0 < pair.1) }
 {
-    let (first, second) = split(mark, text)?;
+    let (first, second) = split(delimiter, text)?;
     let replica = replica(first)?;
     let number = number(second, 4_294_967_295)?;
     if number == 0 {

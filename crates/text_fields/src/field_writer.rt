@@ -12,7 +12,7 @@ use tags_clocks::OpId;
 /// held before.
 pub fn push_number(number: u64, out: &mut Vec<u8>) -> Result<(), AllocError>
     ensures ok { OnOk result (out.new.items ≡ out.old.items ++ decimal number) }
-    ensures kept { (more : List ℕ) × (out.new.items ≡ out.old.items ++ more) }
+    ensures extends { (more : List ℕ) × (out.new.items ≡ out.old.items ++ more) }
 {
     let mut buffer = Buffer::new();
     out.extend_from_slice(buffer.format(number).as_bytes())
@@ -22,7 +22,7 @@ pub fn push_number(number: u64, out: &mut Vec<u8>) -> Result<(), AllocError>
 /// begins with what it held before.
 pub fn push_id(id: OpId, out: &mut Vec<u8>) -> Result<(), AllocError>
     ensures ok { OnOk result (out.new.items ≡ out.old.items ++ id_text id) }
-    ensures kept { (more : List ℕ) × (out.new.items ≡ out.old.items ++ more) }
+    ensures extends { (more : List ℕ) × (out.new.items ≡ out.old.items ++ more) }
 {
     push_number(u64::from(id.replica.get()), out)?;
     out.push(b':')?;

@@ -29,17 +29,17 @@ use Rattle.uid_projection.specs.Incarnations.{folder_exists, k_of, uidvalidity_o
 use Rattle.uid_projection.specs.UidsAndModSeqs.{names_folder, first_uid, highest_modseq_of, modseq_of, last_change_of, uid_of, uidnext_of}
 use Rattle.uid_projection.specs.Listing.{listing}
 use Rattle.uid_projection.proofs.ChartOf.{charted}
-use Rattle.uid_projection.proofs.Keeping.{apart}
-use Rattle.uid_projection.proofs.Lasting.{begun}
+use Rattle.uid_projection.proofs.ForGoodLemmas.{apart}
+use Rattle.uid_projection.proofs.CounterLemmas.{starts}
 use Rattle.uid_projection.proofs.Numbers.{k_begins}
 use Rattle.uid_projection.proofs.LaterNumbers.{uidnext_within}
-use Rattle.uid_projection.proofs.Listed.{row_in}
+use Rattle.uid_projection.proofs.SortedRowLemmas.{row_in}
 use Rattle.uid_projection.proofs.ListingLaws.{flags_carried, keywords_have}
-use Rattle.uid_projection.proofs.Noted.{validity_gone, validity_inbox, validity_there}
-use Rattle.uid_projection.proofs.Presence.{applied_front, there_tags}
+use Rattle.uid_projection.proofs.NextOpLemmas.{validity_none, validity_inbox, validity_present}
+use Rattle.uid_projection.proofs.Presence.{applied_front, exists_tags}
 use Rattle.uid_projection.proofs.RowLemmas.{rising_chart, rows_listed}
 use Rattle.uid_projection.proofs.Steps.{by_last, k_here, k_none}
-use Rattle.uid_projection.proofs.Versions.{given_by}
+use Rattle.uid_projection.proofs.Versions.{first_some_by}
 
 -- ---- counts
 
@@ -67,22 +67,22 @@ highest_bound folder ops = let f = count_bound (λ (cut : Split Op). names_folde
 -- ---- UIDVALIDITY
 
 front_lasts : (start : Counters) (ops : List Op) (o : Op) → (Exhausts start [] (ops ++ o ∷ []) → ⊥) → Exhausts start [] ops → ⊥
-front_lasts start ops o lasts (front, p, back, k, h) = lasts (front, p, back ++ o ∷ [], ap (λ xs. xs ++ o ∷ []) k ∙ append_assoc front (p ∷ back) (o ∷ []), h)
+front_lasts start ops o not_exhausted (front, p, back, k, h) = not_exhausted (front, p, back ++ o ∷ [], ap (λ xs. xs ++ o ∷ []) k ∙ append_assoc front (p ∷ back) (o ∷ []), h)
 
 last_lasts : (start : Counters) (ops : List Op) (o : Op) → (Exhausts start [] (ops ++ o ∷ []) → ⊥) → IsExhausted start ops o → ⊥
-last_lasts start ops o lasts h = lasts (ops, o, [], refl, h)
+last_lasts start ops o not_exhausted h = not_exhausted (ops, o, [], refl, h)
 
 -- the k of an existing folder other than INBOX
 k_small : (start : Counters) (folder : List ℕ) → (folder ≡ inbox → ⊥) → (ops : List Op) → IsApplied ops → (Exhausts start [] ops → ⊥) → folder_exists folder ops ≡ true → k_of start folder ops ≤ 65535
 k_small start folder n = by_last (λ (ops : List Op). IsApplied ops → (Exhausts start [] ops → ⊥) → folder_exists folder ops ≡ true → k_of start folder ops ≤ 65535)
-    (λ a l t. elim ((there_tags folder []).0 t) [ inl e ↦ absurd (n e) | inr w ↦ elim w.1 [ inl e ↦ absurd (false≢true e) | inr e ↦ absurd (false≢true e) ] ])
+    (λ a l t. elim ((exists_tags folder []).0 t) [ inl e ↦ absurd (n e) | inr w ↦ elim w.1 [ inl e ↦ absurd (false≢true e) | inr e ↦ absurd (false≢true e) ] ])
     (λ ops o ih a l t.
     let e = k_here start folder ops o t in
     elim (cases_Bool (folder_exists folder ops)) [
       | inl u ↦ let h = ih (applied_front ops (o ∷ []) a) (front_lasts start ops o l) u in omega (arith, e, h)
       | inr f ↦
           let k = k_none start folder ops f in
-          let b = k_begins start ops o (k_of start folder ops) (last_lasts start ops o l) k (begun start folder ops o a f t) in
+          let b = k_begins start ops o (k_of start folder ops) (last_lasts start ops o l) k (starts start folder ops o a f t) in
           omega (arith, e, b)
     ])
 
@@ -102,11 +102,11 @@ validity_within start folder ops uidvalidity s l e =
     elim (cases_Bool (bytes_eq folder inbox)) [
       | inl t ↦ let n = some_same start.replica uidvalidity (validity_inbox start ops folder t ∙ e) in (omega (arith, r, n), omega (arith, q, n))
       | inr f ↦ elim (cases_Bool (folder_exists folder ops)) [
-        | inl there ↦
-            let k = k_small start folder (not_inbox folder f) ops l.applied l.lasts there in
-            let n = some_same (65536 * k_of start folder ops + start.replica) uidvalidity (validity_there start ops folder f there (k_of start folder ops) refl ∙ e) in
+        | inl present ↦
+            let k = k_small start folder (not_inbox folder f) ops l.applied l.not_exhausted present in
+            let n = some_same (65536 * k_of start folder ops + start.replica) uidvalidity (validity_present start ops folder f present (k_of start folder ops) refl ∙ e) in
             (omega (arith, r, n), omega (arith, q, n, k))
-        | inr gone ↦ absurd (none_some uidvalidity (validity_gone start ops folder f gone ∙ e))
+        | inr absent ↦ absurd (none_some uidvalidity (validity_none start ops folder f absent ∙ e))
       ]
     ]
 
@@ -144,7 +144,7 @@ bounds start folder ops s l =
     let f = first_within start folder s in
     record {
       uidnext_from = let first = f.0 in omega (arith, first);
-      uidnext = uidnext_within start folder ops [] (let last = f.1 in omega (arith, last)) f.1 l.lasts;
+      uidnext = uidnext_within start folder ops [] (let last = f.1 in omega (arith, last)) f.1 l.not_exhausted;
       highest_from = omega arith;
       highest = highest_bound folder ops;
       validity_from = λ u e. (validity_within start folder ops u s l e).0;
@@ -164,21 +164,21 @@ words_by id (Store folder flags old origin) b h e = let k : record { flags = fla
 words_by id (Subscribe name) b h e = absurd cc
 words_by id (Unsubscribe name seen) b h e = absurd cc
 
-abbrev IsLetter : DatedText → Type 0
-IsLetter letter = IsDateTime letter.date × (length letter.text < 2 ^ 64)
+abbrev IsDatedText : DatedText → Type 0
+IsDatedText dated = IsDateTime dated.date × (length dated.text < 2 ^ 64)
 
-letter_by_kind : (kind : Kind) (l : DatedText) → IsDated kind → IsCountable kind → dated_text_by kind ≡ Some l → IsLetter l
-letter_by_kind (Create folder) l d c e = absurd cc
-letter_by_kind (Delete folder seen) l d c e = absurd cc
-letter_by_kind (Append folder flags date text) l d c e = let k : record { date = date; text = text } ≡ l = cc in subst IsLetter k (d, c)
-letter_by_kind (Expunge folder old) l d c e = absurd cc
-letter_by_kind (Store folder flags old origin) l d c e = absurd cc
-letter_by_kind (Subscribe name) l d c e = absurd cc
-letter_by_kind (Unsubscribe name seen) l d c e = absurd cc
+dated_text_by_kind : (kind : Kind) (l : DatedText) → IsDated kind → IsCountable kind → dated_text_by kind ≡ Some l → IsDatedText l
+dated_text_by_kind (Create folder) l d c e = absurd cc
+dated_text_by_kind (Delete folder seen) l d c e = absurd cc
+dated_text_by_kind (Append folder flags date text) l d c e = let k : record { date = date; text = text } ≡ l = cc in subst IsDatedText k (d, c)
+dated_text_by_kind (Expunge folder old) l d c e = absurd cc
+dated_text_by_kind (Store folder flags old origin) l d c e = absurd cc
+dated_text_by_kind (Subscribe name) l d c e = absurd cc
+dated_text_by_kind (Unsubscribe name seen) l d c e = absurd cc
 
-letter_chosen : (b : Bool) (o : Option DatedText) (y : DatedText) → cond b o None ≡ Some y → o ≡ Some y
-letter_chosen true o y h = h
-letter_chosen false o y h = absurd cc
+dated_text_chosen : (b : Bool) (o : Option DatedText) (y : DatedText) → cond b o None ≡ Some y → o ≡ Some y
+dated_text_chosen true o y h = h
+dated_text_chosen false o y h = absurd cc
 
 epoch_date : IsDateTime (codes "\"01-Jan-1970 00:00:00 +0000\"")
 epoch_date = record {
@@ -187,15 +187,15 @@ epoch_date = record {
   time = record { hour = omega arith; minute = omega arith; second = omega arith; zone_hour = omega arith; zone_minute = omega arith };
 }
 
-letter_or_none : (o : Option DatedText) → ((l : DatedText) → o ≡ Some l → IsLetter l) → IsLetter (unwrap_or o no_dated_text)
-letter_or_none None h = (epoch_date, omega arith)
-letter_or_none (Some l) h = h l refl
+dated_text_or_none : (o : Option DatedText) → ((l : DatedText) → o ≡ Some l → IsDatedText l) → IsDatedText (unwrap_or o no_dated_text)
+dated_text_or_none None h = (epoch_date, omega arith)
+dated_text_or_none (Some l) h = h l refl
 
-letter_written : (ops : List Op) (id : OpId) → AreWritable ops → IsLetter (unwrap_or (dated_text_of ops id) no_dated_text)
-letter_written ops id w =
-    letter_or_none (dated_text_of ops id) (λ l e.
-    let v = given_by (dated_text_from id) ops l e in
-    letter_by_kind v.0.kind l (w v.0 v.1).0.date (w v.0 v.1).1 (letter_chosen (same_id id v.0.id) (dated_text_by v.0.kind) l v.2))
+dated_text_written : (ops : List Op) (id : OpId) → AreWritable ops → IsDatedText (unwrap_or (dated_text_of ops id) no_dated_text)
+dated_text_written ops id w =
+    dated_text_or_none (dated_text_of ops id) (λ l e.
+    let v = first_some_by (dated_text_from id) ops l e in
+    dated_text_by_kind v.0.kind l (w v.0 v.1).0.date (w v.0 v.1).1 (dated_text_chosen (same_id id v.0.id) (dated_text_by v.0.kind) l v.2))
 
 -- each version's flags can be written
 carried_words : (ops : List Op) (folder : List ℕ) (g : OpId) (flags : Flags) → AreWritable ops → IsIn flags (filter_map (tag_flags_of ops folder) (versions_of ops folder g)) → HasWords flags
@@ -216,9 +216,9 @@ words_written ops folder g w = (
 pub rows_written : (start : Counters) (folder : List ℕ) (ops : List Op) (row : ListedMessage) → AreWritable ops → IsIn row (listing start folder ops) → IsWritableRow row
 rows_written start folder ops row w i =
     let r = row_in start folder ops row i in
-    let letter = letter_written ops r.0 w in
+    let dated = dated_text_written ops r.0 w in
     record {
       flags = subst (λ (x : ListedMessage). HasWords x.flags) r.2 (words_written ops folder r.0 w);
-      date = subst (λ (x : ListedMessage). IsDateTime x.date) r.2 letter.0;
-      text = subst (λ (x : ListedMessage). length x.text < 2 ^ 64) r.2 letter.1;
+      date = subst (λ (x : ListedMessage). IsDateTime x.date) r.2 dated.0;
+      text = subst (λ (x : ListedMessage). length x.text < 2 ^ 64) r.2 dated.1;
     }

@@ -28,12 +28,12 @@ on_ok (Ok v) e h = h
 on_ok (Err v) e h = absurd (cc e)
 
 -- a look-up's result has a key that is the id
-pub found_key : {X : Type 0} (i : OpId) (es : List (OpId × X)) → IsSome (lookup (same_id i) es) → IsIn i (map (λ e. e.0) es)
-found_key i [] h = absurd (cc h)
-found_key {X} i (e ∷ es) h =
+pub key_of_lookup : {X : Type 0} (i : OpId) (es : List (OpId × X)) → IsSome (lookup (same_id i) es) → IsIn i (map (λ e. e.0) es)
+key_of_lookup i [] h = absurd (cc h)
+key_of_lookup {X} i (e ∷ es) h =
     elim (cases_Bool (same_id i e.0)) [
       | inl t ↦ inl (sym (same_is i e.0 t))
-      | inr f ↦ inr (found_key i es (subst (λ b. IsSome (cond b (Some e.1) (lookup (same_id i) es))) f h))
+      | inr f ↦ inr (key_of_lookup i es (subst (λ b. IsSome (cond b (Some e.1) (lookup (same_id i) es))) f h))
     ]
 
 -- the first of a list's elements up to a place
@@ -69,13 +69,13 @@ id_sym i j =
     ]
 
 -- one further id is taken out
-pub taken_more : {X : Type 0} (i : OpId) (ids : List OpId) (k : ℕ) (id : OpId) (new mid old gone : X) → k < length ids → id ≡ get_or ids k id → new ≡ cond (same_id id i) gone mid → mid ≡ cond (list_any (same_id i) (take k ids)) gone old → new ≡ cond (list_any (same_id i) (take (k + 1) ids)) gone old
-taken_more i ids k id new mid old gone l e a b =
-    a ∙ (λ j. cond (id_sym id i j) gone (b j)) ∙ both (list_any (same_id i) (take k ids)) (same_id i id)
-    ∙ ap (λ c. cond c gone old)
+pub taken_more : {X : Type 0} (i : OpId) (ids : List OpId) (k : ℕ) (id : OpId) (new mid old removed : X) → k < length ids → id ≡ get_or ids k id → new ≡ cond (same_id id i) removed mid → mid ≡ cond (list_any (same_id i) (take k ids)) removed old → new ≡ cond (list_any (same_id i) (take (k + 1) ids)) removed old
+taken_more i ids k id new mid old removed l e a b =
+    a ∙ (λ j. cond (id_sym id i j) removed (b j)) ∙ both (list_any (same_id i) (take k ids)) (same_id i id)
+    ∙ ap (λ c. cond c removed old)
     (sym (ap (list_any (same_id i)) (take_more ids k id l) ∙ list_any-append (same_id i) (take k ids) (get_or ids k id ∷ []) ∙ ap (λ z. list_any (same_id i) (take k ids) || (same_id i z || false)) (sym e) ∙ ap (λ c. list_any (same_id i) (take k ids) || c) (or_none (same_id i id))))
   where
-    both : (a b : Bool) → cond b gone (cond a gone old) ≡ cond (a || b) gone old
+    both : (a b : Bool) → cond b removed (cond a removed old) ≡ cond (a || b) removed old
     both true true = refl
     both true false = refl
     both false b = refl
@@ -98,11 +98,11 @@ place_of x (y ∷ ys) h =
       | inr t ↦ let w = place_of x ys t in (suc w.0, (let l = w.1 in omega (arith, l)), w.2)
     ]
 
-pub behind_all : {X : Type 0} (xs : List X) (place : ℕ) → length xs ≤ place → slice_get xs place ≡ None
-behind_all [] zero l = refl
-behind_all [] (suc place) l = refl
-behind_all (x ∷ xs) zero l = absurd (omega (arith, l))
-behind_all (x ∷ xs) (suc place) l = behind_all xs place (omega (arith, l))
+pub slice_get_past : {X : Type 0} (xs : List X) (place : ℕ) → length xs ≤ place → slice_get xs place ≡ None
+slice_get_past [] zero l = refl
+slice_get_past [] (suc place) l = refl
+slice_get_past (x ∷ xs) zero l = absurd (omega (arith, l))
+slice_get_past (x ∷ xs) (suc place) l = slice_get_past xs place (omega (arith, l))
 
 pub key_place : {X : Type 0} (i : OpId) (es : List (OpId × X)) → IsSome (lookup (same_id i) es) → (place : ℕ) × (entry : OpId × X) × (slice_get es place ≡ Some entry) × (entry.0 ≡ i)
 key_place i [] h = absurd (cc h)

@@ -18,21 +18,21 @@ use Rattle.uid_projection.specs.Incarnations.{begins_incarnation, folder_exists,
 use Rattle.uid_projection.specs.UidsAndModSeqs.{begins_line, kind_names_folder, first_uid, highest_modseq_of, uidnext_of}
 use Rattle.uid_projection.specs.EntryMoves.{added_origin}
 use Rattle.uid_projection.specs.ChartTable.{HasRooms, HasRoomsIn, IsRoomy, IsTable, chart_at}
-use Rattle.uid_projection.proofs.Coming.{behind}
+use Rattle.uid_projection.proofs.ExhaustionLemmas.{append_next}
 use Rattle.uid_projection.proofs.HistoryLemmas.{once, all-append}
-use Rattle.uid_projection.proofs.Lasting.{about_name, begun}
+use Rattle.uid_projection.proofs.CounterLemmas.{about_name, starts}
 use Rattle.uid_projection.proofs.Presence.{applied_front}
-use Rattle.uid_projection.proofs.Steps.{highest_gone, highest_here, k_here, k_none, uidnext_gone, uidnext_here}
-use Rattle.uid_projection.proofs.Touching.{line_about}
+use Rattle.uid_projection.proofs.Steps.{highest_absent, highest_here, k_here, k_none, uidnext_absent, uidnext_here}
+use Rattle.uid_projection.proofs.TouchedLineLemmas.{line_about}
 
 -- ---- if none lacks a number, none of the others does after the first
 
 first_lasts : (start : Counters) (list rest : List Op) (o : Op) → (Exhausts start list (o ∷ rest) → ⊥) → IsExhausted start list o → ⊥
-first_lasts start list rest o lasts h = lasts ([], o, rest, refl, subst (λ (xs : List Op). IsExhausted start xs o) (sym (append-nil list)) h)
+first_lasts start list rest o not_exhausted h = not_exhausted ([], o, rest, refl, subst (λ (xs : List Op). IsExhausted start xs o) (sym (append-nil list)) h)
 
 others_last : (start : Counters) (list rest : List Op) (o : Op) → (Exhausts start list (o ∷ rest) → ⊥) → Exhausts start (list ++ o ∷ []) rest → ⊥
-others_last start list rest o lasts (front, p, back, k, h) =
-    lasts (o ∷ front, p, back, ap (λ xs. o ∷ xs) k, subst (λ (xs : List Op). IsExhausted start xs p) (append_assoc list (o ∷ []) front) h)
+others_last start list rest o not_exhausted (front, p, back, k, h) =
+    not_exhausted (o ∷ front, p, back, ap (λ xs. o ∷ xs) k, subst (λ (xs : List Op). IsExhausted start xs p) (append_assoc list (o ∷ []) front) h)
 
 others_applied : (list rest : List Op) (o : Op) → IsApplied (list ++ o ∷ rest) → IsApplied ((list ++ o ∷ []) ++ rest)
 others_applied list rest o a = subst IsApplied (sym (append_assoc list (o ∷ []) rest)) a
@@ -45,38 +45,38 @@ once_most false = omega arith
 
 -- a line takes the next UID, which isn't the last number
 line_within : (start : Counters) (folder : List ℕ) (list : List Op) (o : Op) → uidnext_of start folder list ≤ 4294967295 → (IsExhausted start list o → ⊥) → uidnext_of start folder list + once (begins_line folder list o) ≤ 4294967295
-line_within start folder list o l lasts =
+line_within start folder list o l not_exhausted =
     elim (cases_Bool (begins_line folder list o)) [
       | inl t ↦
           let own : folder ≡ name_of o.kind = about_name folder o.kind (line_about folder list o t) in
           let e : once (begins_line folder list o) ≡ 1 = ap once t in
           elim (cases_eq (uidnext_of start folder list) 4294967295) [
-            | inl k ↦ absurd (lasts (inl (subst (λ n. begins_line n list o ≡ true) own t, ap (λ n. uidnext_of start n list) (sym own) ∙ k)))
+            | inl k ↦ absurd (not_exhausted (inl (subst (λ n. begins_line n list o ≡ true) own t, ap (λ n. uidnext_of start n list) (sym own) ∙ k)))
             | inr n ↦ omega (arith, e, l, n)
           ]
       | inr f ↦ let e : once (begins_line folder list o) ≡ 0 = ap once f in omega (arith, e, l)
     ]
 
 pub uidnext_within : (start : Counters) (folder : List ℕ) (ops list : List Op) → uidnext_of start folder list ≤ 4294967295 → first_uid start folder ≤ 4294967295 → (Exhausts start list ops → ⊥) → uidnext_of start folder (list ++ ops) ≤ 4294967295
-uidnext_within start folder [] list u f lasts = let e = ap (uidnext_of start folder) (append-nil list) in omega (arith, u, e)
-uidnext_within start folder (o ∷ ops) list u f lasts =
+uidnext_within start folder [] list u f not_exhausted = let e = ap (uidnext_of start folder) (append-nil list) in omega (arith, u, e)
+uidnext_within start folder (o ∷ ops) list u f not_exhausted =
     let e = ap (uidnext_of start folder) (append_assoc list (o ∷ []) ops) in
     let step : uidnext_of start folder (list ++ o ∷ []) ≤ 4294967295 = elim (cases_Bool (folder_exists folder (list ++ o ∷ []))) [
       | inl t ↦
           let h = uidnext_here start folder list o t in
-          let w = line_within start folder list o u (first_lasts start list ops o lasts) in
+          let w = line_within start folder list o u (first_lasts start list ops o not_exhausted) in
           omega (arith, h, w)
-      | inr g ↦ let h = uidnext_gone start folder list o g in omega (arith, h, f)
+      | inr g ↦ let h = uidnext_absent start folder list o g in omega (arith, h, f)
     ] in
-    let r = uidnext_within start folder ops (list ++ o ∷ []) step f (others_last start list ops o lasts) in
+    let r = uidnext_within start folder ops (list ++ o ∷ []) step f (others_last start list ops o not_exhausted) in
     omega (arith, r, e)
 
 -- ---- UIDVALIDITY
 
-pub k_told_behind : (start : Counters) (folder : List ℕ) (list front through : List Op) (o : Op) (there : Bool) (k next r : ℕ) → through ≡ front ++ o ∷ [] → there ≡ folder_exists folder (list ++ through) → k ≡ k_of start folder (list ++ front) → next ≡ start.k + count_all begins_incarnation (list ++ through) → r ≡ cond there k next → r ≡ k_of start folder (list ++ through)
-k_told_behind start folder list front through o there k next r e x y z h =
-    let w = behind list front through o e in
-    h ∙ elim (cases_Bool there) [
+pub k_of_is : (start : Counters) (folder : List ℕ) (list front through : List Op) (o : Op) (present : Bool) (k next r : ℕ) → through ≡ front ++ o ∷ [] → present ≡ folder_exists folder (list ++ through) → k ≡ k_of start folder (list ++ front) → next ≡ start.k + count_all begins_incarnation (list ++ through) → r ≡ cond present k next → r ≡ k_of start folder (list ++ through)
+k_of_is start folder list front through o present k next r e x y z h =
+    let w = append_next list front through o e in
+    h ∙ elim (cases_Bool present) [
       | inl t ↦ (λ i. cond (t i) k next) ∙ y ∙ sym (k_here start folder (list ++ front) o (sym (ap (folder_exists folder) w) ∙ sym x ∙ t)) ∙ sym (ap (k_of start folder) w)
       | inr f ↦ (λ i. cond (f i) k next) ∙ z ∙ sym (k_none start folder (list ++ through) (sym x ∙ f))
     ]
@@ -84,11 +84,11 @@ k_told_behind start folder list front through o there k next r e x y z h =
 module _ (start : Counters) (folder : List ℕ) (other : folder ≡ inbox → ⊥) where
   -- the k of an incarnation is small
   pub k_within_after : (ops list : List Op) → IsApplied (list ++ ops) → (folder_exists folder list ≡ true → k_of start folder list ≤ 65535) → (Exhausts start list ops → ⊥) → folder_exists folder (list ++ ops) ≡ true → k_of start folder (list ++ ops) ≤ 65535
-  k_within_after [] list a h lasts t =
+  k_within_after [] list a h not_exhausted t =
       let e = ap (k_of start folder) (append-nil list) in
       let l = h (sym (ap (folder_exists folder) (append-nil list)) ∙ t) in
       omega (arith, e, l)
-  k_within_after (o ∷ ops) list a h lasts t =
+  k_within_after (o ∷ ops) list a h not_exhausted t =
       let b = others_applied list ops o a in
       let e = ap (k_of start folder) (append_assoc list (o ∷ []) ops) in
       let step : folder_exists folder (list ++ o ∷ []) ≡ true → k_of start folder (list ++ o ∷ []) ≤ 65535 = λ q.
@@ -96,38 +96,38 @@ module _ (start : Counters) (folder : List ℕ) (other : folder ≡ inbox → �
       elim (cases_Bool (folder_exists folder list)) [
         | inl was ↦ let l = h was in omega (arith, same, l)
         | inr f ↦
-            let one = begun start folder list o (applied_front (list ++ o ∷ []) ops b) f q in
+            let one = starts start folder list o (applied_front (list ++ o ∷ []) ops b) f q in
             let n = k_none start folder list f in
             elim (cases_lt 65535 (start.k + count_all begins_incarnation list)) [
-              | inl l ↦ absurd (first_lasts start list ops o lasts (inr (one, l)))
+              | inl l ↦ absurd (first_lasts start list ops o not_exhausted (inr (one, l)))
               | inr l ↦ omega (arith, same, n, l)
             ]
       ]
       in
-      let r = k_within_after ops (list ++ o ∷ []) b step (others_last start list ops o lasts) (ap (folder_exists folder) (append_assoc list (o ∷ []) ops) ∙ t) in
+      let r = k_within_after ops (list ++ o ∷ []) b step (others_last start list ops o not_exhausted) (ap (folder_exists folder) (append_assoc list (o ∷ []) ops) ∙ t) in
       omega (arith, r, e)
 
   pub k_within_table : (list : List Op) (k : ℕ) (charts : List (Vec ℕ × Chart)) → IsTable start list k charts → folder_exists folder list ≡ true → k_of start folder list ≤ 65535
-  k_within_table list k charts t there = by (chart_at folder charts) refl
+  k_within_table list k charts t present = by (chart_at folder charts) refl
     where
       by : (x : Option Chart) → chart_at folder charts ≡ x → k_of start folder list ≤ 65535
-      by None e = absurd (false≢true (sym (t.covers folder e) ∙ there))
+      by None e = absurd (false≢true (sym (t.covers folder e) ∙ present))
       by (Some c) e =
           let up = t.shows folder c e in
-          let q : c.there ≡ true = up.there ∙ there in
+          let q : c.present ≡ true = up.present ∙ present in
           subst (λ n. n ≤ 65535) (up.is_k q) (up.small q other)
 
 -- ---- HIGHESTMODSEQ
 
-pub highest_told : (folder : List ℕ) (list front through : List Op) (o : Op) (there about : Bool) (h r : ℕ) → through ≡ front ++ o ∷ [] → there ≡ folder_exists folder (list ++ through) → about ≡ kind_names_folder folder o.kind → h ≡ highest_modseq_of folder (list ++ front) → r ≡ cond there (cond about (h + 1) h) 1 → r ≡ highest_modseq_of folder (list ++ through)
-highest_told folder list front through o there about h r e x y u k =
-    let w = behind list front through o e in
+pub highest_is : (folder : List ℕ) (list front through : List Op) (o : Op) (present about : Bool) (h r : ℕ) → through ≡ front ++ o ∷ [] → present ≡ folder_exists folder (list ++ through) → about ≡ kind_names_folder folder o.kind → h ≡ highest_modseq_of folder (list ++ front) → r ≡ cond present (cond about (h + 1) h) 1 → r ≡ highest_modseq_of folder (list ++ through)
+highest_is folder list front through o present about h r e x y u k =
+    let w = append_next list front through o e in
     let is = x ∙ ap (folder_exists folder) w in
-    k ∙ elim (cases_Bool there) [
+    k ∙ elim (cases_Bool present) [
       | inl t ↦
           let m = highest_here folder (list ++ front) o (sym is ∙ t) in
           (λ i. cond (t i) (cond about (h + 1) h) 1) ∙ plus about h ∙ (λ i. u i + once (y i)) ∙ sym m ∙ sym (ap (highest_modseq_of folder) w)
-      | inr g ↦ (λ i. cond (g i) (cond about (h + 1) h) 1) ∙ sym (highest_gone folder (list ++ front) o (sym is ∙ g)) ∙ sym (ap (highest_modseq_of folder) w)
+      | inr g ↦ (λ i. cond (g i) (cond about (h + 1) h) 1) ∙ sym (highest_absent folder (list ++ front) o (sym is ∙ g)) ∙ sym (ap (highest_modseq_of folder) w)
     ]
   where
     plus : (b : Bool) (n : ℕ) → cond b (n + 1) n ≡ n + once b
@@ -141,7 +141,7 @@ highest_bound folder (o ∷ ops) list n u l =
     let e = ap (highest_modseq_of folder) (append_assoc list (o ∷ []) ops) in
     let step : highest_modseq_of folder (list ++ o ∷ []) ≤ n + 1 = elim (cases_Bool (folder_exists folder (list ++ o ∷ []))) [
       | inl t ↦ let h = highest_here folder list o t in let b = once_most (kind_names_folder folder o.kind) in omega (arith, h, b, u)
-      | inr g ↦ let h = highest_gone folder list o g in omega (arith, h, l)
+      | inr g ↦ let h = highest_absent folder list o g in omega (arith, h, l)
     ] in
     let r = highest_bound folder ops (list ++ o ∷ []) (n + 1) step (omega arith) in
     omega (arith, r, e)
@@ -155,7 +155,7 @@ highest_still folder (o ∷ ops) list n a none u l =
     let e = ap (highest_modseq_of folder) (append_assoc list (o ∷ []) ops) in
     let step : highest_modseq_of folder (list ++ o ∷ []) ≤ n = elim (cases_Bool (folder_exists folder (list ++ o ∷ []))) [
       | inl t ↦ let h = highest_here folder list o t in let z : once (kind_names_folder folder o.kind) ≡ 0 = ap once p.0 in omega (arith, h, z, u)
-      | inr g ↦ let h = highest_gone folder list o g in omega (arith, h, l)
+      | inr g ↦ let h = highest_absent folder list o g in omega (arith, h, l)
     ] in
     let r = highest_still folder ops (list ++ o ∷ []) n b p.1 step l in
     omega (arith, r, e)
@@ -191,10 +191,10 @@ once_as true k = refl
 once_as false k = omega arith
 
 -- the k of the incarnation that begins next
-pub next_k_behind : (start : Counters) (list front through : List Op) (o : Op) (b : Bool) (k r : ℕ) → through ≡ front ++ o ∷ [] → b ≡ begins_incarnation (list ++ front) o → k ≡ start.k + count_all begins_incarnation (list ++ front) → r ≡ cond b (k + 1) k → r ≡ start.k + count_all begins_incarnation (list ++ through)
-next_k_behind start list front through o b k r e x y z =
+pub next_k_is : (start : Counters) (list front through : List Op) (o : Op) (b : Bool) (k r : ℕ) → through ≡ front ++ o ∷ [] → b ≡ begins_incarnation (list ++ front) o → k ≡ start.k + count_all begins_incarnation (list ++ front) → r ≡ cond b (k + 1) k → r ≡ start.k + count_all begins_incarnation (list ++ through)
+next_k_is start list front through o b k r e x y z =
     let m = all-append begins_incarnation (list ++ front) o in
-    let w : count_all begins_incarnation (list ++ through) ≡ count_all begins_incarnation ((list ++ front) ++ o ∷ []) = ap (count_all begins_incarnation) (behind list front through o e) in
+    let w : count_all begins_incarnation (list ++ through) ≡ count_all begins_incarnation ((list ++ front) ++ o ∷ []) = ap (count_all begins_incarnation) (append_next list front through o e) in
     let v : once b ≡ once (begins_incarnation (list ++ front) o) = ap once x in
     let u = once_as b k in
     omega (arith, m, w, v, u, y, z)

@@ -28,8 +28,8 @@ some_is : {X : Type 0} (o : Option X) (x : X) → o ≡ Some x → IsSome o
 some_is o x e = subst IsSome (sym e) cc
 
 -- a new list for an origin that had none
-pub grows_begun : (origin : OpId) (ids : Vec OpId) (old new : Lists) → lookup (same_id origin) old ≡ None → ((o : OpId) → lookup (same_id o) new ≡ cond (same_id origin o) (Some ids) (lookup (same_id o) old)) → Grows old new
-grows_begun origin ids old new none is = record {
+pub grows_new : (origin : OpId) (ids : Vec OpId) (old new : Lists) → lookup (same_id origin) old ≡ None → ((o : OpId) → lookup (same_id o) new ≡ cond (same_id origin o) (Some ids) (lookup (same_id o) old)) → Grows old new
+grows_new origin ids old new none is = record {
   touched = λ o h. elim (cases_Bool (same_id origin o)) [
     | inl t ↦ some_is (lookup (same_id o) new) ids (is o ∙ ap (λ b. cond b (Some ids) (lookup (same_id o) old)) t)
     | inr f ↦ subst IsSome (sym (is o ∙ ap (λ b. cond b (Some ids) (lookup (same_id o) old)) f)) h
@@ -40,8 +40,8 @@ grows_begun origin ids old new none is = record {
   ];
 }
 
-pub begun_there : (origin : OpId) (ids : Vec OpId) (old new : Lists) → ((o : OpId) → lookup (same_id o) new ≡ cond (same_id origin o) (Some ids) (lookup (same_id o) old)) → IsSome (lookup (same_id origin) new)
-begun_there origin ids old new is = some_is (lookup (same_id origin) new) ids (is origin ∙ ap (λ b. cond b (Some ids) (lookup (same_id origin) old)) (own_id origin))
+pub new_list : (origin : OpId) (ids : Vec OpId) (old new : Lists) → ((o : OpId) → lookup (same_id o) new ≡ cond (same_id origin o) (Some ids) (lookup (same_id o) old)) → IsSome (lookup (same_id origin) new)
+new_list origin ids old new is = some_is (lookup (same_id origin) new) ids (is origin ∙ ap (λ b. cond b (Some ids) (lookup (same_id origin) old)) (own_id origin))
 
 -- the lists of other origins stay unchanged
 other_list : (origin : OpId) (old new : Lists) → KeepsOthers same_id (same_id origin) old new → (o : OpId) → same_id origin o ≡ false → lookup (same_id o) new ≡ lookup (same_id o) old

@@ -25,12 +25,12 @@ use Rattle.crdt_ops.proofs.Presence.{Has, id_of}
 use Rattle.crdt_ops.proofs.VersionLemmas.{versions_listed}
 use Rattle.uid_projection.specs.declared.first_numbers.Counters.{Counters}
 use Rattle.uid_projection.specs.Listing.{AreKeywordsLawful, AreIdsApplied}
-use Rattle.uid_projection.proofs.Listed.{row_in}
-use Rattle.uid_projection.proofs.Versions.{body_chosen, given_by, origin_applied, version_in}
+use Rattle.uid_projection.proofs.SortedRowLemmas.{row_in}
+use Rattle.uid_projection.proofs.Versions.{body_chosen, first_some_by, origin_applied, version_in}
 
 -- a present tag was added by an operation with its id
-own_there : (folder : List ℕ) (ops : List Op) (id : OpId) → (list_any (adds (MessageTag folder id)) ops) ≡ true → Has ops id
-own_there folder ops id h =
+own_applied : (folder : List ℕ) (ops : List Op) (id : OpId) → (list_any (adds (MessageTag folder id)) ops) ≡ true → Has ops id
+own_applied folder ops id h =
     let w = (any_in (adds (MessageTag folder id)) ops).0 h in
     subst (Has ops) (sym (adds_own (MessageTag folder id) w.0 w.2)) (id_of_element id_of w.0 ops w.1)
 
@@ -45,7 +45,7 @@ names_applied start folder ops row a i =
     let v = (version_in folder ops w.0).0 w.1 in (
       λ id h.
           let u = (l.1 id).0 (subst (IsIn id) (sym (ap (λ (r : ListedMessage). r.versions) w.2)) h) in
-          own_there folder ops id (and_parts (list_any (adds (MessageTag folder id)) ops) (not (list_any (removes (MessageTag folder id)) ops)) u.0).0,
+          own_applied folder ops id (and_parts (list_any (adds (MessageTag folder id)) ops) (not (list_any (removes (MessageTag folder id)) ops)) u.0).0,
       subst (Has ops) (ap (λ (r : ListedMessage). r.origin) w.2) (origin_applied folder ops w.0 a w.1),
       subst (λ (is : List OpId). 1 ≤ length is) (ap (λ (r : ListedMessage). r.versions) w.2) (one_at_least v.0 (versions_of ops folder w.0) ((l.1 v.0).1 v.1)),
     )
@@ -54,8 +54,8 @@ flags_by : (id : OpId) (kind : Kind) (b : MessageTagData) → HasLawfulFlags kin
 flags_by id (Create folder) b h e = absurd cc
 flags_by id (Delete folder seen) b h e = absurd cc
 flags_by id (Append folder flags date text) b h e = let k : record { flags = flags; origin = id } ≡ b = cc in subst (λ (x : MessageTagData). IsLawfulFlags x.flags) k h
-flags_by id (Expunge folder olds) b h e = absurd cc
-flags_by id (Store folder flags olds origin) b h e = let k : record { flags = flags; origin = origin } ≡ b = cc in subst (λ (x : MessageTagData). IsLawfulFlags x.flags) k h
+flags_by id (Expunge folder old_ids) b h e = absurd cc
+flags_by id (Store folder flags old_ids origin) b h e = let k : record { flags = flags; origin = origin } ≡ b = cc in subst (λ (x : MessageTagData). IsLawfulFlags x.flags) k h
 flags_by id (Subscribe folder) b h e = absurd cc
 flags_by id (Unsubscribe folder seen) b h e = absurd cc
 
@@ -107,7 +107,7 @@ pub flags_carried : (ops : List Op) (folder : List ℕ) (g : OpId) (flags : Flag
 flags_carried ops folder g flags i =
     let v = (in_filter_map (tag_flags_of ops folder) (versions_of ops folder g) flags).0 i in
     let b = flags_some (tag_data_of ops folder v.0) flags v.2 in
-    let z = given_by (tag_data_from folder v.0) ops b.0 b.1 in
+    let z = first_some_by (tag_data_from folder v.0) ops b.0 b.1 in
     (z.0, b.0, z.1, body_chosen (adds (MessageTag folder v.0) z.0) (tag_data_by z.0.id z.0.kind) b.0 z.2, b.2)
 
 pub keywords_lawful : (start : Counters) → AreKeywordsLawful start

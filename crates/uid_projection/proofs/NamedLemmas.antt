@@ -17,7 +17,7 @@ use Rattle.mailbox_rows.specs.RowViews.{AreRisingRows, rows_after_uid, row_of}
 use Rattle.uid_projection.specs.UidsAndModSeqs.{kind_names_folder}
 use Rattle.uid_projection.specs.EntryMoves.{AreApart, added_origin, loses}
 use Rattle.uid_projection.specs.TouchedMessages.{AddsUids, names_message}
-use Rattle.uid_projection.proofs.Moving.{same_own, same_true}
+use Rattle.uid_projection.proofs.EntryMovesLemmas.{same_own, same_true}
 
 -- ---- the row with a UID
 
@@ -29,15 +29,15 @@ row_cases None = inl refl
 row_cases (Some r) = inr (r, refl)
 
 -- it is a row, with this UID
-pub row_found : (uid : ℕ) (rows : List ListedMessage) (r : ListedMessage) → row_of uid rows ≡ Some r → IsIn r rows × (r.uid ≡ uid)
-row_found uid [] r h = absurd cc
-row_found uid (x ∷ rows) r h =
+pub row_of_some : (uid : ℕ) (rows : List ListedMessage) (r : ListedMessage) → row_of uid rows ≡ Some r → IsIn r rows × (r.uid ≡ uid)
+row_of_some uid [] r h = absurd cc
+row_of_some uid (x ∷ rows) r h =
     elim (cases_Bool (nat_eq x.uid uid)) [
       | inl t ↦
           let e : x ≡ r = same_row x r (sym (ap (λ b. cond {A = Option ListedMessage} b (Some x) (row_of uid rows)) t) ∙ h) in
           (inl e, subst (λ (y : ListedMessage). y.uid ≡ uid) e (eqb-true x.uid uid t))
       | inr f ↦
-          let w = row_found uid rows r (sym (ap (λ b. cond {A = Option ListedMessage} b (Some x) (row_of uid rows)) f) ∙ h) in
+          let w = row_of_some uid rows r (sym (ap (λ b. cond {A = Option ListedMessage} b (Some x) (row_of uid rows)) f) ∙ h) in
           (inr w.0, w.1)
     ]
 
@@ -65,15 +65,15 @@ row_none uid (x ∷ rows) h =
 -- ---- UIDs of named entries
 
 pub adds_none : (p : OpId → Bool) (es : List ListingEntry) (us : List ℕ) → ((g : OpId) → p g ≡ false) → AddsUids p es us us
-adds_none p es us none = record { kept = λ u i. i; named = λ a e i t. absurd (false≢true (sym (none e.origin) ∙ t)) }
+adds_none p es us none = record { retained = λ u i. i; named = λ a e i t. absurd (false≢true (sym (none e.origin) ∙ t)) }
 
 pub adds_alike : (p q : OpId → Bool) (es : List ListingEntry) (old new : List ℕ) → ((g : OpId) → p g ≡ q g) → AddsUids p es old new → AddsUids q es old new
-adds_alike p q es old new h r = record { kept = r.kept; named = λ a e i t. r.named a e i (h e.origin ∙ t) }
+adds_alike p q es old new h r = record { retained = r.retained; named = λ a e i t. r.named a e i (h e.origin ∙ t) }
 
 -- an entry that is named already
 pub adds_covered : (p : OpId → Bool) (o : OpId) (es : List ListingEntry) (a b : List ℕ) → p o ≡ true → AddsUids p es a b → AddsUids (λ g. p g || is_some_id g (Some o)) es a b
 adds_covered p o es a b h r = record {
-  kept = r.kept;
+  retained = r.retained;
   named = λ apart e i t. elim (or_cases (p e.origin) (is_some_id e.origin (Some o)) t) [
     | inl x ↦ r.named apart e i x
     | inr x ↦ r.named apart e i (subst (λ g. p g ≡ true) (sym (same_true e.origin o x)) h)
@@ -82,9 +82,9 @@ adds_covered p o es a b h r = record {
 
 pub adds_both : (p q : OpId → Bool) (es : List ListingEntry) (a b c : List ℕ) → AddsUids p es a b → AddsUids q es b c → AddsUids (λ g. p g || q g) es a c
 adds_both p q es a b c r s = record {
-  kept = λ u i. s.kept u (r.kept u i);
+  retained = λ u i. s.retained u (r.retained u i);
   named = λ apart e i t. elim (or_cases (p e.origin) (q e.origin) t) [
-    | inl x ↦ s.kept e.uid (r.named apart e i x)
+    | inl x ↦ s.retained e.uid (r.named apart e i x)
     | inr x ↦ s.named apart e i x
   ];
 }
@@ -121,7 +121,7 @@ adds_entry g es at old new is add =
     let w = entry_at es at is.within in
     let whole : new ≡ old ++ w.0.uid ∷ [] = add ∙ ap (λ o. old ++ map (λ (e : ListingEntry). e.uid) (option_to_list o)) w.1 in
     record {
-      kept = λ u i. subst (IsIn u) (sym whole) (in_front u old (w.0.uid ∷ []) i);
+      retained = λ u i. subst (IsIn u) (sym whole) (in_front u old (w.0.uid ∷ []) i);
       named = λ apart e i t.
           let own : w.0.origin ≡ g = sym (ap (λ (y : ListingEntry). y.origin) (w.3 e)) ∙ is.has_origin e in
           let one : w.0 ≡ e = apart_one es apart w.0 e w.2 i (own ∙ sym (same_true e.origin g t)) in
@@ -131,7 +131,7 @@ adds_entry g es at old new is add =
 -- an origin without an entry
 pub adds_lacking : (g : OpId) (es : List ListingEntry) (us : List ℕ) → Lacks g es → AddsUids (λ h. is_some_id h (Some g)) es us us
 adds_lacking g es us l = record {
-  kept = λ u i. i;
+  retained = λ u i. i;
   named = λ apart e i t. absurd (false≢true (sym (lacks_in g es e l i) ∙ same_entry g e.origin (sym (same_true e.origin g t))));
 }
 

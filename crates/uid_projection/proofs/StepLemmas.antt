@@ -20,7 +20,7 @@ module _ (op : Op) (a b d e : FolderAhead) (ab : folder_of b ≡ folder_of a) (b
       → ((i : OpId) → tag_data_ahead e i ≡ tag_data_ahead d i)
       → ((i : OpId) → dated_texts_ahead e i ≡ option_or (dated_text_from i op) (dated_texts_ahead d i))
       → IsOrderly e → (c : Contents) → IsAhead c a → IsAhead (effect_of c op) e
-  stepped tags_out bodies_out letters_out tags_in bodies_in letters_in tags_on bodies_on letters_on orderly c h =
+  stepped tags_out bodies_out dated_texts_out tags_in bodies_in dated_texts_in tags_on bodies_on dated_texts_on orderly c h =
       let of_b : folder_of b ≡ folder_of e = sym bd ∙ sym de in
       let of_a : folder_of a ≡ folder_of e = sym ab ∙ of_b in
       record {
@@ -29,9 +29,9 @@ module _ (op : Op) (a b d e : FolderAhead) (ab : folder_of b ≡ folder_of a) (b
             let was : tags_ahead a i ≡ c.tags (folder_of e) i = h.tags i ∙ ap (λ f. c.tags f i) of_a in
             let out : tags_ahead b i ≡ (not (removes (FolderTag (folder_of e) i) op) && c.tags (folder_of e) i) = tags_out i ∙ (λ k. not (removes (FolderTag (of_a k) i) op) && was k) in
             tags_on i ∙ tags_in i ∙ (λ k. adds (FolderTag (of_b k) i) op || out k);
-        bodies = λ i.
-            let was : tag_data_ahead a i ≡ c.bodies (folder_of e) i = h.bodies i ∙ ap (λ f. c.bodies f i) of_a in
-            let out : tag_data_ahead b i ≡ cond (removes (MessageTag (folder_of e) i) op) None (c.bodies (folder_of e) i) = bodies_out i ∙ (λ k. cond (removes (MessageTag (of_a k) i) op) None (was k)) in
+        tag_data = λ i.
+            let was : tag_data_ahead a i ≡ c.tag_data (folder_of e) i = h.tag_data i ∙ ap (λ f. c.tag_data f i) of_a in
+            let out : tag_data_ahead b i ≡ cond (removes (MessageTag (folder_of e) i) op) None (c.tag_data (folder_of e) i) = bodies_out i ∙ (λ k. cond (removes (MessageTag (of_a k) i) op) None (was k)) in
             bodies_on i ∙ bodies_in i ∙ (λ k. cond (adds (MessageTag (of_b k) i) op) (tag_data_by op.id op.kind) (out k));
-        letters = λ i. letters_on i ∙ ap (option_or (dated_text_from i op)) (letters_in i ∙ letters_out i ∙ h.letters i);
+        dated_texts = λ i. dated_texts_on i ∙ ap (option_or (dated_text_from i op)) (dated_texts_in i ∙ dated_texts_out i ∙ h.dated_texts i);
       }

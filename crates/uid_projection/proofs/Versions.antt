@@ -16,34 +16,34 @@ use Rattle.crdt_ops.specs.Sets.{MessageTagData, tag_data_by, tag_data_from, firs
 use Rattle.crdt_ops.specs.Sound.{CoversReferenced}
 use Rattle.crdt_ops.specs.Tags.{MessageTag, tag_added_by, adds, is_present, is_some_tag, removes}
 use Rattle.crdt_ops.specs.TagLaws.{adds_own, same_id_is}
-use Rattle.crdt_ops.proofs.Members.{any_in, given_in}
+use Rattle.crdt_ops.proofs.Members.{any_in, first_some_in}
 use Rattle.crdt_ops.proofs.OrderLemmas.{id_order_same, id_order_total, one_ascending}
 use Rattle.crdt_ops.proofs.Presence.{Has, id_of}
 use Rattle.crdt_ops.proofs.VersionLemmas.{origins_listed, versions_listed}
 use Rattle.uid_projection.specs.Applied.{IsApplied}
 use Rattle.uid_projection.specs.UidsAndModSeqs.{begins_line, begins_line_of_origin, changes_versions, kind_names_folder, has_version, holds_of_some, origin_added, same_ids}
 use Rattle.uid_projection.proofs.Presence.{added_once, adds_about, presence_step, removed_about}
-use Rattle.uid_projection.proofs.Steps.{given_append}
+use Rattle.uid_projection.proofs.Steps.{first_some_append}
 
 -- an operation that adds a message tag gives it data
 carries : (f : List ℕ) (i id : OpId) (kind : Kind) → is_some_tag (MessageTag f i) (tag_added_by id kind) ≡ true → IsSome (tag_data_by id kind)
 carries f i id (Create folder) h = absurd (false≢true h)
 carries f i id (Delete folder seen) h = absurd (false≢true h)
 carries f i id (Append folder flags date text) h = refl
-carries f i id (Expunge folder olds) h = absurd (false≢true h)
-carries f i id (Store folder flags olds origin) h = refl
+carries f i id (Expunge folder old_ids) h = absurd (false≢true h)
+carries f i id (Store folder flags old_ids origin) h = refl
 carries f i id (Subscribe name) h = absurd (false≢true h)
 carries f i id (Unsubscribe name seen) h = absurd (false≢true h)
 
 -- ---- the data of a tag stays
 
-pub given_more : {X Y : Type 0} (f : X → Option Y) (xs ys : List X) (y : Y) → first_some f xs ≡ Some y → first_some f (xs ++ ys) ≡ Some y
-given_more f xs ys y h = given_append f xs ys ∙ ap (λ o. option_or o (first_some f ys)) h
+pub first_some_more : {X Y : Type 0} (f : X → Option Y) (xs ys : List X) (y : Y) → first_some f xs ≡ Some y → first_some f (xs ++ ys) ≡ Some y
+first_some_more f xs ys y h = first_some_append f xs ys ∙ ap (λ o. option_or o (first_some f ys)) h
 
 -- an id that came earlier has no date and text later
-pub letter_later : (id : OpId) (ops more : List Op) → IsApplied (ops ++ more) → Has ops id → dated_text_of (ops ++ more) id ≡ dated_text_of ops id
-letter_later id ops more a h =
-    given_append (dated_text_from id) ops more ∙ ap (option_or (dated_text_of ops id)) (none_later more (λ o i.
+pub dated_text_later : (id : OpId) (ops more : List Op) → IsApplied (ops ++ more) → Has ops id → dated_text_of (ops ++ more) id ≡ dated_text_of ops id
+dated_text_later id ops more a h =
+    first_some_append (dated_text_from id) ops more ∙ ap (option_or (dated_text_of ops id)) (none_later more (λ o i.
     let s = split_at o more i in
     let w : ops ++ more ≡ (ops ++ s.0) ++ o ∷ s.1 = ap (λ xs. ops ++ xs) s.2 ∙ sym (append_assoc ops s.0 (o ∷ s.1)) in
     false_from_ne_true (same_id id o.id) (λ t. (a.causal (ops ++ s.0) o s.1 w).1 (id_in_front id_of o.id ops s.0 (subst (Has ops) (same_id_is id o.id t) h)))))
@@ -60,7 +60,7 @@ letter_later id ops more a h =
 -- the data of a tag in the list in which it was first added
 carried_of : (folder : List ℕ) (ops : List Op) (o : Op) → IsApplied (ops ++ o ∷ []) → adds (MessageTag folder o.id) o ≡ true → first_some (tag_data_from folder o.id) (ops ++ o ∷ []) ≡ tag_data_by o.id o.kind
 carried_of folder ops o a t =
-    given_append (tag_data_from folder o.id) ops (o ∷ [])
+    first_some_append (tag_data_from folder o.id) ops (o ∷ [])
     ∙ (λ k. option_or (none_given folder o.id ops (added_once ops o (MessageTag folder o.id) a t) k) (option_or (cond (t k) (tag_data_by o.id o.kind) None) None))
     ∙ or-none (tag_data_by o.id o.kind)
   where
@@ -83,20 +83,20 @@ pub present_carries : (folder : List ℕ) (ops : List Op) (id : OpId) → is_pre
 present_carries folder ops id p =
     let w = (any_in (adds (MessageTag folder id)) ops).0 (and_parts (list_any (adds (MessageTag folder id)) ops) (not (list_any (removes (MessageTag folder id)) ops)) p).0 in
     let here : IsSome (tag_data_from folder id w.0) = subst (λ (b : Bool). IsSome (cond b (tag_data_by w.0.id w.0.kind) None)) (sym w.2) (carries folder id w.0.id w.0.kind w.2) in
-    some_of (first_some (tag_data_from folder id) ops) ((given_in (tag_data_from folder id) ops).1 (w.0, w.1, here))
+    some_of (first_some (tag_data_from folder id) ops) ((first_some_in (tag_data_from folder id) ops).1 (w.0, w.1, here))
 
 one_some : {Y : Type 0} (o : Option Y) (x y : Y) → o ≡ Some x → o ≡ Some y → x ≡ y
 one_some o x y h k = cc
 
 -- ---- where origins come from
 
-given_step : {X Y : Type 0} (f : X → Option Y) (x : X) (xs : List X) (y : Y) (o : Option Y) → o ≡ f x → option_or o (first_some f xs) ≡ Some y → (first_some f xs ≡ Some y → (z : X) × IsIn z xs × (f z ≡ Some y)) → (z : X) × IsIn z (x ∷ xs) × (f z ≡ Some y)
-given_step f x xs y None e h k = let w = k h in (w.0, inr w.1, w.2)
-given_step f x xs y (Some v) e h k = (x, inl refl, sym e ∙ h)
+first_some_step : {X Y : Type 0} (f : X → Option Y) (x : X) (xs : List X) (y : Y) (o : Option Y) → o ≡ f x → option_or o (first_some f xs) ≡ Some y → (first_some f xs ≡ Some y → (z : X) × IsIn z xs × (f z ≡ Some y)) → (z : X) × IsIn z (x ∷ xs) × (f z ≡ Some y)
+first_some_step f x xs y None e h k = let w = k h in (w.0, inr w.1, w.2)
+first_some_step f x xs y (Some v) e h k = (x, inl refl, sym e ∙ h)
 
-pub given_by : {X Y : Type 0} (f : X → Option Y) (xs : List X) (y : Y) → first_some f xs ≡ Some y → (x : X) × IsIn x xs × (f x ≡ Some y)
-given_by f [] y h = absurd cc
-given_by f (x ∷ xs) y h = given_step f x xs y (f x) refl h (given_by f xs y)
+pub first_some_by : {X Y : Type 0} (f : X → Option Y) (xs : List X) (y : Y) → first_some f xs ≡ Some y → (x : X) × IsIn x xs × (f x ≡ Some y)
+first_some_by f [] y h = absurd cc
+first_some_by f (x ∷ xs) y h = first_some_step f x xs y (f x) refl h (first_some_by f xs y)
 
 pub body_chosen : (b : Bool) (o : Option MessageTagData) (y : MessageTagData) → cond b o None ≡ Some y → o ≡ Some y
 body_chosen true o y h = h
@@ -107,14 +107,14 @@ origin_by : (ops : List Op) (id : OpId) (kind : Kind) (clock : List (ℕ × ℕ)
 origin_by ops id (Create folder) clock b c h i e = absurd cc
 origin_by ops id (Delete folder seen) clock b c h i e = absurd cc
 origin_by ops id (Append folder flags date text) clock b c h i e = let k : record { flags = flags; origin = id } ≡ b = cc in subst (λ (x : MessageTagData). Has ops x.origin) k i
-origin_by ops id (Expunge folder olds) clock b c h i e = absurd cc
-origin_by ops id (Store folder flags olds origin) clock b c h i e = let k : record { flags = flags; origin = origin } ≡ b = cc in subst (λ (x : MessageTagData). Has ops x.origin) k (h origin c.1)
+origin_by ops id (Expunge folder old_ids) clock b c h i e = absurd cc
+origin_by ops id (Store folder flags old_ids origin) clock b c h i e = let k : record { flags = flags; origin = origin } ≡ b = cc in subst (λ (x : MessageTagData). Has ops x.origin) k (h origin c.1)
 origin_by ops id (Subscribe folder) clock b c h i e = absurd cc
 origin_by ops id (Unsubscribe folder seen) clock b c h i e = absurd cc
 
-pub origin_there : (folder : List ℕ) (ops : List Op) (id : OpId) (b : MessageTagData) → IsApplied ops → first_some (tag_data_from folder id) ops ≡ Some b → Has ops b.origin
-origin_there folder ops id b a h =
-    let w = given_by (tag_data_from folder id) ops b h in
+pub data_origin_applied : (folder : List ℕ) (ops : List Op) (id : OpId) (b : MessageTagData) → IsApplied ops → first_some (tag_data_from folder id) ops ≡ Some b → Has ops b.origin
+data_origin_applied folder ops id b a h =
+    let w = first_some_by (tag_data_from folder id) ops b h in
     let s = split_at w.0 ops w.1 in
     let ripe = a.causal s.0 w.0 s.1 s.2 in
     origin_by ops w.0.id w.0.kind w.0.clock b (a.sound w.0 w.1).covered
@@ -138,7 +138,7 @@ origin_applied folder ops g a h =
     let b = present_carries folder ops v.0 v.1.0 in
     let e : ◌≡◌ {A = Option OpId} (Some b.0.origin) (Some g) = sym (ap (option_map (λ (x : MessageTagData). x.origin)) b.1) ∙ v.1.1 in
     let k : b.0.origin ≡ g = cc in
-    subst (Has ops) k (origin_there folder ops v.0 b.0 a b.1)
+    subst (Has ops) k (data_origin_applied folder ops v.0 b.0 a b.1)
 
 same_bool : (a b : Bool) → (a ≡ true → b ≡ true) → (b ≡ true → a ≡ true) → a ≡ b
 same_bool true b h k = sym (h refl)
@@ -158,19 +158,19 @@ was_present false r b h k = (λ i. not (h i) && k i)
 
 module _ (folder : List ℕ) (ops : List Op) (o : Op) (a : IsApplied (ops ++ o ∷ [])) where
   -- a tag that was present keeps its origin
-  origin_kept : (i : OpId) → is_present ops (MessageTag folder i) ≡ true → origin_of (ops ++ o ∷ []) folder i ≡ origin_of ops folder i
-  origin_kept i p =
+  origin_unchanged : (i : OpId) → is_present ops (MessageTag folder i) ≡ true → origin_of (ops ++ o ∷ []) folder i ≡ origin_of ops folder i
+  origin_unchanged i p =
       let b = present_carries folder ops i p in
-      ap (option_map (λ (x : MessageTagData). x.origin)) (given_more (tag_data_from folder i) ops (o ∷ []) b.0 b.1 ∙ sym b.1)
+      ap (option_map (λ (x : MessageTagData). x.origin)) (first_some_more (tag_data_from folder i) ops (o ∷ []) b.0 b.1 ∙ sym b.1)
 
   -- the tag that the operation adds has the operation's origin
   pub origin_new : adds (MessageTag folder o.id) o ≡ true → origin_of (ops ++ o ∷ []) folder o.id ≡ origin_added folder o
   origin_new t = ap (option_map (λ (x : MessageTagData). x.origin)) (carried_of folder ops o a t ∙ (λ k. cond (sym t k) (tag_data_by o.id o.kind) None))
 
-  pub version_kept : (g i : OpId) → IsVersion ops folder g i → removes (MessageTag folder i) o ≡ false → IsVersion (ops ++ o ∷ []) folder g i
-  version_kept g i v r = (
+  pub version_remains : (g i : OpId) → IsVersion ops folder g i → removes (MessageTag folder i) o ≡ false → IsVersion (ops ++ o ∷ []) folder g i
+  version_remains g i v r = (
     presence_step ops o (MessageTag folder i) a ∙ was_present (adds (MessageTag folder i) o) (removes (MessageTag folder i) o) (is_present ops (MessageTag folder i)) r v.0,
-    origin_kept i v.0 ∙ v.1,
+    origin_unchanged i v.0 ∙ v.1,
   )
 
   -- a version was one before and isn't removed, or is added
@@ -181,12 +181,12 @@ module _ (folder : List ℕ) (ops : List Op) (o : Op) (a : IsApplied (ops ++ o �
             let is : i ≡ o.id = adds_own (MessageTag folder i) o t in
             let u : adds (MessageTag folder o.id) o ≡ true = subst (λ (j : OpId). adds (MessageTag folder j) o ≡ true) is t in
             inr (t, sym (origin_new u) ∙ sym (ap (origin_of (ops ++ o ∷ []) folder) is) ∙ v.1)
-        | inr p ↦ inl ((p.0, sym (origin_kept i p.0) ∙ v.1), p.1)
+        | inr p ↦ inl ((p.0, sym (origin_unchanged i p.0) ∙ v.1), p.1)
       ]
 
   -- an origin's first version is added by the operation
-  pub begun_added : (g : OpId) → begins_line_of_origin folder g ops o ≡ true → origin_added folder o ≡ Some g
-  begun_added g h =
+  pub starts_added : (g : OpId) → begins_line_of_origin folder g ops o ≡ true → origin_added folder o ≡ Some g
+  starts_added g h =
       let p = and_parts (has_version folder g (ops ++ o ∷ [])) (not (has_version folder g ops)) h in
       let v = (version_in folder (ops ++ o ∷ []) g).0 p.0 in
       elim (version_cases g v.0 v.1) [
@@ -198,8 +198,8 @@ module _ (folder : List ℕ) (ops : List Op) (o : Op) (a : IsApplied (ops ++ o �
       not_both true h k = false≢true h
       not_both false h k = false≢true k
 
-  pub line_begun : (g : OpId) → begins_line_of_origin folder g ops o ≡ true → begins_line folder ops o ≡ true
-  line_begun g h = ap (holds_of_some (λ origin. begins_line_of_origin folder origin ops o)) (begun_added g h) ∙ h
+  pub line_starts : (g : OpId) → begins_line_of_origin folder g ops o ≡ true → begins_line folder ops o ≡ true
+  line_starts g h = ap (holds_of_some (λ origin. begins_line_of_origin folder origin ops o)) (starts_added g h) ∙ h
 
   -- an operation about another folder leaves the versions unchanged
   pub versions_other : (g : OpId) → kind_names_folder folder o.kind ≡ false → versions_of (ops ++ o ∷ []) folder g ≡ versions_of ops folder g
@@ -211,7 +211,7 @@ module _ (folder : List ℕ) (ops : List Op) (o : Op) (a : IsApplied (ops ++ o �
           | inl w ↦ w.0
           | inr w ↦ absurd (false≢true (sym f ∙ adds_about folder i o.id o.kind (inr w.0)))
         ]),
-        λ h. (l.1 i).1 (version_kept g i ((m.1 i).0 h) (false_from_ne_true (removes (MessageTag folder i) o) (λ r. false≢true (sym f ∙ removed_about folder i o.kind (inr r))))),
+        λ h. (l.1 i).1 (version_remains g i ((m.1 i).0 h) (false_from_ne_true (removes (MessageTag folder i) o) (λ r. false≢true (sym f ∙ removed_about folder i o.kind (inr r))))),
       ))
 
 pub same_itself : (is : List OpId) → same_ids is is ≡ true
@@ -243,8 +243,8 @@ module _ (folder : List ℕ) (ops : List Op) (o : Op) where
       ]
 
   -- an operation with which a line begins changes them
-  pub begun_changed : (g : OpId) → begins_line_of_origin folder g ops o ≡ true → changes_versions folder g ops o ≡ true
-  begun_changed g h =
+  pub starts_changed : (g : OpId) → begins_line_of_origin folder g ops o ≡ true → changes_versions folder g ops o ≡ true
+  starts_changed g h =
       elim (cases_Bool (changes_versions folder g ops o)) [
         | inl t ↦ t
         | inr f ↦

@@ -29,7 +29,7 @@ pub record IsLawfulStart (start : Counters) : Type 0 where
 -- its operations.
 pub record IsLasting (start : Counters) (ops : List Op) : Type 0 where
   pub applied : IsApplied ops
-  pub lasts : Exhausts start [] ops → ⊥
+  pub not_exhausted : Exhausts start [] ops → ⊥
 
 -- A row's numbers are from 1 on; its UID is below UIDNEXT, and its mod-sequence is at most one more
 -- than the number of operations.

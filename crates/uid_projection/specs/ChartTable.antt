@@ -33,11 +33,11 @@ origin_at versions id = lookup (same_id id) versions
 
 -- The chart is that of the folder after these operations, whether the folder exists or not.
 pub record IsUpTo (start : Counters) (folder : List ℕ) (ops : List Op) (c : Chart) : Type 0 where
-  pub there : c.there ≡ folder_exists folder ops
+  pub present : c.present ≡ folder_exists folder ops
   pub shows : IsChart start folder ops c.uidnext c.highest c.entries.entries
   pub versions : AreVersions folder ops (origin_at c.versions.entries)
-  pub is_k : c.there ≡ true → c.k ≡ k_of start folder ops
-  pub small : c.there ≡ true → (folder ≡ inbox → ⊥) → c.k ≤ 65535
+  pub is_k : c.present ≡ true → c.k ≡ k_of start folder ops
+  pub small : c.present ≡ true → (folder ≡ inbox → ⊥) → c.k ≤ 65535
 
 -- The charts are up to these operations, and each existing folder has one.
 pub record IsTable (start : Counters) (ops : List Op) (next_k : ℕ) (charts : List (Vec ℕ × Chart)) :
@@ -67,19 +67,19 @@ HasRooms origin n folder charts = HasRoomsIn origin n (chart_at folder charts)
 
 -- The operation is applied next after the list, with these contents as its result. It lacks no
 -- number.
-pub record ComesNext (start : Counters) (next_k : ℕ) (value : Contents) (list : List Op) (o : Op) :
+pub record IsNextOp (start : Counters) (next_k : ℕ) (value : Contents) (list : List Op) (o : Op) :
     Type 0 where
   pub first : 1 ≤ start.uid
   pub applied : IsApplied (list ++ o ∷ [])
   pub made : IsMadeBy value (list ++ o ∷ [])
   pub is_k : next_k ≡ start.k + count_all begins_incarnation list
-  pub lasts : IsExhausted start list o → ⊥
+  pub not_exhausted : IsExhausted start list o → ⊥
 
 -- The operation is applied next after the list that its folder's chart is up to, and the chart has
 -- room for it.
 pub record IsNextAt (start : Counters) (next_k : ℕ) (value : Contents) (list : List Op) (o : Op)
     (c : Chart) : Type 0 where
-  pub next : ComesNext start next_k value list o
+  pub next : IsNextOp start next_k value list o
   pub about : kind_names_folder (name_of o.kind) o.kind ≡ true
   pub up : IsUpTo start (name_of o.kind) list c
   pub roomy : IsRoomy (added_origin o) 1 c
@@ -87,12 +87,12 @@ pub record IsNextAt (start : Counters) (next_k : ℕ) (value : Contents) (list :
 -- The operation is applied next after the list that the charts are up to.
 pub record IsNextOn (start : Counters) (next_k : ℕ) (charts : List (Vec ℕ × Chart))
     (value : Contents) (list : List Op) (o : Op) : Type 0 where
-  pub next : ComesNext start next_k value list o
+  pub next : IsNextOp start next_k value list o
   pub table : IsTable start list next_k charts
 
 -- The charts have the same numbers, entries and versions, and the new one has no less room.
 pub record IsSame (old new : Chart) : Type 0 where
-  pub there : new.there ≡ old.there
+  pub present : new.present ≡ old.present
   pub k : new.k ≡ old.k
   pub uidnext : new.uidnext ≡ old.uidnext
   pub highest : new.highest ≡ old.highest
@@ -109,8 +109,8 @@ pub record Advances (start : Counters) (folder : List ℕ) (value : Contents) (l
   pub applied : IsApplied (list ++ o ∷ [])
   pub made : IsMadeBy value (list ++ o ∷ [])
   pub about : kind_names_folder folder o.kind ≡ true
-  pub is_there_now : folder_exists folder (list ++ o ∷ []) ≡ true
-  pub lasts : IsExhausted start list o → ⊥
+  pub exists_now : folder_exists folder (list ++ o ∷ []) ≡ true
+  pub not_exhausted : IsExhausted start list o → ⊥
   pub shows : IsChart start folder list c.uidnext c.highest c.entries.entries
   pub versions : AreVersions folder list (origin_at c.versions.entries)
   pub roomy : IsRoomy (added_origin o) 1 c

@@ -21,29 +21,29 @@ splits_from front (op ∷ back) =
 abbrev pub splits_of : {O : Type 0} → List O → List (Split O)
 splits_of ops = splits_from [] ops
 
--- Whether `there` holds after the operations `front`, and after each further one.
+-- Whether `present` holds after the operations `front`, and after each further one.
 abbrev pub holds_since : {O : Type 0} → (List O → Bool) → List O → List O → Bool
-holds_since there front [] = there front
-holds_since there front (op ∷ back) = there front && holds_since there (front ++ op ∷ []) back
+holds_since present front [] = present front
+holds_since present front (op ∷ back) = present front && holds_since present (front ++ op ∷ []) back
 
--- Whether `there` has held ever since this operation was applied.
+-- Whether `present` has held ever since this operation was applied.
 abbrev pub has_held_since : {O : Type 0} → (List O → Bool) → Split O → Bool
-has_held_since there cut = holds_since there (cut.front ++ cut.op ∷ []) cut.back
+has_held_since present cut = holds_since present (cut.front ++ cut.op ∷ []) cut.back
 
--- The number of operations that have the property `P` and since which `there` has always held.
+-- The number of operations that have the property `P` and since which `present` has always held.
 abbrev pub count_since : {O : Type 0} → (List O → Bool) → (List O → O → Bool) → List O → ℕ
-count_since there P ops =
-    length (filter (λ cut. P cut.front cut.op && has_held_since there cut) (splits_of ops))
+count_since present P ops =
+    length (filter (λ cut. P cut.front cut.op && has_held_since present cut) (splits_of ops))
 
 -- The number of such operations among the first `n`.
 abbrev pub count_since_up_to : {O : Type 0} → ℕ → (List O → Bool) → (List O → O → Bool) → List O → ℕ
-count_since_up_to n there P ops =
-    count_since there (λ front op. P front op && nat_lt (length front) n) ops
+count_since_up_to n present P ops =
+    count_since present (λ front op. P front op && nat_lt (length front) n) ops
 
--- The number of operations that have the property `P` and since which `there` hasn't always held.
+-- The number of operations that have the property `P` and since which `present` hasn't always held.
 abbrev pub count_not_since : {O : Type 0} → (List O → Bool) → (List O → O → Bool) → List O → ℕ
-count_not_since there P ops =
-    length (filter (λ cut. P cut.front cut.op && not (has_held_since there cut)) (splits_of ops))
+count_not_since present P ops =
+    length (filter (λ cut. P cut.front cut.op && not (has_held_since present cut)) (splits_of ops))
 
 -- The number of operations that have the property `P`.
 abbrev pub count_all : {O : Type 0} → (List O → O → Bool) → List O → ℕ

@@ -1,4 +1,4 @@
--- Pending operations, and the state in which they find a folder and its chart.
+-- Pending operations, and the state of a folder and its chart before them.
 
 use Rattle.std.specs.Prelude.{◌≡◌, ℕ, Bool, true, List, [], ◌∷◌, ◌++◌}
 use Rattle.tags_clocks.specs.declared.id.OpId.{OpId}

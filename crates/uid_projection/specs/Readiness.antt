@@ -43,9 +43,10 @@ ready_first x list o os r = record {
         sound = λ p h. whole.sound p (in_front p (list ++ o ∷ []) os h);
         causal = causal_front (λ (p : Op). p.id) (λ p. p.clock) (list ++ o ∷ []) os whole.causal;
       };
-  lasts =
+  not_exhausted =
       λ e. let (front, p, back, k, h) = e in
-      r.lasts (front, p, back ++ os, ap (λ xs. xs ++ os) k ∙ append_assoc front (p ∷ back) os, h);
+      r.not_exhausted
+      (front, p, back ++ os, ap (λ xs. xs ++ os) k ∙ append_assoc front (p ∷ back) os, h);
   rooms =
       λ p i about. less_room (added_origin p) 1 (length (o ∷ os)) (name_of p.kind) x.charts.entries
       (omega arith) (r.rooms p (in_front p (o ∷ []) os i) about);

@@ -21,20 +21,20 @@ use Rattle.uid_projection.specs.EntryMoves.{AreApart, added_origin, loses}
 
 -- Below this UIDNEXT, the two listings have the same row under each UID that isn't one of these.
 abbrev pub RowsStayExcept : List ℕ → ℕ → List ListedMessage → List ListedMessage → Type 0
-RowsStayExcept uids uidnext before behind =
-    (uid : ℕ) → IsIn uid uids ⊎ ((uidnext ≤ uid) ⊎ (row_of uid behind ≡ row_of uid before))
+RowsStayExcept uids uidnext before later =
+    (uid : ℕ) → IsIn uid uids ⊎ ((uidnext ≤ uid) ⊎ (row_of uid later ≡ row_of uid before))
 
 -- No operation of the list is about the folder.
 abbrev pub AreAboutOthers : List ℕ → List Op → Type 0
 AreAboutOthers folder ops = (op : Op) → IsIn op ops → kind_names_folder folder op.kind ≡ false
 
 -- What is shown of a folder is the same after both lists.
-pub record IsShownAlike (start : Counters) (folder : List ℕ) (before behind : List Op) :
+pub record IsShownAlike (start : Counters) (folder : List ℕ) (before later : List Op) :
     Type 0 where
-  pub rows : listing start folder behind ≡ listing start folder before
-  pub uidvalidity : uidvalidity_of start folder behind ≡ uidvalidity_of start folder before
-  pub uidnext : uidnext_of start folder behind ≡ uidnext_of start folder before
-  pub highest : highest_modseq_of folder behind ≡ highest_modseq_of folder before
+  pub rows : listing start folder later ≡ listing start folder before
+  pub uidvalidity : uidvalidity_of start folder later ≡ uidvalidity_of start folder before
+  pub uidnext : uidnext_of start folder later ≡ uidnext_of start folder before
+  pub highest : highest_modseq_of folder later ≡ highest_modseq_of folder before
 
 -- Operations that are all about other folders leave what is shown of this one unchanged.
 abbrev pub LeaveOthers : Counters → Type 0
@@ -61,6 +61,6 @@ names_message origin_of folder origin op =
 -- The new UIDs include the old ones and those of the entries that are named.
 pub record AddsUids (is_named : OpId → Bool) (entries : List ListingEntry) (old new : List ℕ) :
     Type 0 where
-  pub kept : (uid : ℕ) → IsIn uid old → IsIn uid new
+  pub retained : (uid : ℕ) → IsIn uid old → IsIn uid new
   pub named : AreApart entries → (e : ListingEntry) → IsIn e entries → is_named e.origin ≡ true
       → IsIn e.uid new

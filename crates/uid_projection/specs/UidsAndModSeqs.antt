@@ -86,8 +86,8 @@ abbrev pub kind_names_folder : List ℕ → Kind → Bool
 kind_names_folder folder (Create name) = bytes_eq folder name
 kind_names_folder folder (Delete name seen) = bytes_eq folder name
 kind_names_folder folder (Append name flags date text) = bytes_eq folder name
-kind_names_folder folder (Expunge name olds) = bytes_eq folder name
-kind_names_folder folder (Store name flags olds origin) = bytes_eq folder name
+kind_names_folder folder (Expunge name old_ids) = bytes_eq folder name
+kind_names_folder folder (Store name flags old_ids origin) = bytes_eq folder name
 kind_names_folder folder (Subscribe name) = false
 kind_names_folder folder (Unsubscribe name seen) = false
 

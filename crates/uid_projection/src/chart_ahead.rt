@@ -23,7 +23,7 @@ ghost use Rattle.uid_projection.specs.ChartTable.{IsTable, chart_at};
 use crate::chart::Chart;
 use crate::chart_table::chart_of;
 use crate::charts::Charts;
-use crate::entry_moves::{added_origin, begin_line, renew, settle};
+use crate::entry_moves::{added_origin, begin_line, set_modseq, settle};
 use crate::exhaustion::is_same_name;
 use crate::first_numbers::first_of;
 use crate::folder_ahead::FolderAhead;
@@ -45,7 +45,7 @@ pub struct ChartAhead<'a> {
 }
 
 /// The folder's stored chart, with no pending operation yet. `Err` if memory runs out.
-pub fn kept_ahead<'a>(
+pub fn stored_ahead<'a>(
     alloc: Global,
     charts: &'a Charts,
     folder: &Name,
@@ -59,7 +59,7 @@ pub fn kept_ahead<'a>(
     ahead_by(alloc, charts, folder, chart_of(&charts.charts, folder))
 }
 
-/// Does what `kept_ahead` does for a folder whose chart was looked up already; `None` if it has
+/// Does what `stored_ahead` does for a folder whose chart was looked up already; `None` if it has
 /// none.
 pub fn ahead_by<'a>(
     alloc: Global,
@@ -149,7 +149,7 @@ fn advance_over_one<'a>(
         → IsChart charts.now.start folder.now (list ++ op.now ∷ []) chart.new.uidnext
         chart.new.highest chart.new.entries.entries) }
 {
-    if !is_about(&op.op().kind, folder) {
+    if !names_folder(&op.op().kind, folder) {
         return ahead.step(alloc, op);
     }
     let lost = origins_lost(alloc, ahead, op.op().kind.removed_ids())?;
@@ -269,7 +269,7 @@ fn add(chart: &mut ChartAhead<'_>, origin: &OpId, near: usize) -> Result<(), All
         ≡ with_line origin.now chart.old.uidnext chart.old.highest chart.old.entries.entries) }
 {
     chart.entries.reserve(1)?;
-    if renew(&mut chart.entries, origin, near, chart.highest) {
+    if set_modseq(&mut chart.entries, origin, near, chart.highest) {
         return Ok(());
     }
     if !can_follow(&chart.entries, chart.uidnext) {
@@ -309,7 +309,7 @@ fn is_last_below(entries: &EntryOverlay<'_>, uid: u32) -> bool
 }
 
 /// Whether an operation of this kind is about the folder.
-pub fn is_about(kind: &Kind, folder: &Name) -> bool
+pub fn names_folder(kind: &Kind, folder: &Name) -> bool
     ensures { result ≡ kind_names_folder folder.now kind.now }
 {
     match kind {

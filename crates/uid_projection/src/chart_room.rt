@@ -111,7 +111,7 @@ fn make_room(
     }
 }
 
-/// Puts in the chart of a folder that has none, with room for `more` operations.
+/// Inserts the chart of a folder that has none, with room for `more` operations.
 fn put_chart(
     alloc: Global,
     start: &Counters,
@@ -140,14 +140,14 @@ fn put_chart(
 
 /// The chart of a folder that doesn't exist, whose first UID is `first`.
 fn absent_chart(alloc: Global, first: u32) -> Chart
-    ensures there { result.there ≡ false }
+    ensures present { result.present ≡ false }
     ensures uidnext { result.uidnext ≡ first }
     ensures highest { result.highest ≡ 1 }
     ensures entries { result.entries.entries ≡ [] }
     ensures versions { result.versions.entries ≡ [] }
 {
     Chart {
-        there: false,
+        present: false,
         k: 0,
         uidnext: first,
         highest: 1,

@@ -69,9 +69,9 @@ pub fn settle<L: EntryList>(entries: &mut L, origin: &OpId, stays: bool, modseq:
 
 /// Gives the entry of this origin, if any, the mod-sequence, and returns whether there is one.
 /// `near` is a guess at its place.
-pub fn renew<L: EntryList>(entries: &mut L, origin: &OpId, near: usize, modseq: u64) -> bool
+pub fn set_modseq<L: EntryList>(entries: &mut L, origin: &OpId, near: usize, modseq: u64) -> bool
     requires { L.has_edits entries.old 1 }
-    ensures held { result ≡ has_entry (L.entries entries.old) origin.now }
+    ensures listed { result ≡ has_entry (L.entries entries.old) origin.now }
     ensures entries { AreApart (L.entries entries.old)
         → L.entries entries.new
         ≡ moved_entries (λ g. same_id g origin.now) (λ g. true) modseq (L.entries entries.old) }
@@ -95,11 +95,11 @@ fn settle_at<L: EntryList>(entries: &mut L, place: usize, stays: bool, modseq: u
         → L.entries entries.new
         ≡ set (L.entries entries.old) place
         (with_modseq modseq (get_or (L.entries entries.old) place e)) }
-    ensures goes { stays ≡ false → L.entries entries.new ≡ remove (L.entries entries.old) place }
+    ensures removed { stays ≡ false → L.entries entries.new ≡ remove (L.entries entries.old) place }
     ensures room { (n : ℕ) → L.has_room entries.old n → L.has_room entries.new n }
 {
     if stays {
-        entries.renew(place, modseq);
+        entries.set_modseq(place, modseq);
     } else {
         entries.take_out(place);
     }

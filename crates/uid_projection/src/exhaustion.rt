@@ -97,7 +97,7 @@ fn begins_line(value: &Folders, folder: &Name, front: &[SoundOp], op: &Op) -> bo
             folder: own,
             origin,
             ..
-        } => begins_anew(value, folder, own, origin, front),
+        } => is_new_line(value, folder, own, origin, front),
         Kind::Create { .. } => false,
         Kind::Delete { .. } => false,
         Kind::Expunge { .. } => false,
@@ -107,7 +107,7 @@ fn begins_line(value: &Folders, folder: &Name, front: &[SoundOp], op: &Op) -> bo
 }
 
 /// Whether both names are the same and the origin has no version in that folder after `front`.
-fn begins_anew(value: &Folders, folder: &Name, own: &Name, origin: &OpId, front: &[SoundOp]) -> bool
+fn is_new_line(value: &Folders, folder: &Name, own: &Name, origin: &OpId, front: &[SoundOp]) -> bool
     ensures { (list : List Op)
         → IsApplied (list ++ front.now)
         → IsMadeBy (contents_of value.now) list
@@ -149,22 +149,22 @@ pub fn uid_after(value: &Folders, folder: &Name, first: u32, now: u32, ops: &[So
 {
     let mut uid = u64::from(now);
     for at in 0..ops.len() {
-        let begun = begins_line(value, folder, &ops[..at], ops[at].op());
-        let there = value.exists_after(folder, &ops[..at + 1]);
-        uid = uid_after_op(there, begun, first, uid);
+        let starts = begins_line(value, folder, &ops[..at], ops[at].op());
+        let present = value.exists_after(folder, &ops[..at + 1]);
+        uid = uid_after_op(present, starts, first, uid);
     }
     uid
 }
 
-fn uid_after_op(there: bool, begun: bool, first: u32, uid: u64) -> u64
+fn uid_after_op(present: bool, starts: bool, first: u32, uid: u64) -> u64
     requires { uid < 18446744073709551615 }
-    ensures uid { result ≡ (if there then (if begun then uid + 1 else uid) else first) }
+    ensures uid { result ≡ (if present then (if starts then uid + 1 else uid) else first) }
     ensures bound { (n : ℕ) → uid ≤ n → 4294967295 ≤ n → result ≤ n + 1 }
 {
-    if !there {
+    if !present {
         return u64::from(first);
     }
-    if begun { uid + 1 } else { uid }
+    if starts { uid + 1 } else { uid }
 }
 
 /// Whether an incarnation begins with the operation and its k is above 65,535.

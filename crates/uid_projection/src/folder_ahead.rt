@@ -14,14 +14,14 @@ ghost use Rattle.crdt_ops.specs.Tags.{FolderTag, MessageTag, adds, removes};
 ghost use Rattle.folder_state.specs.Contents.{Contents, HasVersion, IsFolder, IsMessageOf};
 ghost use Rattle.folder_state.specs.Contents.{effect_of, origin_in};
 ghost use Rattle.folder_state.specs.Tables.{contents_of};
-ghost use Rattle.uid_projection.specs.FolderAhead.{IsAhead, IsHeld, IsHeldAt, IsOrderly};
+ghost use Rattle.uid_projection.specs.FolderAhead.{IsAhead, IsOwned, IsOwnedAt, IsOrderly};
 ghost use Rattle.uid_projection.specs.FolderAhead.{tag_data_ahead, folder_of, dated_texts_ahead};
 ghost use Rattle.uid_projection.specs.FolderAhead.{message_ahead, tags_ahead};
 ghost use Rattle.uid_projection.specs.TagChanges.{change_value};
 
 use crate::messages_ahead::MessagesAhead;
-use crate::presence_ahead::{has_tag_left, has_tag_put};
-use crate::tag_changes::{LentDatedText, note_dated_text, note_tag, note_tags_gone};
+use crate::presence_ahead::{has_added_tag, has_tag_left};
+use crate::tag_changes::{DatedTextRef, note_dated_text, note_removed_tags, note_tag};
 use crate::touched_origins::touch;
 use crdt_ops::{Kind, Op, SoundOp};
 use folder_state::{Folder, Folders};
@@ -38,7 +38,7 @@ pub struct FolderAhead<'a> {
     value: &'a Folders,
     tags: IndexMap<OpId, bool>,
     messages: MessagesAhead<'a>,
-    letters: IndexMap<OpId, LentDatedText<'a>>,
+    dated_texts: IndexMap<OpId, DatedTextRef<'a>>,
 }
 
 // By hand, so that crates above drop it whole.
@@ -49,7 +49,7 @@ impl<'a> Drop for FolderAhead<'a> {
             value: _,
             tags: _,
             messages: _,
-            letters: _,
+            dated_texts: _,
         } = self;
     }
 }
@@ -81,7 +81,7 @@ impl<'a> FolderAhead<'a> {
             value,
             tags: IndexMap::new(alloc),
             messages: MessagesAhead::new(alloc, value.folder(name)),
-            letters: IndexMap::new(alloc),
+            dated_texts: IndexMap::new(alloc),
         })
     }
 
@@ -96,10 +96,10 @@ impl<'a> FolderAhead<'a> {
         let op = op.op();
         self.take_tags_of(alloc, op)?;
         self.put_tag_of(alloc, op)?;
-        self.keep_dated_text(alloc, op)
+        self.add_dated_text(alloc, op)
     }
 
-    /// Takes out the tags that the operation removes, if it is about this folder.
+    /// Removes the tags that the operation removes, if it is about this folder.
     fn take_tags_of(&mut self, alloc: Global, op: &Op) -> Result<(), AllocError>
         ensures folder { folder_of self.new ≡ folder_of self.old }
         ensures orderly { OnOk result (IsOrderly self.old → IsOrderly self.new) }
@@ -107,17 +107,25 @@ impl<'a> FolderAhead<'a> {
             → tags_ahead self.new i
             ≡ (not (removes (FolderTag (folder_of self.old) i) op.now)
             && tags_ahead self.old i)) }
-        ensures bodies { OnOk result ((i : OpId)
+        ensures tag_data { OnOk result ((i : OpId)
             → tag_data_ahead self.new i
             ≡ (if removes (MessageTag (folder_of self.old) i) op.now then None
             else tag_data_ahead self.old i)) }
-        ensures letters { OnOk result
+        ensures dated_texts { OnOk result
             ((i : OpId) → dated_texts_ahead self.new i ≡ dated_texts_ahead self.old i) }
     {
         match &op.kind {
             Kind::Delete { folder, seen } => self.take_all(alloc, folder, seen.as_slice()),
-            Kind::Expunge { folder, olds } => self.take_messages(alloc, folder, olds.as_slice()),
-            Kind::Store { folder, olds, .. } => self.take_messages(alloc, folder, olds.as_slice()),
+            Kind::Expunge { folder, old_ids } => self.take_messages(
+                alloc,
+                folder,
+                old_ids.as_slice(),
+            ),
+            Kind::Store {
+                folder,
+                old_ids,
+                ..
+            } => self.take_messages(alloc, folder, old_ids.as_slice()),
             Kind::Create { .. } => Ok(()),
             Kind::Append { .. } => Ok(()),
             Kind::Subscribe { .. } => Ok(()),
@@ -125,7 +133,7 @@ impl<'a> FolderAhead<'a> {
         }
     }
 
-    /// Takes out the folder tags and message tags with these ids, if `folder` is this folder.
+    /// Removes the folder tags and message tags with these ids, if `folder` is this folder.
     fn take_all(&mut self, alloc: Global, folder: &Name, ids: &[OpId]) -> Result<(), AllocError>
         ensures folder { folder_of self.new ≡ folder_of self.old }
         ensures orderly { OnOk result (IsOrderly self.old → IsOrderly self.new) }
@@ -133,22 +141,22 @@ impl<'a> FolderAhead<'a> {
             → tags_ahead self.new i
             ≡ (not (bytes_eq (folder_of self.old) folder.now && list_any (same_id i) ids.now)
             && tags_ahead self.old i)) }
-        ensures bodies { OnOk result ((i : OpId)
+        ensures tag_data { OnOk result ((i : OpId)
             → tag_data_ahead self.new i
             ≡ (if bytes_eq (folder_of self.old) folder.now && list_any (same_id i) ids.now
             then None
             else tag_data_ahead self.old i)) }
-        ensures letters { OnOk result
+        ensures dated_texts { OnOk result
             ((i : OpId) → dated_texts_ahead self.new i ≡ dated_texts_ahead self.old i) }
     {
         if self.name.as_bytes() != folder.as_bytes() {
             return Ok(());
         }
-        note_tags_gone(&mut self.tags, ids)?;
+        note_removed_tags(&mut self.tags, ids)?;
         self.messages.take(alloc, ids)
     }
 
-    /// Takes out the message tags with these ids, if `folder` is this folder.
+    /// Removes the message tags with these ids, if `folder` is this folder.
     fn take_messages(
         &mut self,
         alloc: Global,
@@ -158,12 +166,13 @@ impl<'a> FolderAhead<'a> {
         ensures folder { folder_of self.new ≡ folder_of self.old }
         ensures orderly { OnOk result (IsOrderly self.old → IsOrderly self.new) }
         ensures tags { (i : OpId) → tags_ahead self.new i ≡ tags_ahead self.old i }
-        ensures bodies { OnOk result ((i : OpId)
+        ensures tag_data { OnOk result ((i : OpId)
             → tag_data_ahead self.new i
             ≡ (if bytes_eq (folder_of self.old) folder.now && list_any (same_id i) ids.now
             then None
             else tag_data_ahead self.old i)) }
-        ensures letters { (i : OpId) → dated_texts_ahead self.new i ≡ dated_texts_ahead self.old i }
+        ensures dated_texts { (i : OpId)
+            → dated_texts_ahead self.new i ≡ dated_texts_ahead self.old i }
     {
         if self.name.as_bytes() != folder.as_bytes() {
             return Ok(());
@@ -171,19 +180,19 @@ impl<'a> FolderAhead<'a> {
         self.messages.take(alloc, ids)
     }
 
-    /// Puts in the tag that the operation adds, if it is about this folder.
+    /// Inserts the tag that the operation adds, if it is about this folder.
     fn put_tag_of(&mut self, alloc: Global, op: &'a Op) -> Result<(), AllocError>
         ensures folder { folder_of self.new ≡ folder_of self.old }
         ensures orderly { OnOk result (IsOrderly self.old → IsOrderly self.new) }
         ensures tags { OnOk result ((i : OpId)
             → tags_ahead self.new i
             ≡ (adds (FolderTag (folder_of self.old) i) op.now || tags_ahead self.old i)) }
-        ensures bodies { OnOk result ((i : OpId)
+        ensures tag_data { OnOk result ((i : OpId)
             → tag_data_ahead self.new i
             ≡ (if adds (MessageTag (folder_of self.old) i) op.now
             then tag_data_by op.now.id op.now.kind
             else tag_data_ahead self.old i)) }
-        ensures letters { OnOk result
+        ensures dated_texts { OnOk result
             ((i : OpId) → dated_texts_ahead self.new i ≡ dated_texts_ahead self.old i) }
     {
         match &op.kind {
@@ -204,7 +213,7 @@ impl<'a> FolderAhead<'a> {
         }
     }
 
-    /// Puts in the folder tag with this id, if `folder` is this folder.
+    /// Inserts the folder tag with this id, if `folder` is this folder.
     fn put_tag(&mut self, folder: &Name, id: &OpId) -> Result<(), AllocError>
         ensures folder { folder_of self.new ≡ folder_of self.old }
         ensures orderly { OnOk result (IsOrderly self.old → IsOrderly self.new) }
@@ -212,8 +221,9 @@ impl<'a> FolderAhead<'a> {
             → tags_ahead self.new i
             ≡ (bytes_eq (folder_of self.old) folder.now && same_id i id.now
             || tags_ahead self.old i)) }
-        ensures bodies { (i : OpId) → tag_data_ahead self.new i ≡ tag_data_ahead self.old i }
-        ensures letters { (i : OpId) → dated_texts_ahead self.new i ≡ dated_texts_ahead self.old i }
+        ensures tag_data { (i : OpId) → tag_data_ahead self.new i ≡ tag_data_ahead self.old i }
+        ensures dated_texts { (i : OpId)
+            → dated_texts_ahead self.new i ≡ dated_texts_ahead self.old i }
     {
         if self.name.as_bytes() != folder.as_bytes() {
             return Ok(());
@@ -221,7 +231,7 @@ impl<'a> FolderAhead<'a> {
         note_tag(&mut self.tags, id, true)
     }
 
-    /// Puts in the message tag with this id, if `folder` is this folder.
+    /// Inserts the message tag with this id, if `folder` is this folder.
     fn put_message(
         &mut self,
         alloc: Global,
@@ -233,12 +243,13 @@ impl<'a> FolderAhead<'a> {
         ensures folder { folder_of self.new ≡ folder_of self.old }
         ensures orderly { OnOk result (IsOrderly self.old → IsOrderly self.new) }
         ensures tags { (i : OpId) → tags_ahead self.new i ≡ tags_ahead self.old i }
-        ensures bodies { OnOk result ((i : OpId)
+        ensures tag_data { OnOk result ((i : OpId)
             → tag_data_ahead self.new i
             ≡ (if bytes_eq (folder_of self.old) folder.now && same_id i id.now
             then Some (record { flags = flags.now; origin = origin.now })
             else tag_data_ahead self.old i)) }
-        ensures letters { (i : OpId) → dated_texts_ahead self.new i ≡ dated_texts_ahead self.old i }
+        ensures dated_texts { (i : OpId)
+            → dated_texts_ahead self.new i ≡ dated_texts_ahead self.old i }
     {
         if self.name.as_bytes() != folder.as_bytes() {
             return Ok(());
@@ -248,12 +259,12 @@ impl<'a> FolderAhead<'a> {
 
     /// Stores the date and text of an Append. The Append may be of any folder, since its id may be
     /// the origin of a message of this one.
-    fn keep_dated_text(&mut self, alloc: Global, op: &'a Op) -> Result<(), AllocError>
+    fn add_dated_text(&mut self, alloc: Global, op: &'a Op) -> Result<(), AllocError>
         ensures folder { folder_of self.new ≡ folder_of self.old }
         ensures orderly { OnOk result (IsOrderly self.old → IsOrderly self.new) }
         ensures tags { (i : OpId) → tags_ahead self.new i ≡ tags_ahead self.old i }
-        ensures bodies { (i : OpId) → tag_data_ahead self.new i ≡ tag_data_ahead self.old i }
-        ensures letters { OnOk result ((i : OpId)
+        ensures tag_data { (i : OpId) → tag_data_ahead self.new i ≡ tag_data_ahead self.old i }
+        ensures dated_texts { OnOk result ((i : OpId)
             → dated_texts_ahead self.new i
             ≡ option_or (dated_text_from i op.now) (dated_texts_ahead self.old i)) }
     {
@@ -274,14 +285,14 @@ impl<'a> FolderAhead<'a> {
         ensures folder { folder_of self.new ≡ folder_of self.old }
         ensures orderly { OnOk result (IsOrderly self.old → IsOrderly self.new) }
         ensures tags { (i : OpId) → tags_ahead self.new i ≡ tags_ahead self.old i }
-        ensures bodies { (i : OpId) → tag_data_ahead self.new i ≡ tag_data_ahead self.old i }
-        ensures letters { OnOk result ((i : OpId)
+        ensures tag_data { (i : OpId) → tag_data_ahead self.new i ≡ tag_data_ahead self.old i }
+        ensures dated_texts { OnOk result ((i : OpId)
             → dated_texts_ahead self.new i
             ≡ (if same_id i id.now then Some (record { date = date.now; text = text.now })
             else dated_texts_ahead self.old i)) }
     {
         touch(alloc, &mut self.messages.versions, id)?;
-        note_dated_text(&mut self.letters, id, date, text)
+        note_dated_text(&mut self.dated_texts, id, date, text)
     }
 
     /// Whether the folder exists: it is INBOX or has a present tag. Takes no memory. Cost: the tags
@@ -292,7 +303,7 @@ impl<'a> FolderAhead<'a> {
             → IsTrue result ↔ IsFolder c (folder_of self.now) }
     {
         self.is_inbox()
-            || has_tag_put(&self.tags)
+            || has_added_tag(&self.tags)
             || self.messages.has_put()
             || has_tag_left(&self.tags, &self.messages)
     }
@@ -323,37 +334,38 @@ impl<'a> FolderAhead<'a> {
     }
 
     /// Puts the message of the origin at this place into `fresh`. `Err` if memory runs out.
-    fn hold_at(
+    fn put_owned_at(
         &self,
         alloc: Global,
         place: usize,
         fresh: &mut IndexMap<OpId, OwnedMessage<'a>>,
     ) -> Result<(), AllocError>
-        ensures { OnOk result (IsHeldAt self.now
+        ensures { OnOk result (IsOwnedAt self.now
             (option_map (λ e. e.0) (slice_get self.now.messages.versions.entries place))
             fresh.old.entries fresh.new.entries) }
     {
         match self.messages.versions.get_index(place) {
-            Some((origin, _)) => put_held(fresh, origin, self.held(alloc, origin)?),
+            Some((origin, _)) => put_owned(fresh, origin, self.owned_message(alloc, origin)?),
             None => Ok(()),
         }
     }
 
     /// The message of an origin. `Err` if memory runs out.
-    fn held(&self, alloc: Global, origin: &OpId) -> Result<OwnedMessage<'a>, AllocError>
-        ensures { IsOrderly self.now → IfOk result (λ message. IsHeld self.now origin.now message) }
+    fn owned_message(&self, alloc: Global, origin: &OpId) -> Result<OwnedMessage<'a>, AllocError>
+        ensures { IsOrderly self.now
+            → IfOk result (λ message. IsOwned self.now origin.now message) }
     {
         let versions = self.messages.versions_of(alloc, origin)?;
         Ok(with_dated_text(self.dated_text(origin), versions))
     }
 
     /// The date and text of the Append with this id, or `None` if no such Append was applied.
-    fn dated_text(&self, id: &OpId) -> Option<LentDatedText<'a>>
+    fn dated_text(&self, id: &OpId) -> Option<DatedTextRef<'a>>
         ensures { option_map change_value result ≡ dated_texts_ahead self.now id.now }
     {
-        match self.letters.get(id).copied() {
-            Some(letter) => Some(letter),
-            None => kept_dated_text(self.value, id),
+        match self.dated_texts.get(id).copied() {
+            Some(dated) => Some(dated),
+            None => stored_dated_text(self.value, id),
         }
     }
 
@@ -366,7 +378,7 @@ impl<'a> FolderAhead<'a> {
     {
         let mut fresh = IndexMap::new(alloc);
         for at in 0..self.messages.versions.len() {
-            self.hold_at(alloc, at, &mut fresh)?;
+            self.put_owned_at(alloc, at, &mut fresh)?;
         }
         Ok(MailboxAhead {
             mailbox: self.value.mailbox(&self.name),
@@ -375,8 +387,8 @@ impl<'a> FolderAhead<'a> {
     }
 }
 
-/// Puts in the message for its origin. `Err` if memory runs out; the others are then unchanged.
-fn put_held<'a>(
+/// Inserts the message for its origin. `Err` if memory runs out; the others are then unchanged.
+fn put_owned<'a>(
     fresh: &mut IndexMap<OpId, OwnedMessage<'a>>,
     origin: &OpId,
     message: OwnedMessage<'a>,
@@ -393,34 +405,31 @@ fn put_held<'a>(
 }
 
 /// The stored date and text of the Append with this id, if any.
-fn kept_dated_text<'a>(value: &'a Folders, id: &OpId) -> Option<LentDatedText<'a>>
-    ensures { option_map change_value result ≡ (contents_of value.now).letters id.now }
+fn stored_dated_text<'a>(value: &'a Folders, id: &OpId) -> Option<DatedTextRef<'a>>
+    ensures { option_map change_value result ≡ (contents_of value.now).dated_texts id.now }
 {
     match value.dated_text(id) {
-        Some(letter) => Some(LentDatedText {
-            date: &letter.date,
-            text: &letter.text,
+        Some(dated) => Some(DatedTextRef {
+            date: &dated.date,
+            text: &dated.text,
         }),
         None => None,
     }
 }
 
 /// The message with these versions and with this date and text, if any.
-fn with_dated_text<'a>(
-    letter: Option<LentDatedText<'a>>,
-    versions: Vec<Version>,
-) -> OwnedMessage<'a>
+fn with_dated_text<'a>(dated: Option<DatedTextRef<'a>>, versions: Vec<Version>) -> OwnedMessage<'a>
     ensures versions { result.versions ≡ versions }
     ensures date { option_map (λ date. date.now) result.date
-        ≡ option_map (λ l. l.date) (option_map change_value letter.entry) }
+        ≡ option_map (λ l. l.date) (option_map change_value dated.entry) }
     ensures text { option_map (λ text. text.now) result.text
-        ≡ option_map (λ l. l.text) (option_map change_value letter.entry) }
+        ≡ option_map (λ l. l.text) (option_map change_value dated.entry) }
 {
-    match letter {
-        Some(letter) => OwnedMessage {
+    match dated {
+        Some(dated) => OwnedMessage {
             versions,
-            date: Some(letter.date),
-            text: Some(letter.text),
+            date: Some(dated.date),
+            text: Some(dated.text),
         },
         None => OwnedMessage {
             versions,

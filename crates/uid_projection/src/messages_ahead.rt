@@ -7,12 +7,14 @@ ghost use Rattle.std.specs.Map.{lookup};
 ghost use Rattle.std.specs.Option.{option_map};
 ghost use Rattle.tags_clocks.specs.declared.id.OpId.{OpId};
 ghost use Rattle.crdt_ops.specs.SortedSets.{same_id};
-ghost use Rattle.folder_state.specs.FolderTables.{body_in_folder};
-ghost use Rattle.uid_projection.specs.TagChanges.{AreAll, Grows, HasOrigin, IsWhole, bodies_of};
-ghost use Rattle.uid_projection.specs.TagChanges.{kept_of, origin_of};
+ghost use Rattle.folder_state.specs.FolderTables.{tag_data_in};
+ghost use Rattle.uid_projection.specs.TagChanges.{AreAll, Grows, HasOrigin, IsWhole, tag_data_of};
+ghost use Rattle.uid_projection.specs.TagChanges.{stored_of, origin_of};
 
-use crate::overlay::{has_kept, has_listed, kept_origin, origin_of, place_kept, place_listed};
-use crate::presence_ahead::has_change_put;
+use crate::overlay::{
+    has_listed, has_stored, origin_of, place_listed, place_stored, stored_origin,
+};
+use crate::presence_ahead::has_added_message;
 use crate::tag_changes::{TagChange, note_change};
 use crate::touched_origins::{list, touch};
 use folder_state::Folder;
@@ -25,7 +27,7 @@ use tags_clocks::OpId;
 /// origin of each tag that was removed or replaced has a list too.
 pub struct MessagesAhead<'a> {
     /// The stored folder, or `None` if it has no tags.
-    pub kept: Option<&'a Folder>,
+    pub stored: Option<&'a Folder>,
     /// The changes to its message tags, by their ids.
     pub changes: IndexMap<OpId, TagChange<'a>>,
     /// The ids of added tags, by their origins. Some may be removed again.
@@ -36,7 +38,7 @@ pub struct MessagesAhead<'a> {
 impl<'a> Drop for MessagesAhead<'a> {
     fn drop(self) {
         let Self {
-            kept: _,
+            stored: _,
             changes: _,
             versions: _,
         } = self;
@@ -45,13 +47,13 @@ impl<'a> Drop for MessagesAhead<'a> {
 
 impl<'a> MessagesAhead<'a> {
     /// The stored messages, with no change yet; `None` if the folder has none.
-    pub fn new(alloc: Global, kept: Option<&'a Folder>) -> MessagesAhead<'a>
-        ensures kept { kept_of result ≡ option_map (λ folder. folder.now) kept.entry }
-        ensures bodies { (i : OpId) → bodies_of result i ≡ body_in_folder (kept_of result) i }
+    pub fn new(alloc: Global, stored: Option<&'a Folder>) -> MessagesAhead<'a>
+        ensures stored { stored_of result ≡ option_map (λ folder. folder.now) stored.entry }
+        ensures tag_data { (i : OpId) → tag_data_of result i ≡ tag_data_in (stored_of result) i }
         ensures whole { IsWhole result }
     {
         MessagesAhead {
-            kept,
+            stored,
             changes: IndexMap::new(alloc),
             versions: IndexMap::new(alloc),
         }
@@ -59,19 +61,19 @@ impl<'a> MessagesAhead<'a> {
 
     /// The origin of the message tag with this id, or `None` if the tag isn't present.
     pub fn origin_of(&self, id: &OpId) -> Option<OpId>
-        ensures { result ≡ origin_of (bodies_of self.now id.now) }
+        ensures { result ≡ origin_of (tag_data_of self.now id.now) }
     {
         origin_of(self, id)
     }
 
     /// Removes the message tags with these ids. `Err` if memory runs out.
     pub fn take(&mut self, alloc: Global, ids: &[OpId]) -> Result<(), AllocError>
-        ensures kept { self.new.kept ≡ self.old.kept }
+        ensures stored { self.new.stored ≡ self.old.stored }
         ensures grows { OnOk result (Grows self.old.versions.entries self.new.versions.entries) }
         ensures whole { OnOk result (IsWhole self.old → IsWhole self.new) }
-        ensures bodies { OnOk result ((i : OpId)
-            → bodies_of self.new i
-            ≡ (if list_any (same_id i) ids.now then None else bodies_of self.old i)) }
+        ensures tag_data { OnOk result ((i : OpId)
+            → tag_data_of self.new i
+            ≡ (if list_any (same_id i) ids.now then None else tag_data_of self.old i)) }
     {
         for id in ids {
             self.take_one(alloc, id)?;
@@ -81,13 +83,14 @@ impl<'a> MessagesAhead<'a> {
 
     /// Removes the message tag with this id. `Err` if memory runs out.
     fn take_one(&mut self, alloc: Global, id: &OpId) -> Result<(), AllocError>
-        ensures kept { self.new.kept ≡ self.old.kept }
+        ensures stored { self.new.stored ≡ self.old.stored }
         ensures grows { OnOk result (Grows self.old.versions.entries self.new.versions.entries) }
         ensures whole { OnOk result (IsWhole self.old → IsWhole self.new) }
-        ensures bodies { OnOk result ((i : OpId)
-            → bodies_of self.new i ≡ (if same_id id.now i then None else bodies_of self.old i)) }
+        ensures tag_data { OnOk result ((i : OpId)
+            → tag_data_of self.new i
+            ≡ (if same_id id.now i then None else tag_data_of self.old i)) }
     {
-        list_kept_origin(alloc, self.kept, &mut self.versions, id)?;
+        list_stored_origin(alloc, self.stored, &mut self.versions, id)?;
         note_change(&mut self.changes, id, None, id)
     }
 
@@ -100,15 +103,15 @@ impl<'a> MessagesAhead<'a> {
         flags: &'a Flags,
         origin: &OpId,
     ) -> Result<(), AllocError>
-        ensures kept { self.new.kept ≡ self.old.kept }
+        ensures stored { self.new.stored ≡ self.old.stored }
         ensures grows { OnOk result (Grows self.old.versions.entries self.new.versions.entries) }
         ensures whole { OnOk result (IsWhole self.old → IsWhole self.new) }
-        ensures bodies { OnOk result ((i : OpId)
-            → bodies_of self.new i
+        ensures tag_data { OnOk result ((i : OpId)
+            → tag_data_of self.new i
             ≡ (if same_id id.now i then Some (record { flags = flags.now; origin = origin.now })
-            else bodies_of self.old i)) }
+            else tag_data_of self.old i)) }
     {
-        list_kept_origin(alloc, self.kept, &mut self.versions, id)?;
+        list_stored_origin(alloc, self.stored, &mut self.versions, id)?;
         list(alloc, &mut self.versions, origin, id)?;
         note_change(&mut self.changes, id, Some(flags), origin)
     }
@@ -116,29 +119,29 @@ impl<'a> MessagesAhead<'a> {
     /// Whether the origin has a version. Cost: its added and its stored versions, up to the first
     /// present one.
     pub fn has_version(&self, origin: &OpId) -> bool
-        ensures { IsWhole self.now → IsTrue result ↔ HasOrigin (bodies_of self.now) origin.now }
+        ensures { IsWhole self.now → IsTrue result ↔ HasOrigin (tag_data_of self.now) origin.now }
     {
-        has_listed(self, self.versions.get(origin), origin) || has_kept(self, origin)
+        has_listed(self, self.versions.get(origin), origin) || has_stored(self, origin)
     }
 
     /// Whether an added tag is present. Cost: the changed tags, from the last one on, up to the
     /// first present one.
     pub fn has_put(&self) -> bool
-        ensures yes { result ≡ true → (i : OpId) × IsSome (bodies_of self.now i) }
+        ensures yes { result ≡ true → (i : OpId) × IsSome (tag_data_of self.now i) }
         ensures no { result ≡ false → (i : OpId)
-            → IsSome (bodies_of self.now i)
-            → IsSome (body_in_folder (kept_of self.now) i) }
+            → IsSome (tag_data_of self.now i)
+            → IsSome (tag_data_in (stored_of self.now) i) }
     {
-        has_change_put(&self.changes)
+        has_added_message(&self.changes)
     }
 
     /// Copies of the origin's versions, ascending by id. `Err` if memory runs out.
     pub fn versions_of(&self, alloc: Global, origin: &OpId) -> Result<Vec<Version>, AllocError>
         ensures { IsWhole self.now
-            → IfOk result (λ versions. AreAll (bodies_of self.now) origin.now versions.items) }
+            → IfOk result (λ versions. AreAll (tag_data_of self.now) origin.now versions.items) }
     {
         let mut versions = Vec::new(alloc);
-        place_kept(alloc, self, origin, &mut versions)?;
+        place_stored(alloc, self, origin, &mut versions)?;
         place_listed(
             alloc,
             self,
@@ -151,18 +154,18 @@ impl<'a> MessagesAhead<'a> {
 }
 
 /// Makes a list for the origin of the stored message tag with this id, if there is such a tag.
-fn list_kept_origin(
+fn list_stored_origin(
     alloc: Global,
-    kept: Option<&Folder>,
+    stored: Option<&Folder>,
     versions: &mut IndexMap<OpId, Vec<OpId>>,
     id: &OpId,
 ) -> Result<(), AllocError>
     ensures grows { Grows versions.old.entries versions.new.entries }
     ensures touched { OnOk result ((o : OpId)
-        → origin_of (body_in_folder (option_map (λ folder. folder.now) kept.entry) id.now) ≡ Some o
+        → origin_of (tag_data_in (option_map (λ folder. folder.now) stored.entry) id.now) ≡ Some o
         → IsSome (lookup (same_id o) versions.new.entries)) }
 {
-    match kept_origin(kept, id) {
+    match stored_origin(stored, id) {
         Some(origin) => touch(alloc, versions, &origin),
         None => Ok(()),
     }

@@ -1,4 +1,4 @@
-//! A folder's numbers after operations that are applied next. Nothing here takes memory.
+//! A folder's numbers after operations that are applied next. Nothing here allocates.
 
 ghost use Rattle.std.specs.Prelude.{◌≡◌, ◌≤◌, ◌<◌, ◌+◌, ◌*◌, ℕ, true, List, ◌++◌, Some, min};
 ghost use Rattle.std.specs.Prelude.{if◌then◌else◌};
@@ -15,7 +15,7 @@ ghost use Rattle.uid_projection.specs.UidsAndModSeqs.{highest_modseq_of};
 ghost use Rattle.uid_projection.specs.ChartTable.{IsTable};
 
 use crate::chart::Chart;
-use crate::chart_ahead::is_about;
+use crate::chart_ahead::names_folder;
 use crate::chart_table::chart_of;
 use crate::exhaustion::{begins, is_same_name};
 use crdt_ops::{Kind, SoundOp};
@@ -24,7 +24,7 @@ use imap_types::Name;
 use indexmap::IndexMap;
 use tags_clocks::ReplicaId;
 
-/// The UID as a 32-bit number. Callers know that it is one.
+/// The UID as a 32-bit number. Callers ensure that it fits.
 pub fn uid_in_32_bits(uid: u64) -> u32
     ensures { uid ≤ 4294967295 → result ≡ uid }
 {
@@ -34,7 +34,7 @@ pub fn uid_in_32_bits(uid: u64) -> u32
     }
 }
 
-/// The mod-sequence as a 64-bit number, or the last such number if it is above.
+/// The mod-sequence as a 64-bit number, or the greatest such number if it is above.
 pub fn modseq_within(modseq: u128) -> u64
     ensures { result ≡ min modseq 18446744073709551615 }
 {
@@ -54,19 +54,19 @@ pub fn highest_after(value: &Folders, folder: &Name, now: u64, ops: &[SoundOp]) 
 {
     let mut highest = u128::from(now);
     for at in 0..ops.len() {
-        let about = is_about(&ops[at].op().kind, folder);
-        let there = value.exists_after(folder, &ops[..at + 1]);
-        highest = highest_after_op(there, about, highest);
+        let about = names_folder(&ops[at].op().kind, folder);
+        let present = value.exists_after(folder, &ops[..at + 1]);
+        highest = highest_after_op(present, about, highest);
     }
     highest
 }
 
-fn highest_after_op(there: bool, about: bool, highest: u128) -> u128
+fn highest_after_op(present: bool, about: bool, highest: u128) -> u128
     requires { highest < 340282366920938463463374607431768211455 }
-    ensures highest { result ≡ (if there then (if about then highest + 1 else highest) else 1) }
+    ensures highest { result ≡ (if present then (if about then highest + 1 else highest) else 1) }
     ensures bound { (n : ℕ) → highest ≤ n → 1 ≤ n → result ≤ n + 1 }
 {
-    if !there {
+    if !present {
         return 1;
     }
     if about { highest + 1 } else { highest }
@@ -85,9 +85,9 @@ pub fn k_in(charts: &IndexMap<Vec<u8>, Chart>, next_k: u32, folder: &Name) -> u3
 }
 
 fn k_now(chart: &Chart, next_k: u32) -> u32
-    ensures { result ≡ (if chart.now.there then chart.now.k else next_k) }
+    ensures { result ≡ (if chart.now.present then chart.now.k else next_k) }
 {
-    if chart.there { chart.k } else { next_k }
+    if chart.present { chart.k } else { next_k }
 }
 
 /// The k of the folder's incarnation after these operations, or of the next one that begins if the
@@ -104,17 +104,17 @@ pub fn k_of_after(value: &Folders, folder: &Name, now: u32, next_k: u32, ops: &[
     let mut next = u64::from(next_k);
     let mut k = u64::from(now);
     for at in 0..ops.len() {
-        let begun = begins(value, &ops[..at], &ops[..at + 1], ops[at].op());
-        let there = value.exists_after(folder, &ops[..at + 1]);
-        next = next_k_after_op(begun, next);
-        k = k_after_op(there, k, next);
+        let starts = begins(value, &ops[..at], &ops[..at + 1], ops[at].op());
+        let present = value.exists_after(folder, &ops[..at + 1]);
+        next = next_k_after_op(starts, next);
+        k = k_after_op(present, k, next);
     }
     k
 }
 
 /// Whether the folder exists and none of these operations deletes it, so that it exists before and
-/// after each of them. Cost: the number of operations, and a test whether the folder exists.
-pub fn remains(value: &Folders, folder: &Name, ops: &[SoundOp]) -> bool
+/// after each of them. Cost: the number of operations, and a check that the folder exists.
+pub fn outlasts_ops(value: &Folders, folder: &Name, ops: &[SoundOp]) -> bool
     ensures { result ≡ true
         → (start : Counters) (list : List Op)
         → IsApplied (list ++ ops.now)
@@ -145,22 +145,22 @@ fn deletes(kind: &Kind, folder: &Name) -> bool
     }
 }
 
-fn next_k_after_op(begun: bool, next: u64) -> u64
+fn next_k_after_op(starts: bool, next: u64) -> u64
     requires { next < 18446744073709551615 }
-    ensures next { result ≡ (if begun then next + 1 else next) }
+    ensures next { result ≡ (if starts then next + 1 else next) }
     ensures bound { result ≤ next + 1 }
 {
-    if begun { next + 1 } else { next }
+    if starts { next + 1 } else { next }
 }
 
-fn k_after_op(there: bool, k: u64, next: u64) -> u64
-    ensures { result ≡ (if there then k else next) }
+fn k_after_op(present: bool, k: u64, next: u64) -> u64
+    ensures { result ≡ (if present then k else next) }
 {
-    if there { k } else { next }
+    if present { k } else { next }
 }
 
 /// The UIDVALIDITY of a replica's incarnation with this k, from 1 to 65,535.
-pub fn number_with(k: u64, replica: ReplicaId) -> Option<u32>
+pub fn uidvalidity_with(k: u64, replica: ReplicaId) -> Option<u32>
     ensures { k ≤ 65535 → result ≡ Some (65536 * k + replica) }
 {
     if k > 65_535 {

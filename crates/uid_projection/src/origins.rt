@@ -17,21 +17,21 @@ pub fn origin_at(versions: &IndexMap<OpId, OpId>, id: &OpId) -> Option<OpId>
     versions.get(id).copied()
 }
 
-/// Takes out the versions with these ids.
-pub fn take_versions(versions: &mut IndexMap<OpId, OpId>, removed: &[OpId])
-    ensures told { (i : OpId)
+/// Removes the versions with these ids.
+pub fn remove_versions(versions: &mut IndexMap<OpId, OpId>, removed: &[OpId])
+    ensures updated { (i : OpId)
         → origin_at versions.new.entries i
         ≡ origins_without (origin_at versions.old.entries) removed.now i }
     ensures room { spare versions.old ≤ spare versions.new }
 {
     for id in removed {
-        take_version(versions, id);
+        remove_version(versions, id);
     }
 }
 
-/// Takes out the version with this id.
-fn take_version(versions: &mut IndexMap<OpId, OpId>, id: &OpId)
-    ensures told { (i : OpId)
+/// Removes the version with this id.
+fn remove_version(versions: &mut IndexMap<OpId, OpId>, id: &OpId)
+    ensures updated { (i : OpId)
         → origin_at versions.new.entries i
         ≡ (if same_id id.now i then None else origin_at versions.old.entries i) }
     ensures room { spare versions.old ≤ spare versions.new }
@@ -39,10 +39,10 @@ fn take_version(versions: &mut IndexMap<OpId, OpId>, id: &OpId)
     versions.swap_remove(id);
 }
 
-/// Puts in a version of this origin. The table has room for it.
-pub fn put_version(versions: &mut IndexMap<OpId, OpId>, id: &OpId, origin: &OpId)
+/// Inserts a version of this origin. The table has room for it.
+pub fn insert_version(versions: &mut IndexMap<OpId, OpId>, id: &OpId, origin: &OpId)
     requires { 0 < spare versions.old }
-    ensures told { (i : OpId)
+    ensures updated { (i : OpId)
         → origin_at versions.new.entries i
         ≡ origins_with (origin_at versions.old.entries) id.now origin.now i }
     ensures room { spare versions.old ≤ spare versions.new + 1 }

@@ -6,8 +6,8 @@ ghost use Rattle.std.specs.Map.{lookup};
 ghost use Rattle.tags_clocks.specs.declared.id.OpId.{OpId};
 ghost use Rattle.crdt_ops.specs.SortedSets.{same_id};
 ghost use Rattle.folder_state.specs.FolderTables.{folder_ids};
-ghost use Rattle.uid_projection.specs.TagChanges.{IsKeptTag, value_at_key, is_put, is_tag};
-ghost use Rattle.uid_projection.specs.TagChanges.{is_there, is_there_at, kept_of, tag_over};
+ghost use Rattle.uid_projection.specs.TagChanges.{IsStoredTag, value_at_key, is_added, is_tag};
+ghost use Rattle.uid_projection.specs.TagChanges.{is_present, is_present_at, stored_of, tag_over};
 
 use crate::messages_ahead::MessagesAhead;
 use crate::tag_changes::TagChange;
@@ -16,7 +16,7 @@ use indexmap::IndexMap;
 use tags_clocks::OpId;
 
 /// Whether one of these changed folder tags is present.
-pub fn has_tag_put(tags: &IndexMap<OpId, bool>) -> bool
+pub fn has_added_tag(tags: &IndexMap<OpId, bool>) -> bool
     ensures yes { result ≡ true
         → (i : OpId) × (is_tag (lookup (same_id i) tags.now.entries) ≡ true) }
     ensures no { result ≡ false → (i : OpId)
@@ -54,17 +54,17 @@ fn is_tag(tags: &IndexMap<OpId, bool>, id: &OpId) -> bool
 }
 
 /// Whether one of these changed message tags is present.
-pub fn has_change_put(changes: &IndexMap<OpId, TagChange<'_>>) -> bool
+pub fn has_added_message(changes: &IndexMap<OpId, TagChange<'_>>) -> bool
     ensures yes { result ≡ true
-        → (i : OpId) × (is_put (lookup (same_id i) changes.now.entries) ≡ true) }
+        → (i : OpId) × (is_added (lookup (same_id i) changes.now.entries) ≡ true) }
     ensures no { result ≡ false → (i : OpId)
-        → is_put (lookup (same_id i) changes.now.entries) ≡ true
+        → is_added (lookup (same_id i) changes.now.entries) ≡ true
         → ⊥ }
 {
     let mut at = changes.len();
     while at > 0 {
         at -= 1;
-        if is_put_at(changes, at) {
+        if is_added_at(changes, at) {
             return true;
         }
     }
@@ -72,19 +72,19 @@ pub fn has_change_put(changes: &IndexMap<OpId, TagChange<'_>>) -> bool
 }
 
 /// Whether the changed message tag at this place is present.
-fn is_put_at(changes: &IndexMap<OpId, TagChange<'_>>, place: usize) -> bool
+fn is_added_at(changes: &IndexMap<OpId, TagChange<'_>>, place: usize) -> bool
     ensures { result
-        ≡ value_at_key is_put changes.now.entries (slice_get changes.now.entries place) }
+        ≡ value_at_key is_added changes.now.entries (slice_get changes.now.entries place) }
 {
     match changes.get_index(place) {
-        Some((id, _)) => is_put(changes, id),
+        Some((id, _)) => is_added(changes, id),
         None => false,
     }
 }
 
 /// Whether the message tag with this id is present by these changes.
-fn is_put(changes: &IndexMap<OpId, TagChange<'_>>, id: &OpId) -> bool
-    ensures { result ≡ is_put (lookup (same_id id.now) changes.now.entries) }
+fn is_added(changes: &IndexMap<OpId, TagChange<'_>>, id: &OpId) -> bool
+    ensures { result ≡ is_added (lookup (same_id id.now) changes.now.entries) }
 {
     match changes.get(id).copied() {
         Some(change) => change.flags.is_some(),
@@ -94,13 +94,13 @@ fn is_put(changes: &IndexMap<OpId, TagChange<'_>>, id: &OpId) -> bool
 
 /// Whether a stored tag is still present.
 pub fn has_tag_left(tags: &IndexMap<OpId, bool>, messages: &MessagesAhead<'_>) -> bool
-    ensures yes { result ≡ true → (i : OpId) × (is_there tags.now.entries messages.now i ≡ true) }
+    ensures yes { result ≡ true → (i : OpId) × (is_present tags.now.entries messages.now i ≡ true) }
     ensures no { result ≡ false → (i : OpId)
-        → IsKeptTag (kept_of messages.now) i
-        → is_there tags.now.entries messages.now i ≡ true
+        → IsStoredTag (stored_of messages.now) i
+        → is_present tags.now.entries messages.now i ≡ true
         → ⊥ }
 {
-    match messages.kept {
+    match messages.stored {
         Some(folder) => has_tag_left_in(tags, messages, folder),
         None => false,
     }
@@ -112,15 +112,15 @@ fn has_tag_left_in(
     messages: &MessagesAhead<'_>,
     folder: &Folder,
 ) -> bool
-    requires { kept_of messages.now ≡ Some folder.now }
-    ensures yes { result ≡ true → (i : OpId) × (is_there tags.now.entries messages.now i ≡ true) }
+    requires { stored_of messages.now ≡ Some folder.now }
+    ensures yes { result ≡ true → (i : OpId) × (is_present tags.now.entries messages.now i ≡ true) }
     ensures no { result ≡ false → (i : OpId)
-        → IsKeptTag (kept_of messages.now) i
-        → is_there tags.now.entries messages.now i ≡ true
+        → IsStoredTag (stored_of messages.now) i
+        → is_present tags.now.entries messages.now i ≡ true
         → ⊥ }
 {
     for place in 0..folder.count() {
-        if is_there_at(tags, messages, folder, place) {
+        if is_present_at(tags, messages, folder, place) {
             return true;
         }
     }
@@ -128,31 +128,31 @@ fn has_tag_left_in(
 }
 
 /// Whether the tag with the id at this place is present.
-fn is_there_at(
+fn is_present_at(
     tags: &IndexMap<OpId, bool>,
     messages: &MessagesAhead<'_>,
     folder: &Folder,
     place: usize,
 ) -> bool
-    requires { kept_of messages.now ≡ Some folder.now }
+    requires { stored_of messages.now ≡ Some folder.now }
     ensures { result
-        ≡ is_there_at tags.now.entries messages.now (slice_get (folder_ids folder.now) place) }
+        ≡ is_present_at tags.now.entries messages.now (slice_get (folder_ids folder.now) place) }
 {
     match folder.id_at(place) {
-        Some(id) => is_there(tags, messages, folder, &id),
+        Some(id) => is_present(tags, messages, folder, &id),
         None => false,
     }
 }
 
 /// Whether a folder tag or a message tag with this id is present.
-fn is_there(
+fn is_present(
     tags: &IndexMap<OpId, bool>,
     messages: &MessagesAhead<'_>,
     folder: &Folder,
     id: &OpId,
 ) -> bool
-    requires { kept_of messages.now ≡ Some folder.now }
-    ensures { result ≡ is_there tags.now.entries messages.now id.now }
+    requires { stored_of messages.now ≡ Some folder.now }
+    ensures { result ≡ is_present tags.now.entries messages.now id.now }
 {
     has_tag(tags, folder, id) || messages.origin_of(id).is_some()
 }

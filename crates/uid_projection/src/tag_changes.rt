@@ -23,7 +23,7 @@ pub struct TagChange<'a> {
 
 /// The date and text of an Append, borrowed.
 #[derive(Clone, Copy)]
-pub struct LentDatedText<'a> {
+pub struct DatedTextRef<'a> {
     /// When the message was received.
     pub date: &'a DateTime,
     /// The message's octets.
@@ -44,7 +44,7 @@ pub fn note_tag(tags: &mut IndexMap<OpId, bool>, id: &OpId, present: bool) -> Re
 }
 
 /// Notes that the folder tags with these ids are removed. `Err` if memory runs out.
-pub fn note_tags_gone(tags: &mut IndexMap<OpId, bool>, ids: &[OpId]) -> Result<(), AllocError>
+pub fn note_removed_tags(tags: &mut IndexMap<OpId, bool>, ids: &[OpId]) -> Result<(), AllocError>
     ensures { OnOk result ((i : OpId)
         → lookup (same_id i) tags.new.entries
         ≡ (if list_any (same_id i) ids.now then Some false
@@ -84,19 +84,22 @@ pub fn note_change<'a>(
 /// Notes the date and text of the Append with this id. `Err` if memory runs out; the notes are then
 /// unchanged.
 pub fn note_dated_text<'a>(
-    letters: &mut IndexMap<OpId, LentDatedText<'a>>,
+    dated_texts: &mut IndexMap<OpId, DatedTextRef<'a>>,
     id: &OpId,
     date: &'a DateTime,
     text: &'a Text,
 ) -> Result<(), AllocError>
     ensures ok { OnOk result ((i : OpId)
-        → lookup (same_id i) letters.new.entries
+        → lookup (same_id i) dated_texts.new.entries
         ≡ (if same_id id.now i then Some (record { date = date.entry; text = text.entry })
-        else lookup (same_id i) letters.old.entries)) }
+        else lookup (same_id i) dated_texts.old.entries)) }
     ensures err { OnErr result ((i : OpId)
-        → lookup (same_id i) letters.new.entries ≡ lookup (same_id i) letters.old.entries) }
+        → lookup (same_id i) dated_texts.new.entries ≡ lookup (same_id i) dated_texts.old.entries) }
 {
-    if letters.insert(*id, LentDatedText { date, text }).is_err() {
+    if dated_texts
+        .insert(*id, DatedTextRef { date, text })
+        .is_err()
+    {
         return Err(AllocError);
     }
     Ok(())

@@ -15,7 +15,7 @@ ghost use Rattle.uid_projection.specs.ChartTable.{origin_at};
 ghost use Rattle.uid_projection.specs.TouchedMessages.{AddsUids, RowsStayExcept, names_message};
 
 use crate::chart::Chart;
-use crate::chart_ahead::is_about;
+use crate::chart_ahead::names_folder;
 use crate::chart_table::chart_of;
 use crate::charts::Charts;
 use crate::entry_moves::added_origin;
@@ -83,7 +83,7 @@ fn push_uids_named(
         (λ g. names_message (origin_at chart.now.versions.entries) folder.now g op.now)
         chart.now.entries.entries uids.old.items uids.new.items) }
 {
-    if !is_about(&op.kind, folder) {
+    if !names_folder(&op.kind, folder) {
         return Ok(());
     }
     push_uids_of_lost(uids, chart, op.kind.removed_ids())?;
@@ -131,7 +131,7 @@ fn is_at(versions: &IndexMap<OpId, OpId>, id: &OpId, origin: &OpId) -> bool
     ensures { result ≡ is_some_id origin.now (origin_at versions.now.entries id.now) }
 {
     match origin_at(versions, id) {
-        Some(found) => *origin == found,
+        Some(other) => *origin == other,
         None => false,
     }
 }

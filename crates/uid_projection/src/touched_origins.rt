@@ -46,14 +46,14 @@ pub fn list(
 
 /// Appends an id to a list. `Err` if memory runs out; the list is then unchanged.
 fn push(ids: &mut Vec<OpId>, id: &OpId) -> Result<(), AllocError>
-    ensures kept { (i : OpId) → IsIn i ids.old.items → IsIn i ids.new.items }
+    ensures retained { (i : OpId) → IsIn i ids.old.items → IsIn i ids.new.items }
     ensures put { OnOk result (IsIn id.now ids.new.items) }
 {
     ids.push(*id)?;
     Ok(())
 }
 
-/// Puts in the list of an origin that has none. `Err` if memory runs out.
+/// Inserts the list of an origin that has none. `Err` if memory runs out.
 fn begin(
     versions: &mut IndexMap<OpId, Vec<OpId>>,
     origin: &OpId,

@@ -26,13 +26,13 @@ pub fn event(alloc: Global, line: &str) -> Result<Event, Trouble> {
             auth: Auth::Preauth,
         }),
         "drain" => Ok(Event::Drain { at: replica(rest)? }),
-        "deliver" => delivery(rest),
-        "join" => joining(rest),
-        _ => said(alloc, word, rest),
+        "deliver" => delivery_event(rest),
+        "join" => join_event(rest),
+        _ => session_event(alloc, word, rest),
     }
 }
 
-fn joining(text: &str) -> Result<Event, Trouble> {
+fn join_event(text: &str) -> Result<Event, Trouble> {
     let (name, peer) = cut(text);
     Ok(Event::Join {
         name: replica(name)?,
@@ -40,7 +40,7 @@ fn joining(text: &str) -> Result<Event, Trouble> {
     })
 }
 
-fn delivery(text: &str) -> Result<Event, Trouble> {
+fn delivery_event(text: &str) -> Result<Event, Trouble> {
     let (at, id) = cut(text);
     Ok(Event::Deliver {
         at: replica(at)?,
@@ -49,7 +49,7 @@ fn delivery(text: &str) -> Result<Event, Trouble> {
 }
 
 /// The event of a session.
-fn said(alloc: Global, word: &str, text: &str) -> Result<Event, Trouble> {
+fn session_event(alloc: Global, word: &str, text: &str) -> Result<Event, Trouble> {
     let (at, rest) = cut(text);
     let (session, text) = cut(rest);
     let at = replica(at)?;

@@ -62,7 +62,7 @@ impl Client {
             }
             Answer::Exists { count } => self.lengthen(*count),
             Answer::Fetch { number, items } => self.learn(alloc, *number, items),
-            Answer::Tell { notice } => {
+            Answer::UntaggedOk { notice } => {
                 self.note(notice);
                 Ok(())
             }
@@ -133,8 +133,8 @@ impl Client {
         if self.is_lost || self.slots.len() != other.slots.len() {
             return false;
         }
-        for (slot, there) in self.slots.iter().zip(&other.slots) {
-            if !slot.is_right(there.uid, there.flags.as_ref()) {
+        for (slot, expected) in self.slots.iter().zip(&other.slots) {
+            if !slot.is_right(expected.uid, expected.flags.as_ref()) {
                 return false;
             }
         }
@@ -175,7 +175,7 @@ impl Slot {
     fn has_right_flags(&self, flags: Option<&Flags>) -> bool {
         match (&self.flags, flags) {
             (None, _) => true,
-            (Some(known), Some(there)) => known.same(there),
+            (Some(known), Some(expected)) => known.same(expected),
             (Some(_), None) => false,
         }
     }

@@ -16,7 +16,7 @@ pub enum Sort {
 
 /// A command as a client sends it.
 #[derive(Drop)]
-pub struct Said {
+pub struct ClientCommand {
     /// The command, with its tag and line end.
     pub text: String,
     /// Its effect on the session's mailbox.
@@ -24,50 +24,54 @@ pub struct Said {
 }
 
 /// A random command. If no mailbox is selected, every second one selects a mailbox.
-pub fn command(alloc: Global, chance: &mut Chance, is_selected: bool) -> Result<Said, AllocError> {
+pub fn command(
+    alloc: Global,
+    chance: &mut Chance,
+    is_selected: bool,
+) -> Result<ClientCommand, AllocError> {
     if !is_selected && chance.is_one_in(2) {
-        return selecting(alloc, chance);
+        return select_command(alloc, chance);
     }
     match chance.below(20) {
-        0 => selecting(alloc, chance),
-        1 => leaving(alloc, chance),
+        0 => select_command(alloc, chance),
+        1 => unselect_command(alloc, chance),
         2 | 3 => other(store(alloc, chance)?),
         4 | 5 | 6 => other(over_mailboxes(alloc, chance)?),
         7 | 8 | 9 | 10 => other(append(alloc, chance)?),
         11 | 12 | 13 => other(store(alloc, chance)?),
-        14 | 15 => other(moving(alloc, chance)?),
-        16 | 17 => other(asking(alloc, chance)?),
-        _ => other(plain(alloc, chance)?),
+        14 | 15 => other(move_command(alloc, chance)?),
+        16 | 17 => other(query_command(alloc, chance)?),
+        _ => other(plain_command(alloc, chance)?),
     }
 }
 
-fn other(text: String) -> Result<Said, AllocError> {
-    Ok(Said {
+fn other(text: String) -> Result<ClientCommand, AllocError> {
+    Ok(ClientCommand {
         text,
         sort: Sort::Other,
     })
 }
 
-fn selecting(alloc: Global, chance: &mut Chance) -> Result<Said, AllocError> {
+fn select_command(alloc: Global, chance: &mut Chance) -> Result<ClientCommand, AllocError> {
     let name = name(chance);
     let word = if chance.is_one_in(6) {
         "EXAMINE"
     } else {
         "SELECT"
     };
-    Ok(Said {
+    Ok(ClientCommand {
         text: format!(in alloc; "a {word} {name}\r\n")?,
         sort: Sort::Selecting,
     })
 }
 
-fn leaving(alloc: Global, chance: &mut Chance) -> Result<Said, AllocError> {
+fn unselect_command(alloc: Global, chance: &mut Chance) -> Result<ClientCommand, AllocError> {
     let word = match chance.below(8) {
         0 => "LOGOUT",
         1 | 2 | 3 => "UNSELECT",
         _ => "CLOSE",
     };
-    Ok(Said {
+    Ok(ClientCommand {
         text: format!(in alloc; "a {word}\r\n")?,
         sort: Sort::Leaving,
     })
@@ -141,7 +145,7 @@ fn flags(chance: &mut Chance) -> &'static str {
     }
 }
 
-fn moving(alloc: Global, chance: &mut Chance) -> Result<String, AllocError> {
+fn move_command(alloc: Global, chance: &mut Chance) -> Result<String, AllocError> {
     let set = set(chance);
     let name = name(chance);
     match chance.below(6) {
@@ -153,7 +157,7 @@ fn moving(alloc: Global, chance: &mut Chance) -> Result<String, AllocError> {
     }
 }
 
-fn asking(alloc: Global, chance: &mut Chance) -> Result<String, AllocError> {
+fn query_command(alloc: Global, chance: &mut Chance) -> Result<String, AllocError> {
     let set = set(chance);
     match chance.below(6) {
         0 => format!(in alloc; "a FETCH {set} (UID BODY[])\r\n"),
@@ -165,7 +169,7 @@ fn asking(alloc: Global, chance: &mut Chance) -> Result<String, AllocError> {
     }
 }
 
-fn plain(alloc: Global, chance: &mut Chance) -> Result<String, AllocError> {
+fn plain_command(alloc: Global, chance: &mut Chance) -> Result<String, AllocError> {
     let word = match chance.below(9) {
         0 => "CAPABILITY",
         1 => "NAMESPACE",

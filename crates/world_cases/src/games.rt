@@ -4,7 +4,7 @@ ghost use Rattle.std.specs.Prelude.{◌≡◌, IfOk};
 
 use crate::asked::cut;
 use crate::chance::Chance;
-use crate::deeds::{Note, deed};
+use crate::random_events::{Note, random_event};
 use crate::tally::Tally;
 use crate::watch::Watch;
 use case_lines::{Trouble, Words, long_number};
@@ -21,16 +21,16 @@ const EVENTS: u32 = 300;
 /// The most events of one run. The events of the next run are chosen after it.
 const MOST_IN_RUN: u32 = 10;
 
-/// A random world and how it went so far.
+/// A random world and its progress.
 #[derive(Drop)]
 struct Game {
     world: World,
-    course: Course,
+    progress: Progress,
 }
 
-/// How a world went so far.
+/// The progress of a world so far.
 #[derive(Drop)]
-struct Course {
+struct Progress {
     watch: Watch,
     /// How many events were taken, and not passed over.
     taken: u32,
@@ -39,7 +39,7 @@ struct Course {
 }
 
 /// Plays the worlds with the numbers from the first to the last, and puts what occurred in them.
-pub fn tell_random(
+pub fn play_random(
     alloc: Global,
     asked: &str,
     numbers: &str,
@@ -54,7 +54,7 @@ pub fn tell_random(
     }
     page.put(asked);
     page.put(" =>\n");
-    tally.tell(page);
+    tally.put_tally(page);
     Ok(())
 }
 
@@ -63,7 +63,7 @@ fn play(alloc: Global, number: u64, tally: &mut Tally) -> Result<(), Trouble> {
     let mut chance = Chance::new(number);
     let mut game = Game {
         world: world(alloc)?,
-        course: Course {
+        progress: Progress {
             watch: Watch::new(alloc)?,
             taken: 0,
             wrong: None,
@@ -73,7 +73,7 @@ fn play(alloc: Global, number: u64, tally: &mut Tally) -> Result<(), Trouble> {
     for _ in 0..EVENTS {
         let count = chance.below(MOST_IN_RUN).saturating_add(1).min(left);
         left = left.saturating_sub(count);
-        game = go_on(alloc, &mut chance, game, count, tally)?;
+        game = run_some(alloc, &mut chance, game, count, tally)?;
     }
     end(alloc, number, game, tally)
 }
@@ -101,21 +101,21 @@ fn start(number: u32) -> Result<Counters, Trouble>
 }
 
 /// Runs `count` random events in one run.
-fn go_on(
+fn run_some(
     alloc: Global,
     chance: &mut Chance,
     game: Game,
     count: u32,
     tally: &mut Tally,
 ) -> Result<Game, Trouble> {
-    let Game { world, course } = game;
+    let Game { world, progress } = game;
     let mut notes = Vec::new(alloc);
     let events = made_up(alloc, chance, world.nodes(), count, &mut notes)?;
     let outcomes = run(alloc, world, events);
-    judged(alloc, &notes, outcomes, course, tally)
+    judged(alloc, &notes, outcomes, progress, tally)
 }
 
-/// Random events at these nodes; `notes` gets what clients must know of them.
+/// Random events at these nodes; `notes` gets what clients must know about them.
 fn made_up(
     alloc: Global,
     chance: &mut Chance,
@@ -125,7 +125,7 @@ fn made_up(
 ) -> Result<Vec<Event>, Trouble> {
     let mut events = Vec::new(alloc);
     for _ in 0..count {
-        let noted = deed(alloc, chance, nodes)?;
+        let noted = random_event(alloc, chance, nodes)?;
         notes.push(noted.note)?;
         events.push(noted.event)?;
     }
@@ -137,32 +137,32 @@ fn judged(
     alloc: Global,
     notes: &[Note],
     outcomes: Outcomes,
-    course: Course,
+    progress: Progress,
     tally: &mut Tally,
 ) -> Result<Game, Trouble> {
     let Outcomes { world, list, whole } = outcomes;
-    let Course {
+    let Progress {
         watch,
         taken,
         wrong,
-    } = course;
+    } = progress;
     let mut watch = watch;
     let mut taken = taken;
     if !whole || list.len() != notes.len() {
         return Err(Trouble::NoMemory);
     }
     for (note, outcome) in notes.iter().zip(list.iter()) {
-        watch.hear(alloc, *note, outcome, tally)?;
+        watch.receive(alloc, *note, outcome, tally)?;
         taken = taken.saturating_add(u32::from(tally.note(outcome)));
     }
     let wrong = if watch.is_right_by(world.nodes()) {
         wrong
     } else {
-        Some("a session sees other than it was told")
+        Some("a session's view differs from what it was sent")
     };
     Ok(Game {
         world,
-        course: Course {
+        progress: Progress {
             watch,
             taken,
             wrong,
@@ -173,22 +173,22 @@ fn judged(
 /// Settles the world, and notes whether it ends as it should.
 fn end(alloc: Global, number: u64, game: Game, tally: &mut Tally) -> Result<(), Trouble> {
     let mut nodes = game.world.into_nodes();
-    tally.has_idle_world = tally.has_idle_world || game.course.taken <= EVENTS / 4;
-    if let Some(how) = game.course.wrong {
-        tally.miss(number, how);
+    tally.has_idle_world = tally.has_idle_world || game.progress.taken <= EVENTS / 4;
+    if let Some(how) = game.progress.wrong {
+        tally.note_failure(number, how);
     }
     let issued = issued_by(&nodes);
     if settle(alloc, &mut nodes).is_err() {
-        tally.miss(number, "it does not settle");
+        tally.note_failure(number, "it does not settle");
     }
     if !all_applied(&nodes, issued) {
-        tally.miss(number, "an operation is missing, or held");
+        tally.note_failure(number, "an operation is missing, or held");
     }
     if !all_agree(&nodes) {
-        tally.miss(number, "two replicas differ");
+        tally.note_failure(number, "two replicas differ");
     }
     if !hold_the_same(alloc, &nodes)? {
-        tally.miss(number, "two replicas hold other mail");
+        tally.note_failure(number, "two replicas hold other mail");
     }
     Ok(())
 }
@@ -239,7 +239,7 @@ fn hold_the_same(alloc: Global, nodes: &[Node]) -> Result<bool, AllocError> {
     let first = dump(alloc, first)?;
     for other in others {
         let other = dump(alloc, other)?;
-        if behind_first_line(&first) != behind_first_line(&other) {
+        if after_first_line(&first) != after_first_line(&other) {
             return Ok(false);
         }
     }
@@ -252,7 +252,7 @@ fn dump(alloc: Global, node: &Node) -> Result<Vec<u8>, AllocError> {
     Ok(text)
 }
 
-fn behind_first_line(text: &[u8]) -> &[u8] {
+fn after_first_line(text: &[u8]) -> &[u8] {
     match text_fields::split(b'\n', text) {
         Some((_, rest)) => rest,
         None => text,

@@ -16,12 +16,12 @@ mod asked;
 mod chance;
 mod client;
 mod commands;
-mod deeds;
-mod ending;
 mod games;
 mod idle;
+mod outcome_text;
+mod random_events;
+mod settlement;
 mod tally;
-mod told;
 mod watch;
 mod worked;
 

@@ -12,7 +12,7 @@ use world_core::Outcome;
 pub struct Tally {
     /// The first world that went wrong, and how.
     pub first_wrong: Option<(u64, &'static str)>,
-    /// Whether in some world at most a quarter of the events were taken.
+    /// Whether at most a quarter of the events were taken in some world.
     pub has_idle_world: bool,
     has_opened: bool,
     has_done: bool,
@@ -29,11 +29,11 @@ pub struct Tally {
     /// Whether flags were set silently.
     pub has_silent: bool,
     /// Whether something occurred that never should: an event refused, or a delivery that stalls.
-    pub has_strange: bool,
+    pub has_impossible: bool,
 }
 
 impl Tally {
-    /// No world was played.
+    /// A tally before any world is played.
     pub fn new() -> Tally {
         Tally {
             first_wrong: None,
@@ -51,12 +51,12 @@ impl Tally {
             has_expunge: false,
             has_fetch: false,
             has_silent: false,
-            has_strange: false,
+            has_impossible: false,
         }
     }
 
     /// Notes that a world went wrong.
-    pub fn miss(&mut self, world: u64, how: &'static str) {
+    pub fn note_failure(&mut self, world: u64, how: &'static str) {
         if self.first_wrong.is_none() {
             self.first_wrong = Some((world, how));
         }
@@ -67,13 +67,13 @@ impl Tally {
         match outcome {
             Outcome::Opened { .. } => self.has_opened = true,
             Outcome::Replied { reply } => self.note_reply(reply),
-            Outcome::Came { delivered } => self.note_delivered(*delivered),
+            Outcome::Taken { delivered } => self.note_delivered(*delivered),
             Outcome::Drained { .. } => self.has_drained = true,
             Outcome::Closed => self.has_closed = true,
             Outcome::PassedOver => self.has_passed = true,
             Outcome::Joined => {}
-            Outcome::TurnedAway { .. } | Outcome::NotTaken { .. } | Outcome::NotJoined { .. } => {
-                self.has_strange = true
+            Outcome::NotOpened { .. } | Outcome::NotTaken { .. } | Outcome::NotJoined { .. } => {
+                self.has_impossible = true
             }
         }
         !matches!(outcome, Outcome::PassedOver)
@@ -87,7 +87,7 @@ impl Tally {
     }
 
     fn note_delivered(&mut self, delivered: Delivered) {
-        self.has_strange = self.has_strange || delivered.stalled;
+        self.has_impossible = self.has_impossible || delivered.stalled;
         match delivered.arrival {
             Arrival::Applied(_) => self.has_applied = true,
             Arrival::Held => self.has_held = true,
@@ -96,13 +96,13 @@ impl Tally {
     }
 
     /// Notes answers that a client received.
-    pub fn hear_all(&mut self, answers: &[Answer]) {
+    pub fn receive_all(&mut self, answers: &[Answer]) {
         for answer in answers {
-            self.hear(answer);
+            self.receive(answer);
         }
     }
 
-    fn hear(&mut self, answer: &Answer) {
+    fn receive(&mut self, answer: &Answer) {
         match answer {
             Answer::Exists { .. } => self.has_exists = true,
             Answer::Expunge { .. } => self.has_expunge = true,
@@ -112,21 +112,21 @@ impl Tally {
     }
 
     /// Puts what occurred.
-    pub fn tell(&self, page: &mut Words) {
-        self.tell_wrong(page);
-        self.tell_taken(page);
+    pub fn put_tally(&self, page: &mut Words) {
+        self.put_wrong(page);
+        self.put_taken(page);
         page.put("  met:");
-        self.tell_sessions(page);
-        self.tell_deliveries(page);
+        self.put_sessions(page);
+        self.put_deliveries(page);
         page.put("\n  heard:");
-        self.tell_heard(page);
+        self.put_received(page);
         page.put("\n");
     }
 
-    fn tell_wrong(&self, page: &mut Words) {
+    fn put_wrong(&self, page: &mut Words) {
         match &self.first_wrong {
             None => page.put(
-                "  each settles, all its replicas agree and hold the same, and sessions see what they were told\n",
+                "  each settles, all its replicas agree and hold the same, and sessions see what they were sent\n",
             ),
             Some((world, how)) => {
                 page.put_number("  world ", *world);
@@ -137,7 +137,7 @@ impl Tally {
         }
     }
 
-    fn tell_taken(&self, page: &mut Words) {
+    fn put_taken(&self, page: &mut Words) {
         if self.has_idle_world {
             page.put("  in some no more than a quarter of the events were taken\n");
         } else {
@@ -145,7 +145,7 @@ impl Tally {
         }
     }
 
-    fn tell_sessions(&self, page: &mut Words) {
+    fn put_sessions(&self, page: &mut Words) {
         page.put_if(self.has_opened, " Opened");
         page.put_if(self.has_done, " Done");
         page.put_if(self.has_refused, " Refused");
@@ -153,15 +153,15 @@ impl Tally {
         page.put_if(self.has_passed, " PassedOver");
     }
 
-    fn tell_deliveries(&self, page: &mut Words) {
+    fn put_deliveries(&self, page: &mut Words) {
         page.put_if(self.has_applied, " Applied");
         page.put_if(self.has_held, " Held");
         page.put_if(self.has_repeat, " Repeat");
         page.put_if(self.has_drained, " Drained");
-        page.put_if(self.has_strange, " strange");
+        page.put_if(self.has_impossible, " strange");
     }
 
-    fn tell_heard(&self, page: &mut Words) {
+    fn put_received(&self, page: &mut Words) {
         page.put_if(self.has_exists, " EXISTS");
         page.put_if(self.has_expunge, " EXPUNGE");
         page.put_if(self.has_fetch, " FETCH");

@@ -2,7 +2,7 @@
 
 use crate::client::Client;
 use crate::commands::Sort;
-use crate::deeds::{Note, REPLICAS, SESSIONS};
+use crate::random_events::{Note, REPLICAS, SESSIONS};
 use crate::tally::Tally;
 use imap_answers::Answer;
 use imap_node::{Node, Reply, Session, SessionNo, State};
@@ -28,7 +28,7 @@ impl Watch {
     }
 
     /// Passes the outcome of an event to its session's client.
-    pub fn hear(
+    pub fn receive(
         &mut self,
         alloc: Global,
         note: Note,
@@ -36,7 +36,7 @@ impl Watch {
         tally: &mut Tally,
     ) -> Result<(), AllocError> {
         match outcome {
-            Outcome::Replied { reply } => self.hear_reply(alloc, note, reply, tally),
+            Outcome::Replied { reply } => self.receive_reply(alloc, note, reply, tally),
             Outcome::Closed => {
                 self.begin(note, None);
                 Ok(())
@@ -54,7 +54,7 @@ impl Watch {
         }
     }
 
-    fn hear_reply(
+    fn receive_reply(
         &mut self,
         alloc: Global,
         note: Note,
@@ -71,7 +71,7 @@ impl Watch {
                     self.begin(note, Some(Client::new(alloc)));
                 }
                 tally.has_silent = tally.has_silent || !silent.as_slice().is_empty();
-                tally.hear_all(answers.as_slice());
+                tally.receive_all(answers.as_slice());
                 self.learn(alloc, note, silent.as_slice(), answers.as_slice())?;
             }
             Reply::Refused { .. } => {
@@ -113,7 +113,7 @@ impl Watch {
     fn is_right_at(&self, place: usize, node: &Node) -> bool {
         for number in 0..SESSIONS as usize {
             let client = self.clients.get(client_place(place, number));
-            if !is_as(client, session_of(node, number)) {
+            if !agrees_with(client, session_of(node, number)) {
                 return false;
             }
         }
@@ -141,7 +141,7 @@ fn session_of(node: &Node, number: usize) -> Option<&Session> {
 
 /// Whether there is a client exactly if the session has selected a mailbox, and the client is right
 /// about what the session sees.
-fn is_as(client: Option<&Option<Client>>, session: Option<&Session>) -> bool {
+fn agrees_with(client: Option<&Option<Client>>, session: Option<&Session>) -> bool {
     match client {
         None => false,
         Some(None) => selected(session).is_none(),

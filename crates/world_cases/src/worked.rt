@@ -1,9 +1,9 @@
 //! Worlds whose events are listed line by line.
 
 use crate::asked::{cut, event, starts};
-use crate::ending::{agreement, are_from_one, ended};
-use crate::games::tell_random;
-use crate::told::tell;
+use crate::games::play_random;
+use crate::outcome_text::put_outcome;
+use crate::settlement::{agreement, are_from_one, settle_text};
 use case_lines::{Trouble, Words, replica};
 use imap_node::Node;
 use std::alloc::{AllocError, Global};
@@ -13,21 +13,21 @@ use world_core::{Event, Outcomes, World, WorldFault, run};
 
 /// The replicas after all runs so far.
 #[derive(Drop)]
-enum Behind {
+enum Replicas {
     /// Nothing was run.
-    Nothing,
+    NotRun,
     /// A world in which further events can happen.
     World(World),
     /// The nodes that settling left.
     Settled(Vec<Node>),
 }
 
-impl Behind {
+impl Replicas {
     fn nodes(&self) -> &[Node] {
         match self {
-            Behind::Nothing => &[],
-            Behind::World(world) => world.nodes(),
-            Behind::Settled(nodes) => nodes,
+            Replicas::NotRun => &[],
+            Replicas::World(world) => world.nodes(),
+            Replicas::Settled(nodes) => nodes,
         }
     }
 }
@@ -39,7 +39,7 @@ struct Worked<'a> {
     /// The lines of the events of the next run.
     lines: Vec<&'a str>,
     events: Vec<Event>,
-    behind: Behind,
+    replicas: Replicas,
 }
 
 impl<'a> Worked<'a> {
@@ -48,7 +48,7 @@ impl<'a> Worked<'a> {
             starts: Vec::new(alloc),
             lines: Vec::new(alloc),
             events: Vec::new(alloc),
-            behind: Behind::Nothing,
+            replicas: Replicas::NotRun,
         }
     }
 }
@@ -94,17 +94,17 @@ fn take_asked<'a>(
         "replicas" => {
             *worked = Worked::new(alloc);
             worked.starts = starts(alloc, rest)?;
-            tell_line(asked, page);
+            put_line(asked, page);
             Ok(())
         }
         "run" => run_lines(alloc, worked, page),
-        "add" => add(alloc, asked, rest, &mut worked.behind, page),
+        "add" => add(alloc, asked, rest, &mut worked.replicas, page),
         "settle" => {
             settle(alloc, asked, worked, page);
             Ok(())
         }
-        "agree" => tell_agreement(asked, rest, worked.behind.nodes(), page),
-        "random" => tell_random(alloc, asked, rest, page),
+        "agree" => put_agreement(asked, rest, worked.replicas.nodes(), page),
+        "random" => play_random(alloc, asked, rest, page),
         _ => {
             let event = event(alloc, asked)?;
             worked.lines.push(asked)?;
@@ -114,12 +114,12 @@ fn take_asked<'a>(
     }
 }
 
-fn tell_line(line: &str, page: &mut Words) {
+fn put_line(line: &str, page: &mut Words) {
     page.put(line);
     page.put("\n");
 }
 
-fn tell_answer(asked: &str, answer: &str, page: &mut Words) {
+fn put_answer(asked: &str, answer: &str, page: &mut Words) {
     page.put(asked);
     page.put(" => ");
     page.put(answer);
@@ -128,13 +128,13 @@ fn tell_answer(asked: &str, answer: &str, page: &mut Words) {
 
 /// Runs all events after the last run, and puts the outcome of each.
 fn run_lines(alloc: Global, worked: &mut Worked, page: &mut Words) -> Result<(), Trouble> {
-    match std::mem::replace(&mut worked.behind, Behind::Nothing) {
-        Behind::Nothing => begin(alloc, worked, page),
-        Behind::World(world) => {
+    match std::mem::replace(&mut worked.replicas, Replicas::NotRun) {
+        Replicas::NotRun => begin(alloc, worked, page),
+        Replicas::World(world) => {
             run_world(alloc, worked, world, page);
             Ok(())
         }
-        Behind::Settled(nodes) => {
+        Replicas::Settled(nodes) => {
             drop(nodes);
             Err(Trouble::NotACase)
         }
@@ -148,7 +148,7 @@ fn begin(alloc: Global, worked: &mut Worked, page: &mut Words) -> Result<(), Tro
     }
     match World::new(alloc, &worked.starts) {
         Ok(world) => run_world(alloc, worked, world, page),
-        Err(fault) => tell_no_world("run", fault, page),
+        Err(fault) => put_no_world("run", fault, page),
     }
     Ok(())
 }
@@ -156,9 +156,9 @@ fn begin(alloc: Global, worked: &mut Worked, page: &mut Words) -> Result<(), Tro
 fn run_world(alloc: Global, worked: &mut Worked, world: World, page: &mut Words) {
     let events = std::mem::replace(&mut worked.events, Vec::new(alloc));
     let outcomes = run(alloc, world, events);
-    tell_outcomes(alloc, &worked.lines, &outcomes, page);
+    put_outcomes(alloc, &worked.lines, &outcomes, page);
     worked.lines.clear();
-    worked.behind = Behind::World(outcomes.world);
+    worked.replicas = Replicas::World(outcomes.world);
 }
 
 /// Has a replica join the world by a separate call, and puts its result.
@@ -166,52 +166,52 @@ fn add(
     alloc: Global,
     asked: &str,
     names: &str,
-    behind: &mut Behind,
+    replicas: &mut Replicas,
     page: &mut Words,
 ) -> Result<(), Trouble> {
     let (name, peer) = cut(names);
     let name = replica(name)?;
     let peer = replica(peer)?;
-    let Behind::World(world) = behind else {
+    let Replicas::World(world) = replicas else {
         return Err(Trouble::NotACase);
     };
     match world.join(alloc, name, peer) {
-        Ok(()) => tell_answer(asked, "Ok", page),
-        Err(fault) => tell_no_world(asked, fault, page),
+        Ok(()) => put_answer(asked, "Ok", page),
+        Err(fault) => put_no_world(asked, fault, page),
     }
     Ok(())
 }
 
 /// Has the replicas exchange what they received. Nothing further happens in their world.
 fn settle(alloc: Global, asked: &str, worked: &mut Worked, page: &mut Words) {
-    let mut nodes = match std::mem::replace(&mut worked.behind, Behind::Nothing) {
-        Behind::Nothing => Vec::new(alloc),
-        Behind::World(world) => world.into_nodes(),
-        Behind::Settled(nodes) => nodes,
+    let mut nodes = match std::mem::replace(&mut worked.replicas, Replicas::NotRun) {
+        Replicas::NotRun => Vec::new(alloc),
+        Replicas::World(world) => world.into_nodes(),
+        Replicas::Settled(nodes) => nodes,
     };
-    tell_answer(asked, ended(alloc, &mut nodes), page);
-    worked.behind = Behind::Settled(nodes);
+    put_answer(asked, settle_text(alloc, &mut nodes), page);
+    worked.replicas = Replicas::Settled(nodes);
 }
 
 /// Puts why there is no such world, or no such replica in it.
-fn tell_no_world(asked: &str, fault: WorldFault, page: &mut Words) {
+fn put_no_world(asked: &str, fault: WorldFault, page: &mut Words) {
     match fault {
-        WorldFault::TwoAlike { id } => tell_alike(asked, id, page),
-        WorldFault::NoMemory => tell_answer(asked, "NoMemory", page),
-        WorldFault::NoPeer => tell_answer(asked, "NoPeer", page),
-        WorldFault::Exhausted => tell_answer(asked, "Exhausted", page),
+        WorldFault::TwoAlike { id } => put_alike(asked, id, page),
+        WorldFault::NoMemory => put_answer(asked, "NoMemory", page),
+        WorldFault::NoPeer => put_answer(asked, "NoPeer", page),
+        WorldFault::Exhausted => put_answer(asked, "Exhausted", page),
     }
 }
 
-fn tell_alike(asked: &str, id: ReplicaId, page: &mut Words) {
+fn put_alike(asked: &str, id: ReplicaId, page: &mut Words) {
     page.put(asked);
     page.put_number(" => TwoAlike ", u64::from(id.get()));
     page.put("\n");
 }
 
-fn tell_outcomes(alloc: Global, lines: &[&str], outcomes: &Outcomes, page: &mut Words) {
+fn put_outcomes(alloc: Global, lines: &[&str], outcomes: &Outcomes, page: &mut Words) {
     for (line, outcome) in lines.iter().zip(outcomes.list.iter()) {
-        tell(alloc, line, outcome, page);
+        put_outcome(alloc, line, outcome, page);
     }
     page.put_number("run => ", outcomes.list.len() as u64);
     page.put(" outcomes, ");
@@ -219,7 +219,7 @@ fn tell_outcomes(alloc: Global, lines: &[&str], outcomes: &Outcomes, page: &mut 
     page.put("\n");
 }
 
-fn tell_agreement(
+fn put_agreement(
     asked: &str,
     names: &str,
     nodes: &[Node],
@@ -228,7 +228,7 @@ fn tell_agreement(
     let (one, other) = cut(names);
     let one = node_of(replica(one)?, nodes)?;
     let other = node_of(replica(other)?, nodes)?;
-    tell_answer(asked, agreement(one, other), page);
+    put_answer(asked, agreement(one, other), page);
     Ok(())
 }
 

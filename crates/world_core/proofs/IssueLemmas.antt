@@ -8,9 +8,9 @@ use Rattle.imap_commands.specs.declared.session.State.{State}
 use Rattle.imap_node.specs.Operations.{AreNext, CanIssueAll, id_of}
 use Rattle.imap_node.specs.Responses.{input_intent}
 use Rattle.imap_node.specs.declared.input.Input.{Input}
-use Rattle.imap_node.proofs.CanLemmas.{input_can}
+use Rattle.imap_node.proofs.CanIssueLemmas.{input_can}
 use Rattle.imap_node.proofs.NextLemmas.{can_by}
-use Rattle.imap_node.proofs.ThereLemmas.{mapped_in}
+use Rattle.imap_node.proofs.ExistingFolderLemmas.{mapped_in}
 use Rattle.merge_laws.specs.Orders.{AreSound, IsIn}
 use Rattle.merge_laws.proofs.Lists.{split_at}
 use Rattle.tags_clocks.specs.Clock.{count_of}
@@ -23,7 +23,7 @@ first_clock : (replica : ℕ) (applied : List Op) (kinds : List Kind) (ops : Lis
 first_clock replica applied kinds [] h o i = absurd i
 first_clock replica applied kinds (x ∷ xs) h o i = (x.clock, subst (λ (os : List Op). IsClockOf id_of os x.clock) (append-nil applied) (h.next [] x xs refl).clock)
 
--- what is issued of kinds that may be issued is sound
+-- operations issued with allowed kinds are sound
 pub next_sound : (replica : ℕ) (applied : List Op) (kinds : List Kind) (ops : List Op) → CanIssueAll applied kinds → AreNext replica applied kinds ops → AreSound IsSound ops
 next_sound replica applied kinds ops all h = λ o i.
     let cut = split_at o ops i in
@@ -39,7 +39,7 @@ next_sound replica applied kinds ops all h = λ o i.
       count = can.lawful.count;
     }
 
-module _ (start : Counters) (applied : List Op) (a : IsApplied applied) (stamp : List ℕ) (state : State) (input : Input) (given : List Kind) (wanted : input_intent start applied stamp state input ≡ Ok given) (ops : List Op) (next : AreNext start.replica applied given ops) where
+module _ (start : Counters) (applied : List Op) (a : IsApplied applied) (stamp : List ℕ) (state : State) (input : Input) (given : List Kind) (intended : input_intent start applied stamp state input ≡ Ok given) (ops : List Op) (next : AreNext start.replica applied given ops) where
   -- what an input issues is sound
   pub issue_sound : AreSound IsSound ops
-  issue_sound = next_sound start.replica applied given ops (input_can start applied a stamp state input given wanted) next
+  issue_sound = next_sound start.replica applied given ops (input_can start applied a stamp state input given intended) next

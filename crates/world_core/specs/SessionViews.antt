@@ -1,7 +1,7 @@
 -- What sessions see at each replica, and how their answers, replayed, give it.
 
 use Rattle.std.specs.Prelude.{◌≡◌, ℕ, true, List, [], ◌∷◌, Option, Some, None}
-use Rattle.imap_node.specs.GoingBack.{tells_all}
+use Rattle.imap_node.specs.OlderViews.{updates_view}
 use Rattle.imap_node.specs.Mailboxes.{rows_for}
 use Rattle.imap_node.specs.Nodes.{NodeState}
 use Rattle.imap_node.specs.Replays.{view_at, view_after_input}
@@ -31,9 +31,9 @@ session_view_at replicas name n = view_at_node (replicas name) n
 -- The UIDs in each session's view ascend strictly.
 abbrev pub SessionViewsAscend : Replicas → Type 0
 SessionViewsAscend replicas =
-    (name n : ℕ) (seen : ViewState)
-    → session_view_at replicas name n ≡ Some seen
-    → AreRising 1 seen.entries
+    (name n : ℕ) (own_view : ViewState)
+    → session_view_at replicas name n ≡ Some own_view
+    → AreRising 1 own_view.entries
 
 -- ---- what events do to views
 
@@ -58,7 +58,7 @@ AnswersReplay old _ outcome new = Unit {0}
 -- flags included.
 abbrev pub FullSyncShowsListingBy : ℕ → ℕ → Input → Reply → Replicas → Type 0
 FullSyncShowsListingBy name n input (Done answers silent issued) new =
-    tells_all input ≡ true
+    updates_view input ≡ true
     → (node : NodeState) (view : ViewState) → IsAt new name node
     → view_at node.sessions n ≡ Some view
     → view.entries ≡ entries_of (rows_for node.start node.applied view)
@@ -90,7 +90,7 @@ IsOfSession _ name n = ⊥
 -- listing after a full sync; the view of every other session stays as it was.
 pub record Replays (old : Replicas) (event : Event) (outcome : Outcome) (new : Replicas) :
     Type 0 where
-  pub told : AnswersReplay old event outcome new
+  pub replayed : AnswersReplay old event outcome new
   pub shown : FullSyncShowsListing event outcome new
   pub others : (name n : ℕ)
       → ¬ IsOfSession event name n

@@ -7,7 +7,7 @@ use Rattle.causal_inbox.specs.Inbox.{IsReceived}
 use Rattle.crdt_ops.specs.Meanings.{MeansTheSame}
 use Rattle.crdt_ops.specs.Sound.{IsSound}
 use Rattle.crdt_ops.specs.declared.op.Op.{Op}
-use Rattle.imap_node.specs.GoingBack.{AreOlderViews}
+use Rattle.imap_node.specs.OlderViews.{AreOlderViews}
 use Rattle.imap_node.specs.Nodes.{NodeState, received_ops}
 use Rattle.imap_node.specs.Operations.{clock_of, id_of}
 use Rattle.world_core.specs.Replicas.{IsAt, IsIssuedIn, Replicas}

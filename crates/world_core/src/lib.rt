@@ -36,19 +36,19 @@
 mod agreement;
 mod conflicts;
 mod event;
-mod joining;
 mod laws;
 mod node_places;
 mod run_events;
 mod session_events;
-mod settling;
-mod stepping;
+mod settlement;
 mod world;
+mod world_join;
+mod world_step;
 
 pub use agreement::{Agreement, agree};
 pub use event::{Event, Outcome};
-pub use joining::{JoinRefusal, with_operations_of};
 pub use laws::{settling_keeps_promises, worlds_keep_their_promises};
 pub use run_events::{Outcomes, run};
-pub use settling::{SettleFault, settle};
+pub use settlement::{SettleFault, settle};
 pub use world::{World, WorldFault};
+pub use world_join::{JoinRefusal, with_operations_of};

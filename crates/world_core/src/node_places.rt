@@ -31,7 +31,7 @@ fn is_named(node: &Node, name: ReplicaId) -> bool
     node.replica().id() == name
 }
 
-/// The operation with this id, if the replica that the id names issued it.
+/// The operation with this id, if issued by the replica that the id names.
 pub fn find_issued(nodes: &[Node], id: OpId) -> Option<&SoundOp>
     ensures { MatchOption result
         ((op : Op) → IsIssuedIn (nodes_by_name (all_without_room nodes.now)) op → op.id ≢ id)

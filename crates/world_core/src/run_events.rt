@@ -9,8 +9,8 @@ ghost use Rattle.world_core.specs.SessionViews.{SessionViewsAscend};
 ghost use Rattle.world_core.specs.Steps.{Runs};
 
 use crate::event::{Event, Outcome};
-use crate::stepping::step;
 use crate::world::World;
+use crate::world_step::step;
 use imap_node::Node;
 use std::alloc::Global;
 

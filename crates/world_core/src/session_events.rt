@@ -18,10 +18,10 @@ pub fn open(node: &mut Node, auth: Auth) -> Outcome
 {
     match node.open(auth) {
         Ok(session) => Outcome::Opened { session },
-        Err(OpenFault::TooManySessions) => Outcome::TurnedAway {
+        Err(OpenFault::TooManySessions) => Outcome::NotOpened {
             fault: OpenFault::TooManySessions,
         },
-        Err(OpenFault::NoMemory) => Outcome::TurnedAway {
+        Err(OpenFault::NoMemory) => Outcome::NotOpened {
             fault: OpenFault::NoMemory,
         },
     }
@@ -33,7 +33,7 @@ fn awaits(node: &Node, session: SessionNo, idles: bool) -> bool
 {
     match node.session(session) {
         None => false,
-        Some(found) => found.idling.is_some() == idles,
+        Some(entry) => entry.idling.is_some() == idles,
     }
 }
 
@@ -89,7 +89,7 @@ pub fn deliver(alloc: Global, node: &mut Node, op: SoundOp) -> Outcome
     ensures { DeliversOne node.old.state op result node.new.state }
 {
     match node.deliver(alloc, op) {
-        Ok(delivered) => Outcome::Came { delivered },
+        Ok(delivered) => Outcome::Taken { delivered },
         Err(fault) => Outcome::NotTaken { fault },
     }
 }

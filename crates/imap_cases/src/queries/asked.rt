@@ -1,7 +1,7 @@
 //! Questions that are answered by yes or no.
 
 use crate::queries::fields::octets;
-use case_lines::{Words, parted};
+use case_lines::{Words, parts_around};
 use imap_query::matches;
 use imap_types::Escape;
 use mail_text::{contains_nocase, date_ok, field_contains_nocase};
@@ -23,7 +23,7 @@ pub enum Asked {
 /// Puts yes or no to the question.
 pub fn put_asked(alloc: Global, words: &mut Words, text: &[u8], asked: Asked, input: &str) {
     let (first, second) = match asked {
-        Asked::FieldContains | Asked::Matches => parted(input, " "),
+        Asked::FieldContains | Asked::Matches => parts_around(input, " "),
         Asked::Contains | Asked::DateOk => ("", input),
     };
     match octets(alloc, Escape::Field, first) {

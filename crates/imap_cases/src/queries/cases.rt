@@ -2,16 +2,16 @@
 
 use crate::queries::asked::{Asked, put_asked};
 use crate::queries::commands::put_command;
-use crate::queries::stage::Stage;
+use crate::queries::setup::Setup;
 use crate::queries::texts::put_of_text;
 use case_lines::Words;
 use std::alloc::Global;
 
 /// Puts what the code answers to a query.
-pub fn put_query(alloc: Global, words: &mut Words, stage: &Stage, kind: &str, input: &str) {
-    let text = stage.text.as_bytes();
+pub fn put_query(alloc: Global, words: &mut Words, setup: &Setup, kind: &str, input: &str) {
+    let text = setup.text.as_bytes();
     match kind {
-        "command" => put_command(alloc, words, stage, input),
+        "command" => put_command(alloc, words, setup, input),
         "contains_nocase" => put_asked(alloc, words, text, Asked::Contains, input),
         "field_contains_nocase" => put_asked(alloc, words, text, Asked::FieldContains, input),
         "date_ok" => put_asked(alloc, words, text, Asked::DateOk, input),

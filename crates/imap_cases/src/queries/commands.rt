@@ -5,8 +5,8 @@ use crate::queries::fields::octets;
 use crate::queries::mailbox::Mailbox;
 use crate::queries::messages::rows_of;
 use crate::queries::searches::{are_rising, is_in_range, named};
-use crate::queries::stage::Stage;
-use crate::round_trips::printed_behind;
+use crate::queries::setup::Setup;
+use crate::round_trips::printed_after;
 use case_lines::{Trouble, Words};
 use imap_answers::{Answer, SearchResults};
 use imap_grammar::{Command, Fetch, ListNames, ParseFault, Search, StatusItem, Tagged, parse};
@@ -16,24 +16,24 @@ use mailbox_rows::Rows;
 use std::alloc::{AllocError, Global};
 
 /// Puts the answers to the command that a line spells, without the tagged one.
-pub fn put_command(alloc: Global, words: &mut Words, stage: &Stage, line: &str) {
+pub fn put_command(alloc: Global, words: &mut Words, setup: &Setup, line: &str) {
     match octets(alloc, Escape::Text, line) {
-        Ok(line) => put_line(alloc, words, stage, line.as_bytes()),
+        Ok(line) => put_line(alloc, words, setup, line.as_bytes()),
         Err(trouble) => words.put_trouble("", trouble),
     }
 }
 
-fn put_line(alloc: Global, words: &mut Words, stage: &Stage, line: &[u8]) {
+fn put_line(alloc: Global, words: &mut Words, setup: &Setup, line: &[u8]) {
     match joined(alloc, line, b"\r\n") {
-        Ok(frame) => put_frame(alloc, words, stage, &frame),
+        Ok(frame) => put_frame(alloc, words, setup, &frame),
         Err(AllocError) => words.give_up(),
     }
 }
 
-fn put_frame(alloc: Global, words: &mut Words, stage: &Stage, frame: &[u8]) {
+fn put_frame(alloc: Global, words: &mut Words, setup: &Setup, frame: &[u8]) {
     match parse(alloc, frame) {
         Ok(tagged) => {
-            put_tagged(alloc, words, stage, &tagged);
+            put_tagged(alloc, words, setup, &tagged);
             drop(tagged);
         }
         Err(ParseFault::NoMemory) => words.give_up(),
@@ -41,14 +41,14 @@ fn put_frame(alloc: Global, words: &mut Words, stage: &Stage, frame: &[u8]) {
     }
 }
 
-fn put_tagged(alloc: Global, words: &mut Words, stage: &Stage, tagged: &Tagged) {
+fn put_tagged(alloc: Global, words: &mut Words, setup: &Setup, tagged: &Tagged) {
     match &tagged.command {
-        Command::ListNames(list) => put_names(alloc, words, stage, list),
-        _ => put_of_mailbox(alloc, words, &stage.mailbox, tagged),
+        Command::ListNames(list) => put_names(alloc, words, setup, list),
+        _ => put_of_mailbox(alloc, words, &setup.mailbox, tagged),
     }
 }
 
-fn put_names(alloc: Global, words: &mut Words, stage: &Stage, list: &ListNames) {
+fn put_names(alloc: Global, words: &mut Words, setup: &Setup, list: &ListNames) {
     let mode = ListMode {
         subscribed_only: list.subscribed_only,
         return_subscribed: list.return_subscribed,
@@ -58,8 +58,8 @@ fn put_names(alloc: Global, words: &mut Words, stage: &Stage, list: &ListNames) 
         list.reference.as_bytes(),
         list.pattern.as_bytes(),
         mode,
-        &stage.folders,
-        &stage.subscriptions,
+        &setup.folders,
+        &setup.subscriptions,
     );
     put_answers(alloc, words, answers);
 }
@@ -99,7 +99,7 @@ fn put_status(
     name: &Name,
     items: &[StatusItem],
 ) {
-    let items = status(rows, items, mailbox.marks);
+    let items = status(rows, items, mailbox.counters);
     match name.copy(alloc) {
         Ok(name) => put_alone(alloc, words, Answer::Status { name, items }),
         Err(AllocError) => words.give_up(),
@@ -206,10 +206,10 @@ fn put_answers(alloc: Global, words: &mut Words, answers: Result<Vec<Answer>, Al
 
 /// Puts each answer without its CRLF and with ` | ` between them, `nothing` if there are none.
 fn put_each(alloc: Global, words: &mut Words, answers: &[Answer]) {
-    let mut mark = "";
+    let mut separator = "";
     for answer in answers {
-        put_one(alloc, words, mark, answer);
-        mark = " | ";
+        put_one(alloc, words, separator, answer);
+        separator = " | ";
     }
     words.put_if(answers.is_empty(), "nothing");
 }
@@ -219,9 +219,12 @@ fn put_alone(alloc: Global, words: &mut Words, answer: Answer) {
     drop(answer);
 }
 
-fn put_one(alloc: Global, words: &mut Words, mark: &str, answer: &Answer) {
-    match printed_behind(alloc, b"", answer) {
-        Ok(text) => words.put_escaped(mark, text.strip_suffix(b"\r\n".as_slice()).unwrap_or(&text)),
+fn put_one(alloc: Global, words: &mut Words, separator: &str, answer: &Answer) {
+    match printed_after(alloc, b"", answer) {
+        Ok(text) => words.put_escaped(
+            separator,
+            text.strip_suffix(b"\r\n".as_slice()).unwrap_or(&text),
+        ),
         Err(AllocError) => words.give_up(),
     }
 }

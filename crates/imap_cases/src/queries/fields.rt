@@ -23,12 +23,12 @@ pub trait Gathers {
 pub fn gathered<G: Gathers + Drop>(
     alloc: Global,
     empty: G,
-    mark: char,
+    separator: char,
     text: &str,
 ) -> Result<G, Trouble> {
     let mut gathered = empty;
     if text != "-" {
-        take_each(alloc, &mut gathered, mark, text)?;
+        take_each(alloc, &mut gathered, separator, text)?;
     }
     Ok(gathered)
 }
@@ -37,10 +37,10 @@ pub fn gathered<G: Gathers + Drop>(
 pub fn take_each<G: Gathers>(
     alloc: Global,
     gathered: &mut G,
-    mark: char,
+    separator: char,
     text: &str,
 ) -> Result<(), Trouble> {
-    for field in text.split(mark) {
+    for field in text.split(separator) {
         gathered.take(alloc, field)?;
     }
     Ok(())

@@ -2,7 +2,7 @@
 
 use crate::queries::fields::{Gathers, add, gathered, set};
 use crate::queries::messages::{Message, message_in};
-use case_lines::{Trouble, long_number, meaning, number, parted};
+use case_lines::{Trouble, long_number, meaning, number, parts_around};
 use imap_query::{MailboxCounters, ViewedMessage};
 use std::alloc::Global;
 
@@ -13,7 +13,7 @@ pub struct Mailbox {
     pub messages: Vec<Message>,
     /// The messages that the session was shown.
     pub view: Vec<ViewedMessage>,
-    pub marks: MailboxCounters,
+    pub counters: MailboxCounters,
     pub is_writable: bool,
     /// Whether mod-sequences are sent with flags.
     pub condstore: bool,
@@ -34,7 +34,7 @@ impl Mailbox {
         Mailbox {
             messages: Vec::new(alloc),
             view: Vec::new(alloc),
-            marks: MailboxCounters {
+            counters: MailboxCounters {
                 uidvalidity: 1,
                 uidnext: 1,
                 highest_modseq: 1,
@@ -44,24 +44,24 @@ impl Mailbox {
         }
     }
 
-    /// Sets what a line says.
+    /// Sets what a line names.
     pub fn set(&mut self, alloc: Global, kind: &str, rest: &str) -> Result<(), Trouble> {
         match kind {
             "message" => add(&mut self.messages, message_in(alloc, rest)),
             "after" => self.set_after(alloc, rest),
             "view" => set(&mut self.view, gathered(alloc, Vec::new(alloc), ',', rest)),
-            "marks" => set(&mut self.marks, marks(rest)),
+            "marks" => set(&mut self.counters, counters(rest)),
             _ => self.set_mode(rest),
         }
     }
 
     /// `UID MODSEQ FLAGS`: sets the state of the message with this UID after a command.
     fn set_after(&mut self, alloc: Global, text: &str) -> Result<(), Trouble> {
-        let (uid, standing) = parted(text, " ");
+        let (uid, state) = parts_around(text, " ");
         let uid = number(uid)?;
         for message in &mut self.messages {
             if message.uid == uid {
-                return message.set_after(alloc, standing);
+                return message.set_after(alloc, state);
             }
         }
         Err(Trouble::NotACase)
@@ -81,9 +81,9 @@ impl Mailbox {
 }
 
 /// `UIDVALIDITY UIDNEXT HIGHESTMODSEQ`.
-fn marks(text: &str) -> Result<MailboxCounters, Trouble> {
-    let (uidvalidity, rest) = parted(text, " ");
-    let (uidnext, highest_modseq) = parted(rest, " ");
+fn counters(text: &str) -> Result<MailboxCounters, Trouble> {
+    let (uidvalidity, rest) = parts_around(text, " ");
+    let (uidnext, highest_modseq) = parts_around(rest, " ");
     Ok(MailboxCounters {
         uidvalidity: number(uidvalidity)?,
         uidnext: number(uidnext)?,

@@ -5,7 +5,7 @@ ghost use Rattle.mailbox_rows.specs.RowViews.{owned_message};
 
 use crate::parts::flags_named;
 use crate::queries::fields::octets;
-use case_lines::{Trouble, long_number, number, parted};
+use case_lines::{Trouble, long_number, number, parts_around};
 use imap_types::{DATE_TIME_OCTETS, DateTime, Escape, Flags, Text, Version, Versions};
 use mailbox_rows::{OwnedRow, Rows, VersionsCow};
 use std::alloc::Global;
@@ -13,7 +13,7 @@ use tags_clocks::{OpId, ReplicaId};
 
 /// What a command may change of a message.
 #[derive(Drop)]
-pub struct Standing {
+pub struct MessageState {
     modseq: u64,
     /// Its one version, under an arbitrary id.
     versions: [Version; 1],
@@ -23,16 +23,16 @@ pub struct Standing {
 #[derive(Drop)]
 pub struct Message {
     pub uid: u32,
-    before: Standing,
+    before: MessageState,
     /// What it is after a command, if that changes it.
-    after: Option<Standing>,
+    after: Option<MessageState>,
     date: DateTime,
     text: Option<Text>,
 }
 
 impl Message {
     /// A message that no command changes.
-    pub fn new(uid: u32, before: Standing, date: DateTime, text: Option<Text>) -> Message {
+    pub fn new(uid: u32, before: MessageState, date: DateTime, text: Option<Text>) -> Message {
         Message {
             uid,
             before,
@@ -44,16 +44,16 @@ impl Message {
 
     /// `MODSEQ FLAGS`: sets what the message is after a command.
     pub fn set_after(&mut self, alloc: Global, text: &str) -> Result<(), Trouble> {
-        match standing_in(alloc, text) {
-            Ok(standing) => {
-                self.after = Some(standing);
+        match state_in(alloc, text) {
+            Ok(state) => {
+                self.after = Some(state);
                 Ok(())
             }
             Err(trouble) => Err(trouble),
         }
     }
 
-    fn stands(&self, is_after: bool) -> &Standing {
+    fn state_at(&self, is_after: bool) -> &MessageState {
         match &self.after {
             Some(after) => { if is_after { after } else { &self.before } }
             None => &self.before,
@@ -64,12 +64,12 @@ impl Message {
     fn row(&self, is_after: bool) -> OwnedRow<'_>
         ensures { (owned_message result).uid ≡ self.now.uid }
     {
-        let standing = self.stands(is_after);
+        let state = self.state_at(is_after);
         OwnedRow {
             uid: self.uid,
-            modseq: standing.modseq,
-            origin: standing.versions[0].id,
-            versions: VersionsCow::Lent(Versions::new(&standing.versions)),
+            modseq: state.modseq,
+            origin: state.versions[0].id,
+            versions: VersionsCow::Borrowed(Versions::new(&state.versions)),
             date: Some(&self.date),
             text: self.text.as_ref(),
         }
@@ -78,13 +78,13 @@ impl Message {
 
 /// `UID MODSEQ FLAGS "DATE" TEXT`.
 pub fn message_in(alloc: Global, text: &str) -> Result<Message, Trouble> {
-    let (uid, rest) = parted(text, " ");
-    let (standing, rest) = parted(rest, " \"");
-    let (date, text) = parted(rest, "\" ");
+    let (uid, rest) = parts_around(text, " ");
+    let (state, rest) = parts_around(rest, " \"");
+    let (date, text) = parts_around(rest, "\" ");
     let uid = number(uid)?;
     let date = date_time(date.as_bytes())?;
     let text = text_in(alloc, text)?;
-    match standing_in(alloc, standing) {
+    match state_in(alloc, state) {
         Ok(before) => Ok(Message::new(uid, before, date, Some(text))),
         Err(trouble) => Err(trouble),
     }
@@ -96,19 +96,19 @@ fn text_in(alloc: Global, text: &str) -> Result<Text, Trouble> {
 }
 
 /// `MODSEQ FLAGS`.
-fn standing_in(alloc: Global, text: &str) -> Result<Standing, Trouble> {
-    let (modseq, flags) = parted(text, " ");
+fn state_in(alloc: Global, text: &str) -> Result<MessageState, Trouble> {
+    let (modseq, flags) = parts_around(text, " ");
     let modseq = long_number(modseq)?;
     match flags_in(alloc, flags) {
-        Ok(flags) => standing_with(modseq, flags),
+        Ok(flags) => state_with(modseq, flags),
         Err(trouble) => Err(trouble),
     }
 }
 
 /// The changeable part of a message with these flags.
-pub fn standing_with(modseq: u64, flags: Flags) -> Result<Standing, Trouble> {
+pub fn state_with(modseq: u64, flags: Flags) -> Result<MessageState, Trouble> {
     match some_id() {
-        Some(id) => Ok(Standing {
+        Some(id) => Ok(MessageState {
             modseq,
             versions: [Version { id, flags }],
         }),

@@ -7,10 +7,10 @@ mod fields;
 mod mailbox;
 mod messages;
 mod searches;
-mod stage;
+mod setup;
 mod texts;
 mod views;
 
 pub use cases::put_query;
-pub use stage::{Stage, is_setting};
+pub use setup::{Setup, is_setting};
 pub use views::put_view;

@@ -53,14 +53,14 @@ fn is_within(top: u32, range: &SequenceRange) -> bool {
 
 fn is_named(top: u32, set: &[SequenceRange], name: u32) -> bool {
     for range in set {
-        if lies_between(top, range, name) {
+        if is_between(top, range, name) {
             return true;
         }
     }
     false
 }
 
-fn lies_between(top: u32, range: &SequenceRange, name: u32) -> bool {
+fn is_between(top: u32, range: &SequenceRange, name: u32) -> bool {
     let first = bound_of(top, range.first);
     let last = bound_of(top, range.last);
     first.min(last) <= name && name <= first.max(last)

@@ -40,7 +40,7 @@ fn put_partial(words: &mut Words, text: &[u8], input: &str) {
 fn put_fields(alloc: Global, words: &mut Words, text: &[u8], names: &str, others: bool) {
     let mut all: Vec<Octets> = Vec::new(alloc);
     match take_each(alloc, &mut all, ' ', names) {
-        Ok(()) => put_found_fields(words, chosen(alloc, text, &all, others)),
+        Ok(()) => put_chosen_fields(words, chosen(alloc, text, &all, others)),
         Err(trouble) => words.put_trouble("", trouble),
     }
 }
@@ -58,9 +58,9 @@ fn chosen(
     }
 }
 
-fn put_found_fields(words: &mut Words, found: Result<Vec<u8>, AllocError>) {
-    match found {
-        Ok(found) => put_between(words, &found),
+fn put_chosen_fields(words: &mut Words, chosen_text: Result<Vec<u8>, AllocError>) {
+    match chosen_text {
+        Ok(chosen_text) => put_between(words, &chosen_text),
         Err(AllocError) => words.give_up(),
     }
 }

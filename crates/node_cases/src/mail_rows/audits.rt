@@ -7,22 +7,22 @@ use std::alloc::{AllocError, Global};
 /// The results of the cases of a text, each after a line `== TITLE`. Anything before the first such
 /// line is left out. `Err` if memory runs out.
 pub fn play_audits(alloc: Global, text: &str) -> Result<Vec<u8>, AllocError> {
-    let mut told = Vec::new(alloc);
+    let mut output = Vec::new(alloc);
     for case in text.split("\n== ").skip(1) {
-        tell_case(alloc, case, &mut told)?;
+        put_case(alloc, case, &mut output)?;
     }
-    Ok(told)
+    Ok(output)
 }
 
 /// Puts a case's title, and after it the audit's answer to its input.
-fn tell_case(alloc: Global, case: &str, told: &mut Vec<u8>) -> Result<(), AllocError> {
+fn put_case(alloc: Global, case: &str, output: &mut Vec<u8>) -> Result<(), AllocError> {
     let (title, lines) = case.split_once('\n').unwrap_or((case, ""));
-    told.extend_from_slice(b"== ")?;
-    told.extend_from_slice(title.as_bytes())?;
-    told.push(b'\n')?;
+    output.extend_from_slice(b"== ")?;
+    output.extend_from_slice(title.as_bytes())?;
+    output.push(b'\n')?;
     let input = input_of(alloc, lines)?;
     let mut reader = input.as_slice();
-    let _end = audit(alloc, &mut reader, told);
+    let _end = audit(alloc, &mut reader, output);
     Ok(())
 }
 

@@ -1,6 +1,6 @@
 //! Lines that are tried one by one at the end of a script.
 
-use crate::mail_rows::replays::{Replayed, play_script, put_shortened};
+use crate::mail_rows::replays::{Replay, play_script, put_shortened};
 use case_lines::Words;
 use mail_replay::ReplayEnd;
 use std::alloc::Global;
@@ -15,17 +15,17 @@ pub fn try_case(alloc: Global, script: &[u8], line: &[u8], then: &str, page: &mu
     let more = with_line(alloc, script, line, "\n", then);
     page.put_escaped("> ", line);
     page.put("\n");
-    tell_case(&before.printed, &ended, page);
-    ended.tell_end(page);
-    if !open.is_as(&ended) {
+    put_case(&before.printed, &ended, page);
+    ended.put_last_line(page);
+    if !open.is_same(&ended) {
         page.put("-- otherwise without its end\n");
     }
-    if !goes_on(&ended, &more) {
-        page.put("-- otherwise with a line behind it\n");
+    if !continues(&ended, &more) {
+        page.put("-- otherwise with a line after it\n");
     }
 }
 
-fn with_line(alloc: Global, script: &[u8], line: &[u8], end: &str, then: &str) -> Replayed {
+fn with_line(alloc: Global, script: &[u8], line: &[u8], end: &str, then: &str) -> Replay {
     let mut whole = Words::new(alloc);
     whole.put_octets(script);
     whole.put_octets(line);
@@ -34,20 +34,20 @@ fn with_line(alloc: Global, script: &[u8], line: &[u8], end: &str, then: &str) -
     play_script(alloc, whole.so_far())
 }
 
-/// Puts what was printed beyond what the script prints without the line.
-fn tell_case(before: &[u8], ended: &Replayed, page: &mut Words) {
+/// Puts the line's own output: what follows the output of the script without it.
+fn put_case(before: &[u8], ended: &Replay, page: &mut Words) {
     match ended.printed.strip_prefix(before) {
         Some(printed) => put_shortened(printed, page),
         None => page.put("-- otherwise before the line\n"),
     }
 }
 
-/// Whether a replay with further lines begins with what the shorter one printed, if that served all
-/// its lines, and else does the same.
-fn goes_on(ended: &Replayed, more: &Replayed) -> bool {
+/// Whether a longer replay's output begins with the shorter one's, if that served all its lines; if
+/// not, whether both do the same.
+fn continues(ended: &Replay, more: &Replay) -> bool {
     if ended.end == ReplayEnd::Done {
         more.printed.starts_with(&ended.printed)
     } else {
-        more.is_as(ended)
+        more.is_same(ended)
     }
 }

@@ -3,21 +3,21 @@
 ghost use Rattle.std.specs.Prelude.{◌<◌};
 
 use crate::mail_rows::directives::octets_of;
-use crate::mail_rows::replays::{Replayed, play_script};
+use crate::mail_rows::replays::{Replay, play_script};
 use case_lines::Words;
 use std::alloc::Global;
 
 /// Sends octets, given in the escape, to a session after a script. Puts what is printed, and
 /// whether it stays the same if they come one by one or in two pieces, cut at each place.
-pub fn tell_pieces(alloc: Global, script: &[u8], session: &str, text: &str, page: &mut Words) {
+pub fn put_pieces(alloc: Global, script: &[u8], session: &str, text: &str, page: &mut Words) {
     let Some(octets) = octets_of(alloc, text) else {
         page.put("-- not in the escape\n");
         return;
     };
     let octets = octets.as_bytes();
     let whole = in_pieces(alloc, script, session, octets, octets.len().max(1));
-    whole.tell(page);
-    if !in_pieces(alloc, script, session, octets, 1).is_as(&whole) {
+    whole.put_report(page);
+    if !in_pieces(alloc, script, session, octets, 1).is_same(&whole) {
         page.put("-- otherwise octet by octet\n");
     }
     match first_cut(alloc, script, session, octets, &whole) {
@@ -41,14 +41,14 @@ fn first_cut(
     script: &[u8],
     session: &str,
     octets: &[u8],
-    whole: &Replayed,
+    whole: &Replay,
 ) -> Option<usize> {
     for place in 0..octets.len() {
         let mut cut = Words::new(alloc);
         cut.put_octets(script);
         put_send(session, &octets[..place], &mut cut);
         put_send(session, &octets[place..], &mut cut);
-        if !play_script(alloc, cut.so_far()).is_as(whole) {
+        if !play_script(alloc, cut.so_far()).is_same(whole) {
             return Some(place);
         }
     }
@@ -56,7 +56,7 @@ fn first_cut(
 }
 
 /// Replays a script, and after it octets that are sent to a session in pieces of `size` octets.
-fn in_pieces(alloc: Global, script: &[u8], session: &str, octets: &[u8], size: usize) -> Replayed
+fn in_pieces(alloc: Global, script: &[u8], session: &str, octets: &[u8], size: usize) -> Replay
     requires { 0 < size }
 {
     let mut whole = Words::new(alloc);

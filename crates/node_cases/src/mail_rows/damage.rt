@@ -2,7 +2,7 @@
 
 ghost use Rattle.std.specs.Prelude.{◌<◌, length};
 
-use crate::mail_rows::replays::{Replayed, play_script};
+use crate::mail_rows::replays::{Replay, play_script};
 use case_lines::Words;
 use mail_audit::{AuditEnd, audit};
 use mail_replay::ReplayEnd;
@@ -11,33 +11,54 @@ use std::alloc::Global;
 /// The octets that replace others.
 const STRANGE: [u8; 5] = [0, 10, 32, 126, 255];
 
-/// The most octets of a text that is damaged in rows that don't ask for it.
+/// The most octets of a text that is damaged at each octet in rows that don't ask for it.
 const SHORT: usize = 2_000;
+
+/// How many octets at each end of a longer text are damaged in such rows.
+const EDGE: usize = 500;
 
 /// Which places of texts are damaged, and how many damaged texts were replayed and audited.
 #[derive(Clone, Copy)]
 pub struct Tried {
     /// Each place is damaged whose number this divides, counted over all texts; none if it is 0.
     every: u64,
+    /// Whether places far from both ends of a long text are left out.
+    near_edges: bool,
     places: u64,
     replayed: u64,
     audited: u64,
 }
 
 impl Tried {
-    /// No text was damaged yet. Each place is to be damaged whose number `every` divides; none if
-    /// it is 0.
-    pub fn none(every: u64) -> Tried {
+    /// No text was damaged yet. Each place is to be damaged whose number `every` divides, and none
+    /// if it is 0; in a text of more than 2,000 octets, only the first and the last 500 places
+    /// count.
+    pub fn near_edges(every: u64) -> Tried {
         Tried {
             every,
+            near_edges: true,
             places: 0,
             replayed: 0,
             audited: 0,
         }
     }
 
-    /// Whether the next place is to be damaged.
-    fn is_next(&mut self) -> bool {
+    /// No text was damaged yet, and each place is to be damaged.
+    fn everywhere() -> Tried {
+        Tried {
+            every: 1,
+            near_edges: false,
+            places: 0,
+            replayed: 0,
+            audited: 0,
+        }
+    }
+
+    /// Whether the next place, of a text of this length, is to be damaged.
+    fn is_next(&mut self, length: usize, place: usize) -> bool {
+        if self.near_edges && !is_near_edge(length, place) {
+            return false;
+        }
         self.places = self.places.saturating_add(1);
         self.every != 0 && self.places % self.every == 0
     }
@@ -55,7 +76,7 @@ impl Tried {
 
     /// Puts whether at least `least` damaged texts were replayed and as many audited; otherwise how
     /// many.
-    pub fn tell(&self, least: u64, page: &mut Words) {
+    pub fn put_report(&self, least: u64, page: &mut Words) {
         if self.replayed >= least && self.audited >= least {
             page.put_number("-- at least ", least);
             page.put(" replayed and audited\n");
@@ -67,30 +88,31 @@ impl Tried {
     }
 }
 
-/// Puts the first place where a short script isn't replayed as it should be if it is cut there or
-/// its octet is replaced, and the first place where its transcript, damaged so, gets no answer from
-/// the audit; nothing if there is none.
-pub fn tell_wrong(alloc: Global, script: &[u8], tried: &mut Tried, page: &mut Words) {
-    if script.len() <= SHORT {
-        if let Some(place) = first_wrong(alloc, script, tried) {
-            put_wrong(place, page);
-        }
+/// Whether a place of a text of this length is damaged in rows that don't ask for it.
+fn is_near_edge(length: usize, place: usize) -> bool {
+    length <= SHORT || place < EDGE || length.saturating_sub(place) <= EDGE
+}
+
+/// Puts the first place where a script isn't replayed as it should be if it is cut there or its
+/// octet is replaced, and the first place where its transcript, damaged so, gets no answer from the
+/// audit; nothing if there is none.
+pub fn put_first_wrong(alloc: Global, script: &[u8], tried: &mut Tried, page: &mut Words) {
+    if let Some(place) = first_wrong(alloc, script, tried) {
+        put_wrong(place, page);
     }
     let printed = play_script(alloc, script).printed;
-    if printed.len() <= SHORT {
-        if let Some(place) = first_unaudited(alloc, &printed, tried) {
-            page.put_number("-- not audited where damaged behind octet ", place as u64);
-            page.put("\n");
-        }
+    if let Some(place) = first_unaudited(alloc, &printed, tried) {
+        page.put_number("-- not audited where damaged after octet ", place as u64);
+        page.put("\n");
     }
 }
 
 /// Replays a script, and puts what it prints. Then puts whether the script, cut at each place or
 /// with its octet replaced by 0, 10, 32, 126 or 255, prints what the lines before that place print,
 /// and after that whole lines of printable ASCII, and ends with Done or BadScript.
-pub fn tell_damage(alloc: Global, script: &[u8], page: &mut Words) {
-    play_script(alloc, script).tell(page);
-    match first_wrong(alloc, script, &mut Tried::none(1)) {
+pub fn put_damage(alloc: Global, script: &[u8], page: &mut Words) {
+    play_script(alloc, script).put_report(page);
+    match first_wrong(alloc, script, &mut Tried::everywhere()) {
         None => {
             page.put_number("-- damaged at each of ", script.len() as u64);
             page.put(" octets: as it was before them\n");
@@ -100,16 +122,16 @@ pub fn tell_damage(alloc: Global, script: &[u8], page: &mut Words) {
 }
 
 fn put_wrong(place: usize, page: &mut Words) {
-    page.put_number("-- damaged behind octet ", place as u64);
+    page.put_number("-- damaged after octet ", place as u64);
     page.put(": otherwise before it\n");
 }
 
 fn first_wrong(alloc: Global, script: &[u8], tried: &mut Tried) -> Option<usize> {
     let mut before = play_script(alloc, b"");
     for place in 0..script.len() {
-        if tried.is_next() {
+        if tried.is_next(script.len(), place) {
             tried.note_replays();
-            if !bears_damage(alloc, script, place, &before.printed) {
+            if !survives_damage(alloc, script, place, &before.printed) {
                 return Some(place);
             }
         }
@@ -120,8 +142,8 @@ fn first_wrong(alloc: Global, script: &[u8], tried: &mut Tried) -> Option<usize>
     None
 }
 
-/// Whether a script that is cut at a place, or has another octet there, prints as it should.
-fn bears_damage(alloc: Global, script: &[u8], place: usize, before: &[u8]) -> bool
+/// Whether a script that is cut at a place, or changed there, prints what it should.
+fn survives_damage(alloc: Global, script: &[u8], place: usize, before: &[u8]) -> bool
     requires { place < length script.now }
 {
     let front = &script[..place];
@@ -145,7 +167,7 @@ fn with_octet(alloc: Global, front: &[u8], octet: u8, back: &[u8]) -> Words {
 
 /// Whether a replay ended with Done or BadScript, the only ends that a script can cause, and
 /// printed the octets `before` and then whole lines of printable ASCII.
-fn is_lawful(replay: &Replayed, before: &[u8]) -> bool {
+fn is_lawful(replay: &Replay, before: &[u8]) -> bool {
     let is_named = matches!(replay.end, ReplayEnd::Done | ReplayEnd::BadScript { .. });
     is_named
         && replay.printed.starts_with(before)
@@ -160,7 +182,7 @@ fn is_lawful(replay: &Replayed, before: &[u8]) -> bool {
 /// none of its answers.
 fn first_unaudited(alloc: Global, printed: &[u8], tried: &mut Tried) -> Option<usize> {
     for place in 0..printed.len() {
-        if tried.is_next() {
+        if tried.is_next(printed.len(), place) {
             tried.note_audits();
             if !is_audited_damaged(alloc, printed, place) {
                 return Some(place);
@@ -185,11 +207,11 @@ fn is_audited_damaged(alloc: Global, printed: &[u8], place: usize) -> bool
 /// Whether an audit answers yes, or names a line of the input.
 fn is_audited(alloc: Global, input: &[u8]) -> bool {
     let mut reader = input;
-    let mut said = Vec::new(alloc);
-    let end = audit(alloc, &mut reader, &mut said);
+    let mut written = Vec::new(alloc);
+    let end = audit(alloc, &mut reader, &mut written);
     let lines = input.len() as u64;
     match end {
-        AuditEnd::Yes => said.as_slice() == b"yes\n".as_slice(),
+        AuditEnd::Yes => written.as_slice() == b"yes\n".as_slice(),
         AuditEnd::No(line) | AuditEnd::Unreadable(line) => line > 0 && line <= lines,
         _ => false,
     }

@@ -61,8 +61,8 @@ fn pieces_of<'a>(rest: &'a str) -> Way<'a> {
 
 /// The text before the first separator, and the text after it; without a separator the whole text
 /// and nothing.
-pub fn cut<'a>(text: &'a str, mark: char) -> (&'a str, &'a str) {
-    text.split_once(mark).unwrap_or((text, ""))
+pub fn cut<'a>(text: &'a str, separator: char) -> (&'a str, &'a str) {
+    text.split_once(separator).unwrap_or((text, ""))
 }
 
 /// Adds the lines of a `fill` or `repeat` directive to a script; returns whether it is one.

@@ -10,34 +10,34 @@ const LONGEST_RUN: usize = 100;
 
 /// What a replay printed, and how it ended.
 #[derive(Drop)]
-pub struct Replayed {
+pub struct Replay {
     pub printed: Vec<u8>,
     pub end: ReplayEnd,
 }
 
 /// Replays a script.
-pub fn play_script(alloc: Global, script: &[u8]) -> Replayed {
+pub fn play_script(alloc: Global, script: &[u8]) -> Replay {
     let mut reader = script;
     let mut printed = Vec::new(alloc);
     let end = replay(alloc, &mut reader, &mut printed);
-    Replayed { printed, end }
+    Replay { printed, end }
 }
 
-impl Replayed {
+impl Replay {
     /// Whether both replays printed the same and ended in the same way.
-    pub fn is_as(&self, other: &Replayed) -> bool {
+    pub fn is_same(&self, other: &Replay) -> bool {
         self.end == other.end && self.printed.as_slice() == other.printed.as_slice()
     }
 
     /// Puts everything that was printed, and the end.
-    pub fn tell(&self, page: &mut Words) {
+    pub fn put_report(&self, page: &mut Words) {
         put_shortened(&self.printed, page);
-        self.tell_end(page);
+        self.put_last_line(page);
     }
 
     /// Puts how many lines were printed, the last `last` of them, and the end.
-    pub fn tell_last(&self, last: usize, page: &mut Words) {
-        let count = ends_of(&self.printed);
+    pub fn put_last(&self, last: usize, page: &mut Words) {
+        let count = count_line_ends(&self.printed);
         page.put_number("-- ", count as u64);
         page.put_number(" lines, the last ", last as u64);
         page.put(":\n");
@@ -45,46 +45,46 @@ impl Replayed {
         for line in lines.skip(count.saturating_sub(last)) {
             put_shortened(line, page);
         }
-        self.tell_end(page);
+        self.put_last_line(page);
     }
 
     /// Puts how many of the printed lines are this one, and the end.
-    pub fn tell_count(&self, line: &str, page: &mut Words) {
-        page.put_number("-- ", count_of(&self.printed, line.as_bytes()) as u64);
+    pub fn put_count(&self, line: &str, page: &mut Words) {
+        page.put_number("-- ", count_lines(&self.printed, line.as_bytes()) as u64);
         page.put(" lines: ");
         page.put(line);
         page.put("\n");
-        self.tell_end(page);
+        self.put_last_line(page);
     }
 
-    /// Puts the end and, if the script was served to its end, the audit's answer to everything that
+    /// Puts the end and, if the script ran to its end, the audit's answer to everything that
     /// was printed.
-    pub fn tell_end(&self, page: &mut Words) {
+    pub fn put_last_line(&self, page: &mut Words) {
         put_end(self.end, page);
         if self.end == ReplayEnd::Done {
             page.put("-- audit: ");
-            put_audited(&self.printed, page);
+            put_audit(&self.printed, page);
         }
     }
 }
 
 /// Puts the audit's answer to what was printed.
-fn put_audited(printed: &[u8], page: &mut Words) {
+fn put_audit(printed: &[u8], page: &mut Words) {
     let mut reader = printed;
-    let mut said = Vec::new(page.alloc());
-    audit(page.alloc(), &mut reader, &mut said);
-    page.put_octets(&said);
+    let mut written = Vec::new(page.alloc());
+    audit(page.alloc(), &mut reader, &mut written);
+    page.put_octets(&written);
 }
 
-/// How many line ends a text has.
-fn ends_of(text: &[u8]) -> usize {
+/// The number of line ends in a text.
+fn count_line_ends(text: &[u8]) -> usize {
     text.iter().filter(|octet| **octet == b'\n').count()
 }
 
-/// How many lines of the text are this one.
-fn count_of(text: &[u8], wanted: &[u8]) -> usize {
+/// The number of lines of the text that equal `target`.
+fn count_lines(text: &[u8], target: &[u8]) -> usize {
     text.split(|octet| *octet == b'\n')
-        .filter(|line| *line == wanted)
+        .filter(|line| *line == target)
         .count()
 }
 

@@ -1,8 +1,8 @@
 //! Plays rows, line by line.
 
 use crate::mail_rows::cases::try_case;
-use crate::mail_rows::cuts::tell_pieces;
-use crate::mail_rows::damage::{Tried, tell_damage, tell_wrong};
+use crate::mail_rows::cuts::put_pieces;
+use crate::mail_rows::damage::{Tried, put_damage, put_first_wrong};
 use crate::mail_rows::directives::{Way, build, cut, octets_of, way_of};
 use crate::mail_rows::replays::play_script;
 use case_lines::Words;
@@ -12,7 +12,7 @@ use std::alloc::{AllocError, Global};
 /// the first such line is left out. `Err` if memory runs out.
 pub fn play(alloc: Global, text: &str) -> Result<Vec<u8>, AllocError> {
     let mut page = Words::new(alloc);
-    let mut tried = Tried::none(every_of(text));
+    let mut tried = Tried::near_edges(every_of(text));
     for row in text.split("\n== ").skip(1) {
         play_row(alloc, row, &mut tried, &mut page);
     }
@@ -52,8 +52,8 @@ fn play_row(alloc: Global, text: &str, tried: &mut Tried, page: &mut Words) {
     }
     end_row(alloc, row.script.so_far(), row.way, page);
     match row.way {
-        Way::Tried(least) => tried.tell(least, page),
-        _ => tell_wrong(alloc, row.script.so_far(), tried, page),
+        Way::Tried(least) => tried.put_report(least, page),
+        _ => put_first_wrong(alloc, row.script.so_far(), tried, page),
     }
 }
 
@@ -61,7 +61,7 @@ fn play_row(alloc: Global, text: &str, tried: &mut Tried, page: &mut Words) {
 fn take_line<'a>(alloc: Global, line: &'a str, row: &mut Row<'a>, page: &mut Words) {
     if let Some(directive) = line.strip_prefix("% ") {
         let (word, rest) = cut(directive, ' ');
-        if !obey(alloc, word, rest, row, page) {
+        if !execute(alloc, word, rest, row, page) {
             page.put("-- no directive: ");
             page.put(directive);
             page.put("\n");
@@ -72,7 +72,13 @@ fn take_line<'a>(alloc: Global, line: &'a str, row: &mut Row<'a>, page: &mut Wor
 }
 
 /// Executes a directive; returns whether the line is one.
-fn obey<'a>(alloc: Global, word: &str, rest: &'a str, row: &mut Row<'a>, page: &mut Words) -> bool {
+fn execute<'a>(
+    alloc: Global,
+    word: &str,
+    rest: &'a str,
+    row: &mut Row<'a>,
+    page: &mut Words,
+) -> bool {
     if word == "octets" {
         let Some(octets) = octets_of(alloc, rest) else {
             return false;
@@ -84,7 +90,7 @@ fn obey<'a>(alloc: Global, word: &str, rest: &'a str, row: &mut Row<'a>, page: &
         return build(word, rest, &mut row.script);
     };
     if let Way::Each(_) = way {
-        play_script(alloc, row.script.so_far()).tell(page);
+        play_script(alloc, row.script.so_far()).put_report(page);
     }
     row.way = way;
     true
@@ -103,11 +109,11 @@ fn take_octets(alloc: Global, octets: &[u8], end: &[u8], row: &mut Row, page: &m
 /// Does with a row's script what the row asks for.
 fn end_row(alloc: Global, script: &[u8], way: Way, page: &mut Words) {
     match way {
-        Way::Whole => play_script(alloc, script).tell(page),
-        Way::Last(last) => play_script(alloc, script).tell_last(last, page),
-        Way::Count(line) => play_script(alloc, script).tell_count(line, page),
-        Way::Damage => tell_damage(alloc, script, page),
-        Way::Pieces { session, text } => tell_pieces(alloc, script, session, text, page),
+        Way::Whole => play_script(alloc, script).put_report(page),
+        Way::Last(last) => play_script(alloc, script).put_last(last, page),
+        Way::Count(line) => play_script(alloc, script).put_count(line, page),
+        Way::Damage => put_damage(alloc, script, page),
+        Way::Pieces { session, text } => put_pieces(alloc, script, session, text, page),
         Way::Each(_) | Way::Tried(_) => {}
     }
 }

@@ -1,6 +1,6 @@
 //! Times deliveries while many operations are held.
 
-use crate::node_costs::seat::{Seat, since};
+use crate::node_costs::node_session::{NodeSession, since};
 use crdt_ops::SoundOp;
 use merge_laws::Caused;
 use std::alloc::Global;
@@ -13,31 +13,36 @@ const TIMED: u32 = 200;
 /// Has `count` operations held, which all wait for one. Prints how long the delivery of another
 /// waiting operation takes, and of one that waits for none.
 pub fn times(rt: &HostRuntime, count: u32) -> io::Result<()> {
-    let mut near = Seat::new(rt.alloc(), 1)?;
-    let told = times_at(rt, &mut near, count);
+    let mut near = NodeSession::new(rt.alloc(), 1)?;
+    let printed = times_at(rt, &mut near, count);
     drop(near);
-    told
+    printed
 }
 
-fn times_at(rt: &HostRuntime, near: &mut Seat, count: u32) -> io::Result<()> {
-    let mut far = Seat::new(rt.alloc(), 2)?;
-    let told = times_from(rt, near, &mut far, count);
+fn times_at(rt: &HostRuntime, near: &mut NodeSession, count: u32) -> io::Result<()> {
+    let mut far = NodeSession::new(rt.alloc(), 2)?;
+    let printed = times_from(rt, near, &mut far, count);
     drop(far);
-    told
+    printed
 }
 
-fn times_from(rt: &HostRuntime, near: &mut Seat, far: &mut Seat, count: u32) -> io::Result<()> {
-    let mut other = Seat::new(rt.alloc(), 3)?;
-    let told = tell_times(rt, near, far, &mut other, count);
-    drop(other);
-    told
-}
-
-fn tell_times(
+fn times_from(
     rt: &HostRuntime,
-    near: &mut Seat,
-    far: &mut Seat,
-    other: &mut Seat,
+    near: &mut NodeSession,
+    far: &mut NodeSession,
+    count: u32,
+) -> io::Result<()> {
+    let mut other = NodeSession::new(rt.alloc(), 3)?;
+    let printed = print_times(rt, near, far, &mut other, count);
+    drop(other);
+    printed
+}
+
+fn print_times(
+    rt: &HostRuntime,
+    near: &mut NodeSession,
+    far: &mut NodeSession,
+    other: &mut NodeSession,
     count: u32,
 ) -> io::Result<()> {
     far.give(rt.alloc(), "a CREATE first\r\n")?;
@@ -52,7 +57,7 @@ fn tell_times(
 }
 
 /// Delivers all but the first of the operations; the mean nanoseconds of one of the last ones.
-fn early_time(rt: &HostRuntime, near: &mut Seat, ops: &[SoundOp]) -> io::Result<u64> {
+fn early_time(rt: &HostRuntime, near: &mut NodeSession, ops: &[SoundOp]) -> io::Result<u64> {
     let waiting = ops.get(1..).unwrap_or(&[]);
     let split = waiting.len().saturating_sub(TIMED as usize);
     let (before, timed) = waiting.split_at(split);
@@ -61,37 +66,45 @@ fn early_time(rt: &HostRuntime, near: &mut Seat, ops: &[SoundOp]) -> io::Result<
 }
 
 /// Subscribes and unsubscribes in turn, `count` operations in total.
-fn subscribe(alloc: Global, seat: &mut Seat, count: u32) -> io::Result<()> {
+fn subscribe(alloc: Global, node_session: &mut NodeSession, count: u32) -> io::Result<()> {
     for _ in 0..count / 2 {
-        seat.give(alloc, "a SUBSCRIBE first\r\n")?;
-        seat.give(alloc, "a UNSUBSCRIBE first\r\n")?;
+        node_session.give(alloc, "a SUBSCRIBE first\r\n")?;
+        node_session.give(alloc, "a UNSUBSCRIBE first\r\n")?;
     }
     Ok(())
 }
 
 /// Delivers copies of the operations.
-pub fn deliver_all(alloc: Global, seat: &mut Seat, ops: &[SoundOp]) -> io::Result<()> {
+pub fn deliver_all(
+    alloc: Global,
+    node_session: &mut NodeSession,
+    ops: &[SoundOp],
+) -> io::Result<()> {
     for op in ops {
         let copy = op.copy(alloc)?;
-        seat.deliver(alloc, copy)?;
+        node_session.deliver(alloc, copy)?;
     }
     Ok(())
 }
 
 /// The mean nanoseconds of the delivery of one of the operations.
-pub fn time_of(rt: &HostRuntime, seat: &mut Seat, ops: &[SoundOp]) -> io::Result<u64> {
+pub fn time_of(
+    rt: &HostRuntime,
+    node_session: &mut NodeSession,
+    ops: &[SoundOp],
+) -> io::Result<u64> {
     let start = Instant::now(rt)?;
-    deliver_all(rt.alloc(), seat, ops)?;
+    deliver_all(rt.alloc(), node_session, ops)?;
     let spent = since(rt, start)?;
     Ok(spent.checked_div(ops.len() as u64).unwrap_or(0))
 }
 
 /// Delivers the operation that all others wait for, and prints how long that takes.
-fn release(rt: &HostRuntime, seat: &mut Seat, ops: &[SoundOp]) -> io::Result<()> {
+fn release(rt: &HostRuntime, node_session: &mut NodeSession, ops: &[SoundOp]) -> io::Result<()> {
     let start = Instant::now(rt)?;
-    deliver_all(rt.alloc(), seat, ops.get(..1).unwrap_or(&[]))?;
+    deliver_all(rt.alloc(), node_session, ops.get(..1).unwrap_or(&[]))?;
     let spent = since(rt, start)?;
-    let left = seat.node.held().len();
+    let left = node_session.node.held().len();
     println!(*rt; "{left} left")?;
     eprintln!(*rt; "  release of all: {spent} ns")?;
     Ok(())

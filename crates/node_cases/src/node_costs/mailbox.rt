@@ -1,7 +1,7 @@
 //! Times commands in a mailbox of many messages.
 
 use crate::node_costs::held::{deliver_all, time_of};
-use crate::node_costs::seat::{Seat, since};
+use crate::node_costs::node_session::{NodeSession, since};
 use crate::node_costs::spans::Spans;
 use imap_types::Name;
 use std::alloc::{AllocError, Global};
@@ -35,7 +35,7 @@ const UNSELECTED: Row = Row {
 /// The commands that are timed in the selected mailbox, in this order.
 const ROWS: [Row; 7] = [
     Row {
-        name: "FETCH by number, first behind SELECT",
+        name: "FETCH by number, first after SELECT",
         before: "SELECT INBOX",
         timed: "FETCH # FLAGS",
     },
@@ -74,20 +74,25 @@ const ROWS: [Row; 7] = [
 /// Fills INBOX with `count` messages. Prints how long commands about one of them take, and
 /// deliveries of another replica's operations.
 pub fn times(rt: &HostRuntime, count: u32) -> io::Result<()> {
-    let mut near = Seat::new(rt.alloc(), 1)?;
-    let told = times_at(rt, &mut near, count);
+    let mut near = NodeSession::new(rt.alloc(), 1)?;
+    let printed = times_at(rt, &mut near, count);
     drop(near);
-    told
+    printed
 }
 
-fn times_at(rt: &HostRuntime, near: &mut Seat, count: u32) -> io::Result<()> {
-    let mut far = Seat::new(rt.alloc(), 2)?;
-    let told = tell_times(rt, near, &mut far, count);
+fn times_at(rt: &HostRuntime, near: &mut NodeSession, count: u32) -> io::Result<()> {
+    let mut far = NodeSession::new(rt.alloc(), 2)?;
+    let printed = print_times(rt, near, &mut far, count);
     drop(far);
-    told
+    printed
 }
 
-fn tell_times(rt: &HostRuntime, near: &mut Seat, far: &mut Seat, count: u32) -> io::Result<()> {
+fn print_times(
+    rt: &HostRuntime,
+    near: &mut NodeSession,
+    far: &mut NodeSession,
+    count: u32,
+) -> io::Result<()> {
     give(rt.alloc(), near, "CREATE other", 0)?;
     for _ in 0..count {
         give(rt.alloc(), near, APPEND, 0)?;
@@ -95,87 +100,102 @@ fn tell_times(rt: &HostRuntime, near: &mut Seat, far: &mut Seat, count: u32) -> 
     println!(*rt; "mailbox of {count} messages")?;
     eprintln!(*rt; "mailbox of {count} messages, in nanoseconds, least and mean")?;
     let middle = (count / 2).max(1);
-    tell_unselected(rt, near, far, middle)?;
+    print_unselected(rt, near, far, middle)?;
     give(rt.alloc(), near, "SELECT INBOX", 0)?;
     for row in &ROWS {
-        tell_row(rt, near, row, middle)?;
+        print_row(rt, near, row, middle)?;
     }
-    tell_idling(rt, near, far)
+    print_idling(rt, near, far)
 }
 
 /// Times commands and another replica's operations while no session has selected the mailbox.
 /// Afterwards the other replica has all operations, and its session has selected the mailbox.
-fn tell_unselected(
+fn print_unselected(
     rt: &HostRuntime,
-    near: &mut Seat,
-    far: &mut Seat,
+    near: &mut NodeSession,
+    far: &mut NodeSession,
     middle: u32,
 ) -> io::Result<()> {
-    tell_row(rt, near, &UNSELECTED, middle)?;
-    tell_look(rt, near, middle)?;
+    print_row(rt, near, &UNSELECTED, middle)?;
+    print_look(rt, near, middle)?;
     deliver_all(rt.alloc(), far, near.node.op_list())?;
     give(rt.alloc(), far, "SELECT INBOX", 0)?;
-    tell_stores(rt, near, far, middle)
+    print_stores(rt, near, far, middle)
 }
 
 /// Prints how long it takes to compute the mailbox's listing and look a message up in it.
-fn tell_look(rt: &HostRuntime, seat: &Seat, uid: u32) -> io::Result<()> {
+fn print_look(rt: &HostRuntime, node_session: &NodeSession, uid: u32) -> io::Result<()> {
     let name = Name::inbox(rt.alloc())?;
     let mut spans = Spans::none();
     for _ in 0..TURNS {
-        spans.note(look_time(rt, seat, &name, uid)?);
+        spans.note(look_time(rt, node_session, &name, uid)?);
     }
-    spans.tell(rt, "listing made, and a message looked up")
+    spans.print_spans(rt, "listing made, and a message looked up")
 }
 
-fn look_time(rt: &HostRuntime, seat: &Seat, name: &Name, uid: u32) -> io::Result<u64> {
+fn look_time(
+    rt: &HostRuntime,
+    node_session: &NodeSession,
+    name: &Name,
+    uid: u32,
+) -> io::Result<u64> {
     let start = Instant::now(rt)?;
-    if !is_listed(rt.alloc(), seat, name, uid)? {
+    if !is_listed(rt.alloc(), node_session, name, uid)? {
         return Err(io::Error::other("not listed"));
     }
     since(rt, start)
 }
 
-fn is_listed(alloc: Global, seat: &Seat, name: &Name, uid: u32) -> io::Result<bool> {
-    match seat.node.listing(alloc, name) {
+fn is_listed(alloc: Global, node_session: &NodeSession, name: &Name, uid: u32) -> io::Result<bool> {
+    match node_session.node.listing(alloc, name) {
         Ok(rows) => Ok(rows.row_of(uid).is_some()),
         Err(_) => Err(ErrorKind::OutOfMemory.into()),
     }
 }
 
 /// Prints how long deliveries of the other replica's STOREs take.
-fn tell_stores(rt: &HostRuntime, near: &mut Seat, far: &mut Seat, middle: u32) -> io::Result<()> {
+fn print_stores(
+    rt: &HostRuntime,
+    near: &mut NodeSession,
+    far: &mut NodeSession,
+    middle: u32,
+) -> io::Result<()> {
     let mut spans = Spans::none();
     for turn in 0..TURNS {
         let number = middle.saturating_add(turn);
         give(rt.alloc(), far, "STORE # +FLAGS (\\Flagged)", number)?;
         spans.note(delivery_time(rt, near, far)?);
     }
-    spans.tell(rt, "another replica's STORE delivered, none selected")
+    spans.print_spans(rt, "another replica's STORE delivered, none selected")
 }
 
 /// Delivers the last operation of the other replica; the nanoseconds that this takes.
-fn delivery_time(rt: &HostRuntime, near: &mut Seat, far: &Seat) -> io::Result<u64> {
+fn delivery_time(rt: &HostRuntime, near: &mut NodeSession, far: &NodeSession) -> io::Result<u64> {
     let made = far.node.op_list();
     let last = made.get(made.len().saturating_sub(1)..).unwrap_or(&[]);
     time_of(rt, near, last)
 }
 
 /// Prints how long a command takes.
-fn tell_row(rt: &HostRuntime, seat: &mut Seat, row: &Row, middle: u32) -> io::Result<()> {
+fn print_row(
+    rt: &HostRuntime,
+    node_session: &mut NodeSession,
+    row: &Row,
+    middle: u32,
+) -> io::Result<()> {
     let mut spans = Spans::none();
     for turn in 0..TURNS {
         let number = middle.saturating_add(turn);
-        give(rt.alloc(), seat, row.before, number)?;
+        give(rt.alloc(), node_session, row.before, number)?;
         let timed = command(rt.alloc(), row.timed, number)?;
-        spans.note(seat.time_of(rt, timed.as_str())?);
+        spans.note(node_session.time_of(rt, timed.as_str())?);
     }
-    spans.tell(rt, row.name)
+    spans.print_spans(rt, row.name)
 }
 
 /// Prints how long deliveries of the other replica's APPENDs take while the session idles, and how
 /// long a poll after each takes.
-fn tell_idling(rt: &HostRuntime, near: &mut Seat, far: &mut Seat) -> io::Result<()> {
+fn print_idling(rt: &HostRuntime, near: &mut NodeSession, far: &mut NodeSession) -> io::Result<()> {
     give(rt.alloc(), near, "IDLE", 0)?;
     let mut deliveries = Spans::none();
     let mut polls = Spans::none();
@@ -184,17 +204,17 @@ fn tell_idling(rt: &HostRuntime, near: &mut Seat, far: &mut Seat) -> io::Result<
         deliveries.note(delivery_time(rt, near, far)?);
         polls.note(near.poll_time(rt)?);
     }
-    deliveries.tell(
+    deliveries.print_spans(
         rt,
         "another replica's APPEND delivered, while the session idles",
     )?;
-    polls.tell(rt, "poll behind that")
+    polls.print_spans(rt, "poll after that")
 }
 
 /// Issues the command.
-fn give(alloc: Global, seat: &mut Seat, text: &str, number: u32) -> io::Result<()> {
+fn give(alloc: Global, node_session: &mut NodeSession, text: &str, number: u32) -> io::Result<()> {
     let line = command(alloc, text, number)?;
-    seat.give(alloc, line.as_str())
+    node_session.give(alloc, line.as_str())
 }
 
 /// The command with a tag, and with the number in place of `#`.

@@ -2,41 +2,46 @@
 //! memory of the process.)
 
 use crate::node_costs::held::deliver_all;
-use crate::node_costs::seat::Seat;
+use crate::node_costs::node_session::NodeSession;
 use std::alloc::{AllocError, Global};
 use std::io;
 
 /// Has a replica take `count` messages of `size` octets, and delivers them to another one.
 pub fn fill(rt: &HostRuntime, count: u32, size: u32) -> io::Result<()> {
     let append = append_of(rt.alloc(), size)?;
-    let kept = kept_by_two(rt.alloc(), append.as_str(), count)?;
-    println!(*rt; "{kept} messages of {size} octets at two replicas")?;
+    let applied = applied_at_second(rt.alloc(), append.as_str(), count)?;
+    println!(*rt; "{applied} messages of {size} octets at two replicas")?;
     Ok(())
 }
 
 /// How many operations the second of two replicas applied.
-fn kept_by_two(alloc: Global, append: &str, count: u32) -> io::Result<usize> {
-    let mut near = Seat::new(alloc, 1)?;
-    let kept = kept_beside(alloc, &mut near, append, count);
+fn applied_at_second(alloc: Global, append: &str, count: u32) -> io::Result<usize> {
+    let mut near = NodeSession::new(alloc, 1)?;
+    let applied = applied_from(alloc, &mut near, append, count);
     drop(near);
-    kept
+    applied
 }
 
-fn kept_beside(alloc: Global, near: &mut Seat, append: &str, count: u32) -> io::Result<usize> {
-    let mut far = Seat::new(alloc, 2)?;
-    let handed = hand_on(alloc, near, &mut far, append, count);
-    let kept = far.node.op_list().len();
+fn applied_from(
+    alloc: Global,
+    near: &mut NodeSession,
+    append: &str,
+    count: u32,
+) -> io::Result<usize> {
+    let mut far = NodeSession::new(alloc, 2)?;
+    let delivered = deliver_appends(alloc, near, &mut far, append, count);
+    let applied = far.node.op_list().len();
     drop(far);
-    handed?;
-    Ok(kept)
+    delivered?;
+    Ok(applied)
 }
 
 /// Issues the command `count` times at the first replica, and delivers each operation to the
 /// second.
-fn hand_on(
+fn deliver_appends(
     alloc: Global,
-    near: &mut Seat,
-    far: &mut Seat,
+    near: &mut NodeSession,
+    far: &mut NodeSession,
     append: &str,
     count: u32,
 ) -> io::Result<()> {
@@ -47,7 +52,7 @@ fn hand_on(
     Ok(())
 }
 
-fn deliver_last(alloc: Global, near: &Seat, far: &mut Seat) -> io::Result<()> {
+fn deliver_last(alloc: Global, near: &NodeSession, far: &mut NodeSession) -> io::Result<()> {
     let made = near.node.op_list();
     let last = made.get(made.len().saturating_sub(1)..).unwrap_or(&[]);
     deliver_all(alloc, far, last)

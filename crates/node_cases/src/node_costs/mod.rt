@@ -4,7 +4,7 @@ mod folders;
 mod held;
 mod mailbox;
 mod memory;
-mod seat;
+mod node_session;
 mod spans;
 
 use std::io;

@@ -28,7 +28,7 @@ impl Spans {
     }
 
     /// Prints the least time and the mean.
-    pub fn tell(&self, rt: &HostRuntime, name: &str) -> io::Result<()> {
+    pub fn print_spans(&self, rt: &HostRuntime, name: &str) -> io::Result<()> {
         let least = self.least;
         let mean = self.sum.checked_div(self.count).unwrap_or(0);
         eprintln!(*rt; "  {name}: {least}, {mean}")

@@ -202,16 +202,16 @@ impl Print for Screen {
     }
 }
 
-/// Whether the audit of this reader's input ends so and writes this line.
+/// Whether the audit of this reader's input has this end and writes this line.
 fn ends<R: Read>(alloc: Global, reader: &mut R, end: AuditEnd, line: &str) -> bool {
     let mut written = Vec::new(alloc);
     audit(alloc, reader, &mut written) == end && written.as_slice() == line.as_bytes()
 }
 
-/// Whether the audit of an input ends as the case says. The input comes in pieces of at most as
+/// Whether the audit of an input ends as the case says. The input arrives in pieces of at most as
 /// many octets as the first part of `how`, and each read whose number is divisible by the second is
 /// interrupted.
-fn comes(alloc: Global, input: &[u8], how: (usize, u64), case: Case) -> bool {
+fn ends_as_expected(alloc: Global, input: &[u8], how: (usize, u64), case: Case) -> bool {
     let mut reader = Stutters {
         octets: input,
         piece: how.0,
@@ -222,20 +222,20 @@ fn comes(alloc: Global, input: &[u8], how: (usize, u64), case: Case) -> bool {
 }
 
 /// Whether the audit of a case ends as it should, whatever the pieces.
-fn comes_in_pieces(alloc: Global, case: Case) -> bool {
+fn audits_in_pieces(alloc: Global, case: Case) -> bool {
     [(65_536, 0), (100_000, 2), (1, 0), (1, 2), (7, 3)]
         .iter()
-        .all(|how| comes(alloc, case.input.as_bytes(), *how, case))
+        .all(|how| ends_as_expected(alloc, case.input.as_bytes(), *how, case))
 }
 
 fn first_wrong_case(alloc: Global) -> Option<usize> {
     cases()
         .iter()
-        .position(|case| !comes_in_pieces(alloc, *case))
+        .position(|case| !audits_in_pieces(alloc, *case))
 }
 
 #[test]
-fn audits_what_comes_in_pieces(rt: HostRuntime) {
+fn audits_input_in_pieces(rt: HostRuntime) {
     assert_eq!(rt; first_wrong_case(rt.alloc()), None);
 }
 
@@ -254,8 +254,8 @@ fn is_read_whole(alloc: Global, case: Case) -> bool {
     match long_input(alloc, case.input) {
         Ok(input) => {
             input.len() > 196_608
-                && comes(alloc, &input, (65_536, 0), case)
-                && comes(alloc, &input, (4_099, 3), case)
+                && ends_as_expected(alloc, &input, (65_536, 0), case)
+                && ends_as_expected(alloc, &input, (4_099, 3), case)
         }
         Err(AllocError) => false,
     }
@@ -298,26 +298,26 @@ fn breaks_off(alloc: Global, before: usize, fault: ErrorKind) -> bool {
 }
 
 /// The number of reads before the first failure at which an audit of the right input, at one octet
-/// per read, ends otherwise than it should.
+/// per read, has a wrong end.
 fn first_wrong_read(alloc: Global) -> Option<usize> {
     (0..=RIGHT.len()).find(|before| !breaks_off(alloc, *before, ErrorKind::Other))
 }
 
-fn tells_of_each_fault(alloc: Global) -> bool {
+fn reports_each_fault(alloc: Global) -> bool {
     breaks_off(alloc, 70, ErrorKind::OutOfMemory)
         && breaks_off(alloc, 70, ErrorKind::UnexpectedEof)
         && breaks_off(alloc, 70, ErrorKind::WouldBlock)
 }
 
 #[test]
-fn tells_of_reads_that_fail(rt: HostRuntime) {
+fn reports_reads_that_fail(rt: HostRuntime) {
     assert_eq!(rt; first_wrong_read(rt.alloc()), None);
-    assert!(rt; tells_of_each_fault(rt.alloc()));
+    assert!(rt; reports_each_fault(rt.alloc()));
 }
 
 /// Whether the audit of an input after `interruptions` interruptions ends so, writes this line, and
 /// makes as many reads as it may.
-fn ends_behind(alloc: Global, interruptions: u64, end: AuditEnd, line: &str) -> bool {
+fn ends_after(alloc: Global, interruptions: u64, end: AuditEnd, line: &str) -> bool {
     let mut reader = Waits {
         octets: b"settle: Ok\n",
         interruptions,
@@ -327,8 +327,8 @@ fn ends_behind(alloc: Global, interruptions: u64, end: AuditEnd, line: &str) -> 
 }
 
 fn reads_up_to_the_limit(alloc: Global) -> bool {
-    ends_behind(alloc, MAX_READS - 2, AuditEnd::Yes, "yes\n")
-        && ends_behind(alloc, MAX_READS - 1, AuditEnd::ReadFailed, "cannot read\n")
+    ends_after(alloc, MAX_READS - 2, AuditEnd::Yes, "yes\n")
+        && ends_after(alloc, MAX_READS - 1, AuditEnd::ReadFailed, "cannot read\n")
 }
 
 #[test]
@@ -350,7 +350,7 @@ fn written(alloc: Global, case: Case, pen: &mut Pen) -> (AuditEnd, Option<usize>
 
 /// Whether the audit of a case at a writer that fails after `before` writes ends with `WriteFailed`
 /// and a part of the line, or, if it makes no further writes, as at any other writer.
-fn fails_behind(alloc: Global, case: Case, piece: usize, before: usize) -> bool {
+fn fails_after(alloc: Global, case: Case, piece: usize, before: usize) -> bool {
     let mut pen = Pen {
         taken: Vec::new(alloc),
         piece,
@@ -368,7 +368,7 @@ fn fails_behind(alloc: Global, case: Case, piece: usize, before: usize) -> bool 
 
 /// Whether `fails_after` is true of any number of writes.
 fn fails_anywhere(alloc: Global, case: Case, piece: usize) -> bool {
-    (0..=case.line.len()).all(|before| fails_behind(alloc, case, piece, before))
+    (0..=case.line.len()).all(|before| fails_after(alloc, case, piece, before))
 }
 
 fn first_wrong_write(alloc: Global) -> Option<usize> {
@@ -380,7 +380,7 @@ fn first_wrong_write(alloc: Global) -> Option<usize> {
 }
 
 #[test]
-fn tells_of_writes_that_fail(rt: HostRuntime) {
+fn reports_writes_that_fail(rt: HostRuntime) {
     assert_eq!(rt; first_wrong_write(rt.alloc()), None);
 }
 

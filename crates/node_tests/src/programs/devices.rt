@@ -1,6 +1,6 @@
 //! Replays from readers and to writers that fail, and the line and the status that end a replay.
 
-use mail_replay::{MAX_READS, ReplayEnd, replay, tell};
+use mail_replay::{MAX_READS, ReplayEnd, replay, write_last_line};
 use std::alloc::Global;
 use std::io;
 use std::io::{ErrorKind, Read, Write};
@@ -129,10 +129,12 @@ fn first_wrong_reader(alloc: Global) -> Option<usize> {
         row(65, ErrorKind::Other, ReplayEnd::ReadFailed, 12),
         row(38, ErrorKind::Interrupted, ReplayEnd::Done, 12),
     ];
-    readers.iter().position(|reader| !is_told(alloc, *reader))
+    readers
+        .iter()
+        .position(|reader| !fails_as_expected(alloc, *reader))
 }
 
-fn is_told(alloc: Global, failing: Failing) -> bool {
+fn fails_as_expected(alloc: Global, failing: Failing) -> bool {
     let mut reader = Drips {
         octets: FIRST_RUN.as_bytes(),
         before: failing.before,
@@ -147,7 +149,7 @@ fn is_told(alloc: Global, failing: Failing) -> bool {
 }
 
 #[test]
-fn tells_of_readers_that_fail(rt: HostRuntime) {
+fn reports_readers_that_fail(rt: HostRuntime) {
     assert_eq!(rt; first_wrong_reader(rt.alloc()), None);
 }
 
@@ -185,7 +187,7 @@ fn first_wrong_room(alloc: Global) -> Option<usize> {
 }
 
 #[test]
-fn tells_of_writers_that_fail(rt: HostRuntime) {
+fn reports_writers_that_fail(rt: HostRuntime) {
     assert_eq!(rt; first_wrong_room(rt.alloc()), None);
     let whole = FIRST_RUN_PRINTS.len();
     assert_eq!(rt;
@@ -195,25 +197,25 @@ fn tells_of_writers_that_fail(rt: HostRuntime) {
     assert_eq!(rt; written(rt.alloc(), 1_000, false).0, ReplayEnd::WriteFailed);
 }
 
-fn tells(alloc: Global, end: ReplayEnd, line: &str, status: u8) -> bool {
+fn ends_with_line(alloc: Global, end: ReplayEnd, line: &str, status: u8) -> bool {
     let mut printed = Vec::new(alloc);
-    tell(alloc, end, &mut printed) == status && printed.as_slice() == line.as_bytes()
+    write_last_line(alloc, end, &mut printed) == status && printed.as_slice() == line.as_bytes()
 }
 
-fn tells_each_end(alloc: Global) -> bool {
-    tells(alloc, ReplayEnd::Done, "", 0)
-        && tells(
+fn reports_each_end(alloc: Global) -> bool {
+    ends_with_line(alloc, ReplayEnd::Done, "", 0)
+        && ends_with_line(
             alloc,
             ReplayEnd::BadScript { line: 2 },
             "bad script: line 2\n",
             3,
         )
-        && tells(alloc, ReplayEnd::ReadFailed, "cannot read\n", 3)
-        && tells(alloc, ReplayEnd::WriteFailed, "", 3)
-        && tells(alloc, ReplayEnd::NoMemory, "no memory\n", 3)
+        && ends_with_line(alloc, ReplayEnd::ReadFailed, "cannot read\n", 3)
+        && ends_with_line(alloc, ReplayEnd::WriteFailed, "", 3)
+        && ends_with_line(alloc, ReplayEnd::NoMemory, "no memory\n", 3)
 }
 
 #[test]
-fn tells_the_end(rt: HostRuntime) {
-    assert!(rt; tells_each_end(rt.alloc()));
+fn reports_the_end(rt: HostRuntime) {
+    assert!(rt; reports_each_end(rt.alloc()));
 }

@@ -1,8 +1,8 @@
 //! The programs' command lines, the line that ends a replay, and replays and audits of `mail_tool`:
-//! devices that fail, and a long script whose deliveries come late and twice.
+//! devices that fail, and a long script with late and repeated deliveries.
 
 mod audits;
 mod devices;
-mod many;
+mod late_deliveries;
 mod settings;
 mod words;

@@ -106,7 +106,7 @@ const BAD_JOINS: &[(&str, &str)] = &[
 ];
 
 /// Command lines with replicas that can join, with one twice, with one whose peer comes after it,
-/// and with one beside a word that names no replica.
+/// and with one next to a word that names no replica.
 const JOINS: &[(&str, &str)] = &[
     (
         "imap_server --preauth --join 3=a/b/2 1=a 2=b",
@@ -159,7 +159,7 @@ fn words_of(alloc: Global, line: &str) -> Result<Vec<String>, AllocError> {
 
 /// The settings as text: the access, the number of replicas, and whether there is a bound of
 /// connections.
-fn settings_told(alloc: Global, settings: &CommandLine<'_>) -> Result<String, AllocError> {
+fn settings_text(alloc: Global, settings: &CommandLine<'_>) -> Result<String, AllocError> {
     let access = match settings.access {
         Access::Preauth => "preauth",
         Access::Password { .. } => "password",
@@ -172,7 +172,7 @@ fn settings_told(alloc: Global, settings: &CommandLine<'_>) -> Result<String, Al
 }
 
 /// The text that the program prints of a fault; `words` for faults of the words, which are clap's.
-fn fault_told(alloc: Global, fault: &SettingsFault<'_>) -> Result<String, AllocError> {
+fn fault_text(alloc: Global, fault: &SettingsFault<'_>) -> Result<String, AllocError> {
     match fault {
         SettingsFault::Words(_) => format!(in alloc; "words"),
         SettingsFault::Usage(why) => format!(in alloc; "{why}"),
@@ -180,25 +180,25 @@ fn fault_told(alloc: Global, fault: &SettingsFault<'_>) -> Result<String, AllocE
 }
 
 /// The settings of these words as text, or the text of the fault.
-fn told(alloc: Global, words: &[String]) -> Result<String, AllocError> {
+fn outcome_text(alloc: Global, words: &[String]) -> Result<String, AllocError> {
     match read_settings(alloc, words) {
-        Ok(settings) => settings_told(alloc, &settings),
-        Err(fault) => fault_told(alloc, &fault),
+        Ok(settings) => settings_text(alloc, &settings),
+        Err(fault) => fault_text(alloc, &fault),
     }
 }
 
 /// Whether this is the expected text.
-fn is_told(text: Result<String, AllocError>, wanted: &str) -> bool {
+fn is_text(text: Result<String, AllocError>, expected: &str) -> bool {
     match text {
-        Ok(text) => text.as_str() == wanted,
+        Ok(text) => text.as_str() == expected,
         Err(_) => false,
     }
 }
 
 /// Whether the settings or the fault of a command line have the expected text.
-fn comes_to(alloc: Global, line: &str, wanted: &str) -> bool {
+fn has_outcome_text(alloc: Global, line: &str, expected: &str) -> bool {
     match words_of(alloc, line) {
-        Ok(words) => is_told(told(alloc, &words), wanted),
+        Ok(words) => is_text(outcome_text(alloc, &words), expected),
         Err(_) => false,
     }
 }
@@ -207,7 +207,7 @@ fn comes_to(alloc: Global, line: &str, wanted: &str) -> bool {
 fn first_wrong(alloc: Global, lines: &[(&str, &str)]) -> Option<usize> {
     lines
         .iter()
-        .position(|line| !comes_to(alloc, line.0, line.1))
+        .position(|line| !has_outcome_text(alloc, line.0, line.1))
 }
 
 #[test]
@@ -244,12 +244,12 @@ fn first_misnamed() -> Option<usize> {
 }
 
 #[test]
-fn users_and_passwords_stand_in_their_places(rt: HostRuntime) {
+fn user_and_password_are_not_swapped(rt: HostRuntime) {
     assert_eq!(rt; first_misnamed(), None);
 }
 
 #[test]
-fn want_of_memory_is_a_fault_of_the_run(rt: HostRuntime) {
-    let text = fault_told(rt.alloc(), &SettingsFault::Usage(UsageFault::NoMemory));
-    assert!(rt; is_told(text, "run fault"));
+fn lack_of_memory_is_a_run_fault(rt: HostRuntime) {
+    let text = fault_text(rt.alloc(), &SettingsFault::Usage(UsageFault::NoMemory));
+    assert!(rt; is_text(text, "run fault"));
 }

@@ -2,7 +2,7 @@
 //! `crates/node_cases/stdin` says what a case is.
 
 mod requests;
-mod stage;
+mod setup;
 mod tables;
 
 pub use requests::play;

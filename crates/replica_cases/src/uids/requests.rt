@@ -4,9 +4,9 @@ ghost use Rattle.std.specs.Prelude.{◌≤◌, IfOk};
 
 use crate::fields::add_op;
 use crate::lines::{Plays, played};
-use crate::uids::stage::{Node, Stage, deliver, make_ready};
-use crate::uids::tables::{Asked, tell_of};
-use case_lines::{Trouble, Words, meaning, operation, pair, parted, replica};
+use crate::uids::setup::{Node, Setup, deliver, make_ready};
+use crate::uids::tables::{Question, put_asked};
+use case_lines::{Trouble, Words, meaning, operation, pair, parts_around, replica};
 use causal_inbox::{Arrival, DeliverFault, Delivered};
 use crdt_ops::SoundOp;
 use std::alloc::{AllocError, Global};
@@ -17,7 +17,7 @@ use uid_projection::Counters;
 #[derive(Clone, Copy)]
 enum Word {
     /// Nothing: the line is a comment or a title.
-    Nothing,
+    Empty,
     /// `node R U K`: begins a case.
     Begin,
     /// `apply LINE`: delivers an operation.
@@ -27,21 +27,21 @@ enum Word {
     /// `ready`: whether each of the operations that come next has the numbers that it needs.
     Ready,
     /// A question about a folder.
-    Of(Asked),
+    Of(Question),
 }
 
 const WORDS: &[(&str, Word)] = &[
-    ("", Word::Nothing),
-    ("#", Word::Nothing),
-    ("==", Word::Nothing),
+    ("", Word::Empty),
+    ("#", Word::Empty),
+    ("==", Word::Empty),
     ("node", Word::Begin),
     ("apply", Word::Apply),
     ("next", Word::Next),
     ("ready", Word::Ready),
-    ("folder", Word::Of(Asked::Folder)),
-    ("after", Word::Of(Asked::After)),
-    ("row", Word::Of(Asked::Row)),
-    ("changed", Word::Of(Asked::Changed)),
+    ("folder", Word::Of(Question::Folder)),
+    ("after", Word::Of(Question::After)),
+    ("row", Word::Of(Question::Row)),
+    ("changed", Word::Of(Question::Changed)),
 ];
 
 /// Plays cases of UIDs and returns them with their new answers. `Err` if memory runs out.
@@ -55,23 +55,23 @@ pub fn play(alloc: Global, text: &str) -> Result<Vec<u8>, AllocError> {
 fn play_from(alloc: Global, start: Counters, text: &str) -> Result<Vec<u8>, AllocError>
     requires { 1 ≤ start.uid }
 {
-    match Stage::new(alloc, start) {
-        Ok(stage) => played(alloc, stage, text),
+    match Setup::new(alloc, start) {
+        Ok(setup) => played(alloc, setup, text),
         Err(AllocError) => Err(AllocError),
     }
 }
 
 /// Passes over comments and titles, begins a case, takes an operation, or puts an answer.
-impl Plays for Stage {
-    fn obey(&mut self, asked: &str, answer: &mut Words) {
-        let (word, fields) = parted(asked, " ");
+impl Plays for Setup {
+    fn execute(&mut self, question: &str, answer: &mut Words) {
+        let (word, fields) = parts_around(question, " ");
         match meaning(WORDS, word) {
-            Some(Word::Nothing) => {}
+            Some(Word::Empty) => {}
             Some(Word::Begin) => begin(self, fields, answer),
             Some(Word::Apply) => apply(&mut self.inbox, fields, answer),
             Some(Word::Next) => take_next(self, fields, answer),
-            Some(Word::Ready) => tell_ready(self, answer),
-            Some(Word::Of(asked)) => tell_of(self, asked, fields, answer),
+            Some(Word::Ready) => put_ready(self, answer),
+            Some(Word::Of(question)) => put_asked(self, question, fields, answer),
             None => answer.put_trouble(" => ", Trouble::NotACase),
         }
     }
@@ -79,18 +79,18 @@ impl Plays for Stage {
 
 /// `node R U K`: begins a case. Replica R has received nothing, its first UID in INBOX is U, and K
 /// is the first k of other folders.
-fn begin(stage: &mut Stage, fields: &str, answer: &mut Words) {
+fn begin(setup: &mut Setup, fields: &str, answer: &mut Words) {
     match start(fields) {
-        Ok(start) => restart(stage, start, answer),
+        Ok(start) => restart(setup, start, answer),
         Err(trouble) => answer.put_trouble(" ", trouble),
     }
 }
 
-fn restart(stage: &mut Stage, start: Counters, answer: &mut Words)
+fn restart(setup: &mut Setup, start: Counters, answer: &mut Words)
     requires { 1 ≤ start.uid }
 {
-    match Stage::new(answer.alloc(), start) {
-        Ok(fresh) => drop(mem::replace(stage, fresh)),
+    match Setup::new(answer.alloc(), start) {
+        Ok(fresh) => drop(mem::replace(setup, fresh)),
         Err(AllocError) => answer.give_up(),
     }
 }
@@ -98,7 +98,7 @@ fn restart(stage: &mut Stage, start: Counters, answer: &mut Words)
 fn start(fields: &str) -> Result<Counters, Trouble>
     ensures { IfOk result (λ start. 1 ≤ start.uid) }
 {
-    let (own, counters) = parted(fields, " ");
+    let (own, counters) = parts_around(fields, " ");
     let replica = replica(own)?;
     match pair(" ", counters)? {
         (0, _) => Err(Trouble::NotACase),
@@ -109,19 +109,19 @@ fn start(fields: &str) -> Result<Counters, Trouble>
 /// `apply LINE`: delivers an operation; puts an answer unless this applies exactly that operation.
 fn apply(inbox: &mut Node, line: &str, answer: &mut Words) {
     match operation(answer.alloc(), line) {
-        Ok(op) => tell_delivery(inbox, op, answer),
+        Ok(op) => put_delivery(inbox, op, answer),
         Err(trouble) => answer.put_trouble(" ", trouble),
     }
 }
 
-fn tell_delivery(inbox: &mut Node, op: SoundOp, answer: &mut Words) {
+fn put_delivery(inbox: &mut Node, op: SoundOp, answer: &mut Words) {
     match deliver(answer.alloc(), inbox, op) {
-        Ok(delivered) => tell_arrival(delivered, answer),
-        Err(fault) => tell_fault(fault, answer),
+        Ok(delivered) => put_arrival(delivered, answer),
+        Err(fault) => put_fault(fault, answer),
     }
 }
 
-fn tell_arrival(delivered: Delivered, answer: &mut Words) {
+fn put_arrival(delivered: Delivered, answer: &mut Words) {
     match delivered.arrival {
         Arrival::Applied(1) => {}
         Arrival::Applied(count) => answer.put_number(" => Applied ", count as u64),
@@ -130,7 +130,7 @@ fn tell_arrival(delivered: Delivered, answer: &mut Words) {
     }
 }
 
-fn tell_fault(fault: DeliverFault, answer: &mut Words) {
+fn put_fault(fault: DeliverFault, answer: &mut Words) {
     match fault {
         DeliverFault::Conflict { .. } => answer.put(" => Conflict"),
         other => answer.put_name(" => ", &other),
@@ -138,15 +138,15 @@ fn tell_fault(fault: DeliverFault, answer: &mut Words) {
 }
 
 /// `next LINE`: adds an operation after the other ones that come next.
-fn take_next(stage: &mut Stage, line: &str, answer: &mut Words) {
-    if let Err(trouble) = add_op(answer.alloc(), &mut stage.next, line) {
+fn take_next(setup: &mut Setup, line: &str, answer: &mut Words) {
+    if let Err(trouble) = add_op(answer.alloc(), &mut setup.next, line) {
         answer.put_trouble(" ", trouble);
     }
 }
 
 /// `ready`: puts whether each of the operations that come next has the numbers that it needs.
-fn tell_ready(stage: &mut Stage, answer: &mut Words) {
-    match make_ready(answer.alloc(), &mut stage.inbox, &stage.next) {
+fn put_ready(setup: &mut Setup, answer: &mut Words) {
+    match make_ready(answer.alloc(), &mut setup.inbox, &setup.next) {
         Ok(()) => answer.put(" => yes"),
         Err(fault) => answer.put_name(" => ", &fault),
     }

@@ -1,7 +1,7 @@
 //! Questions about the UIDs and mod-sequences of a folder.
 
-use crate::uids::stage::{Node, Stage, charts, folders, listing};
-use case_lines::{Words, long_number, name, number, parted};
+use crate::uids::setup::{Node, Setup, charts, folders, listing};
+use case_lines::{Words, long_number, name, number, parts_around};
 use imap_types::Name;
 use mailbox_rows::{Row, Rows};
 use modseq_index::{changed_since, highest};
@@ -9,7 +9,7 @@ use std::alloc::AllocError;
 
 /// A question about a folder.
 #[derive(Clone, Copy)]
-pub enum Asked {
+pub enum Question {
     /// `folder NAME`: its UIDVALIDITY, UIDNEXT and HIGHESTMODSEQ, and its messages.
     Folder,
     /// `after NAME`: what `folder NAME` asks for, as the operations that come next would leave it.
@@ -21,54 +21,54 @@ pub enum Asked {
 }
 
 /// Puts the answer about the folder that the line names.
-pub fn tell_of(stage: &Stage, asked: Asked, fields: &str, answer: &mut Words) {
+pub fn put_asked(setup: &Setup, question: Question, fields: &str, answer: &mut Words) {
     answer.put(" =>");
-    let (folder, number) = match asked {
-        Asked::Folder | Asked::After => (fields, ""),
-        Asked::Row | Asked::Changed => parted(fields, " "),
+    let (folder, number) = match question {
+        Question::Folder | Question::After => (fields, ""),
+        Question::Row | Question::Changed => parts_around(fields, " "),
     };
     match name(answer.alloc(), folder) {
-        Ok(name) => tell_asked(stage, asked, &name, number, answer),
+        Ok(name) => put_asked_of(setup, question, &name, number, answer),
         Err(trouble) => answer.put_trouble(" ", trouble),
     }
 }
 
-fn tell_asked(stage: &Stage, asked: Asked, name: &Name, number: &str, answer: &mut Words) {
-    match asked {
-        Asked::Folder => tell_folder(&stage.inbox, name, answer),
-        Asked::After => tell_after(stage, name, answer),
-        Asked::Row => tell_row_of(&stage.inbox, name, number, answer),
-        Asked::Changed => tell_changed(&stage.inbox, name, number, answer),
+fn put_asked_of(setup: &Setup, question: Question, name: &Name, number: &str, answer: &mut Words) {
+    match question {
+        Question::Folder => put_folder(&setup.inbox, name, answer),
+        Question::After => put_after_ready(setup, name, answer),
+        Question::Row => put_row_of(&setup.inbox, name, number, answer),
+        Question::Changed => put_changed(&setup.inbox, name, number, answer),
     }
 }
 
-fn tell_folder(inbox: &Node, name: &Name, answer: &mut Words) {
-    tell_numbers_now(inbox, name, answer);
-    tell_listing(listing(answer.alloc(), inbox, name), answer);
+fn put_folder(inbox: &Node, name: &Name, answer: &mut Words) {
+    put_numbers_now(inbox, name, answer);
+    put_listing(listing(answer.alloc(), inbox, name), answer);
 }
 
-fn tell_after(stage: &Stage, name: &Name, answer: &mut Words) {
-    tell_numbers_after(stage, name, answer);
-    tell_listing_after(stage, name, answer);
+fn put_after_ready(setup: &Setup, name: &Name, answer: &mut Words) {
+    put_numbers_after(setup, name, answer);
+    put_listing_after(setup, name, answer);
 }
 
-fn tell_row_of(inbox: &Node, name: &Name, uid: &str, answer: &mut Words) {
+fn put_row_of(inbox: &Node, name: &Name, uid: &str, answer: &mut Words) {
     match number(uid) {
-        Ok(uid) => tell_row_with(inbox, name, uid, answer),
+        Ok(uid) => put_row_with(inbox, name, uid, answer),
         Err(trouble) => answer.put_trouble(" ", trouble),
     }
 }
 
-fn tell_changed(inbox: &Node, name: &Name, modseq: &str, answer: &mut Words) {
+fn put_changed(inbox: &Node, name: &Name, modseq: &str, answer: &mut Words) {
     match long_number(modseq) {
-        Ok(modseq) => tell_changes(inbox, name, modseq, answer),
+        Ok(modseq) => put_changes(inbox, name, modseq, answer),
         Err(trouble) => answer.put_trouble(" ", trouble),
     }
 }
 
-fn tell_numbers_now(inbox: &Node, name: &Name, answer: &mut Words) {
+fn put_numbers_now(inbox: &Node, name: &Name, answer: &mut Words) {
     let charts = charts(inbox);
-    tell_numbers(
+    put_numbers(
         charts.uidvalidity(name),
         charts.uidnext(name),
         highest(charts, name),
@@ -76,53 +76,53 @@ fn tell_numbers_now(inbox: &Node, name: &Name, answer: &mut Words) {
     );
 }
 
-fn tell_listing(listing: Result<Rows<'_>, AllocError>, answer: &mut Words) {
+fn put_listing(listing: Result<Rows<'_>, AllocError>, answer: &mut Words) {
     match listing {
         Ok(rows) => {
-            tell_rows(&rows, answer);
+            put_rows(&rows, answer);
             drop(rows);
         }
         Err(AllocError) => answer.give_up(),
     }
 }
 
-fn tell_numbers_after(stage: &Stage, name: &Name, answer: &mut Words) {
-    let charts = charts(&stage.inbox);
-    let folders = folders(&stage.inbox);
-    tell_numbers(
-        charts.uidvalidity_after(folders, name, &stage.next),
-        charts.uidnext_after(folders, name, &stage.next),
-        charts.highest_after(folders, name, &stage.next),
+fn put_numbers_after(setup: &Setup, name: &Name, answer: &mut Words) {
+    let charts = charts(&setup.inbox);
+    let folders = folders(&setup.inbox);
+    put_numbers(
+        charts.uidvalidity_after(folders, name, &setup.next),
+        charts.uidnext_after(folders, name, &setup.next),
+        charts.highest_after(folders, name, &setup.next),
         answer,
     );
 }
 
-fn tell_listing_after(stage: &Stage, name: &Name, answer: &mut Words) {
-    let folders = folders(&stage.inbox);
-    let listing = charts(&stage.inbox).rows_after(answer.alloc(), folders, name, &stage.next);
-    tell_listing(listing, answer);
+fn put_listing_after(setup: &Setup, name: &Name, answer: &mut Words) {
+    let folders = folders(&setup.inbox);
+    let listing = charts(&setup.inbox).rows_after(answer.alloc(), folders, name, &setup.next);
+    put_listing(listing, answer);
 }
 
-fn tell_row_with(inbox: &Node, name: &Name, uid: u32, answer: &mut Words) {
+fn put_row_with(inbox: &Node, name: &Name, uid: u32, answer: &mut Words) {
     match charts(inbox).row_by_uid(folders(inbox), name, uid) {
-        Some(row) => tell_dated(&row, answer),
+        Some(row) => put_dated_row(&row, answer),
         None => answer.put(" none"),
     }
 }
 
-fn tell_dated(row: &Row<'_>, answer: &mut Words) {
+fn put_dated_row(row: &Row<'_>, answer: &mut Words) {
     let date = row.shown_date();
     answer.put_after(" ", date.as_bytes());
-    tell_row(row, answer);
+    put_row(row, answer);
 }
 
-fn tell_changes(inbox: &Node, name: &Name, modseq: u64, answer: &mut Words) {
+fn put_changes(inbox: &Node, name: &Name, modseq: u64, answer: &mut Words) {
     let charts = charts(inbox);
     let changed = changed_since(charts, answer.alloc(), folders(inbox), name, modseq);
-    tell_listing(changed, answer);
+    put_listing(changed, answer);
 }
 
-fn tell_numbers(uidvalidity: Option<u32>, uidnext: u32, highest: u64, answer: &mut Words) {
+fn put_numbers(uidvalidity: Option<u32>, uidnext: u32, highest: u64, answer: &mut Words) {
     match uidvalidity {
         Some(number) => answer.put_number(" ", u64::from(number)),
         None => answer.put(" -"),
@@ -131,38 +131,38 @@ fn tell_numbers(uidvalidity: Option<u32>, uidnext: u32, highest: u64, answer: &m
     answer.put_number(" ", highest);
 }
 
-fn tell_rows(rows: &Rows<'_>, answer: &mut Words) {
+fn put_rows(rows: &Rows<'_>, answer: &mut Words) {
     for place in 0..rows.count() {
-        tell_place(rows, place as usize, answer);
+        put_place(rows, place as usize, answer);
     }
 }
 
-fn tell_place(rows: &Rows<'_>, place: usize, answer: &mut Words) {
+fn put_place(rows: &Rows<'_>, place: usize, answer: &mut Words) {
     if let Some(row) = rows.row_at(place) {
         answer.put("\n ");
-        tell_row(&row, answer);
+        put_row(&row, answer);
     }
 }
 
 /// Puts a message's UID, mod-sequence, version ids, origin, flags and text.
-fn tell_row(row: &Row<'_>, answer: &mut Words) {
+fn put_row(row: &Row<'_>, answer: &mut Words) {
     answer.put_number(" ", u64::from(row.uid));
     answer.put_number(" ", row.modseq);
-    tell_versions(row, answer);
+    put_versions(row, answer);
     answer.put_id(" ", row.origin);
-    tell_flags(row, answer);
+    put_row_flags(row, answer);
     answer.put_escaped(" =", row.shown_text());
 }
 
-fn tell_versions(row: &Row<'_>, answer: &mut Words) {
-    let mut mark = " ";
+fn put_versions(row: &Row<'_>, answer: &mut Words) {
+    let mut separator = " ";
     for version in row.versions.as_slice() {
-        answer.put_id(mark, version.id);
-        mark = ",";
+        answer.put_id(separator, version.id);
+        separator = ",";
     }
 }
 
-fn tell_flags(row: &Row<'_>, answer: &mut Words) {
+fn put_row_flags(row: &Row<'_>, answer: &mut Words) {
     match row.versions.flags(answer.alloc()) {
         Ok(flags) => answer.put_flags(" ", &flags),
         Err(AllocError) => answer.give_up(),

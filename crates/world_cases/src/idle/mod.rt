@@ -4,7 +4,7 @@
 //! selects the mailbox then. For each hundred runs it reports whether all do so, and whether the
 //! received answers mattered.
 
-mod deeds;
+mod random_commands;
 mod runs;
 mod scene;
 mod tally;

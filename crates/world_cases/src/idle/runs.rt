@@ -2,7 +2,7 @@
 
 use crate::chance::Chance;
 use crate::client::Client;
-use crate::idle::deeds::{append, deed};
+use crate::idle::random_commands::{append, random_command};
 use crate::idle::scene::{Scene, command, done, give, give_text, poll, selected, session};
 use crate::idle::watch::Watch;
 use case_lines::Trouble;
@@ -12,7 +12,7 @@ use std::alloc::Global;
 
 /// The result of a run.
 #[derive(Clone, Copy)]
-pub struct Ending {
+pub struct RunResult {
     /// Whether the view made of the answers is what a session sees that selects the mailbox now.
     pub is_right: bool,
     /// Whether this holds of the view of a client that ignores EXPUNGE.
@@ -26,15 +26,15 @@ pub struct Ending {
 }
 
 /// Plays the run with this number. `Err` if it can't be played, or memory runs out.
-pub fn played(alloc: Global, number: u64) -> Result<Ending, Trouble> {
+pub fn played(alloc: Global, number: u64) -> Result<RunResult, Trouble> {
     let mut chance = Chance::new(number);
     let name = if chance.is_one_in(2) { "INBOX" } else { "work" };
     let mut scene = Scene::new(alloc)?;
     let mut watch = Watch::new(alloc);
-    let ending = play(alloc, &mut chance, &mut scene, name, &mut watch);
+    let run_result = play(alloc, &mut chance, &mut scene, name, &mut watch);
     drop(watch);
     drop(scene);
-    ending
+    run_result
 }
 
 fn play(
@@ -43,7 +43,7 @@ fn play(
     scene: &mut Scene,
     name: &str,
     watch: &mut Watch,
-) -> Result<Ending, Trouble> {
+) -> Result<RunResult, Trouble> {
     prepare(alloc, chance, scene, name)?;
     begin(alloc, scene, name, watch)?;
     let steps = chance.below(24);
@@ -61,7 +61,7 @@ fn prepare(
     scene: &mut Scene,
     name: &str,
 ) -> Result<(), Trouble> {
-    let session = scene.hands.near;
+    let session = scene.sessions.near;
     give(alloc, &mut scene.near, session, "a CREATE work\r\n")?;
     give(alloc, &mut scene.near, session, "a CREATE other\r\n")?;
     append_some(alloc, chance, &mut scene.near, session, name)?;
@@ -104,11 +104,11 @@ fn learn_by_select(
 
 /// Issues a command of the watching session, whose answers all clients take.
 fn learn(alloc: Global, scene: &mut Scene, watch: &mut Watch, text: &str) -> Result<(), Trouble> {
-    match command(alloc, &mut scene.near, scene.hands.watcher, text)? {
+    match command(alloc, &mut scene.near, scene.sessions.watcher, text)? {
         Some(answers) => {
-            let heard = watch.hear_all(alloc, answers.as_slice());
+            let received = watch.receive_all(alloc, answers.as_slice());
             drop(answers);
-            Ok(heard?)
+            Ok(received?)
         }
         None => Err(Trouble::NotACase),
     }
@@ -123,8 +123,8 @@ fn step(
     watch: &mut Watch,
 ) -> Result<(), Trouble> {
     match chance.below(8) {
-        0 | 1 | 2 => deed(alloc, chance, &mut scene.near, scene.hands.near, name),
-        3 | 4 => deed(alloc, chance, &mut scene.far, scene.hands.far, name),
+        0 | 1 | 2 => random_command(alloc, chance, &mut scene.near, scene.sessions.near, name),
+        3 | 4 => random_command(alloc, chance, &mut scene.far, scene.sessions.far, name),
         5 => exchange(alloc, chance, &scene.far, &mut scene.near),
         6 => exchange(alloc, chance, &scene.near, &mut scene.far),
         _ => listen(alloc, scene, watch),
@@ -132,21 +132,21 @@ fn step(
 }
 
 fn listen(alloc: Global, scene: &mut Scene, watch: &mut Watch) -> Result<(), Trouble> {
-    let told = poll(alloc, &mut scene.near, scene.hands.watcher)?;
-    hear(alloc, watch, told)
+    let sent = poll(alloc, &mut scene.near, scene.sessions.watcher)?;
+    receive(alloc, watch, sent)
 }
 
 fn end(alloc: Global, scene: &mut Scene, watch: &mut Watch) -> Result<(), Trouble> {
-    let told = done(alloc, &mut scene.near, scene.hands.watcher)?;
-    hear(alloc, watch, told)
+    let sent = done(alloc, &mut scene.near, scene.sessions.watcher)?;
+    receive(alloc, watch, sent)
 }
 
-fn hear(alloc: Global, watch: &mut Watch, told: Option<Answers>) -> Result<(), Trouble> {
-    match told {
+fn receive(alloc: Global, watch: &mut Watch, sent: Option<Answers>) -> Result<(), Trouble> {
+    match sent {
         Some(answers) => {
-            let heard = watch.hear(alloc, answers.as_slice());
+            let received = watch.receive(alloc, answers.as_slice());
             drop(answers);
-            Ok(heard?)
+            Ok(received?)
         }
         None => Err(Trouble::NoMemory),
     }
@@ -176,31 +176,36 @@ fn deliver(alloc: Global, node: &mut Node, op: SoundOp) -> Result<(), Trouble> {
 }
 
 /// Compares the clients' views with what a new session sees.
-fn judged(alloc: Global, scene: &mut Scene, name: &str, watch: &Watch) -> Result<Ending, Trouble> {
+fn judged(
+    alloc: Global,
+    scene: &mut Scene,
+    name: &str,
+    watch: &Watch,
+) -> Result<RunResult, Trouble> {
     let fresh = fresh(alloc, &mut scene.near, name)?;
-    let ending = beside(alloc, watch, &fresh);
+    let run_result = compare_views(alloc, watch, &fresh);
     drop(fresh);
-    Ok(ending)
+    Ok(run_result)
 }
 
 /// Compares the clients' views with what a new session sees; with no messages, if the mailbox has
 /// another UIDVALIDITY now.
-fn beside(alloc: Global, watch: &Watch, fresh: &Client) -> Ending {
+fn compare_views(alloc: Global, watch: &Watch, fresh: &Client) -> RunResult {
     if fresh.validity() == watch.whole.validity() {
-        return compared(watch, fresh, false);
+        return compare_with(watch, fresh, false);
     }
     let empty = Client::new(alloc);
-    let ending = compared(watch, &empty, true);
+    let run_result = compare_with(watch, &empty, true);
     drop(empty);
-    ending
+    run_result
 }
 
-fn compared(watch: &Watch, there: &Client, has_ended: bool) -> Ending {
-    Ending {
-        is_right: watch.whole.is_right_by(there),
-        without_expunge: watch.without_expunge.is_right_by(there),
-        without_exists: watch.without_exists.is_right_by(there),
-        without_fetch: watch.without_fetch.is_right_by(there),
+fn compare_with(watch: &Watch, expected: &Client, has_ended: bool) -> RunResult {
+    RunResult {
+        is_right: watch.whole.is_right_by(expected),
+        without_expunge: watch.without_expunge.is_right_by(expected),
+        without_exists: watch.without_exists.is_right_by(expected),
+        without_fetch: watch.without_fetch.is_right_by(expected),
         has_ended,
     }
 }
@@ -210,13 +215,13 @@ fn compared(watch: &Watch, there: &Client, has_ended: bool) -> Ending {
 fn fresh(alloc: Global, node: &mut Node, name: &str) -> Result<Client, Trouble> {
     let session = session(node)?;
     match selected(alloc, node, session, name)? {
-        Some(client) => told_all(alloc, node, session, client),
+        Some(client) => with_all_fetched(alloc, node, session, client),
         None => Ok(Client::new(alloc)),
     }
 }
 
 /// What a client knows of the mailbox after it fetched the UIDs and flags of all its messages.
-fn told_all(
+fn with_all_fetched(
     alloc: Global,
     node: &mut Node,
     session: SessionNo,

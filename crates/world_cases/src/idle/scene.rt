@@ -17,12 +17,12 @@ pub struct Scene {
     /// The other replica.
     pub far: Node,
     /// The sessions.
-    pub hands: Hands,
+    pub sessions: Sessions,
 }
 
 /// The session that watches, and one at each replica that works.
 #[derive(Clone, Copy)]
-pub struct Hands {
+pub struct Sessions {
     /// The session that watches, at `near`.
     pub watcher: SessionNo,
     /// The session at `near` that works.
@@ -49,8 +49,12 @@ impl Scene {
 fn opened(near: Node, far: Node) -> Result<Scene, Trouble> {
     let mut near = near;
     let mut far = far;
-    match open_hands(&mut near, &mut far) {
-        Ok(hands) => Ok(Scene { near, far, hands }),
+    match open_sessions(&mut near, &mut far) {
+        Ok(sessions) => Ok(Scene {
+            near,
+            far,
+            sessions,
+        }),
         Err(trouble) => {
             drop(far);
             drop(near);
@@ -59,8 +63,8 @@ fn opened(near: Node, far: Node) -> Result<Scene, Trouble> {
     }
 }
 
-fn open_hands(near: &mut Node, far: &mut Node) -> Result<Hands, Trouble> {
-    Ok(Hands {
+fn open_sessions(near: &mut Node, far: &mut Node) -> Result<Sessions, Trouble> {
+    Ok(Sessions {
         watcher: session(near)?,
         near: session(near)?,
         far: session(far)?,
@@ -174,11 +178,11 @@ pub fn selected(
     name: &str,
 ) -> Result<Option<Client>, Trouble> {
     let select = format!(in alloc; "a SELECT {name}\r\n")?;
-    let told = command(alloc, node, session, select.as_str());
+    let sent = command(alloc, node, session, select.as_str());
     drop(select);
-    match told? {
+    match sent? {
         Some(answers) => {
-            let client = heard(alloc, &answers);
+            let client = client_after(alloc, &answers);
             drop(answers);
             client
         }
@@ -186,7 +190,7 @@ pub fn selected(
     }
 }
 
-fn heard(alloc: Global, answers: &Answers) -> Result<Option<Client>, Trouble> {
+fn client_after(alloc: Global, answers: &Answers) -> Result<Option<Client>, Trouble> {
     let mut client = Client::new(alloc);
     match client.take_all(alloc, answers.as_slice()) {
         Ok(()) => Ok(Some(client)),

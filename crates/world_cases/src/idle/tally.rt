@@ -1,6 +1,6 @@
 //! The results of a hundred runs, as text.
 
-use crate::idle::runs::{Ending, played};
+use crate::idle::runs::{RunResult, played};
 use case_lines::Trouble;
 use std::alloc::{AllocError, Global};
 
@@ -18,7 +18,7 @@ struct Tally {
     needs_exists: bool,
     /// Whether a client that ignores FETCH went wrong in some run.
     needs_fetch: bool,
-    /// Whether in some run the mailbox no longer existed at the end.
+    /// Whether the mailbox no longer existed at the end of some run.
     has_ended: bool,
     has_stayed: bool,
 }
@@ -27,8 +27,8 @@ struct Tally {
 pub fn play(alloc: Global) -> Result<Vec<u8>, AllocError> {
     let mut page = Vec::new(alloc);
     for number in 0..HUNDREDS {
-        let told = hundred(alloc, number)?;
-        page.extend_from_slice(told.as_bytes())?;
+        let results = hundred(alloc, number)?;
+        page.extend_from_slice(results.as_bytes())?;
     }
     Ok(page)
 }
@@ -48,50 +48,50 @@ fn hundred(alloc: Global, hundred: u64) -> Result<String, AllocError> {
     for run in first..first.saturating_add(100) {
         count(alloc, &mut tally, run)?;
     }
-    told(alloc, first, &tally)
+    results(alloc, first, &tally)
 }
 
 fn count(alloc: Global, tally: &mut Tally, run: u64) -> Result<(), AllocError> {
     match played(alloc, run) {
-        Ok(ending) => {
-            tally.add(run, ending);
+        Ok(run_result) => {
+            tally.add(run, run_result);
             Ok(())
         }
         Err(Trouble::NoMemory) => Err(AllocError),
         Err(_) => {
-            tally.miss(run);
+            tally.note_failure(run);
             Ok(())
         }
     }
 }
 
 impl Tally {
-    fn add(&mut self, run: u64, ending: Ending) {
-        if !ending.is_right {
-            self.miss(run);
+    fn add(&mut self, run: u64, run_result: RunResult) {
+        if !run_result.is_right {
+            self.note_failure(run);
         }
-        self.needs_expunge = self.needs_expunge || !ending.without_expunge;
-        self.needs_exists = self.needs_exists || !ending.without_exists;
-        self.needs_fetch = self.needs_fetch || !ending.without_fetch;
-        self.has_ended = self.has_ended || ending.has_ended;
-        self.has_stayed = self.has_stayed || !ending.has_ended;
+        self.needs_expunge = self.needs_expunge || !run_result.without_expunge;
+        self.needs_exists = self.needs_exists || !run_result.without_exists;
+        self.needs_fetch = self.needs_fetch || !run_result.without_fetch;
+        self.has_ended = self.has_ended || run_result.has_ended;
+        self.has_stayed = self.has_stayed || !run_result.has_ended;
     }
 
-    fn miss(&mut self, run: u64) {
+    fn note_failure(&mut self, run: u64) {
         if self.first_wrong.is_none() {
             self.first_wrong = Some(run);
         }
     }
 }
 
-fn told(alloc: Global, first: u64, tally: &Tally) -> Result<String, AllocError> {
-    let how = how_told(alloc, tally)?;
-    let told = line(alloc, first, tally, how.as_str());
+fn results(alloc: Global, first: u64, tally: &Tally) -> Result<String, AllocError> {
+    let how = how_text(alloc, tally)?;
+    let results = line(alloc, first, tally, how.as_str());
     drop(how);
-    told
+    results
 }
 
-fn how_told(alloc: Global, tally: &Tally) -> Result<String, AllocError> {
+fn how_text(alloc: Global, tally: &Tally) -> Result<String, AllocError> {
     match tally.first_wrong {
         None => format!(in alloc; "all end as they should"),
         Some(run) => format!(in alloc; "run {run} does not"),

@@ -30,7 +30,7 @@ impl Watch {
     }
 
     /// All clients take all these answers. `Err` if memory runs out.
-    pub fn hear_all(&mut self, alloc: Global, answers: &[Answer]) -> Result<(), AllocError> {
+    pub fn receive_all(&mut self, alloc: Global, answers: &[Answer]) -> Result<(), AllocError> {
         for answer in answers {
             self.whole.take(alloc, answer)?;
             self.without_expunge.take(alloc, answer)?;
@@ -41,19 +41,19 @@ impl Watch {
     }
 
     /// Each client takes these answers, except the kind that it ignores. `Err` if memory runs out.
-    pub fn hear(&mut self, alloc: Global, answers: &[Answer]) -> Result<(), AllocError> {
+    pub fn receive(&mut self, alloc: Global, answers: &[Answer]) -> Result<(), AllocError> {
         for answer in answers {
-            self.hear_one(alloc, answer)?;
+            self.receive_one(alloc, answer)?;
         }
         Ok(())
     }
 
-    fn hear_one(&mut self, alloc: Global, answer: &Answer) -> Result<(), AllocError> {
+    fn receive_one(&mut self, alloc: Global, answer: &Answer) -> Result<(), AllocError> {
         let kind = kind_of(answer);
         self.whole.take(alloc, answer)?;
-        hear_unless(&mut self.without_expunge, alloc, answer, kind.is_expunge)?;
-        hear_unless(&mut self.without_exists, alloc, answer, kind.is_exists)?;
-        hear_unless(&mut self.without_fetch, alloc, answer, kind.is_fetch)
+        receive_unless(&mut self.without_expunge, alloc, answer, kind.is_expunge)?;
+        receive_unless(&mut self.without_exists, alloc, answer, kind.is_exists)?;
+        receive_unless(&mut self.without_fetch, alloc, answer, kind.is_fetch)
     }
 }
 
@@ -89,7 +89,7 @@ fn kind_of(answer: &Answer) -> Kind {
     }
 }
 
-fn hear_unless(
+fn receive_unless(
     client: &mut Client,
     alloc: Global,
     answer: &Answer,

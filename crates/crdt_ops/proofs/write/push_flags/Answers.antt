@@ -4,11 +4,11 @@ use Rattle.crdt_ops.specs.Text.{join_fields}
 use Rattle.crdt_ops.proofs.TextLemmas.{extends_more, two_appended}
 use Rattle.crdt_ops.proofs.write.push_flags.Goals as goal
 
-pub returns-in_err-push_octet-clause-kept : goal.returns-in_err-push_octet-clause-kept
-returns-in_err-push_octet-clause-kept c = c.push_octet.ensures.kept
+pub returns-in_err-push_octet-clause-extended : goal.returns-in_err-push_octet-clause-extended
+returns-in_err-push_octet-clause-extended c = c.push_octet.ensures.extended
 
-pub returns-in_err-push_all_flags-clause-kept : goal.returns-in_err-push_all_flags-clause-kept
-returns-in_err-push_all_flags-clause-kept c = extends_more _ _ _ _ c.in_ok-push_octet.ensures.ok c.push_all_flags.ensures.kept
+pub returns-in_err-push_all_flags-clause-extended : goal.returns-in_err-push_all_flags-clause-extended
+returns-in_err-push_all_flags-clause-extended c = extends_more _ _ _ _ c.in_ok-push_octet.ensures.ok c.push_all_flags.ensures.extended
 
 pub returns-clause-ok : goal.returns-clause-ok
 returns-clause-ok c =
@@ -17,5 +17,5 @@ returns-clause-ok c =
     (two_appended _ _ _ _ fields (41 ∷ []) _ c.in_ok-push_all_flags.ensures.ok c.push_octet-2.ensures.ok refl)
     refl
 
-pub returns-clause-kept : goal.returns-clause-kept
-returns-clause-kept c = extends_more _ _ _ _ c.in_ok-push_octet.ensures.ok (extends_more _ _ _ _ c.in_ok-push_all_flags.ensures.ok c.push_octet-2.ensures.kept)
+pub returns-clause-extended : goal.returns-clause-extended
+returns-clause-extended c = extends_more _ _ _ _ c.in_ok-push_octet.ensures.ok (extends_more _ _ _ _ c.in_ok-push_all_flags.ensures.ok c.push_octet-2.ensures.extended)

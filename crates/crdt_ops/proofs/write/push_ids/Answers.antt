@@ -10,5 +10,5 @@ pub returns-in_ok-push_id-in-len1-up-clause-ok : goal.returns-in_ok-push_id-in-l
 returns-in_ok-push_id-in-len1-up-clause-ok c =
     two_appended _ _ _ _ _ _ _ c.in_ok-push_id-in-len1-up.ensures.ok c.push_more_ids.ensures.ok (first_listed id_text c.args.ids.now c.first-item.result c.in-len1-up.len_at_least c.first-item.is)
 
-pub returns-in_ok-push_id-in-len1-up-clause-kept : goal.returns-in_ok-push_id-in-len1-up-clause-kept
-returns-in_ok-push_id-in-len1-up-clause-kept c = extends_more _ _ _ _ c.in_ok-push_id-in-len1-up.ensures.ok c.push_more_ids.ensures.kept
+pub returns-in_ok-push_id-in-len1-up-clause-extended : goal.returns-in_ok-push_id-in-len1-up-clause-extended
+returns-in_ok-push_id-in-len1-up-clause-extended c = extends_more _ _ _ _ c.in_ok-push_id-in-len1-up.ensures.ok c.push_more_ids.ensures.extended

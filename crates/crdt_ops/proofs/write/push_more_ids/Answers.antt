@@ -6,16 +6,16 @@ use Rattle.crdt_ops.proofs.PartLemmas.{all_taken}
 use Rattle.crdt_ops.proofs.TextLemmas.{extends_more}
 use Rattle.crdt_ops.proofs.write.push_more_ids.Goals as goal
 
-pub returns-in_err-push_octet-clause-kept : goal.returns-in_err-push_octet-clause-kept
-returns-in_err-push_octet-clause-kept c = extends_more _ _ _ _ c.loop-id.invariant c.push_octet.ensures.kept
+pub returns-in_err-push_octet-clause-extended : goal.returns-in_err-push_octet-clause-extended
+returns-in_err-push_octet-clause-extended c = extends_more _ _ _ _ c.loop-id.invariant c.push_octet.ensures.extended
 
-pub returns-in_err-push_id-clause-kept : goal.returns-in_err-push_id-clause-kept
-returns-in_err-push_id-clause-kept c =
+pub returns-in_err-push_id-clause-extended : goal.returns-in_err-push_id-clause-extended
+returns-in_err-push_id-clause-extended c =
     let before = c.args.out.now.items in
     let listed = flat_map (λ next. 44 ∷ next) (map id_text (take c.loop-id.id-index c.args.ids.now)) in
     extends_more before c.push_octet.new.out.items _ (listed ++ 44 ∷ [])
     (c.in_ok-push_octet.ensures.ok ∙ ap (λ xs. xs ++ 44 ∷ []) c.loop-id.invariant ∙ append_assoc before listed (44 ∷ []))
-    c.push_id.ensures.kept
+    c.push_id.ensures.extended
 
 pub loop-id-preserved : goal.loop-id-preserved
 loop-id-preserved c =

@@ -5,4 +5,4 @@ use Rattle.folder_state.specs.AfterOps.{alone, has_tag_after}
 use Rattle.folder_state.proofs.after_ops.any_added_left.Given as goal
 
 abbrev pub invariant-loop-op : goal.invariant-loop-op
-invariant-loop-op l = list_any (λ o. has_tag_after (alone (option_copied l.held)) l.ops l.folder o.id) (take l.op-index l.ops) ≡ false
+invariant-loop-op l = list_any (λ o. has_tag_after (alone (option_copied l.table)) l.ops l.folder o.id) (take l.op-index l.ops) ≡ false

@@ -21,5 +21,5 @@ loop-op-preserved c = λ v e.
     c.origin_after_op-origin.ensures
     ∙ ap (λ (o : Op). cond (adds (MessageTag f i) o) (origin_by o.id o.kind) (cond (removes (MessageTag f i) o) None now)) c.op.ensures.op
     ∙ ap (λ (x : Option OpId). cond (adds (MessageTag f i) op) (origin_by op.id op.kind) (cond (removes (MessageTag f i) op) None x)) (c.loop-op.invariant v e)
-    ∙ sym (origin_more (adds (MessageTag f i) op) (removes (MessageTag f i) op) (tag_data_by op.id op.kind) (before.bodies f i))
+    ∙ sym (origin_more (adds (MessageTag f i) op) (removes (MessageTag f i) op) (tag_data_by op.id op.kind) (before.tag_data f i))
     ∙ sym (ap (λ w. origin_in w f i) (after_more v ops at op c.loop-op-test.true c.op-item.is))

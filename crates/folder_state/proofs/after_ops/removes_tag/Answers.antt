@@ -2,7 +2,7 @@ use Rattle.std.proofs.Common.{sym, ap, ◌∙◌}
 use Rattle.std.specs.List.{list_any}
 use Rattle.crdt_ops.specs.declared.kind.Kind.{Kind}
 use Rattle.crdt_ops.specs.Tags.{FolderTag, tags_removed_by, same_tag}
-use Rattle.crdt_ops.specs.TagLaws.{delete_removes_folder_tags, olds_keep_folder_tags, unsubscribe_keeps_folder_tags}
+use Rattle.crdt_ops.specs.TagLaws.{delete_removes_folder_tags, old_ids_keep_folder_tags, unsubscribe_keeps_folder_tags}
 use Rattle.folder_state.specs.Keys.{is_among}
 use Rattle.folder_state.proofs.after_ops.removes_tag.Goals as goal
 
@@ -17,8 +17,8 @@ returns-in-Unsubscribe c =
 
 pub returns-in-Expunge : goal.returns-in-Expunge
 returns-in-Expunge c =
-    sym (ap (λ (kind : Kind). list_any (same_tag (FolderTag c.args.folder.now c.args.id)) (tags_removed_by kind)) c.in-Expunge.is ∙ olds_keep_folder_tags c.args.folder.now c.in-Expunge.folder c.args.id c.in-Expunge.olds)
+    sym (ap (λ (kind : Kind). list_any (same_tag (FolderTag c.args.folder.now c.args.id)) (tags_removed_by kind)) c.in-Expunge.is ∙ old_ids_keep_folder_tags c.args.folder.now c.in-Expunge.folder c.args.id c.in-Expunge.old_ids)
 
 pub returns-in-Store : goal.returns-in-Store
 returns-in-Store c =
-    sym (ap (λ (kind : Kind). list_any (same_tag (FolderTag c.args.folder.now c.args.id)) (tags_removed_by kind)) c.in-Store.is ∙ olds_keep_folder_tags c.args.folder.now c.in-Store.folder c.args.id c.in-Store.olds)
+    sym (ap (λ (kind : Kind). list_any (same_tag (FolderTag c.args.folder.now c.args.id)) (tags_removed_by kind)) c.in-Store.is ∙ old_ids_keep_folder_tags c.args.folder.now c.in-Store.folder c.args.id c.in-Store.old_ids)

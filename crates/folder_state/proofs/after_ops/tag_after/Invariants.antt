@@ -4,4 +4,4 @@ use Rattle.folder_state.specs.AfterOps.{after}
 use Rattle.folder_state.proofs.after_ops.tag_after.Given as goal
 
 abbrev pub invariant-loop-op : goal.invariant-loop-op
-invariant-loop-op l = (c : Contents) → c.tags l.folder l.id ≡ l.fn.now → l.there ≡ (after c (take l.op-index l.ops)).tags l.folder l.id
+invariant-loop-op l = (c : Contents) → c.tags l.folder l.id ≡ l.fn.now → l.present ≡ (after c (take l.op-index l.ops)).tags l.folder l.id

@@ -4,7 +4,7 @@ use Rattle.imap_types.specs.Unions.{united_flags, version_ids}
 use Rattle.folder_state.proofs.message_reader.message.Goals as goal
 
 pub ids_of-requires : goal.ids_of-requires
-ids_of-requires c = subst (λ vs. IsAscending id_order (version_ids vs)) (sym c.versions_at-list.ensures.list) (c.versions_at-list.ensures.filed.ascending c.args.origin.now)
+ids_of-requires c = subst (λ vs. IsAscending id_order (version_ids vs)) (sym c.versions_at-list.ensures.list) (c.versions_at-list.ensures.indexed.ascending c.args.origin.now)
 
 pub returns : goal.returns
 returns c =

@@ -5,7 +5,7 @@ use Rattle.merge_laws.specs.Orders.{IsIn}
 use Rattle.crdt_ops.specs.declared.op.Op.{Op}
 use Rattle.folder_state.specs.FolderTables.{find_folder}
 use Rattle.folder_state.specs.OpRoom.{HasRoomAt, HasRoomFor, count_at, count_under, origin_by, tags_added, target, versions_added}
-use Rattle.folder_state.proofs.Roomier.{in_more, roomier_behind, roomier_in, room_kept}
+use Rattle.folder_state.proofs.MoreRoomLemmas.{in_more, roomier_trans, roomier_in, room_preserved}
 use Rattle.folder_state.proofs.op_room.reserve_folders.Goals as goal
 
 pub loop-op-init : goal.loop-op-init
@@ -25,9 +25,9 @@ loop-op-preserved c =
     let here : HasRoomFor ops op (λ n. find_folder n new) =
     subst (λ (w : (List ℕ → ℕ) × (OpId → ℕ)). HasRoomAt w.0 w.1 (origin_by op.id op.kind) (target op.kind) (λ n. find_folder n new)) (λ k. (λ n. c.requires.tags n k, λ i. c.requires.versions i k)) own in
     record {
-      roomier = λ f. roomier_behind (find_folder f first) (find_folder f old) (find_folder f new) (c.loop-op.invariant.roomier f) (more f);
+      roomier = λ f. roomier_trans (find_folder f first) (find_folder f old) (find_folder f new) (c.loop-op.invariant.roomier f) (more f);
       rooms = λ o h. elim (in_more ops c.loop-op.op-index op o c.loop-op-test.true c.op-item.is h) [
-        | inl t ↦ room_kept old new more (tags_added ops) (versions_added ops) (origin_by o.id o.kind) (target o.kind) (c.loop-op.invariant.rooms o t)
+        | inl t ↦ room_preserved old new more (tags_added ops) (versions_added ops) (origin_by o.id o.kind) (target o.kind) (c.loop-op.invariant.rooms o t)
         | inr e ↦ subst (λ (p : Op). HasRoomFor ops p (λ n. find_folder n new)) e here
       ];
     }
@@ -37,5 +37,5 @@ returns-clause-rooms c = λ o h. c.loop-op.invariant.rooms o (subst (IsIn o) (sy
 
 pub returns-in_err-reserve_for-clause-roomier : goal.returns-in_err-reserve_for-clause-roomier
 returns-in_err-reserve_for-clause-roomier c = λ f.
-    roomier_behind (find_folder f c.args.by_name.now.entries) (find_folder f c.loop-op.by_name.entries) (find_folder f c.reserve_for.new.by_name.entries)
+    roomier_trans (find_folder f c.args.by_name.now.entries) (find_folder f c.loop-op.by_name.entries) (find_folder f c.reserve_for.new.by_name.entries)
     (c.loop-op.invariant.roomier f) ((c.in_err-reserve_for.ensures {u = tt}).roomier f)

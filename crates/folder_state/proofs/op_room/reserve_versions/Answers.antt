@@ -8,23 +8,23 @@ use Rattle.imap_types.specs.declared.version.Version.{Version}
 use Rattle.folder_state.specs.OpRoom.{AreRoomierLists}
 use Rattle.folder_state.proofs.Counting.{on_ok_by}
 use Rattle.folder_state.proofs.Lenses.{same_turned, some_is}
-use Rattle.folder_state.proofs.Roomier.{roomier_lists, roomier_now}
+use Rattle.folder_state.proofs.MoreRoomLemmas.{roomier_lists, roomier_now}
 use Rattle.folder_state.proofs.op_room.reserve_versions.Goals as goal
 
 pub returns-in-Some-clause-roomier : goal.returns-in-Some-clause-roomier
 returns-in-Some-clause-roomier c =
     let now = c.reserve.new.self in
-    let says = (c.get_mut.follows.holds now).3 (search rules) in
+    let post = (c.get_mut.follows.holds now).3 (search rules) in
     let more : vec_capacity c.in-Some.list.now ≤ vec_capacity now = search rules in
-    roomier_now c.args.origin.now c.args.messages.now.entries (c.get_mut.follows.lender now).entries c.in-Some.list.now now (sym (c.in-Some.ensures {u = tt}).value) says.1
-    (λ o f. says.2 o (same_turned c.args.origin.now o ∙ f)) c.reserve.ensures.items more
+    roomier_now c.args.origin.now c.args.messages.now.entries (c.get_mut.follows.lender now).entries c.in-Some.list.now now (sym (c.in-Some.ensures {u = tt}).value) post.1
+    (λ o f. post.2 o (same_turned c.args.origin.now o ∙ f)) c.reserve.ensures.items more
 
 pub returns-in-Some-clause-ok : goal.returns-in-Some-clause-ok
 returns-in-Some-clause-ok c =
     let now = c.reserve.new.self in
-    let says = (c.get_mut.follows.holds now).3 (search rules) in
+    let post = (c.get_mut.follows.holds now).3 (search rules) in
     on_ok_by c.reserve.result (λ h vs e.
-    let same : now ≡ vs = some_is now vs (sym says.1 ∙ e) in
+    let same : now ≡ vs = some_is now vs (sym post.1 ∙ e) in
     subst (λ (xs : Vec Version). length xs.items + c.args.versions ≤ vec_capacity xs) same h) (search rules)
 
 pub returns-in-Some-clause-spare : goal.returns-in-Some-clause-spare

@@ -9,10 +9,10 @@ use Rattle.crdt_ops.specs.declared.op.Op.{Op}
 use Rattle.crdt_ops.specs.SortedSets.{is_some_id, same_id}
 use Rattle.crdt_ops.specs.Sets.{DatedText, tag_data_by, dated_text_by}
 use Rattle.crdt_ops.specs.Tags.{FolderTag, MessageTag, tag_added_by, is_some_tag}
-use Rattle.folder_state.specs.FolderTables.{FolderTables, body_in_folder, find_folder, has_tag_in}
+use Rattle.folder_state.specs.FolderTables.{FolderTables, tag_data_in, find_folder, has_tag_in}
 use Rattle.folder_state.specs.OpRoom.{HasRoomAt, is_named, origin_by, tags_added, target, versions_added, counts_of}
-use Rattle.folder_state.specs.LentMessages.{kept_dated_text}
-use Rattle.folder_state.proofs.Fuller.{list_one, place_one, room_less, version_one}
+use Rattle.folder_state.specs.MessageRefs.{stored_dated_text}
+use Rattle.folder_state.proofs.RoomLeftLemmas.{list_one, place_one, room_less, version_one}
 use Rattle.folder_state.proofs.tag_changes.add_tag_of.Goals as goal
 
 or_cond : (b : Bool) (x : DatedText) (y : Option DatedText) → cond b (Some x) y ≡ option_or (cond b (Some x) None) y
@@ -50,20 +50,20 @@ put_message-requires-clause-list c =
     let h = subst (λ (kind : Kind). counts_of (λ i. cond (is_some_id i (origin_by c.args.op.id kind)) 1 0 + 0) (origin_by c.args.op.id kind) ≤ vec_capacity c.args.list) c.in-Store.is c.requires.list.1 in
     (c.requires.list.0, list_one c.in-Store.origin (vec_capacity c.args.list) h)
 
-pub returns-in-Append-clause-bodies : goal.returns-in-Append-clause-bodies
-returns-in-Append-clause-bodies c = λ f i.
-    c.put_first.ensures.bodies f i
-    ∙ sym (ap (λ (kind : Kind). cond (is_some_tag (MessageTag f i) (tag_added_by c.args.op.id kind)) (tag_data_by c.args.op.id kind) (body_in_folder (find_folder f c.args.by_name.now.entries) i)) c.in-Append.is)
+pub returns-in-Append-clause-tag_data : goal.returns-in-Append-clause-tag_data
+returns-in-Append-clause-tag_data c = λ f i.
+    c.put_first.ensures.tag_data f i
+    ∙ sym (ap (λ (kind : Kind). cond (is_some_tag (MessageTag f i) (tag_added_by c.args.op.id kind)) (tag_data_by c.args.op.id kind) (tag_data_in (find_folder f c.args.by_name.now.entries) i)) c.in-Append.is)
 
-pub returns-in-Store-clause-bodies : goal.returns-in-Store-clause-bodies
-returns-in-Store-clause-bodies c = λ f i.
-    c.put_message.ensures.bodies f i
-    ∙ sym (ap (λ (kind : Kind). cond (is_some_tag (MessageTag f i) (tag_added_by c.args.op.id kind)) (tag_data_by c.args.op.id kind) (body_in_folder (find_folder f c.args.by_name.now.entries) i)) c.in-Store.is)
+pub returns-in-Store-clause-tag_data : goal.returns-in-Store-clause-tag_data
+returns-in-Store-clause-tag_data c = λ f i.
+    c.put_message.ensures.tag_data f i
+    ∙ sym (ap (λ (kind : Kind). cond (is_some_tag (MessageTag f i) (tag_added_by c.args.op.id kind)) (tag_data_by c.args.op.id kind) (tag_data_in (find_folder f c.args.by_name.now.entries) i)) c.in-Store.is)
 
-pub returns-in-Append-clause-letters : goal.returns-in-Append-clause-letters
-returns-in-Append-clause-letters c = λ i.
-    let old = option_map kept_dated_text (lookup (same_id i) c.args.letters.now.entries) in
-    c.put_dated_text.ensures.found i
+pub returns-in-Append-clause-dated_texts : goal.returns-in-Append-clause-dated_texts
+returns-in-Append-clause-dated_texts c = λ i.
+    let old = option_map stored_dated_text (lookup (same_id i) c.args.dated_texts.now.entries) in
+    c.put_dated_text.ensures.updated i
     ∙ or_cond (same_id i c.args.op.id) (record { date = c.in-Append.date; text = c.in-Append.text }) old
     ∙ sym (ap (λ (kind : Kind). option_or (cond (same_id i c.args.op.id) (dated_text_by kind) None) old) c.in-Append.is)
 

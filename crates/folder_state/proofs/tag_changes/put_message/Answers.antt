@@ -5,11 +5,11 @@ use Rattle.std.specs.List.{list_any}
 use Rattle.std.specs.Vec.{vec_capacity}
 use Rattle.crdt_ops.specs.SortedSets.{same_id}
 use Rattle.crdt_ops.specs.Sets.{MessageTagData}
-use Rattle.folder_state.specs.FolderTables.{FolderTables, body_in_folder, find_folder, has_tag_in}
+use Rattle.folder_state.specs.FolderTables.{FolderTables, tag_data_in, find_folder, has_tag_in}
 use Rattle.folder_state.specs.OpRoom.{HasPlaces, HasVersionRoom}
-use Rattle.folder_state.proofs.Filed.{carrying}
-use Rattle.folder_state.proofs.Fuller.{room_left}
-use Rattle.folder_state.proofs.Lenses.{folder_changed, some_is, told_now}
+use Rattle.folder_state.proofs.FolderTablesLemmas.{message_tag_data}
+use Rattle.folder_state.proofs.RoomLeftLemmas.{room_left}
+use Rattle.folder_state.proofs.Lenses.{folder_changed, some_is, folder_data_changed}
 use Rattle.folder_state.proofs.tag_changes.put_message.Goals as goal
 
 same : (name octets : List ℕ) (old : List (Vec ℕ × FolderTables)) (a b : FolderTables) → octets ≡ name → find_folder name old ≡ Some a → find_folder octets old ≡ Some b → a ≡ b
@@ -30,35 +30,35 @@ put_message-requires-clause-versions c =
 pub returns-clause-tags : goal.returns-clause-tags
 returns-clause-tags c =
     let now = c.put_message.new.self in
-    let says = (c.get_mut.follows.holds now).3 (search rules) in
+    let post = (c.get_mut.follows.holds now).3 (search rules) in
     let was = sym (c.in-Some.ensures {u = tt}).value in
     let name = c.args.name.now in
     let old = c.args.by_name.now.entries in
     let new = (c.get_mut.follows.lender now).entries in
-    told_now name old new c.in-Some.folder.now now (subst (λ n. find_folder n old ≡ Some c.in-Some.folder.now) c.as_bytes.ensures was)
-    (folder_changed name c.as_bytes.result.now c.as_bytes.ensures old new says.3 (Some now) says.1)
+    folder_data_changed name old new c.in-Some.folder.now now (subst (λ n. find_folder n old ≡ Some c.in-Some.folder.now) c.as_bytes.ensures was)
+    (folder_changed name c.as_bytes.result.now c.as_bytes.ensures old new post.3 (Some now) post.1)
     has_tag_in (λ (b : Bool) i (x : Bool). x) (λ i x. refl) (λ i. ap (list_any (same_id i)) c.put_message.ensures.tags)
 
-pub returns-clause-bodies : goal.returns-clause-bodies
-returns-clause-bodies c =
+pub returns-clause-tag_data : goal.returns-clause-tag_data
+returns-clause-tag_data c =
     let now = c.put_message.new.self in
-    let says = (c.get_mut.follows.holds now).3 (search rules) in
+    let post = (c.get_mut.follows.holds now).3 (search rules) in
     let was = sym (c.in-Some.ensures {u = tt}).value in
     let name = c.args.name.now in
     let old = c.args.by_name.now.entries in
     let new = (c.get_mut.follows.lender now).entries in
-    told_now name old new c.in-Some.folder.now now (subst (λ n. find_folder n old ≡ Some c.in-Some.folder.now) c.as_bytes.ensures was)
-    (folder_changed name c.as_bytes.result.now c.as_bytes.ensures old new says.3 (Some now) says.1)
-    body_in_folder (λ (b : Bool) i (x : Option MessageTagData). cond (b && same_id i c.args.version.id) (Some (carrying c.args.origin.now c.args.version.flags)) x) (λ i x. refl) (λ i. c.put_message.ensures.bodies i)
+    folder_data_changed name old new c.in-Some.folder.now now (subst (λ n. find_folder n old ≡ Some c.in-Some.folder.now) c.as_bytes.ensures was)
+    (folder_changed name c.as_bytes.result.now c.as_bytes.ensures old new post.3 (Some now) post.1)
+    tag_data_in (λ (b : Bool) i (x : Option MessageTagData). cond (b && same_id i c.args.version.id) (Some (message_tag_data c.args.origin.now c.args.version.flags)) x) (λ i x. refl) (λ i. c.put_message.ensures.tag_data i)
 
 pub returns-clause-room : goal.returns-clause-room
 returns-clause-room c =
     let now = c.put_message.new.self in
-    let says = (c.get_mut.follows.holds now).3 (search rules) in
+    let post = (c.get_mut.follows.holds now).3 (search rules) in
     let was = sym (c.in-Some.ensures {u = tt}).value in
     let name = c.args.name.now in
     let old = c.args.by_name.now.entries in
     let new = (c.get_mut.follows.lender now).entries in
     room_left name old new c.in-Some.folder.now now (subst (λ n. find_folder n old ≡ Some c.in-Some.folder.now) c.as_bytes.ensures was)
-    (folder_changed name c.as_bytes.result.now c.as_bytes.ensures old new says.3 (Some now) says.1)
+    (folder_changed name c.as_bytes.result.now c.as_bytes.ensures old new post.3 (Some now) post.1)
     (Some c.args.origin.now) (vec_capacity c.args.list) c.put_message.ensures.room (λ o n h t. c.put_message.ensures.versions o n h t)

@@ -2,7 +2,7 @@ use Rattle.std.proofs.Common.{◌≡◌, ℕ, ◌+◌, true, List, [], ◌++◌,
 use Rattle.std.proofs.lemmas.List.{length-append, length-map}
 use Rattle.session_view.specs.NoteChanges.{NoteAllChanges, notes_left_by_sync}
 use Rattle.mailbox_rows.specs.RowViews.{rows_after_uid}
-use Rattle.session_view.specs.Sync.{refreshed_entry, entries_staying, view_after_sync}
+use Rattle.session_view.specs.Sync.{refreshed_entry, staying_entries, view_after_sync}
 use Rattle.session_view.specs.Views.{entries_of, entry_of, last_uid}
 use Rattle.session_view.specs.declared.notes.Note.{Note}
 use Rattle.session_view.specs.declared.view_entry.ViewEntry.{ViewEntry}
@@ -13,17 +13,17 @@ pub returns-clause-change : goal.returns-clause-change
 returns-clause-change c = λ h.
     let kind = c.args.form.kind in
     let rows = c.args.rows.now in
-    let seen = c.in_ok-seen.seen.items in
-    let stay = entries_staying kind rows seen in
+    let replayed = c.in_ok-replayed.replayed.items in
+    let stay = staying_entries kind rows replayed in
     let new = rows_after_uid (last_uid stay) rows in
-    let shown : c.in_ok-entries.field-0.entries.items ≡ view_after_sync kind rows seen = c.in_ok-entries.ensures.entries in
-    let none : notes_left_by_sync kind rows seen ≡ [] = ap (λ (k : SyncKind). notes_left_by_sync k rows seen) (c.is_all-whole.ensures.full h) in
+    let shown : c.in_ok-entries.field-0.entries.items ≡ view_after_sync kind rows replayed = c.in_ok-entries.ensures.entries in
+    let none : notes_left_by_sync kind rows replayed ≡ [] = ap (λ (k : SyncKind). notes_left_by_sync k rows replayed) (c.is_all-whole.ensures.full h) in
     let count = length-append (map (refreshed_entry rows) stay) (entries_of new) in
     let first = length-map stay (refreshed_entry rows) in
     let second = length-map new entry_of in
-    let all : length (view_after_sync kind rows seen) ≡ length rows = sym (ap length shown) ∙ sym c.len.ensures ∙ c.is_all-whole.ensures.count h ∙ c.count-listed.ensures.count in
+    let all : length (view_after_sync kind rows replayed) ≡ length rows = sym (ap length shown) ∙ sym c.len.ensures ∙ c.is_all-whole.ensures.count h ∙ c.count-listed.ensures.count in
     let left = ap length none in
-    let names = c.counts_tell.ensures kind rows seen c.count-listed.ensures.rising c.in_ok-seen.ensures.rising (omega (arith, count, first, second, all, left)) in
+    let names = c.equal_counts_suffice.ensures kind rows replayed c.count-listed.ensures.rising c.in_ok-replayed.ensures.rising (omega (arith, count, first, second, all, left)) in
     subst (λ (notes : List Note). NoteAllChanges notes rows c.in_ok-entries.field-0.entries.items) (sym c.new.ensures.items)
     (subst (λ (notes : List Note). NoteAllChanges notes rows c.in_ok-entries.field-0.entries.items) none
-    (subst (λ (es : List ViewEntry). NoteAllChanges (notes_left_by_sync kind rows seen) rows es) (sym shown) names))
+    (subst (λ (es : List ViewEntry). NoteAllChanges (notes_left_by_sync kind rows replayed) rows es) (sym shown) names))

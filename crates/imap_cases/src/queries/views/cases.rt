@@ -1,9 +1,9 @@
 //! What a view answers to a set or a sync.
 
 use crate::queries::messages::{Message, rows_of};
-use crate::queries::views::reading::{messages_in, set_in, view_in};
-use crate::queries::views::writing::{put_answers, put_entries, put_numbers};
-use case_lines::{Trouble, Words, meaning, parted};
+use crate::queries::views::view_reader::{messages_in, set_in, view_in};
+use crate::queries::views::view_writer::{put_answers, put_entries, put_numbers};
+use case_lines::{Trouble, Words, meaning, parts_around};
 use imap_answers::Answer;
 use mailbox_rows::Rows;
 use session_view::{BadSet, SyncForm, SyncKind, View, replay_reply};
@@ -43,8 +43,8 @@ const FORMS: &[(&str, SyncForm)] = &[
 
 /// `WHICH VIEW OTHER`: puts what the code answers.
 pub fn put_view(alloc: Global, words: &mut Words, kind: &str, input: &str) {
-    let (which, rest) = parted(input, " ");
-    let (view, other) = parted(rest, " ");
+    let (which, rest) = parts_around(input, " ");
+    let (view, other) = parts_around(rest, " ");
     match view_in(alloc, view) {
         Ok(view) => {
             put_of_view(alloc, words, &view, kind, which, other);

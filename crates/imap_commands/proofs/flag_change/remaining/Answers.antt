@@ -1,7 +1,7 @@
 use Rattle.std.proofs.Common.{List, ℕ, ap, ◌∙◌}
 use Rattle.imap_types.specs.Keywords.{are_keywords}
 use Rattle.imap_commands.specs.FlagChange.{remaining}
-use Rattle.imap_commands.proofs.ChangingLemmas.{never_none, remaining_are_keywords}
+use Rattle.imap_commands.proofs.FlagChangeLemmas.{never_none, remaining_are_keywords}
 use Rattle.imap_commands.proofs.flag_change.remaining.Goals as goal
 
 pub unreachable-requires : goal.unreachable-requires

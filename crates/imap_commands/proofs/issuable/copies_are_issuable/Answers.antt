@@ -1,5 +1,5 @@
-use Rattle.imap_commands.proofs.IssuedLemmas.{copy_wants_issuable}
+use Rattle.imap_commands.proofs.IssuedLemmas.{copy_intent_issuable}
 use Rattle.imap_commands.proofs.issuable.copies_are_issuable.Goals as goal
 
 pub returns : goal.returns
-returns c = copy_wants_issuable
+returns c = copy_intent_issuable

@@ -1,5 +1,5 @@
-use Rattle.imap_commands.proofs.IssuedLemmas.{move_wants_issuable}
+use Rattle.imap_commands.proofs.IssuedLemmas.{move_intent_issuable}
 use Rattle.imap_commands.proofs.issuable.moves_are_issuable.Goals as goal
 
 pub returns : goal.returns
-returns c = move_wants_issuable
+returns c = move_intent_issuable

@@ -1,4 +1,4 @@
-use Rattle.imap_commands.proofs.NamedLemmas.{first_above, number_above, number_more}
+use Rattle.imap_commands.proofs.NamedLemmas.{first_above, number_above, set_append}
 use Rattle.imap_commands.proofs.named_messages.set_of.Goals as goal
 
 pub push-requires : goal.push-requires
@@ -6,6 +6,6 @@ push-requires c = first_above c.loop-number.set c.args.numbers.now c.loop-number
 
 pub loop-number-preserved : goal.loop-number-preserved
 loop-number-preserved c = (
-  number_more c.loop-number.set _ c.args.numbers.now c.loop-number.number-index _ _ c.loop-number-test.true c.in_ok-push.ensures.ok c.loop-number.invariant.0,
+  set_append c.loop-number.set _ c.args.numbers.now c.loop-number.number-index _ _ c.loop-number-test.true c.in_ok-push.ensures.ok c.loop-number.invariant.0,
   number_above c.loop-number.set _ c.args.numbers.now c.loop-number.number-index _ c.loop-number-test.true c.in_ok-push.ensures.ok c.loop-number.invariant.1,
 )

@@ -1,4 +1,4 @@
-use Rattle.imap_commands.proofs.PrintCopied.{copy_printable, move_printable}
+use Rattle.imap_commands.proofs.PrintCopyLemmas.{copy_printable, move_printable}
 use Rattle.imap_commands.proofs.printable.copies_are_printable.Goals as goal
 
 pub returns : goal.returns

@@ -1,4 +1,4 @@
-use Rattle.imap_commands.proofs.PrintFetched.{fetch_printable}
+use Rattle.imap_commands.proofs.PrintFetchLemmas.{fetch_printable}
 use Rattle.imap_commands.proofs.printable.fetch_is_printable.Goals as goal
 
 pub returns : goal.returns

@@ -1,4 +1,4 @@
-use Rattle.imap_commands.proofs.PrintSelected.{select_printable}
+use Rattle.imap_commands.proofs.PrintSelectLemmas.{select_printable}
 use Rattle.imap_commands.proofs.printable.select_is_printable.Goals as goal
 
 pub returns : goal.returns

@@ -1,4 +1,4 @@
-use Rattle.imap_commands.proofs.PrintAsked.{status_printable}
+use Rattle.imap_commands.proofs.PrintReportLemmas.{status_printable}
 use Rattle.imap_commands.proofs.printable.status_is_printable.Goals as goal
 
 pub returns : goal.returns

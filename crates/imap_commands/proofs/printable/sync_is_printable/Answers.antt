@@ -1,4 +1,4 @@
-use Rattle.imap_commands.proofs.PrintSynced.{sync_printable}
+use Rattle.imap_commands.proofs.PrintSyncLemmas.{sync_printable}
 use Rattle.imap_commands.proofs.printable.sync_is_printable.Goals as goal
 
 pub returns : goal.returns

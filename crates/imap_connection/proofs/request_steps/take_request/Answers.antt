@@ -3,26 +3,26 @@ use Rattle.std.specs.Prelude.{IfErr}
 use Rattle.imap_answers.specs.declared.answer.Answer.{Answer}
 use Rattle.imap_connection.specs.Requests.{Fails, Handles, texts}
 use Rattle.imap_connection.specs.declared.request.Request.{Request}
-use Rattle.imap_connection.proofs.ConversingLemmas.{told_err, told_ok}
+use Rattle.imap_connection.proofs.ConversationsLemmas.{printed_err, printed_ok}
 use Rattle.imap_connection.proofs.request_steps.take_request.Goals as goal
 
-pub returns-in-Told-clause-ok : goal.returns-in-Told-clause-ok
-returns-in-Told-clause-ok g c =
+pub returns-in-Immediate-clause-ok : goal.returns-in-Immediate-clause-ok
+returns-in-Immediate-clause-ok g c =
     let p = c.args.port.now in
     let idling = c.args.idling.now in
     let before = c.args.text.now.items in
-    let after = c.tell_answer.new.text.items in
-    subst (λ (request : Request). OnOk c.tell_answer.result ((given : List Answer) × Handles g.P.Port.steps p idling request given p idling false × (after ≡ before ++ texts given))) (sym c.in-Told.is)
-    (told_ok g.P.Port.steps idling before after c.tell_answer.result p c.in-Told.answer c.tell_answer.ensures.ok)
+    let after = c.print_answer.new.text.items in
+    subst (λ (request : Request). OnOk c.print_answer.result ((given : List Answer) × Handles g.P.Port.steps p idling request given p idling false × (after ≡ before ++ texts given))) (sym c.in-Immediate.is)
+    (printed_ok g.P.Port.steps idling before after c.print_answer.result p c.in-Immediate.answer c.print_answer.ensures.ok)
 
-pub returns-in-Told-clause-err : goal.returns-in-Told-clause-err
-returns-in-Told-clause-err g c =
+pub returns-in-Immediate-clause-err : goal.returns-in-Immediate-clause-err
+returns-in-Immediate-clause-err g c =
     let p = c.args.port.now in
     let idling = c.args.idling.now in
     let before = c.args.text.now.items in
-    let after = c.tell_answer.new.text.items in
-    subst (λ (request : Request). IfErr c.tell_answer.result (λ ended. (given : List Answer) × Fails g.P.Port.steps p idling request ended given p × (after ≡ before ++ texts given))) (sym c.in-Told.is)
-    (told_err g.P.Port.steps idling before after c.tell_answer.result p c.in-Told.answer c.tell_answer.ensures.err)
+    let after = c.print_answer.new.text.items in
+    subst (λ (request : Request). IfErr c.print_answer.result (λ ended. (given : List Answer) × Fails g.P.Port.steps p idling request ended given p × (after ≡ before ++ texts given))) (sym c.in-Immediate.is)
+    (printed_err g.P.Port.steps idling before after c.print_answer.result p c.in-Immediate.answer c.print_answer.ensures.err)
 
 pub returns-in-Command-clause-err : goal.returns-in-Command-clause-err
 returns-in-Command-clause-err g c =

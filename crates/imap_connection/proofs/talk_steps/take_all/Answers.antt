@@ -25,16 +25,16 @@ returns-then-has_logged_out-clause-ok c =
     let b = underway_out _ c.take_item.new.node.state _ _ _ c.take_item.new.turns.items u (c.in_default.ensures {u = tt}).ok (c.has_logged_out.ensures.0 c.if-has_logged_out.true) in
     (b.0, b.1, subst (Converses c.args.node.now.state c.args.session items b.0) (sym c.close-then-has_logged_out.ensures) b.2)
 
-still_going : (b : Bool) (P Q : Type 0) → (IsTrue b ↔ Q) → b ≡ false → P ⊎ Q → P
-still_going b P Q h f t = elim t [ inl p ↦ p | inr q ↦ absurd (true≢false (sym (h.1 q) ∙ f)) ]
+still_active : (b : Bool) (P Q : Type 0) → (IsTrue b ↔ Q) → b ≡ false → P ⊎ Q → P
+still_active b P Q h f t = elim t [ inl p ↦ p | inr q ↦ absurd (true≢false (sym (h.1 q) ∙ f)) ]
 
 pub loop-item-preserved : goal.loop-item-preserved
 loop-item-preserved c =
     let items = items_at c.args.moment c.args.items.now in
     let at = next_item c.args.items.now c.loop-item.item-index c.item-item.result (omega arith) c.item-item.is in
     let u = subst (λ left. Underway c.args.node.now.state c.args.session items c.args.turns.now.items c.loop-item.node.state (items_at c.args.moment left) c.loop-item.turns.items) at c.loop-item.invariant in
-    let going = still_going c.has_logged_out.result _ _ c.has_logged_out.ensures c.if-has_logged_out.false c.take_item.ensures.open in
-    underway_on _ c.take_item.new.node.state _ _ _ c.take_item.new.turns.items u (c.in_default.ensures {u = tt}).ok going
+    let active = still_active c.has_logged_out.result _ _ c.has_logged_out.ensures c.if-has_logged_out.false c.take_item.ensures.open in
+    underway_on _ c.take_item.new.node.state _ _ _ c.take_item.new.turns.items u (c.in_default.ensures {u = tt}).ok active
 
 pub returns-clause-ok : goal.returns-clause-ok
 returns-clause-ok c =

@@ -5,16 +5,16 @@ use Rattle.imap_connection.specs.Conversation.{turns_of_answers}
 use Rattle.imap_connection.specs.RequestSteps.{Fails, Handles}
 use Rattle.imap_connection.specs.declared.request.Request.{Request}
 use Rattle.imap_connection.specs.declared.turn.Turn.{Turn}
-use Rattle.imap_connection.proofs.RequestLemmas.{told_sent, line_fails}
+use Rattle.imap_connection.proofs.RequestLemmas.{sent_ok, line_fails}
 use Rattle.imap_connection.proofs.talk_steps.take_request.Goals as goal
 
-pub returns-in-Told-clause-ok : goal.returns-in-Told-clause-ok
-returns-in-Told-clause-ok c =
+pub returns-in-Immediate-clause-ok : goal.returns-in-Immediate-clause-ok
+returns-in-Immediate-clause-ok c =
     let node = c.args.node.now.state in
     let before = c.args.turns.now.items in
     let after = c.send_one.new.turns.items in
-    subst (λ (request : Request). OnOk c.send_one.result ((given : List Answer) × Handles node c.args.session c.args.moment request given node × (after ≡ before ++ turns_of_answers given))) (sym c.in-Told.is)
-    (told_sent c.args.session c.args.moment node c.in-Told.answer before after c.send_one.result c.send_one.ensures.ok)
+    subst (λ (request : Request). OnOk c.send_one.result ((given : List Answer) × Handles node c.args.session c.args.moment request given node × (after ≡ before ++ turns_of_answers given))) (sym c.in-Immediate.is)
+    (sent_ok c.args.session c.args.moment node c.in-Immediate.answer before after c.send_one.result c.send_one.ensures.ok)
 
 pub returns-in-Line-clause-err : goal.returns-in-Line-clause-err
 returns-in-Line-clause-err c =

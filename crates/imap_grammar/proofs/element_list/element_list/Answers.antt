@@ -1,7 +1,7 @@
 use Rattle.std.proofs.Common.{◌≡◌, ◌++◌, ◌∷◌, [], length}
 use Rattle.std.proofs.lemmas.Result.{err_from_is_err_and}
 use Rattle.imap_grammar.specs.Reading.{listed_at}
-use Rattle.imap_grammar.proofs.Lists.{goes_on, stops_here, fails}
+use Rattle.imap_grammar.proofs.Lists.{list_continues, stops_here, fails}
 use Rattle.imap_grammar.proofs.element_list.element_list.Goals as goal
 
 pub returns-in_err-value : goal.returns-in_err-value
@@ -18,7 +18,7 @@ returns-in_default g c =
 
 pub loop-preserved : goal.loop-preserved
 loop-preserved g c =
-    let found = rw c.in-Some.is at c.in_ok-value.ensures in
+    let is_read = rw c.in-Some.is at c.in_ok-value.ensures in
     let grown : c.push-in-loop.new.self.items ≡ c.loop.values.items ++ c.in-Some.value ∷ [] = c.in_ok-push-2.ensures.items in
-    rw grown (goes_on c.args.separator g.E.ListElement.read_at c.loop.values.items (length c.args.octets.now) c.loop.counter c.loop.rest.now c.in-Some.after.now c.in-Some.value
-    (listed_at c.args.separator g.E.ListElement.read_at c.args.octets.now) c.loop-test.true found c.loop.invariant)
+    rw grown (list_continues c.args.separator g.E.ListElement.read_at c.loop.values.items (length c.args.octets.now) c.loop.counter c.loop.rest.now c.in-Some.after.now c.in-Some.value
+    (listed_at c.args.separator g.E.ListElement.read_at c.args.octets.now) c.loop-test.true is_read c.loop.invariant)

@@ -1,4 +1,4 @@
-use Rattle.imap_grammar.proofs.FrameLaws.{parse_found, parse_only, parse_no_tag, parse_unknown}
+use Rattle.imap_grammar.proofs.FrameLaws.{parse_spelled, parse_only, parse_no_tag, parse_unknown}
 use Rattle.imap_grammar.proofs.frame_parser.parse.Goals as goal
 
 pub returns : goal.returns
@@ -7,7 +7,7 @@ returns c =
     let frame = c.args.frame.now in
     let known = c.parse_frame.ensures in
     record {
-      found = parse_found answer frame known;
+      spelled = parse_spelled answer frame known;
       only = parse_only answer frame known;
       no_tag = parse_no_tag answer frame known;
       unknown = parse_unknown answer frame known;

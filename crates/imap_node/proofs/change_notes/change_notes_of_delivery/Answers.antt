@@ -6,7 +6,7 @@ use Rattle.imap_node.specs.ChangeNotes.{IsSnapshotOf}
 use Rattle.uid_projection.specs.Applied.{IsApplied}
 use Rattle.uid_projection.specs.Incarnations.{uidvalidity_of}
 use Rattle.uid_projection.specs.UidsAndModSeqs.{uidnext_of}
-use Rattle.imap_node.proofs.NewsLemmas.{all_news, news_more}
+use Rattle.imap_node.proofs.ChangeNotesLemmas.{all_change_notes, so_far_append}
 use Rattle.imap_node.proofs.change_notes.change_notes_of_delivery.Goals as goal
 
 pub returns : goal.returns
@@ -20,8 +20,8 @@ returns c = λ before op is e.
     let named = subst (λ (n : List ℕ). NotesNameIn start before after n folder.notes) is.name_is
     (done.notes start before (op ∷ []) applied (subst (λ (n : List ℕ). IsSnapshotOf start before (op ∷ []) n c.args.ahead) (sym is.name_is) is)
     (c.uidvalidity-uidvalidity.ensures ∙ (λ i. uidvalidity_of start (c.name.ensures i) (e i))) (c.uidnext-uidnext.ensures ∙ (λ i. uidnext_of start (c.name-2.ensures i) (e i)))) in
-    let far = news_more start before (op ∷ []) name [] folder (done.name ∙ is.name_is) named in
-    let all = all_news start before (op ∷ []) (folder ∷ []) applied (far.named (λ f i. absurd i))
+    let far = so_far_append start before (op ∷ []) name [] folder (done.name ∙ is.name_is) named in
+    let all = all_change_notes start before (op ∷ []) (folder ∷ []) applied (far.named (λ f i. absurd i))
     (λ o i. elim i [ inl q ↦ subst (λ (x : Op). is_named (folder ∷ []) (name_of x.kind) ≡ true) q far.own | inr n ↦ absurd n ]) in
     let pushed = c.push_reserved.ensures.items ∙ ap (λ (folders : List MailboxNotes). folders ++ folder ∷ []) (c.in_ok-folders.ensures {u = tt}).items in
     subst (λ (folders : List MailboxNotes). AreChangeNotes start before c.args.replica.now.applied folders) (sym pushed) (subst (λ (ops : List Op). AreChangeNotes start before ops (folder ∷ [])) (sym e) all)

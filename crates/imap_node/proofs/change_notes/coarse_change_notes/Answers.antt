@@ -4,12 +4,12 @@ use Rattle.crdt_ops.specs.Tags.{name_of}
 use Rattle.imap_node.specs.SessionFeeds.{with_all_differing}
 use Rattle.imap_node.specs.SessionFeeds.{MailboxNotes, AreChangeNotes}
 use Rattle.imap_node.proofs.PlaceLemmas.{drop_next}
-use Rattle.imap_node.proofs.FeedLemmas.{all_ended, ended_news, ended_through}
+use Rattle.imap_node.proofs.FeedLemmas.{all_ended, ended_change_notes, ended_through}
 use Rattle.imap_node.proofs.change_notes.coarse_change_notes.Goals as goal
 
 pub returns : goal.returns
 returns c = λ start list a.
-    subst (λ (folders : List MailboxNotes). AreChangeNotes start list (list ++ c.args.ops.now) folders) (ended_through c.loop-op.folders.items c.args.ops.now c.loop-op.op-index c.loop-op-test.false c.loop-op.invariant) (ended_news start list c.args.ops.now a)
+    subst (λ (folders : List MailboxNotes). AreChangeNotes start list (list ++ c.args.ops.now) folders) (ended_through c.loop-op.folders.items c.args.ops.now c.loop-op.op-index c.loop-op-test.false c.loop-op.invariant) (ended_change_notes start list c.args.ops.now a)
 
 pub loop-op-preserved : goal.loop-op-preserved
 loop-op-preserved c =

@@ -1,13 +1,13 @@
 use Rattle.std.proofs.Common.{◌≤◌, ◌<◌, length, arith, ◌∙◌}
 use Rattle.std.proofs.lemmas.List.{length-set}
-use Rattle.imap_node.proofs.GoingLemmas.{done_more, each_behind, rest_more}
+use Rattle.imap_node.proofs.SessionChangeLemmas.{done_more, each_after_notes, rest_more}
 use Rattle.imap_node.proofs.feeds.note_in.Goals as goal
 
 pub returns : goal.returns
 returns c =
     let old = c.args.feeds.now.items in
     let ended : length old ≤ c.loop-place.place = let a = c.loop-place-test.false in let b = c.len-place-end.ensures in let k = c.args.feeds.now.ok.0 in omega (arith, a, b, k) in
-    each_behind c.args.change_notes.now c.args.places.now old c.loop-place.feeds.items c.loop-place.place c.loop-place.invariant.len ended c.loop-place.invariant.done c.loop-place.invariant.rest
+    each_after_notes c.args.change_notes.now c.args.places.now old c.loop-place.feeds.items c.loop-place.place c.loop-place.invariant.len ended c.loop-place.invariant.done c.loop-place.invariant.rest
 
 pub loop-place-preserved : goal.loop-place-preserved
 loop-place-preserved c =

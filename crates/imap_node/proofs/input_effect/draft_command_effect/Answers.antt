@@ -10,12 +10,12 @@ returns c =
     let ops = c.args.replica.now.applied in
     let all = c.args.replica.now.applied ++ c.args.ops.now in
     let tagged = c.args.tagged.now in
-    let told = c.in_ok-told.told in
+    let report = c.in_ok-report.report in
     IfOk-weaker c.draft_report_effect.result _ _
-    (λ course h. (
-      told,
-      subst (λ (modseq : Bool). IsCommandReport start ops all c.args.session.now.state modseq tagged.tag tagged.command told) c.is_on-modseq.ensures (c.in_ok-told.ensures {u = tt}),
+    (λ effect h. (
+      report,
+      subst (λ (modseq : Bool). IsCommandReport start ops all c.args.session.now.state modseq tagged.tag tagged.command report) c.is_on-modseq.ensures (c.in_ok-report.ensures {u = tt}),
       h c.args.session.now.state
-          ∙ (λ i. report_effect (c.in_ok-first.ensures {u = tt} i) told (c.in_ok-moved.ensures {u = tt} c.args.session.now.state i) (c.is_on-modseq.ensures i) tagged.tag tagged.command),
+          ∙ (λ i. report_effect (c.in_ok-first.ensures {u = tt} i) report (c.in_ok-moved.ensures {u = tt} c.args.session.now.state i) (c.is_on-modseq.ensures i) tagged.tag tagged.command),
     ))
     c.draft_report_effect.ensures

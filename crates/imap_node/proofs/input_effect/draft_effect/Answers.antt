@@ -6,5 +6,5 @@ use Rattle.imap_node.proofs.input_effect.draft_effect.Goals as goal
 
 pub returns-in-Command : goal.returns-in-Command
 returns-in-Command c =
-    subst (λ (input : Input). IfOk c.draft_command_effect.result (λ course. IsInputEffect c.args.replica.now.start c.args.replica.now.applied (c.args.replica.now.applied ++ c.args.ops.now) c.args.session.now input (effect_from c.args.session.now.state course))) (sym c.in-Command.is)
+    subst (λ (input : Input). IfOk c.draft_command_effect.result (λ effect. IsInputEffect c.args.replica.now.start c.args.replica.now.applied (c.args.replica.now.applied ++ c.args.ops.now) c.args.session.now input (effect_from c.args.session.now.state effect))) (sym c.in-Command.is)
     c.draft_command_effect.ensures

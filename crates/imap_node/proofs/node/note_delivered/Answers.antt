@@ -4,7 +4,7 @@ use Rattle.std.specs.declared.alloc.AllocError.{AllocError}
 use Rattle.crdt_ops.specs.declared.op.Op.{Op}
 use Rattle.crdt_ops.specs.Tags.{name_of}
 use Rattle.imap_node.specs.ChangeNotes.{MailboxSnapshot, IsSnapshotOf}
-use Rattle.imap_node.proofs.GoingLemmas.{noted_as}
+use Rattle.imap_node.proofs.SessionChangeLemmas.{noted_as}
 use Rattle.imap_node.proofs.node.note_delivered.Goals as goal
 
 pub returns-in-Ok-change_notes_of_delivery : goal.returns-in-Ok-change_notes_of_delivery

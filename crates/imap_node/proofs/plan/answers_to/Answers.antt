@@ -3,13 +3,13 @@ use Rattle.imap_node.proofs.plan.answers_to.Goals as goal
 
 pub returns-clause-answered : goal.returns-clause-answered
 returns-clause-answered c =
-    let told = c.in_ok-answers.ensures {u = tt} in
+    let sent = c.in_ok-answers.ensures {u = tt} in
     record {
-      course = effect_from c.args.session.now.state c.in_ok-course.course;
-      taken = c.in_ok-course.ensures {u = tt};
-      answers = told.answers;
-      silent = told.silent;
-      becomes = λ i. record { state = told.onward i; condstore = c.condstore_after-condstore.ensures i; idling = c.in_ok-idling.ensures {u = tt} i };
+      effect = effect_from c.args.session.now.state c.in_ok-effect.effect;
+      taken = c.in_ok-effect.ensures {u = tt};
+      answers = sent.answers;
+      silent = sent.silent;
+      becomes = λ i. record { state = sent.state_change i; condstore = c.condstore_after-condstore.ensures i; idling = c.in_ok-idling.ensures {u = tt} i };
     }
 
 pub returns-clause-can : goal.returns-clause-can

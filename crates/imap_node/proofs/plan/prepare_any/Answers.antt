@@ -13,14 +13,14 @@ prepared_reply-requires-clause-noted c = λ view q.
     subst (λ (start : Counters). IsNotedFor start c.ready_next_ops.new.replica.applied c.args.feed.now.pending view) (sym c.ready_next_ops.ensures.start)
     (subst (λ (ops : List Op). IsNotedFor c.args.replica.now.start ops c.args.feed.now.pending view) (sym c.ready_next_ops.ensures.applied) (c.requires.noted view q))
 
-pub returns-clause-news : goal.returns-clause-news
-returns-clause-news c =
+pub returns-clause-changes : goal.returns-clause-changes
+returns-clause-changes c =
     let done = c.in_ok-prepared_reply.ensures {u = tt} in
     let prepared = c.in_ok-prepared_reply.field-0 in
     let replica = c.ready_next_ops.new.replica in
     subst (λ (start : Counters). AreChangeNotes start c.args.replica.now.applied (c.args.replica.now.applied ++ prepared.ops) prepared.change_notes) c.ready_next_ops.ensures.start
     (subst (λ (ops : List Op). AreChangeNotes replica.start ops (ops ++ prepared.ops) prepared.change_notes) c.ready_next_ops.ensures.applied
-    (subst (λ (ops : List Op). AreChangeNotes replica.start replica.applied (replica.applied ++ ops) prepared.change_notes) (sym done.ops) done.news))
+    (subst (λ (ops : List Op). AreChangeNotes replica.start replica.applied (replica.applied ++ ops) prepared.change_notes) (sym done.ops) done.changes))
 
 pub returns-clause-room : goal.returns-clause-room
 returns-clause-room c =

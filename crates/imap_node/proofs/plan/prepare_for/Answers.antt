@@ -1,6 +1,6 @@
 use Rattle.std.proofs.Common.{◌<◌, ◌-◌, ℕ, length, arith, sym, ap, ◌∙◌}
 use Rattle.imap_node.specs.Sessions.{Places, session_at}
-use Rattle.imap_node.proofs.GoingLemmas.{own_session}
+use Rattle.imap_node.proofs.SessionChangeLemmas.{own_session}
 use Rattle.imap_node.proofs.plan.prepare_for.Goals as goal
 
 pub returns-clause-can : goal.returns-clause-can

@@ -5,15 +5,15 @@ use Rattle.imap_node.specs.SessionChanges.{CanChangeSession}
 use Rattle.imap_node.specs.Plans.{IsPreparedReply}
 use Rattle.imap_node.proofs.plan.prepared_reply.Goals as goal
 
-pub answers_to-requires-clause-news : goal.answers_to-requires-clause-news
-answers_to-requires-clause-news c =
+pub answers_to-requires-clause-changes : goal.answers_to-requires-clause-changes
+answers_to-requires-clause-changes c =
     let start = c.args.replica.now.start in
     let before = c.args.replica.now.applied in
     subst (λ (ops : List Op). AreChangeNotes start before (before ++ ops) c.in_ok-change_notes.change_notes) (c.as_slice-2.ensures ∙ sym c.as_slice-3.ensures)
     (c.in_ok-change_notes.ensures {u = tt})
 
-pub returns-clause-news : goal.returns-clause-news
-returns-clause-news c =
+pub returns-clause-changes : goal.returns-clause-changes
+returns-clause-changes c =
     let start = c.args.replica.now.start in
     let before = c.args.replica.now.applied in
     subst (λ (ops : List Op). AreChangeNotes start before (before ++ ops) c.in_ok-change_notes.change_notes) (c.as_slice-2.ensures ∙ c.new-ops.ensures)
@@ -33,5 +33,5 @@ pub returns-clause-can : goal.returns-clause-can
 returns-clause-can c =
     let start = c.args.replica.now.start in
     let before = c.args.replica.now.applied in
-    subst (λ (ops : List Op). CanChangeSession start (before ++ ops) c.args.session.now.state c.in_ok-answered.answered.going.onward) (c.as_slice-3.ensures ∙ c.new-ops.ensures)
+    subst (λ (ops : List Op). CanChangeSession start (before ++ ops) c.args.session.now.state c.in_ok-answered.answered.update.state_change) (c.as_slice-3.ensures ∙ c.new-ops.ensures)
     (c.in_ok-answered.ensures {u = tt}).can

@@ -20,7 +20,7 @@ returns-then-is_empty-clause-ready c =
     record {
       follow = record {
         causal = next_applied old.start.replica old.applied c.requires.next.0 ops c.op_list-list.ensures.sound c.op_list-list.ensures.lawful.causal c.requires.sound c.requires.next.1;
-        lasts = λ x. no_cut x.0 x.1 x.2 (sym none ∙ x.3);
+        not_exhausted = λ x. no_cut x.0 x.1 x.2 (sym none ∙ x.3);
       };
       room = λ some. absurd (some none);
     }
@@ -32,7 +32,7 @@ returns-in-Ok-clause-ready c =
     let whole : IsApplied (old.applied ++ ops) = next_applied old.start.replica old.applied c.requires.next.0 ops c.op_list-list.ensures.sound c.op_list-list.ensures.lawful.causal c.requires.sound c.requires.next.1 in
     let follow : CanFollow old.start old.applied ops = record {
       causal = whole;
-      lasts = λ x. fine_or_not c.ready.result _ _ c.in-Ok.is ((c.ready.ensures.exhausted whole.causal).1 x);
+      not_exhausted = λ x. fine_or_not c.ready.result _ _ c.in-Ok.is ((c.ready.ensures.exhausted whole.causal).1 x);
     } in
     record {
       follow = subst (λ (s : Counters). CanFollow s c.ready.new.self.applied ops) (sym c.ready.ensures.start) (subst (λ (os : List Op). CanFollow old.start os ops) (sym c.ready.ensures.applied) follow);

@@ -1,7 +1,7 @@
 use Rattle.std.proofs.Common.{◌≡◌, ◌++◌, IfOk, List, ap, sym, subst}
 use Rattle.std.specs.Option.{option_map}
 use Rattle.imap_node.specs.SessionFeeds.{AreChangeNotes, IsNotedFor, UnsentChanges}
-use Rattle.imap_node.proofs.GoingLemmas.{asked_in_place}
+use Rattle.imap_node.proofs.SessionChangeLemmas.{asked_in_place}
 use Rattle.imap_node.proofs.sync_and_state.plan_sync_of_view.Goals as goal
 use Rattle.mailbox_rows.specs.ListedMessage.{ListedMessage}
 use Rattle.session_view.specs.Replay.{after_silent}
@@ -16,7 +16,7 @@ plan-requires c =
     let view = c.args.view.now in
     asked_in_place start before after view c.unsent.inside.feed.now.pending c.unsent.inside.change_notes.now c.in-Some.rows.now c.notes_of.result.now c.name.result.now
     (subst (λ (u : UnsentChanges). IsNotedFor start before u.pending view) (sym c.unsent.view_is) c.requires.noted)
-    (subst (λ (u : UnsentChanges). AreChangeNotes start before after u.change_notes) (sym c.unsent.view_is) c.requires.news)
+    (subst (λ (u : UnsentChanges). AreChangeNotes start before after u.change_notes) (sym c.unsent.view_is) c.requires.changes)
     (c.requires.made c.in-Some.rows.now (ap (option_map (λ rows. rows.now)) c.in-Some.is)) c.name.ensures c.notes_of.ensures
 
 pub returns-in-Some-clause-answers : goal.returns-in-Some-clause-answers
@@ -45,7 +45,7 @@ plan-planned-requires c =
     let view = c.args.view.now in
     asked_in_place start before after view c.unsent.inside.feed.now.pending c.unsent.inside.change_notes.now c.in-Ok.rows c.notes_of.result.now c.name.result.now
     (subst (λ (u : UnsentChanges). IsNotedFor start before u.pending view) (sym c.unsent.view_is) c.requires.noted)
-    (subst (λ (u : UnsentChanges). AreChangeNotes start before after u.change_notes) (sym c.unsent.view_is) c.requires.news)
+    (subst (λ (u : UnsentChanges). AreChangeNotes start before after u.change_notes) (sym c.unsent.view_is) c.requires.changes)
     (c.in-Ok.ensures {u = tt}) c.name.ensures c.notes_of.ensures
 
 pub returns-clause-answers : goal.returns-clause-answers

@@ -15,10 +15,10 @@ use Rattle.imap_node.proofs.sync_and_state.sync_rebuilt_state.Goals.{then-is_fir
 use Rattle.imap_node.proofs.sync_and_state.sync_rebuilt_state.Goals as goal
 
 -- if no mailbox is selected, nothing is sent and the state stays
-told_nothing : (start : Counters) (after : List Op) (state : State) (front : SyncInput) (answers : List Answer) → answers ≡ [] → ((view : ViewState) (read_only : Bool) → state ≡ Selected view read_only → ⊥)
+unselected_sync : (start : Counters) (after : List Op) (state : State) (front : SyncInput) (answers : List Answer) → answers ≡ [] → ((view : ViewState) (read_only : Bool) → state ≡ Selected view read_only → ⊥)
     → (answers ≡ (sync_result_after start after state front).answers) × (state ≡ (sync_result_after start after state front).state)
-told_nothing start after (Selected view read_only) front answers e n = absurd (n view read_only refl)
-told_nothing start after _ front answers e n = (e, refl)
+unselected_sync start after (Selected view read_only) front answers e n = absurd (n view read_only refl)
+unselected_sync start after _ front answers e n = (e, refl)
 
 pub returns-after-is_first-clause-shown : goal.returns-after-is_first-clause-shown
 returns-after-is_first-clause-shown c = λ shown.
@@ -49,7 +49,7 @@ returns-after-is_first-clause-state c =
     let after = c.args.replica.now.applied ++ c.args.ops.now in
     let front = c.args.front.now in
     let view = c.in-Selected.view in
-    ap (λ (seen : ViewState). Selected seen c.in-Selected.read_only) (c.in-Ok.ensures {u = tt}).view
+    ap (λ (synced_view : ViewState). Selected synced_view c.in-Selected.read_only) (c.in-Ok.ensures {u = tt}).view
     ∙ ap (λ (rows : List ListedMessage). Selected (record view { entries = entries_after_sync front.sync rows (view_after_reply rows view.entries front.silent front.own) }) c.in-Selected.read_only) (c.in_ok-rows-in-Selected.ensures {u = tt})
     ∙ ap (λ (state : State). (sync_result_after start after state front).state) (sym c.in-Selected.is)
 
@@ -57,5 +57,5 @@ pub returns-in_default : goal.returns-in_default
 returns-in_default c =
     let start = c.args.replica.now.start in
     let after = c.args.replica.now.applied ++ c.args.ops.now in
-    let told = told_nothing start after c.args.state c.args.front.now c.new.result.items c.new.ensures.items c.in_default.not-Selected in
-    record { answers = told.0; state = told.1; shown = λ shown. absurd (false≢true shown) }
+    let sent = unselected_sync start after c.args.state c.args.front.now c.new.result.items c.new.ensures.items c.in_default.not-Selected in
+    record { answers = sent.0; state = sent.1; shown = λ shown. absurd (false≢true shown) }

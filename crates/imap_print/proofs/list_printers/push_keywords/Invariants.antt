@@ -3,4 +3,4 @@ use Rattle.imap_print.specs.Appending.{Lists}
 use Rattle.imap_print.proofs.list_printers.push_keywords.Given as goal
 
 abbrev pub invariant-loop-keyword : goal.invariant-loop-keyword
-invariant-loop-keyword l = Lists l.fn.is_first (take l.keyword-index l.keywords) l.initial.out.items l.out.items l.still
+invariant-loop-keyword l = Lists l.fn.is_first (take l.keyword-index l.keywords) l.initial.out.items l.out.items l.none_yet

@@ -1,5 +1,5 @@
 use Rattle.std.proofs.Common.{◌≡◌, ◌++◌, drop}
-use Rattle.imap_query.specs.Fetching.{fetch_answers}
+use Rattle.imap_query.specs.FetchCommand.{fetch_answers}
 use Rattle.imap_query.proofs.heads.fetch_heads.Given as goal
 
 abbrev pub invariant-loop-shown : goal.invariant-loop-shown

@@ -2,7 +2,7 @@ use Rattle.std.proofs.Common.{◌≡◌, ◌++◌, drop, map}
 use Rattle.imap_types.specs.Numbers.{AreRisingFrom}
 use Rattle.imap_query.specs.Heads.{flag_key}
 use Rattle.imap_query.specs.Search.{hits_of_rows, hits_in, last_shown, number_or_uid}
-use Rattle.imap_query.specs.declared.searching.Hit.{Hit}
+use Rattle.imap_query.specs.declared.search_command.Hit.{Hit}
 use Rattle.imap_query.proofs.heads.flagged_hits.Given as goal
 
 abbrev pub invariant-loop-shown : goal.invariant-loop-shown

@@ -5,7 +5,7 @@ use Rattle.mail_audit.proofs.expected_lines.lines_of.Goals as goal
 
 pub returns : goal.returns
 returns c =
-    let applied = c.args.inbox.now.seen.applied in
+    let applied = c.args.inbox.now.received.applied in
     let list = c.op_list-list.ensures in
     let value = c.value-value.result.now in
     let made = made_both (contents_of value.first) (subscriptions_of value.second) applied c.value-value.ensures.meaning list.sound list.lawful.causal in

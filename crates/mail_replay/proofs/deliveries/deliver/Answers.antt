@@ -1,5 +1,5 @@
 use Rattle.std.proofs.Common.{Err, ap, inr}
-use Rattle.mail_replay.proofs.StageLemmas.{err_same, on_ok}
+use Rattle.mail_replay.proofs.ScriptStateLemmas.{err_same, on_ok}
 use Rattle.mail_replay.proofs.deliveries.deliver.Goals as goal
 
 pub returns-in-Ok-clause-ok : goal.returns-in-Ok-clause-ok

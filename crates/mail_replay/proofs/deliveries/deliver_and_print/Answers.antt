@@ -7,6 +7,6 @@ use Rattle.mail_replay.proofs.deliveries.deliver_and_print.Goals as goal
 
 pub returns-clause-ok : goal.returns-clause-ok
 returns-clause-ok c =
-    let told = c.in_ok-told.told in
-    let line = c.outcome_line_of-outcome.ensures ∙ ap (λ (i : OpId). outcome_line_of c.args.source i c.args.replica told) c.id-id.ensures in
-    (outcome_line c.outcome_line_of-outcome.result, (told, (c.in_ok-told.ensures {u = tt}).ok, ap (λ (l : OutcomeLine). outcome_line l) line), (c.in_ok-write_outcome.ensures {u = tt}).ok)
+    let status = c.in_ok-status.status in
+    let line = c.outcome_line_of-outcome.ensures ∙ ap (λ (i : OpId). outcome_line_of c.args.source i c.args.replica status) c.id-id.ensures in
+    (outcome_line c.outcome_line_of-outcome.result, (status, (c.in_ok-status.ensures {u = tt}).ok, ap (λ (l : OutcomeLine). outcome_line l) line), (c.in_ok-write_outcome.ensures {u = tt}).ok)

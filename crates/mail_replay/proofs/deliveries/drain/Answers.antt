@@ -1,5 +1,5 @@
 use Rattle.std.proofs.Common.{rules, refl}
-use Rattle.mail_replay.proofs.StageLemmas.{stands_at}
+use Rattle.mail_replay.proofs.ScriptStateLemmas.{slice_get_some}
 use Rattle.mail_replay.proofs.deliveries.drain.Goals as goal
 
 pub returns-clause-ok : goal.returns-clause-ok
@@ -11,7 +11,7 @@ returns-clause-ok c = (
     c.drain-drained.new.self,
     c.drain-drained.result.applied,
     c.drain-drained.result.stalled,
-    (search rules, stands_at _ _ _ _ c.deref.ensures.value c.in-Some.ensures.within c.index_mut.ensures.value),
+    (search rules, slice_get_some _ _ _ _ c.deref.ensures.value c.in-Some.ensures.within c.index_mut.ensures.value),
     c.drain-drained.ensures.released,
     c.drain-drained.ensures.stalled,
     refl,

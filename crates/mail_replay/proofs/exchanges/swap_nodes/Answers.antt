@@ -10,7 +10,7 @@ loop-place-preserved c =
     record {
       replicas = one_more_replica k c.args.replicas.now c.loop-place.replicas c.args.nodes.now c.loop-place.nodes c.index-replicas-place.result c.index-nodes-place.result i.replicas i.nodes c.requires c.loop-place-test.true c.swap_node.new.replica c.swap_node.ensures.replica;
       nodes = one_more_node k c.args.replicas.now c.loop-place.replicas c.args.nodes.now c.loop-place.nodes c.index-replicas-place.result c.index-nodes-place.result i.replicas i.nodes c.requires c.loop-place-test.true c.swap_node.new.node c.swap_node.ensures.node;
-      as_many = length-set c.loop-place.replicas k c.swap_node.new.replica ∙ i.as_many;
+      same_length = length-set c.loop-place.replicas k c.swap_node.new.replica ∙ i.same_length;
       same = length-set c.loop-place.nodes k c.swap_node.new.node ∙ i.same;
     }
 

@@ -6,6 +6,6 @@ abbrev pub invariant-loop-place : goal.invariant-loop-place
 invariant-loop-place l = record {
   replicas : l.replicas ≡ replicas_until l.place l.fn.replicas l.fn.nodes;
   nodes : l.nodes ≡ nodes_until l.place l.fn.replicas l.fn.nodes;
-  as_many : length l.replicas ≡ length l.fn.replicas;
+  same_length : length l.replicas ≡ length l.fn.replicas;
   same : length l.nodes ≡ length l.fn.nodes;
 }

@@ -1,4 +1,4 @@
-use Rattle.mail_replay.proofs.WholeLemmas.{stopped_at_first}
+use Rattle.mail_replay.proofs.ReplayLemmas.{stopped_at_first}
 use Rattle.mail_replay.proofs.replay_run.play.Goals as goal
 
 pub returns-in_default-clause-err : goal.returns-in_default-clause-err

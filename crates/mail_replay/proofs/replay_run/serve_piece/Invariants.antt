@@ -6,7 +6,7 @@ use Rattle.mail_replay.proofs.replay_run.serve_piece.Given as goal
 abbrev pub invariant-lines : goal.invariant-lines
 invariant-lines g l =
     let held = g.W.Write.contents in
-    Advances (held l.fn.writer) (script_contents_of l.fn.progress.stage) l.fn.progress.served (l.fn.progress.lines ++ l.piece) (held l.writer) (script_contents_of l.progress.stage) l.progress.served l.progress.lines
+    Advances (held l.fn.writer) (script_contents_of l.fn.progress.setup) l.fn.progress.served (l.fn.progress.lines ++ l.piece) (held l.writer) (script_contents_of l.progress.setup) l.progress.served l.progress.lines
 
 abbrev pub decreases-lines : goal.decreases-lines
 decreases-lines g l = length l.progress.lines

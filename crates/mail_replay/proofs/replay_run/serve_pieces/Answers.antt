@@ -2,7 +2,7 @@ use Rattle.std.proofs.Common.{rules, arith, ◌≡◌, ◌<◌, ℕ, [], length,
 use Rattle.std.proofs.lemmas.Result.{IfErr-weaker, on_ok_weaker}
 use Rattle.std.specs.Io.KnownBytes.{Consumes}
 use Rattle.mail_script.specs.Reading.{cut_at}
-use Rattle.mail_replay.proofs.WholeLemmas.{came_at_first, came_kept, came_on, came_to_bad, came_to_bad_last, came_to_end, came_to_failure, came_to_stop, came_to_stop_last, handed_on, replays_by}
+use Rattle.mail_replay.proofs.ReplayLemmas.{read_at_first, read_unchanged, read_on, read_to_bad, read_to_bad_last, read_to_end, read_to_failure, read_to_stop, read_to_stop_last, err_passed, replays_by}
 use Rattle.mail_replay.proofs.replay_run.serve_pieces.Goals as goal
 use Rattle.mail_replay.proofs.replay_run.serve_pieces.Goals.{in-Ok+in_ok-serve_piece-in-Ok, in-Err+else-ne}
 
@@ -13,7 +13,7 @@ loop-read-init g c =
       fits = omega (arith, none);
       piece = search rules;
       rest = ap (cut_at 10) c.new-2.ensures;
-      came = came_at_first _ _ _ c.new-2.result c.new.ensures c.new-2.ensures;
+      has_read = read_at_first _ _ _ c.new-2.result c.new.ensures c.new-2.ensures;
     }
 
 pub serve_last-requires-clause-room : goal.serve_last-requires-clause-room
@@ -31,7 +31,7 @@ returns-in-Ok-eq0-clause-ok g c =
     let a = c.read.auto.buf in
     let p = c.loop-read.invariant.piece in
     let room : 0 < length c.read.new.buf = omega (arith, a, p) in
-    on_ok_weaker c.serve_last.result (λ o script e. came_to_end _ _ _ _ _ _ _ c.loop-read.invariant.came _ taken (b.1 zero room) script e _ o.0 o.1 o.2 o.3) c.serve_last.ensures.ok
+    on_ok_weaker c.serve_last.result (λ o script e. read_to_end _ _ _ _ _ _ _ c.loop-read.invariant.has_read _ taken (b.1 zero room) script e _ o.0 o.1 o.2 o.3) c.serve_last.ensures.ok
 
 pub returns-in-Ok-eq0-clause-err : goal.returns-in-Ok-eq0-clause-err
 returns-in-Ok-eq0-clause-err g c =
@@ -45,8 +45,8 @@ returns-in-Ok-eq0-clause-err g c =
     let end = b.1 zero room in
     IfErr-weaker c.serve_last.result _ _
     (λ early h script e. replays_by script _ _ _ early
-    (λ number s. came_to_bad_last _ _ _ _ _ _ _ c.loop-read.invariant.came _ taken end script e _ number s.0 s.1 s.2 s.3)
-    (λ s. came_to_stop_last _ _ _ _ _ _ _ c.loop-read.invariant.came _ taken end script e _ s.0 s.1 s.2) h)
+    (λ number s. read_to_bad_last _ _ _ _ _ _ _ c.loop-read.invariant.has_read _ taken end script e _ number s.0 s.1 s.2 s.3)
+    (λ s. read_to_stop_last _ _ _ _ _ _ _ c.loop-read.invariant.has_read _ taken end script e _ s.0 s.1 s.2) h)
     c.serve_last.ensures.err
 
 pub serve_piece-requires : goal.serve_piece-requires
@@ -64,18 +64,18 @@ pub returns-in_err-serve_piece-in-Ok-clause-err : goal.returns-in_err-serve_piec
 returns-in_err-serve_piece-in-Ok-clause-err g c =
     let early = c.in_err-serve_piece-in-Ok.ensures.err in
     let taken = c.in-Ok.ensures.bytes.0 in
-    handed_on c.from_residual.result _ _ _ c.from_residual.ensures.1 (λ e same. same)
+    err_passed c.from_residual.result _ _ _ c.from_residual.ensures.1 (λ e same. same)
     (λ script e. replays_by script _ _ _ _
-    (λ number b. came_to_bad _ _ _ _ _ _ _ c.loop-read.invariant.came _ _ _ number taken b script e)
-    (λ s. came_to_stop _ _ _ _ _ _ _ c.loop-read.invariant.came _ _ _ taken s script e) early)
+    (λ number b. read_to_bad _ _ _ _ _ _ _ c.loop-read.invariant.has_read _ _ _ number taken b script e)
+    (λ s. read_to_stop _ _ _ _ _ _ _ c.loop-read.invariant.has_read _ _ _ taken s script e) early)
 
 pub returns-then-ne-clause-err : goal.returns-then-ne-clause-err
 returns-then-ne-clause-err g c =
-    let came = came_kept _ _ _ _ _ _ _ c.loop-read.invariant.came _ c.in-Err.ensures.bytes in
-    came_to_failure _ _ _ _ _ _ _ came c.loop-read.invariant.rest
+    let has_read = read_unchanged _ _ _ _ _ _ _ c.loop-read.invariant.has_read _ c.in-Err.ensures.bytes in
+    read_to_failure _ _ _ _ _ _ _ has_read c.loop-read.invariant.rest
 
 pub returns-clause-err : goal.returns-clause-err
-returns-clause-err g c = came_to_failure _ _ _ _ _ _ _ c.loop-read.invariant.came c.loop-read.invariant.rest
+returns-clause-err g c = read_to_failure _ _ _ _ _ _ _ c.loop-read.invariant.has_read c.loop-read.invariant.rest
 
 pub loop-read-preserved : goal.loop-read-preserved
 loop-read-preserved g c =
@@ -93,13 +93,13 @@ loop-read-preserved g c =
             fits = omega (arith, m, n, b0, b1, a, p, f);
             piece = a ∙ p;
             rest = w.in_ok-serve_piece-in-Ok.ensures.rest;
-            came = came_on _ _ _ _ _ _ _ c.loop-read.invariant.came _ _ _ _ _ _ w.in-Ok.ensures.bytes.0 o;
+            has_read = read_on _ _ _ _ _ _ _ c.loop-read.invariant.has_read _ _ _ _ _ _ w.in-Ok.ensures.bytes.0 o;
           })
       | in-Err+else-ne w ↦
           rw (w.writer-is, w.progress-is) (record {
             fits = omega (arith, f);
             piece = a ∙ p;
             rest = c.loop-read.invariant.rest;
-            came = came_kept _ _ _ _ _ _ _ c.loop-read.invariant.came _ w.in-Err.ensures.bytes;
+            has_read = read_unchanged _ _ _ _ _ _ _ c.loop-read.invariant.has_read _ w.in-Err.ensures.bytes;
           })
     ]

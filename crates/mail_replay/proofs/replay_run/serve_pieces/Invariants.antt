@@ -1,7 +1,7 @@
 use Rattle.std.proofs.Common.{◌≡◌, ◌≤◌, ◌+◌, ◌*◌, None, length}
 use Rattle.mail_script.specs.Reading.{cut_at}
 use Rattle.mail_replay.specs.ScriptState.{script_contents_of}
-use Rattle.mail_replay.proofs.WholeLemmas.{Came}
+use Rattle.mail_replay.proofs.ReplayLemmas.{HasRead}
 use Rattle.mail_replay.proofs.replay_run.serve_pieces.Given as goal
 
 abbrev pub invariant-loop-read : goal.invariant-loop-read
@@ -12,5 +12,5 @@ invariant-loop-read g l =
       fits : l.progress.served + length l.progress.lines ≤ 65536 * l._read;
       piece : length l.piece ≡ 65536;
       rest : cut_at 10 l.progress.lines ≡ None;
-      came : Came (left l.fn.reader) (held l.fn.writer) (left l.reader) (held l.writer) (script_contents_of l.progress.stage) l.progress.served l.progress.lines;
+      has_read : HasRead (left l.fn.reader) (held l.fn.writer) (left l.reader) (held l.writer) (script_contents_of l.progress.setup) l.progress.served l.progress.lines;
     }

@@ -1,6 +1,6 @@
 use Rattle.std.proofs.Common.{rules, ◌≢◌, length}
 use Rattle.std.proofs.lemmas.Result.{IfErr-weaker}
-use Rattle.mail_replay.proofs.WholeLemmas.{ends_by, none_served, one_in_part, one_line, one_served}
+use Rattle.mail_replay.proofs.ReplayLemmas.{ends_by, none_served, one_in_part, one_line, one_served}
 use Rattle.mail_replay.proofs.replay_run.serve_rest.Goals as goal
 
 pub returns-then-is_empty-clause-ok : goal.returns-then-is_empty-clause-ok

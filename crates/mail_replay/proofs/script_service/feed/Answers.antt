@@ -1,7 +1,7 @@
 use Rattle.std.proofs.Common.{rules, Err, List, ◌++◌, length, ap, refl, sym, ◌∙◌}
 use Rattle.std.proofs.Math.Seq.{take-length}
 use Rattle.mail_replay.proofs.PartLemmas.{whole_talk}
-use Rattle.mail_replay.proofs.StageLemmas.{stands_at}
+use Rattle.mail_replay.proofs.ScriptStateLemmas.{slice_get_some}
 use Rattle.mail_replay.specs.Lines.{Feedable}
 use Rattle.mail_replay.specs.Transcript.{transcript}
 use Rattle.mail_replay.specs.ScriptState.{script_contents_of}
@@ -10,16 +10,16 @@ use Rattle.mail_replay.proofs.script_service.feed.Goals as goal
 
 pub returns-in_err-session-clause-memory : goal.returns-in_err-session-clause-memory
 returns-in_err-session-clause-memory c =
-    let t : Feedable (script_contents_of c.args.stage.now) c.args.name.now = record {
+    let t : Feedable (script_contents_of c.args.setup.now) c.args.name.now = record {
       place = c.in-Some.place;
       session = c.index_mut-session.result.now;
       at = c.in-Some-replica_place.at;
       replica = c.index_mut-replica.result.now;
       connection = c.in-Some-take.connection;
-      session_stands = search rules;
-      session_is = stands_at _ _ _ _ c.deref.ensures.value c.in-Some.ensures.within c.index_mut-session.ensures.value;
-      replica_stands = search rules;
-      replica_is = stands_at _ _ _ _ c.deref-2.ensures.value c.in-Some-replica_place.ensures.within c.index_mut-replica.ensures.value;
+      session_place_is = search rules;
+      session_is = slice_get_some _ _ _ _ c.deref.ensures.value c.in-Some.ensures.within c.index_mut-session.ensures.value;
+      replica_place_is = search rules;
+      replica_is = slice_get_some _ _ _ _ c.deref-2.ensures.value c.in-Some-replica_place.ensures.within c.index_mut-replica.ensures.value;
       connection_is = search rules;
     } in
     λ e.
@@ -29,34 +29,34 @@ returns-in_err-session-clause-memory c =
 
 pub returns-in_err-add_after-clause-memory : goal.returns-in_err-add_after-clause-memory
 returns-in_err-add_after-clause-memory c =
-    let t : Feedable (script_contents_of c.args.stage.now) c.args.name.now = record {
+    let t : Feedable (script_contents_of c.args.setup.now) c.args.name.now = record {
       place = c.in-Some.place;
       session = c.index_mut-session.result.now;
       at = c.in-Some-replica_place.at;
       replica = c.index_mut-replica.result.now;
       connection = c.in-Some-take.connection;
-      session_stands = search rules;
-      session_is = stands_at _ _ _ _ c.deref.ensures.value c.in-Some.ensures.within c.index_mut-session.ensures.value;
-      replica_stands = search rules;
-      replica_is = stands_at _ _ _ _ c.deref-2.ensures.value c.in-Some-replica_place.ensures.within c.index_mut-replica.ensures.value;
+      session_place_is = search rules;
+      session_is = slice_get_some _ _ _ _ c.deref.ensures.value c.in-Some.ensures.within c.index_mut-session.ensures.value;
+      replica_place_is = search rules;
+      replica_is = slice_get_some _ _ _ _ c.deref-2.ensures.value c.in-Some-replica_place.ensures.within c.index_mut-replica.ensures.value;
       connection_is = search rules;
     } in
-    let told = c.in_ok-session.ensures.ok in
-    λ e. (_, (t, told.0, length told.0, whole_talk _ _ _ _ _ _ _ told.1, refl), told.2 ∙ ap (λ (ts : List Turn). c.args.printed.now.items ++ transcript c.args.name.now ts) (sym (take-length told.0)))
+    let served = c.in_ok-session.ensures.ok in
+    λ e. (_, (t, served.0, length served.0, whole_talk _ _ _ _ _ _ _ served.1, refl), served.2 ∙ ap (λ (ts : List Turn). c.args.printed.now.items ++ transcript c.args.name.now ts) (sym (take-length served.0)))
 
 pub returns-clause-ok : goal.returns-clause-ok
 returns-clause-ok c =
-    let t : Feedable (script_contents_of c.args.stage.now) c.args.name.now = record {
+    let t : Feedable (script_contents_of c.args.setup.now) c.args.name.now = record {
       place = c.in-Some.place;
       session = c.index_mut-session.result.now;
       at = c.in-Some-replica_place.at;
       replica = c.index_mut-replica.result.now;
       connection = c.in-Some-take.connection;
-      session_stands = search rules;
-      session_is = stands_at _ _ _ _ c.deref.ensures.value c.in-Some.ensures.within c.index_mut-session.ensures.value;
-      replica_stands = search rules;
-      replica_is = stands_at _ _ _ _ c.deref-2.ensures.value c.in-Some-replica_place.ensures.within c.index_mut-replica.ensures.value;
+      session_place_is = search rules;
+      session_is = slice_get_some _ _ _ _ c.deref.ensures.value c.in-Some.ensures.within c.index_mut-session.ensures.value;
+      replica_place_is = search rules;
+      replica_is = slice_get_some _ _ _ _ c.deref-2.ensures.value c.in-Some-replica_place.ensures.within c.index_mut-replica.ensures.value;
       connection_is = search rules;
     } in
-    let told = c.in_ok-session.ensures.ok in
-    (transcript c.args.name.now told.0, (t, told.0, c.converse.new.node, c.in_ok-session.field-0, told.1, refl, search rules), told.2)
+    let served = c.in_ok-session.ensures.ok in
+    (transcript c.args.name.now served.0, (t, served.0, c.converse.new.node, c.in_ok-session.field-0, served.1, refl, search rules), served.2)

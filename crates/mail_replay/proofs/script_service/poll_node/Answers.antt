@@ -6,8 +6,8 @@ use Rattle.mail_replay.proofs.script_service.poll_node.Goals as goal
 
 pub returns-in_err-write_turns-in-Err-clause-memory : goal.returns-in_err-write_turns-in-Err-clause-memory
 returns-in_err-write_turns-in-Err-clause-memory c =
-    let told = c.in_err-write_turns-in-Err.ensures.err in
-    λ e. (c.in-Err.broken.turns.items, told.0, inr (c.poll_turns.new.node.state, (c.in-Err.ensures {u = tt}).err.1), told.1 ∙ ap (λ (ts : List Turn). c.args.printed.now.items ++ transcript c.args.name.now (take told.0 ts)) c.deref-in-Err.ensures.value)
+    let served = c.in_err-write_turns-in-Err.ensures.err in
+    λ e. (c.in-Err.broken.turns.items, served.0, inr (c.poll_turns.new.node.state, (c.in-Err.ensures {u = tt}).err.1), served.1 ∙ ap (λ (ts : List Turn). c.args.printed.now.items ++ transcript c.args.name.now (take served.0 ts)) c.deref-in-Err.ensures.value)
 
 pub returns-in_ok-write_turns-in-Err-clause-memory : goal.returns-in_ok-write_turns-in-Err-clause-memory
 returns-in_ok-write_turns-in-Err-clause-memory c =

@@ -1,6 +1,6 @@
 use Rattle.std.proofs.Common.{◌≡◌, inl, inr, [], ◌++◌, ◌∙◌, append-nil, refl, sym}
-use Rattle.mail_replay.proofs.PartLemmas.{nothing_more}
-use Rattle.mail_replay.proofs.StageLemmas.{on_ok}
+use Rattle.mail_replay.proofs.PartLemmas.{nothing_printed}
+use Rattle.mail_replay.proofs.ScriptStateLemmas.{on_ok}
 use Rattle.mail_replay.specs.Lines.{crlf}
 use Rattle.mail_replay.proofs.script_service.serve.Goals as goal
 
@@ -64,25 +64,25 @@ pub returns-in-Close-clause-memory : goal.returns-in-Close-clause-memory
 returns-in-Close-clause-memory c = λ e. ([], inl refl, sym (append-nil _))
 
 pub returns-in-Show-clause-memory : goal.returns-in-Show-clause-memory
-returns-in-Show-clause-memory c = λ e. nothing_more _ _ _ _ _ (inl refl) c.show.ensures.err e
+returns-in-Show-clause-memory c = λ e. nothing_printed _ _ _ _ _ (inl refl) c.show.ensures.err e
 
 pub returns-in-Deliver-clause-memory : goal.returns-in-Deliver-clause-memory
-returns-in-Deliver-clause-memory c = λ e. nothing_more _ _ _ _ _ (inl refl) c.deliver.ensures.err e
+returns-in-Deliver-clause-memory c = λ e. nothing_printed _ _ _ _ _ (inl refl) c.deliver.ensures.err e
 
 pub returns-in-Forge-clause-memory : goal.returns-in-Forge-clause-memory
-returns-in-Forge-clause-memory c = λ e. nothing_more _ _ _ _ _ (inl refl) c.forge.ensures.err e
+returns-in-Forge-clause-memory c = λ e. nothing_printed _ _ _ _ _ (inl refl) c.forge.ensures.err e
 
 pub returns-in-Drain-clause-memory : goal.returns-in-Drain-clause-memory
-returns-in-Drain-clause-memory c = λ e. nothing_more _ _ _ _ _ (inl refl) c.drain.ensures.err e
+returns-in-Drain-clause-memory c = λ e. nothing_printed _ _ _ _ _ (inl refl) c.drain.ensures.err e
 
 pub returns-in-Agree-clause-ok : goal.returns-in-Agree-clause-ok
 returns-in-Agree-clause-ok c = rw c.in-Agree.is (on_ok c.compare.result (λ h. (h.0, (h.1, refl), h.2)) c.compare.ensures.ok)
 
 pub returns-in-Agree-clause-memory : goal.returns-in-Agree-clause-memory
-returns-in-Agree-clause-memory c = λ e. nothing_more _ _ _ _ _ (inl refl) c.compare.ensures.err e
+returns-in-Agree-clause-memory c = λ e. nothing_printed _ _ _ _ _ (inl refl) c.compare.ensures.err e
 
 pub returns-in-Join-clause-ok : goal.returns-in-Join-clause-ok
 returns-in-Join-clause-ok c = rw c.in-Join.is c.join.ensures.ok
 
 pub returns-in-Join-clause-memory : goal.returns-in-Join-clause-memory
-returns-in-Join-clause-memory c = λ e. nothing_more _ _ _ _ _ (inl refl) c.join.ensures.err e
+returns-in-Join-clause-memory c = λ e. nothing_printed _ _ _ _ _ (inl refl) c.join.ensures.err e

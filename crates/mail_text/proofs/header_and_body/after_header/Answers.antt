@@ -1,5 +1,5 @@
 use Rattle.std.proofs.Common.{◌∙◌, sym, arith}
-use Rattle.mail_text.proofs.PartLemmas.{ends, goes}
+use Rattle.mail_text.proofs.PartLemmas.{ends, within_tail}
 use Rattle.mail_text.proofs.header_and_body.after_header.Goals as goal
 
 pub returns-then-is_empty_line-clause-cut : goal.returns-then-is_empty_line-clause-cut
@@ -12,6 +12,6 @@ loop-preserved c =
     let i = c.loop.invariant.0 in
     let s = c.first_line.ensures.shorter in (
       omega arith,
-      goes c.args.text.now c.loop.rest.now c.first_line.result.0.now c.first_line.result.1.now c.loop.invariant.1 c.first_line.ensures.lines c.first_line.ensures.parts
+      within_tail c.args.text.now c.loop.rest.now c.first_line.result.0.now c.first_line.result.1.now c.loop.invariant.1 c.first_line.ensures.lines c.first_line.ensures.parts
           (sym c.is_empty_line.ensures ∙ c.if-is_empty_line.false),
     )

@@ -1,10 +1,10 @@
 use Rattle.std.proofs.Common.{◌≡◌, ◌+◌, ◌≤◌, ◌++◌, length}
 use Rattle.mail_text.specs.HeaderFields.{is_asked_field, fields_of}
-use Rattle.mail_text.specs.KeptLines.{kept_lines}
+use Rattle.mail_text.specs.SelectedLines.{selected_lines}
 use Rattle.mail_text.specs.TextLines.{lines_of}
 use Rattle.mail_text.proofs.header_fields.select_fields.Given as goal
 
 abbrev pub invariant-loop : goal.invariant-loop
 invariant-loop l =
     (l.counter + length l.rest ≤ length l.text)
-    × (l.found.items ++ kept_lines (is_asked_field l.named l.names) l.keep (lines_of l.rest) ≡ fields_of l.named l.names l.text)
+    × (l.output.items ++ selected_lines (is_asked_field l.named l.names) l.selected (lines_of l.rest) ≡ fields_of l.named l.names l.text)

@@ -2,7 +2,7 @@ use Rattle.std.proofs.Common.{List, arith, rules, sym, subst}
 use Rattle.std.proofs.lemmas.List.Sorted.{IsNonDecreasingBy-from_sort_by_key}
 use Rattle.mailbox_rows.specs.declared.modseq_log.ModSeqChange.{ModSeqChange}
 use Rattle.mailbox_rows.specs.ModSeqLog.{AreLogged}
-use Rattle.mailbox_rows.proofs.Changing.{in_order_from, noted_all, noted_permuted}
+use Rattle.mailbox_rows.proofs.ChangedEntryLemmas.{in_order_from, noted_all, noted_permuted}
 use Rattle.mailbox_rows.proofs.modseq_log.rebuilt_log.Goals as goal
 
 pub invariant_of-result : goal.invariant_of-result

@@ -1,7 +1,7 @@
 use Rattle.std.proofs.Common.{◌≡◌, ◌∙◌, ◌<◌, ◌≤◌, length, get_or, refl, sym, subst, arith}
 use Rattle.std.proofs.lemmas.List.{get_or_default}
 use Rattle.mailbox_rows.specs.declared.pieces.Piece.{Piece}
-use Rattle.mailbox_rows.proofs.Splitting.{piece_is}
+use Rattle.mailbox_rows.proofs.SplitLemmas.{piece_is}
 use Rattle.mailbox_rows.proofs.pieces.cut_after.Goals as goal
 
 pub returns-then-index-le1-clause-one : goal.returns-then-index-le1-clause-one

@@ -1,6 +1,6 @@
 use Rattle.std.proofs.Common.{◌≡◌, ◌∙◌, sym, subst}
 use Rattle.mailbox_rows.specs.Pieces.{ArePieces}
-use Rattle.mailbox_rows.proofs.Editing.{pushed_pieces}
+use Rattle.mailbox_rows.proofs.EditLemmas.{pushed_pieces}
 use Rattle.mailbox_rows.proofs.pieces.push_piece.Goals as goal
 
 pub returns-clause-pieces : goal.returns-clause-pieces

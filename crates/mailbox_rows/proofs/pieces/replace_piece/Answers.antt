@@ -1,5 +1,5 @@
 use Rattle.std.proofs.Common.{◌≡◌, ◌∙◌, ap, sym, subst, arith, get_or}
-use Rattle.mailbox_rows.proofs.Editing.{set_items, set_pieces}
+use Rattle.mailbox_rows.proofs.EditLemmas.{set_items, set_pieces}
 use Rattle.mailbox_rows.proofs.pieces.replace_piece.Goals as goal
 
 pub returns-clause-items : goal.returns-clause-items

@@ -4,8 +4,8 @@ use Rattle.std.specs.List.{insert}
 use Rattle.std.proofs.Math.Numerals.{add-one}
 use Rattle.mailbox_rows.specs.declared.pieces.Piece.{Piece}
 use Rattle.mailbox_rows.specs.Pieces.{ArePieces, IsPiece, items_of, piece_items}
-use Rattle.mailbox_rows.proofs.Splitting.{piece_end, piece_is}
-use Rattle.mailbox_rows.proofs.Editing.{first_of_two, second_of_two, two_for_one, two_items, two_pieces}
+use Rattle.mailbox_rows.proofs.SplitLemmas.{piece_end, piece_is}
+use Rattle.mailbox_rows.proofs.EditLemmas.{first_of_two, second_of_two, two_for_one, two_items, two_pieces}
 use Rattle.mailbox_rows.proofs.pieces.split_piece.Goals as goal
 
 pub piece_after-back-requires-clause-piece : goal.piece_after-back-requires-clause-piece
@@ -41,8 +41,8 @@ returns-clause-pieces g c =
     let more : c.args.count < p.len = subst (λ (q : Piece _). c.args.count < q.len) (sym c.index-piece.ensures) (c.requires.more p) in
     let whole = subst (IsPiece b _) (sym c.index-piece.ensures) (piece_is b ps c.args.at p inside c.requires.pieces) in
     let both = ap (λ zs. length zs) c.piece_after-back.ensures.items in
-    let many : length (piece_items b x) ≡ c.args.count = omega (arith, both, length-append (piece_items b x) (piece_items b y), whole.many, c.piece_after-back.ensures.many, c.piece_after-back.ensures.len) in
-    subst (ArePieces b 0) (sym now) (two_pieces b ps c.args.at p x y c.requires.pieces inside c.index-piece.ensures c.piece_after-back.ensures.items refl c.requires.some many c.piece_after-back.ensures.start (omega (arith, more, c.piece_after-back.ensures.len)) c.piece_after-back.ensures.many)
+    let item_count : length (piece_items b x) ≡ c.args.count = omega (arith, both, length-append (piece_items b x) (piece_items b y), whole.item_count, c.piece_after-back.ensures.item_count, c.piece_after-back.ensures.len) in
+    subst (ArePieces b 0) (sym now) (two_pieces b ps c.args.at p x y c.requires.pieces inside c.index-piece.ensures c.piece_after-back.ensures.items refl c.requires.some item_count c.piece_after-back.ensures.start (omega (arith, more, c.piece_after-back.ensures.len)) c.piece_after-back.ensures.item_count)
 
 pub returns-clause-front : goal.returns-clause-front
 returns-clause-front g c =

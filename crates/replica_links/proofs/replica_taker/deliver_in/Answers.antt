@@ -6,4 +6,4 @@ use Rattle.replica_lock.specs.declared.outcome.Outcome.{Outcome}
 
 pub returns-in-Ok : goal.returns-in-Ok
 returns-in-Ok g c =
-    taken_by c.args.pass.now c.args.op c.took_of_last.result c.deliver.new.pass (option_map (λ (o : Bor Outcome). o.now) c.last.result) c.in-Ok.ensures.called c.last.ensures c.took_of_last.ensures
+    taken_by c.args.pass.now c.args.op c.intake_of_last.result c.deliver.new.pass (option_map (λ (o : Bor Outcome). o.now) c.last.result) c.in-Ok.ensures.called c.last.ensures c.intake_of_last.ensures

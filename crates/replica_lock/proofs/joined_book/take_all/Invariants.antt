@@ -1,6 +1,6 @@
 use Rattle.std.proofs.Common.{take}
-use Rattle.replica_lock.proofs.JoinLemmas.{StandsAt}
+use Rattle.replica_lock.proofs.JoinLemmas.{IsJoinedBook}
 use Rattle.replica_lock.proofs.joined_book.take_all.Given as goal
 
 abbrev pub invariant-loop-op : goal.invariant-loop-op
-invariant-loop-op l = StandsAt l.initial.book.node.start.replica (take l.op-index l.ops) l.book
+invariant-loop-op l = IsJoinedBook l.initial.book.node.start.replica (take l.op-index l.ops) l.book

@@ -4,8 +4,8 @@ use Rattle.server_runtime.proofs.CallLemmas.{command_by, stays_open}
 use Rattle.server_runtime.proofs.session_port.give_command.Goals as goal
 use Rattle.replica_lock.specs.declared.outcome.Outcome.{Outcome}
 
-pub returns-in-Ok-clause-told : goal.returns-in-Ok-clause-told
-returns-in-Ok-clause-told g c = (
+pub returns-in-Ok-clause-response : goal.returns-in-Ok-clause-response
+returns-in-Ok-clause-response g c = (
   command_by c.args.tagged c.args.moment c.reply_of_outcome.result c.args.pass.now c.command.new.pass (option_map (λ (o : Bor Outcome). o.now) c.last.result) c.in-Ok.ensures.called c.last.ensures c.reply_of_outcome.ensures,
   inr (c.args.moment, c.in-Ok.ensures.called),
 )

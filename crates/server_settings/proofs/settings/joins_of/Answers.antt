@@ -1,7 +1,7 @@
 use Rattle.std.proofs.Common.{◌≡◌, ◌∙◌, ◌∷◌, ◌++◌, [], true, ℕ, List, ap, append_assoc, sym, subst}
-use Rattle.server_settings.specs.Settings.{HavePeers, is_named, newcomers_of}
+use Rattle.server_settings.specs.Settings.{HavePeers, is_named, join_names_of}
 use Rattle.server_settings.specs.declared.settings.Join.{Join}
-use Rattle.server_settings.proofs.NameLemmas.{newcomers_more, peers_more}
+use Rattle.server_settings.proofs.NameLemmas.{join_names_append, peers_more}
 use Rattle.server_settings.proofs.settings.joins_of.Goals as goal
 
 pub loop-text-preserved : goal.loop-text-preserved
@@ -11,10 +11,10 @@ loop-text-preserved c =
     let more = c.in-Ok.ensures.more in
     let join = more.0 in
     let name = join.place.replica in
-    let named : is_named join.peer (first ++ newcomers_of joins) ≡ true = subst (λ (xs : List ℕ). is_named join.peer xs ≡ true) c.loop-text.invariant.same more.2 in
+    let named : is_named join.peer (first ++ join_names_of joins) ≡ true = subst (λ (xs : List ℕ). is_named join.peer xs ≡ true) c.loop-text.invariant.same more.2 in
     record {
       names = c.in-Ok.ensures.names;
-      same = more.1 ∙ ap (λ (xs : List ℕ). xs ++ name ∷ []) c.loop-text.invariant.same ∙ append_assoc first (newcomers_of joins) (name ∷ [])
-          ∙ ap (λ (xs : List ℕ). first ++ xs) (sym (newcomers_more joins join)) ∙ ap (λ (js : List Join). first ++ newcomers_of js) (sym more.3);
+      same = more.1 ∙ ap (λ (xs : List ℕ). xs ++ name ∷ []) c.loop-text.invariant.same ∙ append_assoc first (join_names_of joins) (name ∷ [])
+          ∙ ap (λ (xs : List ℕ). first ++ xs) (sym (join_names_append joins join)) ∙ ap (λ (js : List Join). first ++ join_names_of js) (sym more.3);
       peers = subst (HavePeers first) (sym more.3) (peers_more first joins join c.loop-text.invariant.peers named);
     }

@@ -5,7 +5,7 @@ use Rattle.std.proofs.lemmas.Iterator.Adapters.{YieldsList-from_bytes}
 use Rattle.std.proofs.lemmas.Iterator.Search.{all_from_yields_List}
 use Rattle.std.proofs.lemmas.Str.Pattern.{starts_char}
 use Rattle.std.specs.Char.{is_ascii_digit}
-use Rattle.server_settings.proofs.TextLemmas.{name_again, name_digits, name_read, name_start}
+use Rattle.server_settings.proofs.TextLemmas.{parsed_name, name_digits, name_read, name_start}
 use Rattle.server_settings.proofs.settings.name_of.Goals.{then-not-all-via-then-not-all, then-not-all-via-else-not-all+then-starts_with}
 use Rattle.server_settings.proofs.settings.name_of.Goals as goal
 
@@ -23,7 +23,7 @@ returns-then-not-all-clause-none c = λ name is.
 
 pub returns-in-Ok-eq0-clause-none : goal.returns-in-Ok-eq0-clause-none
 returns-in-Ok-eq0-clause-none c = λ name is.
-    let r = name_again c.args.digits.now name is c.parse.result c.parse.ensures.value.0 in
+    let r = parsed_name c.args.digits.now name is c.parse.result c.parse.ensures.value.0 in
     let z = c.in-Ok-eq0.field-0-test in
     let o = c.in-Ok-eq0.is in
     let p = is.0 in
@@ -39,6 +39,6 @@ returns-in-Ok-clause-some c =
 
 pub returns-in-Err-clause-none : goal.returns-in-Err-clause-none
 returns-in-Err-clause-none c = λ name is.
-    let r = name_again c.args.digits.now name is c.parse.result c.parse.ensures.value.0 in
+    let r = parsed_name c.args.digits.now name is c.parse.result c.parse.ensures.value.0 in
     let o = c.in-Err.is in
     absurd cc

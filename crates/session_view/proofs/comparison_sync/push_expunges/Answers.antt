@@ -1,6 +1,6 @@
 use Rattle.std.proofs.Common.{◌≡◌, ℕ, ◌+◌, ◌-◌, ◌++◌, drop, subst, arith}
 use Rattle.session_view.specs.Sync.{expunges}
-use Rattle.session_view.proofs.TellLemmas.{expunges_more}
+use Rattle.session_view.proofs.WalkLemmas.{expunges_more}
 use Rattle.session_view.proofs.comparison_sync.push_expunges.Goals as goal
 
 pub loop-i-preserved : goal.loop-i-preserved

@@ -1,7 +1,7 @@
 use Rattle.std.proofs.Common.{List, ℕ, sym, subst, ◌∙◌, arith}
 use Rattle.session_view.specs.NoteChanges.{AreAscending}
 use Rattle.session_view.specs.Notes.{Covers}
-use Rattle.session_view.proofs.ChangeLemmas.{covers_all, covers_told, if_ok, rising_ascending}
+use Rattle.session_view.proofs.ChangeLemmas.{covers_all, covers_noted, if_ok, rising_ascending}
 use Rattle.session_view.proofs.notes.noted_uids.Goals as goal
 
 pub returns-then-has_ended-clause-ascending : goal.returns-then-has_ended-clause-ascending
@@ -15,5 +15,5 @@ returns-then-has_ended-clause-covers c =
 pub returns-clause-covers : goal.returns-clause-covers
 returns-clause-covers c =
     if_ok c.ascending_uids.result
-    (λ uids same rows names. covers_told c.args.notes.now uids.items rows c.args.view.now.items c.requires (sym c.has_ended.ensures ∙ c.if-has_ended.false) same names)
+    (λ uids same rows names. covers_noted c.args.notes.now uids.items rows c.args.view.now.items c.requires (sym c.has_ended.ensures ∙ c.if-has_ended.false) same names)
     c.ascending_uids.ensures.same

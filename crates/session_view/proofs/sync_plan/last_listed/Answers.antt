@@ -1,7 +1,7 @@
 use Rattle.std.proofs.Common.{◌≡◌, ℕ, ◌+◌, ◌-◌, [], drop, arith, sym, ap, subst, is_some}
 use Rattle.std.specs.List.{filter}
 use Rattle.session_view.specs.Sync.{is_listed}
-use Rattle.session_view.proofs.TellLemmas.{last_by_uid, none_by_uid}
+use Rattle.session_view.proofs.WalkLemmas.{last_by_uid, none_by_uid}
 use Rattle.session_view.proofs.sync_plan.last_listed.Goals as goal
 
 pub returns-in-Some : goal.returns-in-Some

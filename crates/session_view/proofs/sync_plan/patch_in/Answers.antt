@@ -1,6 +1,6 @@
 use Rattle.std.proofs.Common.{◌≤◌, List, inl, inr, length, sym, subst, arith}
 use Rattle.session_view.specs.declared.view_entry.ViewEntry.{ViewEntry}
-use Rattle.session_view.proofs.TellLemmas.{gone_shorter}
+use Rattle.session_view.proofs.WalkLemmas.{gone_shorter}
 use Rattle.session_view.proofs.sync_plan.patch_in.Goals as goal
 
 pub append_in_room-requires : goal.append_in_room-requires

@@ -5,5 +5,5 @@ use Rattle.subs_state.proofs.subs_table.place_ids.Given as goal
 
 abbrev pub invariant-loop-id : goal.invariant-loop-id
 invariant-loop-id l =
-    fold (λ done id. insert_ordered id_order id done) l.ids (drop l.id-index l.found)
-    ≡ fold (λ done id. insert_ordered id_order id done) l.fn.ids l.found
+    fold (λ done id. insert_ordered id_order id done) l.ids (drop l.id-index l.listed)
+    ≡ fold (λ done id. insert_ordered id_order id done) l.fn.ids l.listed

@@ -1,4 +1,4 @@
-use Rattle.uid_projection.proofs.Coming.{has_as}
+use Rattle.uid_projection.proofs.ExhaustionLemmas.{has_as}
 use Rattle.uid_projection.proofs.chart.has_version.Goals as goal
 
 pub returns : goal.returns

@@ -4,7 +4,7 @@ use Rattle.tags_clocks.specs.declared.id.OpId.{OpId}
 use Rattle.uid_projection.specs.UidsAndModSeqs.{has_version}
 use Rattle.uid_projection.specs.EntryMoves.{AreApart, loses, moved_entries}
 use Rattle.uid_projection.specs.ChartTable.{origin_at}
-use Rattle.uid_projection.proofs.Advancing.{apart_moved, lost_more, moved_still}
+use Rattle.uid_projection.proofs.MovedEntryLemmas.{apart_moved, lost_more, moved_still}
 use Rattle.uid_projection.proofs.chart.lose.Goals as goal
 
 pub loop-id-init : goal.loop-id-init

@@ -3,7 +3,7 @@ use Rattle.tags_clocks.specs.declared.id.OpId.{OpId}
 use Rattle.crdt_ops.specs.SortedSets.{is_some_id}
 use Rattle.uid_projection.specs.UidsAndModSeqs.{has_version}
 use Rattle.uid_projection.specs.EntryMoves.{moved_entries}
-use Rattle.uid_projection.proofs.Advancing.{moved_by_one, moved_still}
+use Rattle.uid_projection.proofs.MovedEntryLemmas.{moved_by_one, moved_still}
 use Rattle.uid_projection.proofs.chart.lose_one.Goals as goal
 
 pub returns-in-Some-clause-entries : goal.returns-in-Some-clause-entries

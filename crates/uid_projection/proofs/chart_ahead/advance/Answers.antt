@@ -3,7 +3,7 @@ use Rattle.std.proofs.Common.{◌∙◌, ◌++◌, ◌∷◌, [], sym}
 use Rattle.crdt_ops.specs.SortedSets.{same_id}
 use Rattle.folder_state.specs.Contents.{effect_of, origin_in}
 use Rattle.uid_projection.specs.FolderAhead.{folder_of}
-use Rattle.uid_projection.proofs.Overlaid.{ahead_none, ahead_some, made_after, on_both, versions_in_list}
+use Rattle.uid_projection.proofs.AheadLemmas.{ahead_none, ahead_some, made_after, on_both, versions_in_list}
 use Rattle.uid_projection.proofs.chart_ahead.advance.Goals as goal
 
 pub returns-in-Some : goal.returns-in-Some

@@ -6,8 +6,8 @@ use Rattle.uid_projection.specs.FolderAhead.{IsAhead}
 use Rattle.uid_projection.specs.NextOps.{IsNextAhead}
 use Rattle.uid_projection.specs.Applied.{IsApplied}
 use Rattle.uid_projection.specs.Chart.{IsChart}
-use Rattle.uid_projection.proofs.Coming.{applied_take, take_op}
-use Rattle.uid_projection.proofs.Overlaid.{fold_append, made_after}
+use Rattle.uid_projection.proofs.ExhaustionLemmas.{applied_take, take_op}
+use Rattle.uid_projection.proofs.AheadLemmas.{fold_append, made_after}
 use Rattle.uid_projection.proofs.chart_ahead.advance_over.Goals as goal
 
 pub loop-op-init : goal.loop-op-init

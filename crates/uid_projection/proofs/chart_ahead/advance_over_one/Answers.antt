@@ -11,14 +11,14 @@ use Rattle.uid_projection.specs.Incarnations.{folder_exists}
 use Rattle.uid_projection.specs.UidsAndModSeqs.{kind_names_folder}
 use Rattle.uid_projection.specs.EntryMoves.{loses}
 use Rattle.uid_projection.proofs.ChartSteps.{chart_none}
-use Rattle.uid_projection.proofs.Overlaid.{made_after, on_ok, there_told}
-use Rattle.uid_projection.proofs.Tables.{chart_as, chart_beside}
+use Rattle.uid_projection.proofs.AheadLemmas.{made_after, on_ok, folder_exists_is}
+use Rattle.uid_projection.proofs.Tables.{chart_as, chart_of_other}
 use Rattle.uid_projection.proofs.chart_ahead.advance_over_one.Goals as goal
 
-pub returns-then-not-is_about-clause-shows : goal.returns-then-not-is_about-clause-shows
-returns-then-not-is_about-clause-shows c = on_ok c.step.result (λ q list k r s.
+pub returns-then-not-names_folder-clause-shows : goal.returns-then-not-names_folder-clause-shows
+returns-then-not-names_folder-clause-shows c = on_ok c.step.result (λ q list k r s.
     let x = c.args.chart.now in
-    chart_beside c.args.charts.now.start c.args.folder.now list c.args.op.now r.applied (subst (λ (p : Op). kind_names_folder c.args.folder.now p.kind ≡ false) c.op.ensures.op (sym c.is_about.ensures ∙ c.if-not-is_about.true)) x.uidnext x.highest x.entries.entries s) c.step.ensures.ahead
+    chart_of_other c.args.charts.now.start c.args.folder.now list c.args.op.now r.applied (subst (λ (p : Op). kind_names_folder c.args.folder.now p.kind ≡ false) c.op.ensures.op (sym c.names_folder.ensures ∙ c.if-not-names_folder.true)) x.uidnext x.highest x.entries.entries s) c.step.ensures.ahead
 
 pub returns-then-not-exists-clause-shows : goal.returns-then-not-exists-clause-shows
 returns-then-not-exists-clause-shows c = λ list k r s.
@@ -28,9 +28,9 @@ returns-then-not-exists-clause-shows c = λ list k r s.
     let mid = c.step-2.new.self in
     let own : (folder_of mid) ≡ n = c.step-2.ensures.folder ∙ r.own in
     let w = c.in_ok-chart.ensures in
-    let there = there_told (effect_of k o) (list ++ o ∷ []) (folder_of mid) c.exists.result (made_after k list (o ∷ []) r.made r.applied) (c.exists.ensures (effect_of k o) (c.in_ok-step.ensures.ahead k r.is_ahead)) in
-    let gone : folder_exists n (list ++ o ∷ []) ≡ false = sym (there ∙ ap (λ m. folder_exists m (list ++ o ∷ [])) own) ∙ c.if-not-exists.true in
-    chart_as start n (list ++ o ∷ []) _ _ _ _ _ _ (w.0 ∙ c.first_of.ensures) w.1 (w.2 ∙ r.none) (chart_none start n (list ++ o ∷ []) gone)
+    let present = folder_exists_is (effect_of k o) (list ++ o ∷ []) (folder_of mid) c.exists.result (made_after k list (o ∷ []) r.made r.applied) (c.exists.ensures (effect_of k o) (c.in_ok-step.ensures.ahead k r.is_ahead)) in
+    let absent : folder_exists n (list ++ o ∷ []) ≡ false = sym (present ∙ ap (λ m. folder_exists m (list ++ o ∷ [])) own) ∙ c.if-not-exists.true in
+    chart_as start n (list ++ o ∷ []) _ _ _ _ _ _ (w.0 ∙ c.first_of.ensures) w.1 (w.2 ∙ r.none) (chart_none start n (list ++ o ∷ []) absent)
 
 pub returns-clause-shows : goal.returns-clause-shows
 returns-clause-shows c = on_ok c.advance.result (λ h list k r s.
@@ -44,7 +44,7 @@ returns-clause-shows c = on_ok c.advance.result (λ h list k r s.
     let own : (folder_of mid) ≡ n = was ∙ r.own in
     let x = c.args.chart.now in
     let y = c.advance.new.chart in
-    let about : kind_names_folder n o.kind ≡ true = subst (λ (q : Op). kind_names_folder n q.kind ≡ true) c.op.ensures.op (sym c.is_about.ensures ∙ c.if-not-is_about.false) in
+    let about : kind_names_folder n o.kind ≡ true = subst (λ (q : Op). kind_names_folder n q.kind ≡ true) c.op.ensures.op (sym c.names_folder.ensures ∙ c.if-not-names_folder.false) in
     let w : AdvancesAhead k list p (λ g. list_any (same_id g) c.as_slice.result.now) mid = record {
       applied = (subst (λ (q : Op). IsNextAhead start n c.args.charts.now.nothing.entries k list (q ∷ []) c.args.ahead.now) (sym e) r).applied;
       about = (λ i. kind_names_folder (own i) (e i).kind) ∙ about;
@@ -55,6 +55,6 @@ returns-clause-shows c = on_ok c.advance.result (λ h list k r s.
       is_ahead = subst (λ (q : Op). IsAhead (effect_of k q) mid) (sym e) (c.in_ok-step.ensures.ahead k r.is_ahead);
     } in
     let before : IsChart start (folder_of mid) list x.uidnext x.highest x.entries.entries = subst (λ m. IsChart start m list x.uidnext x.highest x.entries.entries) (sym own) s in
-    let there = there_told (effect_of k p) (list ++ p ∷ []) (folder_of mid) c.exists.result (made_after k list (p ∷ []) w.made w.applied) (c.exists.ensures (effect_of k p) w.is_ahead) in
-    let behind = h start list k (sym there ∙ c.if-not-exists.false) w before in
-    subst (λ (q : Op). IsChart start n (list ++ q ∷ []) y.uidnext y.highest y.entries.entries) e (subst (λ m. IsChart start m (list ++ p ∷ []) y.uidnext y.highest y.entries.entries) own behind)) c.advance.ensures
+    let present = folder_exists_is (effect_of k p) (list ++ p ∷ []) (folder_of mid) c.exists.result (made_after k list (p ∷ []) w.made w.applied) (c.exists.ensures (effect_of k p) w.is_ahead) in
+    let is_chart = h start list k (sym present ∙ c.if-not-exists.false) w before in
+    subst (λ (q : Op). IsChart start n (list ++ q ∷ []) y.uidnext y.highest y.entries.entries) e (subst (λ m. IsChart start m (list ++ p ∷ []) y.uidnext y.highest y.entries.entries) own is_chart)) c.advance.ensures

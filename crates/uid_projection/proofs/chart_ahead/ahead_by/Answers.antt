@@ -1,5 +1,5 @@
 use Rattle.std.proofs.Common.{◌∙◌, ap, sym, option_copied}
-use Rattle.uid_projection.proofs.Asked.{chart_without, if_ok}
+use Rattle.uid_projection.proofs.ChartQueryLemmas.{chart_without, if_ok}
 use Rattle.uid_projection.proofs.Tables.{chart_as}
 use Rattle.uid_projection.proofs.chart_ahead.ahead_by.Goals as goal
 

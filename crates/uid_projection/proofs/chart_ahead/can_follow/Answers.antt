@@ -1,6 +1,6 @@
 use Rattle.std.proofs.Common.{◌≤◌, ◌<◌, arith}
 use Rattle.std.proofs.lemmas.Bool.Decides.{nat_tests}
-use Rattle.uid_projection.proofs.Overlaid.{follows_last}
+use Rattle.uid_projection.proofs.AheadLemmas.{follows_last}
 use Rattle.uid_projection.proofs.chart_ahead.can_follow.Goals as goal
 
 pub returns : goal.returns

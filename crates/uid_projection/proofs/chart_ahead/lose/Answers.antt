@@ -6,7 +6,7 @@ use Rattle.crdt_ops.specs.SortedSets.{same_id}
 use Rattle.uid_projection.specs.FolderAhead.{folder_of}
 use Rattle.uid_projection.specs.UidsAndModSeqs.{has_version}
 use Rattle.uid_projection.specs.EntryMoves.{AreApart, moved_entries}
-use Rattle.uid_projection.proofs.Advancing.{any_more, apart_moved, moved_alike, moved_by_one, moved_still, moved_twice}
+use Rattle.uid_projection.proofs.MovedEntryLemmas.{any_more, apart_moved, moved_alike, moved_by_one, moved_still, moved_twice}
 use Rattle.uid_projection.proofs.chart_ahead.lose.Goals as goal
 
 pub loop-origin-init : goal.loop-origin-init

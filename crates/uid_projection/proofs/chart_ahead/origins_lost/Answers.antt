@@ -6,7 +6,7 @@ use Rattle.crdt_ops.specs.SortedSets.{is_some_id, same_id}
 use Rattle.folder_state.specs.Contents.{origin_in}
 use Rattle.uid_projection.specs.FolderAhead.{folder_of}
 use Rattle.uid_projection.specs.EntryMoves.{loses}
-use Rattle.uid_projection.proofs.Advancing.{any_more}
+use Rattle.uid_projection.proofs.MovedEntryLemmas.{any_more}
 use Rattle.uid_projection.proofs.chart_ahead.origins_lost.Goals as goal
 
 pub loop-id-init : goal.loop-id-init

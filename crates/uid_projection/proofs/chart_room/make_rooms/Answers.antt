@@ -4,7 +4,7 @@ use Rattle.crdt_ops.specs.Tags.{name_of}
 use Rattle.uid_projection.specs.UidsAndModSeqs.{kind_names_folder}
 use Rattle.uid_projection.specs.EntryMoves.{added_origin}
 use Rattle.uid_projection.specs.ChartTable.{HasRooms}
-use Rattle.uid_projection.proofs.Coming.{all_more, all_of}
+use Rattle.uid_projection.proofs.ExhaustionLemmas.{all_more, all_of}
 use Rattle.uid_projection.proofs.chart_room.make_rooms.Goals as goal
 
 pub returns-in_err-room_for-clause-table : goal.returns-in_err-room_for-clause-table

@@ -30,7 +30,7 @@ pub returns-clause-next : goal.returns-clause-next
 returns-clause-next c = λ list r.
     let now = c.step.new.chart in
     let n = name_of c.args.op.now.kind in
-    let says = (c.get_mut.follows.holds now).3 (search rules) in
+    let post = (c.get_mut.follows.holds now).3 (search rules) in
     let was : chart_at n c.args.charts.now.entries ≡ Some c.in-Some.chart.now = subst (λ m. chart_at m c.args.charts.now.entries ≡ Some c.in-Some.chart.now) c.name.ensures (search rules) in
     let at : IsNextAt c.args.start.now c.args.next_k.now (contents_of c.args.value.now) list c.args.op.now c.in-Some.chart.now = record {
       next = r.next;
@@ -38,10 +38,10 @@ returns-clause-next c = λ list r.
       up = r.table.shows n c.in-Some.chart.now was;
       roomy = subst (HasRoomsIn (added_origin c.args.op.now) 1) was c.requires.rooms;
     } in
-    table_step c.as_bytes.result.now c.args.charts.now.entries (c.get_mut.follows.lender now).entries now says.3 says.1 c.args.start.now list c.args.op.now c.args.next_k.now c.step.new.next_k r.next.applied (search rules) r.table (c.step.ensures.next list at) (c.step.ensures.up list at)
+    table_step c.as_bytes.result.now c.args.charts.now.entries (c.get_mut.follows.lender now).entries now post.3 post.1 c.args.start.now list c.args.op.now c.args.next_k.now c.step.new.next_k r.next.applied (search rules) r.table (c.step.ensures.next list at) (c.step.ensures.up list at)
 
 pub returns-clause-rooms : goal.returns-clause-rooms
 returns-clause-rooms c = λ g n folder r.
     let now = c.step.new.chart in
-    let says = (c.get_mut.follows.holds now).3 (search rules) in
-    rooms_step c.as_bytes.result.now c.args.charts.now.entries (c.get_mut.follows.lender now).entries now says.3 says.1 c.in-Some.chart.now (search rules) g (n + 1) n (omega arith) (c.step.ensures.roomy g n) folder r
+    let post = (c.get_mut.follows.holds now).3 (search rules) in
+    rooms_step c.as_bytes.result.now c.args.charts.now.entries (c.get_mut.follows.lender now).entries now post.3 post.1 c.in-Some.chart.now (search rules) g (n + 1) n (omega arith) (c.step.ensures.roomy g n) folder r

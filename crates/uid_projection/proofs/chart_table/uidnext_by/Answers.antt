@@ -1,5 +1,5 @@
 use Rattle.std.proofs.Common.{◌∙◌, ap, sym, option_copied}
-use Rattle.uid_projection.proofs.Asked.{chart_without}
+use Rattle.uid_projection.proofs.ChartQueryLemmas.{chart_without}
 use Rattle.uid_projection.proofs.chart_table.uidnext_by.Goals as goal
 
 pub returns-in-Some : goal.returns-in-Some

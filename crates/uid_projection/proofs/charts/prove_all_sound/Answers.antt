@@ -1,6 +1,6 @@
 use Rattle.std.proofs.Common.{arith}
 use Rattle.crdt_ops.specs.Sound.{IsSound}
-use Rattle.uid_projection.proofs.Coming.{all_more, all_of}
+use Rattle.uid_projection.proofs.ExhaustionLemmas.{all_more, all_of}
 use Rattle.uid_projection.proofs.charts.prove_all_sound.Goals as goal
 
 pub loop-op-preserved : goal.loop-op-preserved

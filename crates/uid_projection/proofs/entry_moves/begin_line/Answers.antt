@@ -1,4 +1,4 @@
-use Rattle.uid_projection.proofs.Moving.{held_lacks}
+use Rattle.uid_projection.proofs.EntryMovesLemmas.{held_lacks}
 use Rattle.uid_projection.proofs.entry_moves.begin_line.Goals as goal
 
 pub put-requires-clause-fresh : goal.put-requires-clause-fresh

@@ -2,7 +2,7 @@ use Rattle.std.proofs.Common.{◌+◌, ◌++◌, inl, inr, take, sym, subst, ◌
 use Rattle.std.proofs.lemmas.Bool.{false≢true}
 use Rattle.uid_projection.specs.Applied.{IsApplied}
 use Rattle.uid_projection.specs.Exhaustion.{Exhausts, IsExhausted}
-use Rattle.uid_projection.proofs.Coming.{applied_take, behind, exhausted_at, more_exhausted, none_exhausted, take_op}
+use Rattle.uid_projection.proofs.ExhaustionLemmas.{applied_take, append_next, exhausted_at, more_exhausted, none_exhausted, take_op}
 use Rattle.uid_projection.proofs.exhaustion.are_exhausting.Goals as goal
 use Rattle.uid_projection.proofs.exhaustion.are_exhausting.Goals.{then-lacks_uid-via-then-lacks_uid, then-lacks_uid-via-else-lacks_uid+then-lacks_k}
 
@@ -16,7 +16,7 @@ returns-then-lacks_uid c = λ list a t m.
     let o = c.op-op.result.now in
     let next = take_op ops at c.index-ops-at.result o c.loop-at-test.true c.index-ops-at.is c.op-op.ensures.op in
     let through = applied_take list ops (at + 1) a in
-    let applied = subst IsApplied (behind list (take at ops) (take (at + 1) ops) o next) through in
+    let applied = subst IsApplied (append_next list (take at ops) (take (at + 1) ops) o next) through in
     let lacks : IsExhausted c.args.start.now (list ++ take at ops) o = elim c.then-lacks_uid.branch [
       | then-lacks_uid-via-then-lacks_uid w ↦ inl ((c.lacks_uid.ensures list c.args.next_k applied t m).0 w.if-lacks_uid.true)
       | then-lacks_uid-via-else-lacks_uid+then-lacks_k w ↦ inr ((w.lacks_k.ensures c.args.start.now list next through m t.is_k).0 w.if-lacks_k.true)
@@ -30,7 +30,7 @@ loop-at-preserved c = λ list a t m x.
     let o = c.op-op.result.now in
     let next = take_op ops at c.index-ops-at.result o c.loop-at-test.true c.index-ops-at.is c.op-op.ensures.op in
     let through = applied_take list ops (at + 1) a in
-    let applied = subst IsApplied (behind list (take at ops) (take (at + 1) ops) o next) through in
+    let applied = subst IsApplied (append_next list (take at ops) (take (at + 1) ops) o next) through in
     elim (more_exhausted c.args.start.now list (take at ops) o (subst (Exhausts c.args.start.now list) next x)) [
       | inl y ↦ c.loop-at.invariant list a t m y
       | inr y ↦ elim y [

@@ -1,5 +1,5 @@
 use Rattle.std.proofs.Common.{◌++◌, ◌∷◌, [], ◌∙◌}
-use Rattle.uid_projection.proofs.Coming.{begins_append, begins_store}
+use Rattle.uid_projection.proofs.ExhaustionLemmas.{begins_append, begins_store}
 use Rattle.uid_projection.proofs.Presence.{applied_front}
 use Rattle.uid_projection.proofs.exhaustion.begins_line.Goals as goal
 
@@ -12,4 +12,4 @@ pub returns-in-Store : goal.returns-in-Store
 returns-in-Store c = λ list a m.
     let k = c.in-Store in
     let front = list ++ c.args.front.now in
-    c.begins_anew.ensures list (applied_front front (c.args.op.now ∷ []) a) m ∙ begins_store c.args.folder.now front c.args.op.now a k.own k.flags k.olds k.origin k.is
+    c.is_new_line.ensures list (applied_front front (c.args.op.now ∷ []) a) m ∙ begins_store c.args.folder.now front c.args.op.now a k.own k.flags k.old_ids k.origin k.is

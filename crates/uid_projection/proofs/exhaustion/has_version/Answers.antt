@@ -1,5 +1,5 @@
 use Rattle.std.proofs.Common.{◌++◌}
-use Rattle.uid_projection.proofs.Coming.{has_as}
+use Rattle.uid_projection.proofs.ExhaustionLemmas.{has_as}
 use Rattle.uid_projection.proofs.exhaustion.has_version.Goals as goal
 
 pub returns : goal.returns

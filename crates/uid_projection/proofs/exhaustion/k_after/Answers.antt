@@ -3,7 +3,7 @@ use Rattle.std.proofs.lemmas.List.{take_all}
 use Rattle.uid_projection.specs.Counting.{count_all}
 use Rattle.uid_projection.specs.Incarnations.{begins_incarnation}
 use Rattle.uid_projection.proofs.HistoryLemmas.{once}
-use Rattle.uid_projection.proofs.Coming.{applied_take, k_told, take_op}
+use Rattle.uid_projection.proofs.ExhaustionLemmas.{applied_take, k_is, take_op}
 use Rattle.uid_projection.proofs.exhaustion.k_after.Goals.{then-begins, else-begins}
 use Rattle.uid_projection.proofs.exhaustion.k_after.Goals as goal
 
@@ -23,8 +23,8 @@ loop-at-preserved c =
     ] in
     let bound = c.loop-at.invariant.bound in
     record {
-      told = λ start list a m is. k_told start list (take at ops) (take (at + 1) ops) o c.begins.result c.loop-at.k c.if-begins.k next
-          (c.begins.ensures list next (applied_take list ops (at + 1) a) m) (c.loop-at.invariant.told start list a m is) step;
+      so_far = λ start list a m is. k_is start list (take at ops) (take (at + 1) ops) o c.begins.result c.loop-at.k c.if-begins.k next
+          (c.begins.ensures list next (applied_take list ops (at + 1) a) m) (c.loop-at.invariant.so_far start list a m is) step;
       bound = omega (arith, most, bound);
     }
 
@@ -33,4 +33,4 @@ returns c = λ start list a m is.
     let ops = c.args.ops.now in
     let stop = c.loop-at-test.false in
     let all : take c.loop-at.at ops ≡ ops = take_all c.loop-at.at ops (omega (arith, stop)) in
-    c.loop-at.invariant.told start list a m is ∙ ap (λ xs. start.k + count_all begins_incarnation (list ++ xs)) all
+    c.loop-at.invariant.so_far start list a m is ∙ ap (λ xs. start.k + count_all begins_incarnation (list ++ xs)) all

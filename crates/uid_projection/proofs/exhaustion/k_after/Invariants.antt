@@ -10,6 +10,6 @@ use Rattle.uid_projection.proofs.exhaustion.k_after.Given as goal
 
 abbrev pub invariant-loop-at : goal.invariant-loop-at
 invariant-loop-at l = record {
-  told : (start : Counters) (list : List Op) → IsApplied (list ++ l.ops) → IsMadeBy (contents_of l.value) list → l.now ≡ start.k + count_all begins_incarnation list → l.k ≡ start.k + count_all begins_incarnation (list ++ take l.at l.ops);
+  so_far : (start : Counters) (list : List Op) → IsApplied (list ++ l.ops) → IsMadeBy (contents_of l.value) list → l.now ≡ start.k + count_all begins_incarnation list → l.k ≡ start.k + count_all begins_incarnation (list ++ take l.at l.ops);
   bound : l.k ≤ 4294967295 + l.at;
 }

@@ -1,4 +1,4 @@
-use Rattle.uid_projection.proofs.Coming.{applied_before, k_far, k_near}
+use Rattle.uid_projection.proofs.ExhaustionLemmas.{applied_before, k_far, k_near}
 use Rattle.uid_projection.proofs.exhaustion.lacks_k.Goals as goal
 
 pub returns-then-front-next_k : goal.returns-then-front-next_k

@@ -1,5 +1,5 @@
 use Rattle.std.proofs.Common.{◌++◌, ◌∷◌, [], sym, ◌∙◌}
-use Rattle.uid_projection.proofs.Coming.{uid_far, uid_near}
+use Rattle.uid_projection.proofs.ExhaustionLemmas.{uid_far, uid_near}
 use Rattle.uid_projection.proofs.Presence.{applied_front}
 use Rattle.uid_projection.proofs.exhaustion.lacks_uid.Goals as goal
 

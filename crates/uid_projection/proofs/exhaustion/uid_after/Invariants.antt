@@ -9,6 +9,6 @@ use Rattle.uid_projection.proofs.exhaustion.uid_after.Given as goal
 
 abbrev pub invariant-loop-at : goal.invariant-loop-at
 invariant-loop-at l = record {
-  told : (start : Counters) (list : List Op) → IsApplied (list ++ l.ops) → IsMadeBy (contents_of l.value) list → l.first ≡ first_uid start l.folder → l.now ≡ uidnext_of start l.folder list → l.uid ≡ uidnext_of start l.folder (list ++ take l.at l.ops);
+  so_far : (start : Counters) (list : List Op) → IsApplied (list ++ l.ops) → IsMadeBy (contents_of l.value) list → l.first ≡ first_uid start l.folder → l.now ≡ uidnext_of start l.folder list → l.uid ≡ uidnext_of start l.folder (list ++ take l.at l.ops);
   bound : l.uid ≤ 4294967295 + l.at;
 }

@@ -1,4 +1,4 @@
-use Rattle.uid_projection.proofs.Elsewhere.{leave_others}
+use Rattle.uid_projection.proofs.OtherFolderLemmas.{leave_others}
 use Rattle.uid_projection.proofs.laws.others_are_left.Goals as goal
 
 pub returns : goal.returns

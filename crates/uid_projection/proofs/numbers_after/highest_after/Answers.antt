@@ -1,6 +1,6 @@
 use Rattle.std.proofs.Common.{◌+◌, ◌++◌, take, arith}
-use Rattle.uid_projection.proofs.Coming.{applied_take, take_op, there_as}
-use Rattle.uid_projection.proofs.LaterNumbers.{highest_told}
+use Rattle.uid_projection.proofs.ExhaustionLemmas.{applied_take, take_op, exists_as}
+use Rattle.uid_projection.proofs.LaterNumbers.{highest_is}
 use Rattle.uid_projection.proofs.numbers_after.highest_after.Goals as goal
 
 pub loop-at-preserved : goal.loop-at-preserved
@@ -11,10 +11,10 @@ loop-at-preserved c =
     let n = c.args.folder.now in
     let next = take_op ops at c.index-ops-at.result o c.loop-at-test.true c.index-ops-at.is c.op.ensures.op in
     record {
-      told = λ list a m is.
+      so_far = λ list a m is.
           let b = applied_take list ops (at + 1) a in
-          highest_told n list (take at ops) (take (at + 1) ops) o c.exists_after-there.result c.is_about-about.result c.loop-at.highest c.highest_after_op-highest.result next
-          (there_as n (list ++ take (at + 1) ops) c.exists_after-there.result (c.exists_after-there.ensures.set list m b.sound b.causal))
-          c.is_about-about.ensures (c.loop-at.invariant.told list a m is) c.highest_after_op-highest.ensures.highest;
+          highest_is n list (take at ops) (take (at + 1) ops) o c.exists_after-present.result c.names_folder-about.result c.loop-at.highest c.highest_after_op-highest.result next
+          (exists_as n (list ++ take (at + 1) ops) c.exists_after-present.result (c.exists_after-present.ensures.set list m b.sound b.causal))
+          c.names_folder-about.ensures (c.loop-at.invariant.so_far list a m is) c.highest_after_op-highest.ensures.highest;
       bound = let w = c.highest_after_op-highest.ensures.bound (18446744073709551615 + at) c.loop-at.invariant.bound (omega arith) in omega (arith, w);
     }

@@ -8,6 +8,6 @@ use Rattle.uid_projection.proofs.numbers_after.highest_after.Given as goal
 
 abbrev pub invariant-loop-at : goal.invariant-loop-at
 invariant-loop-at l = record {
-  told : (list : List Op) → IsApplied (list ++ l.ops) → IsMadeBy (contents_of l.value) list → l.now ≡ highest_modseq_of l.folder list → l.highest ≡ highest_modseq_of l.folder (list ++ take l.at l.ops);
+  so_far : (list : List Op) → IsApplied (list ++ l.ops) → IsMadeBy (contents_of l.value) list → l.now ≡ highest_modseq_of l.folder list → l.highest ≡ highest_modseq_of l.folder (list ++ take l.at l.ops);
   bound : l.highest ≤ 18446744073709551615 + l.at;
 }

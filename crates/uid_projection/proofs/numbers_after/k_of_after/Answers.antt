@@ -7,9 +7,9 @@ use Rattle.uid_projection.specs.declared.first_numbers.Counters.{Counters}
 use Rattle.uid_projection.specs.Applied.{IsApplied}
 use Rattle.uid_projection.specs.Counting.{count_all}
 use Rattle.uid_projection.specs.Incarnations.{begins_incarnation, k_of}
-use Rattle.uid_projection.proofs.Coming.{applied_take, take_op, there_as}
-use Rattle.uid_projection.proofs.LaterNumbers.{next_k_behind}
-use Rattle.uid_projection.proofs.LaterNumbers.{k_told_behind}
+use Rattle.uid_projection.proofs.ExhaustionLemmas.{applied_take, take_op, exists_as}
+use Rattle.uid_projection.proofs.LaterNumbers.{next_k_is}
+use Rattle.uid_projection.proofs.LaterNumbers.{k_of_is}
 use Rattle.uid_projection.proofs.numbers_after.k_of_after.Goals as goal
 
 pub loop-at-preserved : goal.loop-at-preserved
@@ -20,16 +20,16 @@ loop-at-preserved c =
     let n = c.args.folder.now in
     let next = take_op ops at c.index-ops-at.result o c.loop-at-test.true c.index-ops-at.is c.op.ensures.op in
     let k_next : (start : Counters) (list : List Op) → IsApplied (list ++ ops) → IsMadeBy (contents_of c.args.value.now) list → c.args.next_k ≡ start.k + count_all begins_incarnation list → c.next_k_after_op-next.result ≡ start.k + count_all begins_incarnation (list ++ take (at + 1) ops) = λ start list a m is.
-    next_k_behind start list (take at ops) (take (at + 1) ops) o c.begins-begun.result c.loop-at.next c.next_k_after_op-next.result next
-    (c.begins-begun.ensures list next (applied_take list ops (at + 1) a) m) (c.loop-at.invariant.next start list a m is) c.next_k_after_op-next.ensures.next
+    next_k_is start list (take at ops) (take (at + 1) ops) o c.begins-starts.result c.loop-at.next c.next_k_after_op-next.result next
+    (c.begins-starts.ensures list next (applied_take list ops (at + 1) a) m) (c.loop-at.invariant.next start list a m is) c.next_k_after_op-next.ensures.next
     in
     record {
       next = k_next;
-      told = λ start list a m is own.
+      so_far = λ start list a m is own.
           let b = applied_take list ops (at + 1) a in
-          k_told_behind start n list (take at ops) (take (at + 1) ops) o c.exists_after-there.result c.loop-at.k c.next_k_after_op-next.result c.k_after_op-k.result next
-          (there_as n (list ++ take (at + 1) ops) c.exists_after-there.result (c.exists_after-there.ensures.set list m b.sound b.causal))
-          (c.loop-at.invariant.told start list a m is own) (k_next start list a m is) c.k_after_op-k.ensures;
+          k_of_is start n list (take at ops) (take (at + 1) ops) o c.exists_after-present.result c.loop-at.k c.next_k_after_op-next.result c.k_after_op-k.result next
+          (exists_as n (list ++ take (at + 1) ops) c.exists_after-present.result (c.exists_after-present.ensures.set list m b.sound b.causal))
+          (c.loop-at.invariant.so_far start list a m is own) (k_next start list a m is) c.k_after_op-k.ensures;
       bound = let w = c.next_k_after_op-next.ensures.bound in let v = c.loop-at.invariant.bound in omega (arith, w, v);
     }
 
@@ -38,4 +38,4 @@ returns c = λ start list a m is own.
     let ops = c.args.ops.now in
     let stop = c.loop-at-test.false in
     let all : take c.loop-at.at ops ≡ ops = take_all c.loop-at.at ops (omega (arith, stop)) in
-    c.loop-at.invariant.told start list a m is own ∙ ap (λ xs. k_of start c.args.folder.now (list ++ xs)) all
+    c.loop-at.invariant.so_far start list a m is own ∙ ap (λ xs. k_of start c.args.folder.now (list ++ xs)) all

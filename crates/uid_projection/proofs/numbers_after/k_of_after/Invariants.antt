@@ -11,6 +11,6 @@ use Rattle.uid_projection.proofs.numbers_after.k_of_after.Given as goal
 abbrev pub invariant-loop-at : goal.invariant-loop-at
 invariant-loop-at l = record {
   next : (start : Counters) (list : List Op) → IsApplied (list ++ l.ops) → IsMadeBy (contents_of l.value) list → l.next_k ≡ start.k + count_all begins_incarnation list → l.next ≡ start.k + count_all begins_incarnation (list ++ take l.at l.ops);
-  told : (start : Counters) (list : List Op) → IsApplied (list ++ l.ops) → IsMadeBy (contents_of l.value) list → l.next_k ≡ start.k + count_all begins_incarnation list → l.now ≡ k_of start l.folder list → l.k ≡ k_of start l.folder (list ++ take l.at l.ops);
+  so_far : (start : Counters) (list : List Op) → IsApplied (list ++ l.ops) → IsMadeBy (contents_of l.value) list → l.next_k ≡ start.k + count_all begins_incarnation list → l.now ≡ k_of start l.folder list → l.k ≡ k_of start l.folder (list ++ take l.at l.ops);
   bound : l.next ≤ 4294967295 + l.at;
 }

@@ -5,7 +5,7 @@ use Rattle.crdt_ops.specs.SortedSets.{is_some_id}
 use Rattle.uid_projection.specs.EntryMoves.{loses}
 use Rattle.uid_projection.specs.ChartTable.{origin_at}
 use Rattle.uid_projection.specs.TouchedMessages.{AddsUids}
-use Rattle.uid_projection.proofs.Advancing.{any_more}
+use Rattle.uid_projection.proofs.MovedEntryLemmas.{any_more}
 use Rattle.uid_projection.proofs.NamedLemmas.{adds_alike, adds_both, adds_none}
 use Rattle.uid_projection.proofs.touched_messages.push_uids_of_lost.Goals as goal
 

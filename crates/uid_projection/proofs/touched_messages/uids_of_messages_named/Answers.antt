@@ -3,7 +3,7 @@ use Rattle.uid_projection.specs.ChartTable.{origin_at}
 use Rattle.uid_projection.specs.TouchedMessages.{names_message}
 use Rattle.std.specs.List.{list_any}
 use Rattle.std.proofs.Common.{take}
-use Rattle.uid_projection.proofs.Advancing.{any_more}
+use Rattle.uid_projection.proofs.MovedEntryLemmas.{any_more}
 use Rattle.uid_projection.proofs.NamedLemmas.{adds_alike, adds_both}
 use Rattle.uid_projection.proofs.touched_messages.uids_of_messages_named.Goals as goal
 

@@ -1,8 +1,8 @@
 use Rattle.std.proofs.Common.{[], subst, arith}
 use Rattle.std.proofs.lemmas.List.{take_all}
 use Rattle.causal_inbox.specs.Inbox.{AreHeldStill}
-use Rattle.causal_inbox.proofs.Ascending.{kept_more}
-use Rattle.causal_inbox.proofs.Waking.{fewer_apart}
+use Rattle.causal_inbox.proofs.Ascending.{held_still_more}
+use Rattle.causal_inbox.proofs.CauseCountLemmas.{fewer_apart}
 use Rattle.causal_inbox.proofs.held_store.HeldStore.discard_all.Goals as goal
 
 pub discard-requires : goal.discard-requires
@@ -12,19 +12,19 @@ discard-requires g c =
     let applied = c.requires.0 in (
       applied,
       c.requires.1,
-      fewer_apart o.id c.args.self.now.list c.loop-op.self.list applied (λ x h. ((inv.kept x).0 h).0) c.requires.2,
-      inv.filed [] applied c.requires.3,
+      fewer_apart o.id c.args.self.now.list c.loop-op.self.list applied (λ x h. ((inv.remaining x).0 h).0) c.requires.2,
+      inv.indexed [] applied c.requires.3,
     )
 
 pub loop-op-preserved : goal.loop-op-preserved
 loop-op-preserved g c =
     let h = c.loop-op.invariant in
     record {
-      kept = kept_more g.O.Caused.id c.args.ops.now c.loop-op.op-index c.op-item.result c.id.result c.args.self.now.list c.loop-op.self.list c.discard.new.self.list c.loop-op-test.true c.op-item.is c.id.ensures h.kept c.discard.ensures.others;
+      remaining = held_still_more g.O.Caused.id c.args.ops.now c.loop-op.op-index c.op-item.result c.id.result c.args.self.now.list c.loop-op.self.list c.discard.new.self.list c.loop-op-test.true c.op-item.is c.id.ensures h.remaining c.discard.ensures.others;
       count = let a = c.discard.ensures.count in let b = h.count in omega (arith, a, b);
-      filed = λ woken applied f. c.discard.ensures.filed woken applied (h.filed woken applied f);
+      indexed = λ woken applied f. c.discard.ensures.indexed woken applied (h.indexed woken applied f);
     }
 
-pub returns-clause-kept : goal.returns-clause-kept
-returns-clause-kept g c =
-    subst (λ xs. AreHeldStill g.O.Caused.id xs c.args.self.now.list c.loop-op.self.list) (take_all _ c.args.ops.now c.loop-op-test.false) c.loop-op.invariant.kept
+pub returns-clause-remaining : goal.returns-clause-remaining
+returns-clause-remaining g c =
+    subst (λ xs. AreHeldStill g.O.Caused.id xs c.args.self.now.list c.loop-op.self.list) (take_all _ c.args.ops.now c.loop-op-test.false) c.loop-op.invariant.remaining

@@ -8,7 +8,7 @@ abbrev pub invariant-loop-op : goal.invariant-loop-op
 invariant-loop-op g l =
     let o = g.O.Caused in
     record {
-      kept : AreHeldStill o.id (take l.op-index l.ops) l.fn.self.list l.self.list;
+      remaining : AreHeldStill o.id (take l.op-index l.ops) l.fn.self.list l.self.list;
       count : length l.self.list ≤ length l.fn.self.list;
-      filed : (woken : List OpId) (applied : List g.row.O.Denot) → AreIndexed o.id o.clock woken applied l.fn.self.list l.fn.self.file → AreIndexed o.id o.clock woken applied l.self.list l.self.file;
+      indexed : (woken : List OpId) (applied : List g.row.O.Denot) → AreIndexed o.id o.clock woken applied l.fn.self.list l.fn.self.entries → AreIndexed o.id o.clock woken applied l.self.list l.self.entries;
     }

@@ -9,5 +9,5 @@ invariant-loop-op g l =
     let o = g.O.Caused in
     record {
       list : l.self.list ≡ l.fn.self.list;
-      filed : (applied : List g.row.O.Denot) → IsClockOf o.id applied l.clock → ((x : g.row.O.Denot) → IsIn x l.ops → HasId o.id applied (o.id x)) → AreApart o.id l.fn.self.list applied → AreIndexed o.id o.clock (map o.id l.ops) applied l.fn.self.list l.fn.self.file → AreIndexed o.id o.clock (map o.id (drop l.op-index l.ops)) applied l.self.list l.self.file;
+      indexed : (applied : List g.row.O.Denot) → IsClockOf o.id applied l.clock → ((x : g.row.O.Denot) → IsIn x l.ops → HasId o.id applied (o.id x)) → AreApart o.id l.fn.self.list applied → AreIndexed o.id o.clock (map o.id l.ops) applied l.fn.self.list l.fn.self.entries → AreIndexed o.id o.clock (map o.id (drop l.op-index l.ops)) applied l.self.list l.self.entries;
     }

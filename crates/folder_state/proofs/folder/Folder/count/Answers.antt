@@ -1,6 +1,6 @@
 use Rattle.std.proofs.Common.{subst}
 use Rattle.folder_state.specs.FolderTables.{AreIndexed, FolderTables}
-use Rattle.folder_state.proofs.Filed.{ids_are}
+use Rattle.folder_state.proofs.FolderTablesLemmas.{ids_are}
 use Rattle.folder_state.proofs.folder.Folder.count.Goals as goal
 
 pub returns-clause-tags : goal.returns-clause-tags

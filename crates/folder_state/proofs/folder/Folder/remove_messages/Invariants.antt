@@ -8,7 +8,7 @@ use Rattle.folder_state.proofs.folder.Folder.remove_messages.Given as goal
 
 abbrev pub invariant-loop-id : goal.invariant-loop-id
 invariant-loop-id l = record {
-  bodies : (i : OpId) → (folder_contents l.self).bodies i ≡ cond (list_any (same_id i) (take l.id-index l.ids)) None ((folder_contents l.fn.self).bodies i);
+  tag_data : (i : OpId) → (folder_contents l.self).tag_data i ≡ cond (list_any (same_id i) (take l.id-index l.ids)) None ((folder_contents l.fn.self).tag_data i);
   tags : l.self.tags ≡ l.fn.self.tags;
   room : IsNoFuller l.fn.self l.self;
 }

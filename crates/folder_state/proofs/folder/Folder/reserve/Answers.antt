@@ -1,7 +1,7 @@
 use Rattle.std.proofs.Common.{◌∙◌, ◌≤◌, arith, sym, subst}
 use Rattle.folder_state.specs.FolderTables.{FolderTables}
 use Rattle.folder_state.specs.OpRoom.{AreRoomierLists}
-use Rattle.folder_state.proofs.Roomier.{filed_roomier, roomier_lists}
+use Rattle.folder_state.proofs.MoreRoomLemmas.{filed_roomier, roomier_lists}
 use Rattle.folder_state.proofs.folder.Folder.reserve.Goals as goal
 
 pub invariant_of-self : goal.invariant_of-self
@@ -15,12 +15,12 @@ returns-in-Some-clause-roomier c =
       tags = (λ j. (c.self.view_is j).tags) ∙ same.0;
       origins = (λ j. (c.self.view_is j).origins) ∙ same.2;
       versions = subst (λ m. AreRoomierLists m c.reserve_versions.new.messages.entries) ((λ j. (c.self.view_is j).messages) ∙ same.1) c.reserve_versions.ensures.roomier;
-      tag_room = subst (λ (k : FolderTables). c.args.self.now.tag_room ≤ k.tag_room) (sym c.self.view_is) grown.0;
-      message_room =
-          let a = subst (λ (k : FolderTables). c.args.self.now.message_room ≤ k.message_room) (sym c.self.view_is) grown.1 in
+      spare_tags = subst (λ (k : FolderTables). c.args.self.now.spare_tags ≤ k.spare_tags) (sym c.self.view_is) grown.0;
+      spare_messages =
+          let a = subst (λ (k : FolderTables). c.args.self.now.spare_messages ≤ k.spare_messages) (sym c.self.view_is) grown.1 in
           let b = c.reserve_versions.ensures.spare in
           omega (arith, a, b);
-      origin_room = subst (λ (k : FolderTables). c.args.self.now.origin_room ≤ k.origin_room) (sym c.self.view_is) grown.2;
+      spare_origins = subst (λ (k : FolderTables). c.args.self.now.spare_origins ≤ k.spare_origins) (sym c.self.view_is) grown.2;
     }
 
 pub returns-in-None-clause-roomier : goal.returns-in-None-clause-roomier
@@ -31,7 +31,7 @@ returns-in-None-clause-roomier c =
       tags = same.0;
       origins = same.2;
       versions = subst (λ m. AreRoomierLists m c.reserve_places.new.self.messages) same.1 (roomier_lists c.reserve_places.new.self.messages);
-      tag_room = grown.0;
-      message_room = grown.1;
-      origin_room = grown.2;
+      spare_tags = grown.0;
+      spare_messages = grown.1;
+      spare_origins = grown.2;
     }

@@ -1,10 +1,10 @@
 use Rattle.std.specs.Option.{option_copied}
 use Rattle.folder_state.specs.Tables.{contents_of}
-use Rattle.folder_state.proofs.VersionLemmas.{has_version_by_set, has_version_told}
+use Rattle.folder_state.proofs.VersionLemmas.{has_version_by_set, has_version_by_tables}
 use Rattle.folder_state.proofs.folders.Folders.has_version.Goals as goal
 
 pub returns-clause-contents : goal.returns-clause-contents
-returns-clause-contents c = has_version_told (contents_of c.args.self.now) c.args.folder.now c.args.origin.now (option_copied c.folder.result) c.folder.ensures.bodies c.has_versions.result c.has_versions.ensures
+returns-clause-contents c = has_version_by_tables (contents_of c.args.self.now) c.args.folder.now c.args.origin.now (option_copied c.folder.result) c.folder.ensures.tag_data c.has_versions.result c.has_versions.ensures
 
 pub returns-clause-set : goal.returns-clause-set
 returns-clause-set c = λ ops m.

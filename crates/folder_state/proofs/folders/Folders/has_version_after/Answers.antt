@@ -9,9 +9,9 @@ use Rattle.folder_state.proofs.folders.Folders.has_version_after.Goals as goal
 
 pub returns-clause-contents : goal.returns-clause-contents
 returns-clause-contents c =
-    let held = option_copied c.folder.result in
+    let table = option_copied c.folder.result in
     let left = c.has_version_after_all.ensures in
-    version_left (contents_of c.args.self.now) c.args.folder.now held c.folder.ensures.tags c.folder.ensures.bodies c.args.ops.now c.args.origin.now (versions_in held c.args.origin.now) left.versions c.has_version_after_all.result left.left
+    version_left (contents_of c.args.self.now) c.args.folder.now table c.folder.ensures.tags c.folder.ensures.tag_data c.args.ops.now c.args.origin.now (versions_in table c.args.origin.now) left.versions c.has_version_after_all.result left.left
 
 pub returns-clause-set : goal.returns-clause-set
 returns-clause-set c = λ list m s d.

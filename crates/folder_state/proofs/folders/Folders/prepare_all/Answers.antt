@@ -6,5 +6,5 @@ returns-clause-prepared c = record {
   copies = ([], c.in_ok-copies.ensures {u = tt} ∙ sym (append-nil c.args.ops.now));
   lists = c.in_ok-lists.ensures {u = tt};
   rooms = (c.in_ok-reserve_folders.ensures {u = tt}).rooms;
-  letters = (c.in_ok-reserve.ensures {u = tt}).ok;
+  dated_texts = (c.in_ok-reserve.ensures {u = tt}).ok;
 }

@@ -13,25 +13,25 @@ at_most_one true = omega arith
 at_most_one false = omega arith
 
 -- one operation adds at most one version
-one_wanted : (op : Op) (x : Option OpId) → counts_of (versions_added (op ∷ [])) x ≤ 1
-one_wanted op None = omega arith
-one_wanted op (Some o) = at_most_one (is_some_id o (origin_by op.id op.kind))
+at_most_one_version : (op : Op) (x : Option OpId) → counts_of (versions_added (op ∷ [])) x ≤ 1
+at_most_one_version op None = omega arith
+at_most_one_version op (Some o) = at_most_one (is_some_id o (origin_by op.id op.kind))
 
 pub returns-clause-prepared : goal.returns-clause-prepared
 returns-clause-prepared c =
     let op = c.args.op.now in
     let folders = c.reserve_one.new.by_name.entries in
     let list = c.in_ok-list.list in
-    let few = one_wanted op (origin_by op.id op.kind) in
+    let low = at_most_one_version op (origin_by op.id op.kind) in
     let places = (c.in_ok-list.ensures {u = tt}).exact in
     let here : HasRoomFor (op ∷ []) op (λ n. find_folder n folders) =
     subst (λ (o : Op). HasRoomFor (o ∷ []) o (λ n. find_folder n folders)) c.op.ensures.op (c.in_ok-reserve_one.ensures {u = tt}).room in
     record {
       copies = ([], (c.in_ok-push_back-2.ensures {u = tt}).items ∙ (λ k. c.clear-2.ensures.items k ++ c.in_ok-copy.ensures {u = tt} k ∷ []));
-      lists = subst (HaveLists (op ∷ [])) (sym ((c.in_ok-push_back.ensures {u = tt}).items ∙ ap (λ (ls : List (Vec Version)). ls ++ list ∷ []) c.clear.ensures.items)) ((c.in_ok-list.ensures {u = tt}).items, omega (arith, few, places), tt);
+      lists = subst (HaveLists (op ∷ [])) (sym ((c.in_ok-push_back.ensures {u = tt}).items ∙ ap (λ (ls : List (Vec Version)). ls ++ list ∷ []) c.clear.ensures.items)) ((c.in_ok-list.ensures {u = tt}).items, omega (arith, low, places), tt);
       rooms = λ o h. elim h [
         | inl e ↦ subst (λ (p : Op). HasRoomFor (op ∷ []) p (λ n. find_folder n folders)) e here
         | inr n ↦ absurd n
       ];
-      letters = (c.in_ok-reserve.ensures {u = tt}).ok;
+      dated_texts = (c.in_ok-reserve.ensures {u = tt}).ok;
     }

@@ -4,14 +4,14 @@ use Rattle.std.proofs.lemmas.List.{nil_from_length}
 use Rattle.std.specs.Vec.Iter.{into_iter_items}
 use Rattle.imap_node.specs.declared.reply.Reply.{Reply}
 use Rattle.imap_syntax.specs.declared.command.Tagged.{Tagged}
-use Rattle.imap_connection.specs.Batches.{Carries}
+use Rattle.imap_connection.specs.Batches.{CarriesCommands}
 use Rattle.imap_connection.proofs.CarryLemmas.{carries_fault, carries_more}
 use Rattle.imap_connection.proofs.io_traits.Port.commands.Goals as goal
 
 pub loop-tagged-init : goal.loop-tagged-init
 loop-tagged-init g c =
     record {
-      carried = subst (λ (replies : List Reply). Carries g.Self.Port.steps c.args.self.now [] replies (Ok tt) c.args.self.now) (sym c.requires.none) refl;
+      carried = subst (λ (replies : List Reply). CarriesCommands g.Self.Port.steps c.args.self.now [] replies (Ok tt) c.args.self.now) (sym c.requires.none) refl;
       rest = sym c.into_iter-tagged-iterator.ensures.into_iter_gives.0;
       left = c.into_iter-tagged-iterator.ensures.into_iter_gives.1 ∙ search (rules, c.into_iter-tagged-iterator.ensures.into_iter_gives.0);
       len = search (rules, c.requires.none);
@@ -23,7 +23,7 @@ returns-in-Err g c =
     let at = c.loop-tagged.invariant in
     let left = into_iter_items c.next.new.self in
     let split : c.args.commands.items ≡ c.loop-tagged.yielded ++ c.in-Some.tagged ∷ left = at.rest ∙ ap (λ (xs : List Tagged). c.loop-tagged.yielded ++ xs) c.in-Some.ensures.steps.0 in
-    subst (λ (all : List Tagged). Carries g.Self.Port.steps c.args.self.now all c.loop-tagged.replies.items (Err c.in-Err.fault) c.command.new.self) (sym split)
+    subst (λ (all : List Tagged). CarriesCommands g.Self.Port.steps c.args.self.now all c.loop-tagged.replies.items (Err c.in-Err.fault) c.command.new.self) (sym split)
     (carries_fault g.Self.Port.steps c.loop-tagged.yielded left c.loop-tagged.replies.items c.args.self.now c.loop-tagged.self c.command.new.self c.in-Some.tagged c.in-Err.fault at.carried c.in-Err.ensures)
 
 pub push_reserved-requires : goal.push_reserved-requires
@@ -41,7 +41,7 @@ loop-tagged-preserved g c =
     let split : c.args.commands.items ≡ c.loop-tagged.yielded ++ c.in-Some.tagged ∷ left = at.rest ∙ ap (λ (xs : List Tagged). c.loop-tagged.yielded ++ xs) c.in-Some.ensures.steps.0 in
     let more = carries_more g.Self.Port.steps c.loop-tagged.yielded c.loop-tagged.replies.items c.args.self.now c.loop-tagged.self c.command.new.self c.in-Some.tagged c.in-Ok.reply at.carried c.in-Ok.ensures in
     record {
-      carried = subst (λ (replies : List Reply). Carries g.Self.Port.steps c.args.self.now (c.loop-tagged.yielded ++ c.in-Some.tagged ∷ []) replies (Ok tt) c.command.new.self) (sym c.push_reserved.ensures.items) more;
+      carried = subst (λ (replies : List Reply). CarriesCommands g.Self.Port.steps c.args.self.now (c.loop-tagged.yielded ++ c.in-Some.tagged ∷ []) replies (Ok tt) c.command.new.self) (sym c.push_reserved.ensures.items) more;
       rest = split ∙ sym (append_assoc c.loop-tagged.yielded (c.in-Some.tagged ∷ []) left);
       left = grind (arith, common_steps, at.left, c.in-Some.ensures.steps.0, c.in-Some.ensures.steps.1);
       len = grind (arith, common_steps, c.push_reserved.ensures.len, at.len);
@@ -53,4 +53,4 @@ returns g c =
     let at = c.loop-tagged.invariant in
     let none : into_iter_items c.loop-tagged.tagged-iterator ≡ [] = nil_from_length (into_iter_items c.loop-tagged.tagged-iterator) (sym at.left ∙ c.in-None.ensures.steps.0) in
     let whole : c.args.commands.items ≡ c.loop-tagged.yielded = at.rest ∙ ap (λ (xs : List Tagged). c.loop-tagged.yielded ++ xs) none ∙ append-nil c.loop-tagged.yielded in
-    subst (λ (all : List Tagged). Carries g.Self.Port.steps c.args.self.now all c.loop-tagged.replies.items (Ok tt) c.loop-tagged.self) (sym whole) at.carried
+    subst (λ (all : List Tagged). CarriesCommands g.Self.Port.steps c.args.self.now all c.loop-tagged.replies.items (Ok tt) c.loop-tagged.self) (sym whole) at.carried

@@ -1,13 +1,13 @@
 use Rattle.std.proofs.Common.{◌≡◌, ◌++◌, Ok, length, vec_capacity}
 use Rattle.std.specs.Prelude.{vec_len}
 use Rattle.std.specs.Vec.Iter.{into_iter_items, into_iter_len}
-use Rattle.imap_connection.specs.Batches.{Carries}
+use Rattle.imap_connection.specs.Batches.{CarriesCommands}
 use Rattle.imap_connection.proofs.io_traits.Port.commands.Given as goal
 
 abbrev pub invariant-loop-tagged : goal.invariant-loop-tagged
 invariant-loop-tagged g l =
     record {
-      carried : Carries g.Self.Port.steps l.initial.self l.yielded l.replies.items (Ok tt) l.self;
+      carried : CarriesCommands g.Self.Port.steps l.initial.self l.yielded l.replies.items (Ok tt) l.self;
       rest : l.fn.commands.items ≡ l.yielded ++ into_iter_items l.tagged-iterator;
       left : into_iter_len l.tagged-iterator ≡ length (into_iter_items l.tagged-iterator);
       len : vec_len l.replies ≡ length l.yielded;

@@ -1,11 +1,11 @@
 use Rattle.std.proofs.Common.{List, ℕ, subst}
-use Rattle.imap_node.specs.ChangeNotes.{MailboxSnapshot, TellsOf}
-use Rattle.imap_node.proofs.NewsLemmas.{names_in}
+use Rattle.imap_node.specs.ChangeNotes.{MailboxSnapshot, NamesTouched}
+use Rattle.imap_node.proofs.ChangeNotesLemmas.{names_in}
 use Rattle.imap_node.proofs.change_notes.MailboxSnapshot.notes.Goals as goal
 
 pub returns-clause-notes : goal.returns-clause-notes
 returns-clause-notes c = λ start before ops a is u n.
     let inside = c.self.inside in
     let notes = c.in_ok-notes.notes.items in
-    let tells = subst (λ (touched : List ℕ). TellsOf inside.uidvalidity c.args.uidvalidity inside.uidnext c.args.uidnext touched notes) c.deref.ensures.value (c.in_ok-notes.ensures {u = tt}) in
-    names_in start before ops c.args.self.name c.args.self c.args.uidvalidity c.args.uidnext notes a is u n (subst (λ (ahead : MailboxSnapshot). TellsOf ahead.uidvalidity c.args.uidvalidity ahead.uidnext c.args.uidnext ahead.touched notes) c.self.view_is tells)
+    let names = subst (λ (touched : List ℕ). NamesTouched inside.uidvalidity c.args.uidvalidity inside.uidnext c.args.uidnext touched notes) c.deref.ensures.value (c.in_ok-notes.ensures {u = tt}) in
+    names_in start before ops c.args.self.name c.args.self c.args.uidvalidity c.args.uidnext notes a is u n (subst (λ (ahead : MailboxSnapshot). NamesTouched ahead.uidvalidity c.args.uidvalidity ahead.uidnext c.args.uidnext ahead.touched notes) c.self.view_is names)

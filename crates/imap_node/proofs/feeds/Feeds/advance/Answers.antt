@@ -8,6 +8,6 @@ use Rattle.imap_node.proofs.feeds.Feeds.advance.Goals as goal
 
 pub returns-clause-noted : goal.returns-clause-noted
 returns-clause-noted c = λ start ops leaves noted.
-    c.go_in.ensures.noted start ops
+    c.advance_in.ensures.noted start ops
     (λ s at. leaves s (subst (λ (places : Places). session_at places c.args.session ≡ Some s) c.sessions.view_is at))
     (subst (λ (places : Places). AreAllNoted start ops places c.self.inside.feeds.items) (sym c.sessions.view_is) (subst (λ (feeds : List FeedState). AreAllNoted start ops c.args.sessions.now feeds) (sym c.self.view_is) noted))

@@ -6,7 +6,7 @@ use Rattle.imap_node.proofs.feeds.Feeds.note.Goals as goal
 
 pub returns : goal.returns
 returns c = λ start before after change_notes noted.
-    let lent = c.deref.ensures.value ∙ c.sessions.view_is in
-    subst (λ (places : Places). AreAllNoted start after places c.note_in.new.feeds.items) lent
+    let places_are = c.deref.ensures.value ∙ c.sessions.view_is in
+    subst (λ (places : Places). AreAllNoted start after places c.note_in.new.feeds.items) places_are
     (c.note_in.ensures start before after change_notes
-    (subst (λ (places : Places). AreAllNoted start before places c.self.inside.feeds.items) (sym lent) (subst (λ (feeds : List FeedState). AreAllNoted start before c.args.sessions.now feeds) (sym c.self.view_is) noted)))
+    (subst (λ (places : Places). AreAllNoted start before places c.self.inside.feeds.items) (sym places_are) (subst (λ (feeds : List FeedState). AreAllNoted start before c.args.sessions.now feeds) (sym c.self.view_is) noted)))

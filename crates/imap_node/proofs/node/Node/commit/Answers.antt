@@ -1,7 +1,7 @@
 use Rattle.std.proofs.Common.{◌≡◌, ◌++◌, ℕ, Some, refl, sym, subst}
 use Rattle.imap_node.specs.Nodes.{NodeWithRoom}
 use Rattle.imap_node.specs.Plans.{IsPlanned}
-use Rattle.imap_node.proofs.GoingLemmas.{noted_as}
+use Rattle.imap_node.proofs.SessionChangeLemmas.{noted_as}
 use Rattle.imap_node.proofs.node.Node.commit.Goals as goal
 
 pub set_next-requires-clause-can : goal.set_next-requires-clause-can

@@ -8,7 +8,7 @@ use Rattle.causal_inbox.specs.declared.delivery.Delivered.{Delivered}
 use Rattle.crdt_ops.specs.declared.op.Op.{Op}
 use Rattle.imap_node.specs.Deliveries.{Delivers, IsRefusedAt}
 use Rattle.imap_node.specs.Nodes.{NodeWithRoom, replica_received}
-use Rattle.imap_node.proofs.GoingLemmas.{grown_long, grown_take, noted_as}
+use Rattle.imap_node.proofs.SessionChangeLemmas.{grown_long, grown_take, noted_as}
 use Rattle.imap_node.proofs.PlanLemmas.{deliver_grown, deliver_one, match_weaker}
 use Rattle.imap_node.proofs.node.Node.deliver.Goals as goal
 

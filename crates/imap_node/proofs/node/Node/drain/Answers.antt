@@ -3,7 +3,7 @@ use Rattle.causal_inbox.proofs.Union.{releases_grow, releases_start}
 use Rattle.crdt_ops.specs.declared.op.Op.{Op}
 use Rattle.imap_node.specs.Nodes.{replica_received}
 use Rattle.uid_projection.specs.Exhaustion.{Exhausts}
-use Rattle.imap_node.proofs.GoingLemmas.{grown_long, grown_take, noted_as}
+use Rattle.imap_node.proofs.SessionChangeLemmas.{grown_long, grown_take, noted_as}
 use Rattle.imap_node.proofs.node.Node.drain.Goals as goal
 use Rattle.crdt_ops.specs.Ops.{clock_of, id_of}
 

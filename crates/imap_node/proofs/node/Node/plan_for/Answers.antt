@@ -3,8 +3,8 @@ use Rattle.imap_node.specs.declared.plan.Plan.{Plan}
 use Rattle.imap_node.specs.Nodes.{NodeWithRoom, NodeState}
 use Rattle.imap_node.specs.Plans.{IsPlanned, IsPlanOf}
 use Rattle.imap_node.specs.Sessions.{IsOpen, Places, session_at}
-use Rattle.imap_node.proofs.GoingLemmas.{noted_as}
-use Rattle.imap_node.proofs.PlanLemmas.{plan_planned_behind, plan_responds}
+use Rattle.imap_node.proofs.SessionChangeLemmas.{noted_as}
+use Rattle.imap_node.proofs.PlanLemmas.{plan_planned_after, plan_responds}
 use Rattle.imap_node.proofs.node.Node.plan_for.Goals as goal
 
 pub returns-clause-planned : goal.returns-clause-planned
@@ -15,15 +15,15 @@ returns-clause-planned c =
     let node : NodeWithRoom = record { state = record { start = replica.start; applied = replica.applied; held = replica.held; sessions = done.new.sessions }; room = replica.room } in
     let opened : IsOpen old.sessions c.args.session = subst (λ (k : NodeWithRoom). IsOpen k.state.sessions c.args.session) (sym c.self.view_is) c.requires in
     subst (λ (plan : Plan). IsPlanned node plan) (sym c.plan_by.ensures)
-    (plan_planned_behind old.replica.start old.replica.applied old.sessions node c.args.session c.in-Some.found.now.state c.args.input.now done.result done.ensures.start done.ensures.applied done.ensures.sessions opened
-    done.ensures.issued done.ensures.room done.ensures.news done.ensures.can)
+    (plan_planned_after old.replica.start old.replica.applied old.sessions node c.args.session c.in-Some.entry.now.state c.args.input.now done.result done.ensures.start done.ensures.applied done.ensures.sessions opened
+    done.ensures.issued done.ensures.room done.ensures.changes done.ensures.can)
 
 pub returns-clause-responds : goal.returns-clause-responds
 returns-clause-responds c =
     let done = c.prepare_for-outcome in
     let replica = c.self.inside.replica in
     let old : NodeState = record { start = replica.start; applied = replica.applied; held = replica.held; sessions = c.self.inside.sessions } in
-    let session = c.in-Some.found.now in
+    let session = c.in-Some.entry.now in
     let at : session_at old.sessions c.args.session ≡ Some session = ap (λ (places : Places). session_at places c.args.session) (sym done.ensures.sessions) ∙ sym (c.in-Some.ensures {u = tt}) in
     subst (λ (k : NodeWithRoom). IsPlanOf k.state c.args.session c.args.input.now c.plan_by.result) c.self.view_is
     (subst (λ (plan : Plan). IsPlanOf old c.args.session c.args.input.now plan) (sym c.plan_by.ensures)

@@ -2,7 +2,7 @@ use Rattle.std.proofs.Common.{refl, ap, subst}
 use Rattle.causal_inbox.specs.Inbox.{ReceivedOps}
 use Rattle.crdt_ops.specs.declared.op.Op.{Op}
 use Rattle.uid_projection.specs.declared.first_numbers.Counters.{Counters}
-use Rattle.imap_node.proofs.GoingLemmas.{noted_as}
+use Rattle.imap_node.proofs.SessionChangeLemmas.{noted_as}
 use Rattle.imap_node.specs.Deliveries.{StallsAt}
 use Rattle.imap_node.specs.Nodes.{NodeWithRoom}
 use Rattle.imap_node.proofs.node.Node.stall.Goals as goal

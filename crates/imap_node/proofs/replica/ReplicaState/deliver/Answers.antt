@@ -9,5 +9,5 @@ use Rattle.crdt_ops.specs.Ops.{clock_of, id_of}
 
 pub returns-clause-answer : goal.returns-clause-answer
 returns-clause-answer c =
-    subst (λ (r : ReplicaWithRoom). MatchResult c.deliver.result (λ d. Arrives id_of clock_of Exhausts (replica_received r) c.args.op d.arrival c.deliver.new.self.seen) (λ e. Refuses id_of clock_of Exhausts (replica_received r) c.args.op e)) c.self.view_is
+    subst (λ (r : ReplicaWithRoom). MatchResult c.deliver.result (λ d. Arrives id_of clock_of Exhausts (replica_received r) c.args.op d.arrival c.deliver.new.self.received) (λ e. Refuses id_of clock_of Exhausts (replica_received r) c.args.op e)) c.self.view_is
     c.deliver.ensures.answer

@@ -12,5 +12,5 @@ returns c =
     (record {
       sound = c.op_list-list.ensures.sound;
       causal = c.op_list-list.ensures.lawful.causal;
-      made = ap (λ p. p.0) (c.value.ensures.meaning ∙ fold_pair effect_of subscriptions.effect_of no_contents subscriptions.no_subscriptions c.self.inside.inbox.seen.applied);
+      made = ap (λ p. p.0) (c.value.ensures.meaning ∙ fold_pair effect_of subscriptions.effect_of no_contents subscriptions.no_subscriptions c.self.inside.inbox.received.applied);
     })

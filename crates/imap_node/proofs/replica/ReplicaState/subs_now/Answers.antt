@@ -12,5 +12,5 @@ returns c =
     (record {
       sound = c.op_list-list.ensures.sound;
       causal = c.op_list-list.ensures.lawful.causal;
-      made = ap (λ p. p.1) (c.value.ensures.meaning ∙ fold_pair folders.effect_of effect_of folders.no_contents no_subscriptions c.self.inside.inbox.seen.applied);
+      made = ap (λ p. p.1) (c.value.ensures.meaning ∙ fold_pair folders.effect_of effect_of folders.no_contents no_subscriptions c.self.inside.inbox.received.applied);
     })

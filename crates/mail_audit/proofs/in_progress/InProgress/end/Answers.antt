@@ -2,11 +2,11 @@ use Rattle.std.proofs.Common.{ℕ, List, ap, sym, subst, ◌∙◌, arith}
 use Rattle.std.specs.BTreeMap.{is_at}
 use Rattle.std.specs.Map.{values_of}
 use Rattle.std.specs.Ordering.{nat_cmp}
-use Rattle.mail_audit.specs.Counts.{how_many}
-use Rattle.mail_audit.specs.NumberedCommands.{AreRising, kept_for, numbers_of}
+use Rattle.mail_audit.specs.Counts.{count_of}
+use Rattle.mail_audit.specs.NumberedCommands.{AreRising, stored_for, numbers_of}
 use Rattle.mail_audit.specs.Transcripts.{without_ended}
 use Rattle.mail_audit.specs.declared.in_progress.RunningCommand.{RunningCommand}
-use Rattle.mail_audit.proofs.RunningLemmas.{counted_less, first_ended, first_taken, first_there, none_ended, rising_less}
+use Rattle.mail_audit.proofs.RunningLemmas.{counted_less, first_ended, first_taken, first_exists, none_ended, rising_less}
 use Rattle.mail_audit.proofs.in_progress.InProgress.end.Goals as goal
 
 pub returns-in_default : goal.returns-in_default
@@ -34,8 +34,8 @@ invariant_of-self-in-Some-remove c =
     let removed = c.in-Some-remove.ensures {u = tt} in
     let m = counted_less (λ (r : RunningCommand). r.may_expunge) test es c.in-Some-remove.command removed.value in
     let k = counted_less (λ (r : RunningCommand). r.idles) test es c.in-Some-remove.command removed.value in
-    let a = ap (λ (xs : List (ℕ × RunningCommand)). how_many (λ (r : RunningCommand). r.may_expunge) (values_of xs)) removed.entries in
-    let b = ap (λ (xs : List (ℕ × RunningCommand)). how_many (λ (r : RunningCommand). r.idles) (values_of xs)) removed.entries in
+    let a = ap (λ (xs : List (ℕ × RunningCommand)). count_of (λ (r : RunningCommand). r.may_expunge) (values_of xs)) removed.entries in
+    let b = ap (λ (xs : List (ℕ × RunningCommand)). count_of (λ (r : RunningCommand). r.idles) (values_of xs)) removed.entries in
     let f = c.from.ensures in
     let g = c.from-in-Some-remove.ensures in (
       grind (arith, m, a, f, inv.0),
@@ -47,17 +47,17 @@ invariant_of-self-in-Some-remove c =
 pub invariant_of-self-in_default-remove : goal.invariant_of-self-in_default-remove
 invariant_of-self-in_default-remove c =
     let tag = c.args.tag.now in
-    absurd (first_there tag c.self.inside.commands.entries c.in-Some.number (kept_for tag c.take_first.new.numbers.entries) (c.self.invariant.3 tag ∙ (c.in-Some.ensures {u = tt}).taken) (c.in_default-remove.ensures {u = tt}).value)
+    absurd (first_exists tag c.self.inside.commands.entries c.in-Some.number (stored_for tag c.take_first.new.numbers.entries) (c.self.invariant.3 tag ∙ (c.in-Some.ensures {u = tt}).taken) (c.in_default-remove.ensures {u = tt}).value)
 
 pub returns-in-Some-remove : goal.returns-in-Some-remove
 returns-in-Some-remove c =
     let tag = c.args.tag.now in
     let taken = c.self.invariant.3 tag ∙ (c.in-Some.ensures {u = tt}).taken in
     ap values_of (c.in-Some-remove.ensures {u = tt}).entries
-    ∙ sym (first_ended 0 c.self.inside.next tag c.self.inside.commands.entries c.in-Some.number (kept_for tag c.take_first.new.numbers.entries) c.self.invariant.2 taken)
+    ∙ sym (first_ended 0 c.self.inside.next tag c.self.inside.commands.entries c.in-Some.number (stored_for tag c.take_first.new.numbers.entries) c.self.invariant.2 taken)
     ∙ ap (without_ended tag) c.self.view_is
 
 pub returns-in_default-remove : goal.returns-in_default-remove
 returns-in_default-remove c =
     let tag = c.args.tag.now in
-    absurd (first_there tag c.self.inside.commands.entries c.in-Some.number (kept_for tag c.take_first.new.numbers.entries) (c.self.invariant.3 tag ∙ (c.in-Some.ensures {u = tt}).taken) (c.in_default-remove.ensures {u = tt}).value)
+    absurd (first_exists tag c.self.inside.commands.entries c.in-Some.number (stored_for tag c.take_first.new.numbers.entries) (c.self.invariant.3 tag ∙ (c.in-Some.ensures {u = tt}).taken) (c.in_default-remove.ensures {u = tt}).value)

@@ -1,7 +1,7 @@
 use Rattle.std.proofs.Common.{◌≡◌, inl, List, [], ◌∷◌, ◌++◌, sym, subst, rules}
 use Rattle.crdt_ops.specs.declared.op.Op.{Op}
 use Rattle.mail_audit.proofs.AppliedLemmas.{ordered_more}
-use Rattle.mail_audit.specs.DumpLines.{StandsBehind}
+use Rattle.mail_audit.specs.DumpLines.{IsAboveLast}
 use Rattle.mail_audit.specs.Dumps.{AreOrdered}
 use Rattle.mail_audit.proofs.op_lines.OpLines.push.Goals as goal
 
@@ -9,6 +9,6 @@ pub returns-in_ok-push-in-Some : goal.returns-in_ok-push-in-Some
 returns-in_ok-push-in-Some c =
     let old = c.args.self.now.ops.items in
     let items : c.push.new.self.items ≡ old ++ c.args.op ∷ [] = search rules in
-    let above : StandsBehind c.deref.result.now c.args.op.id = c.is_above.ensures.0 (search rules) in
-    let behind : StandsBehind old c.args.op.id = subst (λ (os : List Op). StandsBehind os c.args.op.id) c.deref.ensures.value above in
-    inl (c.if-self.false, c.if-self.false, items, λ a. subst AreOrdered (sym items) (ordered_more old c.args.op behind a))
+    let above : IsAboveLast c.deref.result.now c.args.op.id = c.is_above.ensures.0 (search rules) in
+    let after : IsAboveLast old c.args.op.id = subst (λ (os : List Op). IsAboveLast os c.args.op.id) c.deref.ensures.value above in
+    inl (c.if-self.false, c.if-self.false, items, λ a. subst AreOrdered (sym items) (ordered_more old c.args.op after a))

@@ -1,6 +1,6 @@
 use Rattle.std.proofs.Common.{refl, subst}
-use Rattle.mail_audit.proofs.StepLemmas.{closed_stands, compared_step, longer_stands, op_no_end}
-use Rattle.mail_audit.specs.DumpLines.{IsDumpLine, PhaseStands}
+use Rattle.mail_audit.proofs.StepLemmas.{closed_phase, compared_step, longer_ops, op_no_end}
+use Rattle.mail_audit.specs.DumpLines.{IsDumpLine, IsPhase}
 use Rattle.mail_audit.specs.declared.open_dump.Comparison.{Comparison}
 use Rattle.mail_audit.proofs.open_dump.OpenDump.take.Goals as goal
 
@@ -8,13 +8,13 @@ pub returns-in_ok-push-in-Op-clause-step : goal.returns-in_ok-push-in-Op-clause-
 returns-in_ok-push-in-Op-clause-step c = λ inside s n.
     let line = c.args.line.now in
     let read = subst (IsDumpLine line) c.in-Op.is c.in_ok-op-in-Ops.ensures in (
-      longer_stands inside line read.0 c.in-Ops.lines c.push.new.self c.in-Op.op (subst (PhaseStands inside) c.in-Ops.is s) read.1 read.2 (c.in_ok-push-in-Op.ensures {u = tt}),
+      longer_ops inside line read.0 c.in-Ops.lines c.push.new.self c.in-Op.op (subst (IsPhase inside) c.in-Ops.is s) read.1 read.2 (c.in_ok-push-in-Op.ensures {u = tt}),
       op_no_end line read.0 read.1,
     )
 
 pub returns-in_ok-step-in-Lines-clause-step : goal.returns-in_ok-step-in-Lines-clause-step
 returns-in_ok-step-in-Lines-clause-step c = λ inside s n.
-    let begun : Comparison = record { lines = c.in-Lines.lines; came = 0 } in
-    let closed = c.in_ok-place-in-Other.ensures inside (subst (PhaseStands inside) c.in-Ops.is s) in
-    let stands = closed_stands inside c.in_ok-place-in-Other.field-0 begun c.in-Lines.is refl closed in
-    compared_step c.args.self.now.first inside c.args.line.now c.args.number begun c.take-in-Lines.new.self c.in_ok-step-in-Lines.step stands n c.in_ok-step-in-Lines.ensures
+    let start : Comparison = record { lines = c.in-Lines.lines; pos = 0 } in
+    let closed = c.in_ok-place-in-Other.ensures inside (subst (IsPhase inside) c.in-Ops.is s) in
+    let has_taken = closed_phase inside c.in_ok-place-in-Other.field-0 start c.in-Lines.is refl closed in
+    compared_step c.args.self.now.first inside c.args.line.now c.args.number start c.take-in-Lines.new.self c.in_ok-step-in-Lines.step has_taken n c.in_ok-step-in-Lines.ensures

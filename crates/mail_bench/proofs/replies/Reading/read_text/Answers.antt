@@ -1,13 +1,13 @@
 use Rattle.std.proofs.Common.{◌∙◌}
-use Rattle.mail_bench.proofs.ReplyLemmas.{all_text_heard, heard_so, text_and_more_heard}
+use Rattle.mail_bench.proofs.ReplyLemmas.{scan_all_text, scan_is, scan_text_and_more}
 use Rattle.mail_bench.proofs.replies.Reading.read_text.Goals as goal
 
-pub returns-in_ok-keep-in-Some-clause-heard : goal.returns-in_ok-keep-in-Some-clause-heard
-returns-in_ok-keep-in-Some-clause-heard c =
-    let heard = text_and_more_heard c.args.octets.now c.args.self.now.line.items c.in-Some.at c.in-Some.ensures.0.high c.in-Some.ensures.0.before in
-    heard_so c.args.octets.now c.args.self.now.line.items _ _ _ _ _ heard (c.in_ok-keep-in-Some.ensures.stage ∙ c.in_line.ensures) c.in_ok-keep-in-Some.ensures.line
+pub returns-in_ok-push_text-in-Some-clause-scan : goal.returns-in_ok-push_text-in-Some-clause-scan
+returns-in_ok-push_text-in-Some-clause-scan c =
+    let scan = scan_text_and_more c.args.octets.now c.args.self.now.line.items c.in-Some.at c.in-Some.ensures.0.high c.in-Some.ensures.0.before in
+    scan_is c.args.octets.now c.args.self.now.line.items _ _ _ _ _ scan (c.in_ok-push_text-in-Some.ensures.stage ∙ c.in_line.ensures) c.in_ok-push_text-in-Some.ensures.line
 
-pub returns-in_ok-keep-in-None-clause-heard : goal.returns-in_ok-keep-in-None-clause-heard
-returns-in_ok-keep-in-None-clause-heard c =
-    let heard = all_text_heard c.args.octets.now c.args.self.now.line.items c.in-None.ensures in
-    heard_so c.args.octets.now c.args.self.now.line.items _ _ _ _ _ heard c.in_ok-keep-in-None.ensures.stage c.in_ok-keep-in-None.ensures.line
+pub returns-in_ok-push_text-in-None-clause-scan : goal.returns-in_ok-push_text-in-None-clause-scan
+returns-in_ok-push_text-in-None-clause-scan c =
+    let scan = scan_all_text c.args.octets.now c.args.self.now.line.items c.in-None.ensures in
+    scan_is c.args.octets.now c.args.self.now.line.items _ _ _ _ _ scan c.in_ok-push_text-in-None.ensures.stage c.in_ok-push_text-in-None.ensures.line

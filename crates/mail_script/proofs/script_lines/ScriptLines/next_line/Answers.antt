@@ -1,6 +1,6 @@
 use Rattle.std.proofs.Common.{arith, ap, take, length, ◌-◌, ◌+◌, sym, ◌∙◌}
 use Rattle.mail_script.specs.Reading.{cut_at}
-use Rattle.mail_script.proofs.LineLemmas.{all_searched, count_fits, line_found, none_between, part_is, taken_fits}
+use Rattle.mail_script.proofs.LineLemmas.{all_searched, count_fits, next_line_is, none_between, part_is, taken_fits}
 use Rattle.mail_script.proofs.script_lines.ScriptLines.next_line.Goals as goal
 
 pub invariant_of-self : goal.invariant_of-self
@@ -33,5 +33,5 @@ pub returns-in_ok-line-in-Some-clause-ok : goal.returns-in_ok-line-in-Some-claus
 returns-in_ok-line-in-Some-clause-ok c =
     let o = c.self.inside.octets in
     let n = c.in-Some.ensures ∙ ap (cut_at 10) (part_is c.self.inside.searched o.items c.deref.result.now c.deref.ensures.value) in
-    line_found c.self.inside.taken c.self.inside.searched o.items c.args.self.now c.in-Some.end.now c.in-Some.field-0-1.now c.in_ok-line-in-Some.line c.self.invariant (sym c.self.view_is) n
+    next_line_is c.self.inside.taken c.self.inside.searched o.items c.args.self.now c.in-Some.end.now c.in-Some.field-0-1.now c.in_ok-line-in-Some.line c.self.invariant (sym c.self.view_is) n
     (c.in_ok-line-in-Some.ensures ∙ ap (take (c.self.inside.searched - c.self.inside.taken + length c.in-Some.end.now)) c.rest.ensures)

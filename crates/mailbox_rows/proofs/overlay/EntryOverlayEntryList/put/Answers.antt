@@ -1,8 +1,8 @@
 use Rattle.std.proofs.Common.{◌+◌, ◌*◌, ◌≤◌, ◌++◌, ap, refl, sym, subst, arith}
 use Rattle.mailbox_rows.specs.ModSeqLog.{AreLogged}
 use Rattle.mailbox_rows.specs.ListingEntries.{AreBelow, AreIndexed, AreRising, Lacks, first_of, is_id, indexed_value, indexed_over}
-use Rattle.mailbox_rows.proofs.Changing.{are_noted_more, both, both_true, noted_over, noted_over_more, noted_put}
-use Rattle.mailbox_rows.proofs.Indexing.{indexed_beside, indexed_put, is_id_same, pick_else, pick_then, rising_put}
+use Rattle.mailbox_rows.proofs.ChangedEntryLemmas.{are_noted_more, both, both_true, noted_over, noted_over_more, noted_put}
+use Rattle.mailbox_rows.proofs.IndexLemmas.{indexed_others, indexed_put, is_id_same, pick_else, pick_then, rising_put}
 use Rattle.mailbox_rows.proofs.overlay.EntryOverlayEntryList.put.Goals as goal
 
 pub invariant_of-self : goal.invariant_of-self
@@ -10,23 +10,23 @@ invariant_of-self c =
     let o = c.self.inside in
     let es = o.list.items in
     let x = c.args.entry in
-    let kept = o.kept.now.entries in
+    let stored = o.stored.now.entries in
     let same = ap (λ o. o.entries) c.self.view_is in
-    let f = indexed_over o.own.entries kept in
-    let h = indexed_over c.note.new.uids.entries kept in
+    let f = indexed_over o.own.entries stored in
+    let h = indexed_over c.note.new.uids.entries stored in
     let lacks = subst (Lacks x.origin) (sym same) c.requires.fresh in
     let below = subst (AreBelow x.uid) (sym same) c.requires.beyond in
-    let beside = indexed_beside f h x.origin es lacks (λ i apart. ap (λ t. first_of t (indexed_value kept i)) (pick_else (is_id x.origin i) _ _ _ apart (c.note.ensures.told i))) c.self.invariant.1 in
-    let own = ap (λ t. first_of t (indexed_value kept x.origin)) (pick_then (is_id x.origin x.origin) _ _ _ (is_id_same x.origin) (c.note.ensures.told x.origin)) in (
+    let indexed = indexed_others f h x.origin es lacks (λ i apart. ap (λ t. first_of t (indexed_value stored i)) (pick_else (is_id x.origin i) _ _ _ apart (c.note.ensures.lookups i))) c.self.invariant.1 in
+    let own = ap (λ t. first_of t (indexed_value stored x.origin)) (pick_then (is_id x.origin x.origin) _ _ _ (is_id_same x.origin) (c.note.ensures.lookups x.origin)) in (
       subst (AreRising 1) (sym c.push.ensures.items) (rising_put 1 es x c.requires.first below c.self.invariant.0),
-      subst (AreIndexed h) (sym c.push.ensures.items) (indexed_put h es x beside own),
+      subst (AreIndexed h) (sym c.push.ensures.items) (indexed_put h es x indexed own),
       λ whole.
-          let kept = o.kept_changes.now in
+          let stored = o.stored_changes.now in
           let now = c.note-2.new.self in
-          let parts = both_true kept.is_whole now.is_whole whole in
+          let parts = both_true stored.is_whole now.is_whole whole in
           let was = c.note-2.ensures.others parts.1 in
-          let all = c.self.invariant.2 (both kept.is_whole o.own_changes.is_whole parts.0 was.0) in
-          subst (AreLogged (kept.list ++ now.list)) (sym c.push.ensures.items) (noted_put (kept.list ++ now.list) es x (noted_over kept.list now.list x (c.note-2.ensures.own parts.1 x refl refl)) (are_noted_more (kept.list ++ o.own_changes.list) (kept.list ++ now.list) es (λ e. noted_over_more kept.list o.own_changes.list now.list e (was.1 e)) all)),
+          let all = c.self.invariant.2 (both stored.is_whole o.own_changes.is_whole parts.0 was.0) in
+          subst (AreLogged (stored.list ++ now.list)) (sym c.push.ensures.items) (noted_put (stored.list ++ now.list) es x (noted_over stored.list now.list x (c.note-2.ensures.own parts.1 x refl refl)) (are_noted_more (stored.list ++ o.own_changes.list) (stored.list ++ now.list) es (λ e. noted_over_more stored.list o.own_changes.list now.list e (was.1 e)) all)),
     )
 
 pub returns-clause-edits : goal.returns-clause-edits

@@ -1,17 +1,17 @@
 use Rattle.std.proofs.Common.{◌+◌, ◌*◌, ◌≤◌, ◌++◌, ap, sym, subst, arith}
 use Rattle.mailbox_rows.specs.ModSeqLog.{AreLogged}
 use Rattle.mailbox_rows.specs.ListingEntries.{AreIndexed, AreRising, indexed_over}
-use Rattle.mailbox_rows.proofs.Changing.{noted_without}
-use Rattle.mailbox_rows.proofs.Indexing.{indexed_without, rising_without}
+use Rattle.mailbox_rows.proofs.ChangedEntryLemmas.{noted_without}
+use Rattle.mailbox_rows.proofs.IndexLemmas.{indexed_without, rising_without}
 use Rattle.mailbox_rows.proofs.overlay.EntryOverlayEntryList.take_out.Goals as goal
 
 pub invariant_of-self : goal.invariant_of-self
 invariant_of-self c =
     let o = c.self.inside in
-    let f = indexed_over o.own.entries o.kept.now.entries in (
+    let f = indexed_over o.own.entries o.stored.now.entries in (
       subst (AreRising 1) (sym c.remove.ensures.items) (rising_without 1 o.list.items c.args.place c.self.invariant.0),
       subst (AreIndexed f) (sym c.remove.ensures.items) (indexed_without f o.list.items c.args.place c.self.invariant.1),
-      λ whole. subst (AreLogged (o.kept_changes.now.list ++ o.own_changes.list)) (sym c.remove.ensures.items) (noted_without (o.kept_changes.now.list ++ o.own_changes.list) o.list.items c.args.place (c.self.invariant.2 whole)),
+      λ whole. subst (AreLogged (o.stored_changes.now.list ++ o.own_changes.list)) (sym c.remove.ensures.items) (noted_without (o.stored_changes.now.list ++ o.own_changes.list) o.list.items c.args.place (c.self.invariant.2 whole)),
     )
 
 pub returns-clause-edits : goal.returns-clause-edits

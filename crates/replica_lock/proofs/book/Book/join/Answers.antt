@@ -16,9 +16,9 @@ returns-in-Err c =
 pub returns : goal.returns
 returns c =
     let state = c.new-book.ensures.node ∙ c.in-Ok.ensures in
-    let told = (c.in_default-take_all.ensures {u = tt}).ok in (
-      told.0 ∙ ap (λ (s : NodeState). joined_book s.start.replica c.args.ops.now) state,
+    let joined = (c.in_default-take_all.ensures {u = tt}).ok in (
+      joined.0 ∙ ap (λ (s : NodeState). joined_book s.start.replica c.args.ops.now) state,
       c.in_default.ensures,
-      told.1,
-      subst (λ (s : Counters). ¬ Exhausts s [] c.args.ops.now) (ap (λ (s : NodeState). s.start) state) told.2,
+      joined.1,
+      subst (λ (s : Counters). ¬ Exhausts s [] c.args.ops.now) (ap (λ (s : NodeState). s.start) state) joined.2,
     )

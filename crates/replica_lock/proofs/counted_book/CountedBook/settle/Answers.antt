@@ -1,7 +1,7 @@
 use Rattle.std.proofs.Common.{◌∙◌, ap, length, subst, sym}
 use Rattle.std.specs.List.{slice_get}
 use Rattle.replica_lock.specs.Histories.{BookState}
-use Rattle.replica_lock.specs.Passes.{OutcomeStands}
+use Rattle.replica_lock.specs.Passes.{HasOutcomeAt}
 use Rattle.replica_lock.proofs.counted_book.CountedBook.settle.Goals as goal
 
 pub returns-in-Some-clause-denied : goal.returns-in-Some-clause-denied
@@ -13,6 +13,6 @@ returns-in-Some-clause-denied g c =
         w.1,
         ap (λ xs. slice_get xs w.0) (sym c.deref.ensures.value) ∙ w.2,
         w.3,
-        λ h. w.4 (subst (λ (b : BookState). OutcomeStands b.journal w.1.last w.1.seen) (sym c.self.view_is) h),
+        λ h. w.4 (subst (λ (b : BookState). HasOutcomeAt b.journal w.1.last w.1.seen) (sym c.self.view_is) h),
       ),
     )

@@ -1,6 +1,6 @@
 use Rattle.std.proofs.Common.{◌≡◌, ◌≤◌, refl, arith, rules}
-use Rattle.imap_connection.specs.PortCalls as asked
-use Rattle.server_runtime.proofs.CallLemmas.{commanded_on, stepped_between}
+use Rattle.imap_connection.specs.PortCalls as calls
+use Rattle.server_runtime.proofs.CallLemmas.{seen_after_command, steps_by_call}
 use Rattle.server_runtime.proofs.session_port.SessionPortPort.command.Goals as goal
 
 pub returns : goal.returns
@@ -8,6 +8,6 @@ returns g c =
     let same : c.deref.result.now.seen ≡ c.deref_mut.result.now.seen = search rules in
     let own : c.args.self.now.at.session ≡ c.deref_mut.result.now.session = search rules in
     let low : c.args.self.now.at.seen ≤ c.deref_mut.result.now.seen = omega (arith, c.if-not-knows.ensures.seen, same) in
-    let high : c.seen-self.result ≡ c.command_in-told.new.pass.seen = search rules in
-    let on = commanded_on c.deref_mut.result.now c.command_in-told.new.pass c.args.tagged c.command_in-told.ensures.once in
-    stepped_between (asked.Command c.args.tagged) c.args.self.now.at (record { session = c.args.self.now.at.session; seen = c.seen-self.result }) c.command_in-told.result c.deref_mut.result.now c.command_in-told.new.pass (own, low, refl, high) on c.command_in-told.ensures.told
+    let high : c.seen-self.result ≡ c.command_in-response.new.pass.seen = search rules in
+    let on = seen_after_command c.deref_mut.result.now c.command_in-response.new.pass c.args.tagged c.command_in-response.ensures.once in
+    steps_by_call (calls.Command c.args.tagged) c.args.self.now.at (record { session = c.args.self.now.at.session; seen = c.seen-self.result }) c.command_in-response.result c.deref_mut.result.now c.command_in-response.new.pass (own, low, refl, high) on c.command_in-response.ensures.response

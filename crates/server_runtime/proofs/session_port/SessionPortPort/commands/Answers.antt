@@ -1,8 +1,8 @@
 use Rattle.std.proofs.Common.{◌≡◌, ◌≤◌, ℕ, refl, sym, subst, arith, rules}
-use Rattle.imap_connection.specs.Batches.{Carries}
+use Rattle.imap_connection.specs.Batches.{CarriesCommands}
 use Rattle.imap_connection.specs.declared.fault.PortFault.TheVariants.{Torn}
 use Rattle.server_runtime.specs.Calls.{StepsByCall}
-use Rattle.server_runtime.proofs.CallLemmas.{carried_by_port, carried_from, refused_by_port}
+use Rattle.server_runtime.proofs.CallLemmas.{carries_by_port, carries_from, refused_by_port}
 use Rattle.server_runtime.proofs.session_port.SessionPortPort.commands.Goals as goal
 
 pub returns-then-not-knows : goal.returns-then-not-knows
@@ -13,10 +13,10 @@ returns g c =
     let same : c.deref.result.now.seen ≡ c.deref_mut.result.now.seen = search rules in
     let own : c.args.self.now.at.session ≡ c.deref_mut.result.now.session = search rules in
     let low : c.args.self.now.at.seen ≤ c.deref_mut.result.now.seen = omega (arith, c.if-not-knows.ensures.seen, same) in
-    let high : c.seen-self.result ≡ c.commands_in-told.new.pass.seen = search rules in
+    let high : c.seen-self.result ≡ c.commands_in-response.new.pass.seen = search rules in
     let all = c.args.commands.items in
-    let replies = c.commands_in-told.new.replies.items in
-    let told = c.commands_in-told.result in
-    let exact = carried_from all replies told c.args.self.now.at c.deref_mut.result.now c.commands_in-told.new.pass c.requires.some own low c.commands_in-told.ensures in
-    carried_by_port c.args.self.now _ (λ s. s.at) (λ s x. record s { at = x }) (λ s x. refl) (λ s. refl) all replies told c.requires.some
-    (subst (λ (n : ℕ). Carries StepsByCall c.args.self.now.at all replies told (record { session = c.args.self.now.at.session; seen = n })) (sym high) exact)
+    let replies = c.commands_in-response.new.replies.items in
+    let response = c.commands_in-response.result in
+    let exact = carries_from all replies response c.args.self.now.at c.deref_mut.result.now c.commands_in-response.new.pass c.requires.some own low c.commands_in-response.ensures in
+    carries_by_port c.args.self.now _ (λ s. s.at) (λ s x. record s { at = x }) (λ s x. refl) (λ s. refl) all replies response c.requires.some
+    (subst (λ (n : ℕ). CarriesCommands StepsByCall c.args.self.now.at all replies response (record { session = c.args.self.now.at.session; seen = n })) (sym high) exact)

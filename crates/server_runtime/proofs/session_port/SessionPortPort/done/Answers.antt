@@ -1,6 +1,6 @@
 use Rattle.std.proofs.Common.{◌≡◌, ◌≤◌, refl, arith, rules}
-use Rattle.imap_connection.specs.PortCalls as asked
-use Rattle.server_runtime.proofs.CallLemmas.{lined_on, stepped_between}
+use Rattle.imap_connection.specs.PortCalls as calls
+use Rattle.server_runtime.proofs.CallLemmas.{seen_after_line, steps_by_call}
 use Rattle.server_runtime.proofs.session_port.SessionPortPort.done.Goals as goal
 
 pub returns : goal.returns
@@ -8,6 +8,6 @@ returns g c =
     let same : c.deref.result.now.seen ≡ c.deref_mut.result.now.seen = search rules in
     let own : c.args.self.now.at.session ≡ c.deref_mut.result.now.session = search rules in
     let low : c.args.self.now.at.seen ≤ c.deref_mut.result.now.seen = omega (arith, c.if-not-knows.ensures.seen, same) in
-    let high : c.seen-self.result ≡ c.line_in-told.new.pass.seen = search rules in
-    let on = lined_on c.deref_mut.result.now c.line_in-told.new.pass c.args.line c.line_in-told.ensures.once in
-    stepped_between (asked.Line c.args.line) c.args.self.now.at (record { session = c.args.self.now.at.session; seen = c.seen-self.result }) c.line_in-told.result c.deref_mut.result.now c.line_in-told.new.pass (own, low, refl, high) on c.line_in-told.ensures.told
+    let high : c.seen-self.result ≡ c.line_in-response.new.pass.seen = search rules in
+    let on = seen_after_line c.deref_mut.result.now c.line_in-response.new.pass c.args.line c.line_in-response.ensures.once in
+    steps_by_call (calls.Line c.args.line) c.args.self.now.at (record { session = c.args.self.now.at.session; seen = c.seen-self.result }) c.line_in-response.result c.deref_mut.result.now c.line_in-response.new.pass (own, low, refl, high) on c.line_in-response.ensures.response

@@ -7,8 +7,8 @@ use Rattle.subs_state.proofs.subs.SubsReplicated.apply.Goals as goal
 
 pub returns-clause-meaning : goal.returns-clause-meaning
 returns-clause-meaning c = λ k n i. (
-    c.add_tag_of.ensures.found n i
-    ∙ ap (λ b. adds (SubscriptionTag n i) c.op-op.result.now || b) (c.remove_tags_of.ensures.found n i)
+    c.add_tag_of.ensures.listed n i
+    ∙ ap (λ b. adds (SubscriptionTag n i) c.op-op.result.now || b) (c.remove_tags_of.ensures.listed n i)
     ∙ ap (λ (o : Op). adds (SubscriptionTag n i) o || (not (removes (SubscriptionTag n i) o) && tag_in c.args.self.now.tags.entries n i)) c.op-op.ensures.op
     ) k
 

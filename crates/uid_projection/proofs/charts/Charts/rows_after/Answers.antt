@@ -5,21 +5,21 @@ use Rattle.uid_projection.specs.FolderAhead.{folder_of}
 use Rattle.uid_projection.specs.NextOps.{IsNextAhead}
 use Rattle.uid_projection.specs.Chart.{IsChart}
 use Rattle.uid_projection.specs.Listing.{listing}
-use Rattle.uid_projection.proofs.Asked.{if_ok}
-use Rattle.uid_projection.proofs.Overlaid.{made_after}
+use Rattle.uid_projection.proofs.ChartQueryLemmas.{if_ok}
+use Rattle.uid_projection.proofs.AheadLemmas.{made_after}
 use Rattle.uid_projection.proofs.charts.Charts.rows_after.Goals as goal
 
 pub returns : goal.returns
-returns c = λ list f m a lasts.
+returns c = λ list f m a not_exhausted.
     let s = c.args.self.now in
     let n = c.args.name.now in
     let ops = c.args.ops.now in
     let value = contents_of c.args.value.now in
     let first = c.in_ok-ahead.ensures in
     let b = c.in_ok-advance_over.ensures in
-    let behind = c.advance_over.new.ahead in
+    let advanced = c.advance_over.new.ahead in
     let y = c.advance_over.new.chart in
-    let own : folder_of behind ≡ n = c.advance_over.ensures.folder ∙ first.folder in
+    let own : folder_of advanced ≡ n = c.advance_over.ensures.folder ∙ first.folder in
     let w : IsNextAhead s.start n s.nothing.entries value list ops c.in_ok-ahead.ahead = record {
       own = first.folder;
       none = f.nothing;

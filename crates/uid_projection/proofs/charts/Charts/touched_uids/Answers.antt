@@ -3,8 +3,8 @@ use Rattle.std.proofs.lemmas.Result.{IfOk-weaker}
 use Rattle.uid_projection.specs.UidsAndModSeqs.{uidnext_of}
 use Rattle.uid_projection.specs.Listing.{listing}
 use Rattle.uid_projection.specs.TouchedMessages.{RowsStayExcept}
-use Rattle.uid_projection.proofs.Asked.{chart_without}
-use Rattle.uid_projection.proofs.Staying.{stays_but}
+use Rattle.uid_projection.proofs.ChartQueryLemmas.{chart_without}
+use Rattle.uid_projection.proofs.TouchedMessagesLemmas.{stays_but}
 use Rattle.uid_projection.proofs.Tables.{versions_none}
 use Rattle.uid_projection.proofs.charts.Charts.touched_uids.Goals as goal
 
@@ -18,6 +18,6 @@ pub returns-in-None : goal.returns-in-None
 returns-in-None c = λ list f a same.
     let s = c.args.self.now in
     let n = c.args.name.now in
-    let away = f.table.covers n (sym c.in-None.ensures) in
+    let absent = f.table.covers n (sym c.in-None.ensures) in
     subst (λ us. RowsStayExcept us (uidnext_of s.start n list) (listing s.start n list) (listing s.start n (list ++ c.args.ops.now))) (sym c.new.ensures.items)
-    (stays_but s.start n list c.args.ops.now a _ _ [] (chart_without s.start list s.next_k s.charts.entries n f.table (sym c.in-None.ensures)) _ (versions_none n list away) [] (record { kept = λ u i. i; named = λ apart e i t. absurd i }) same)
+    (stays_but s.start n list c.args.ops.now a _ _ [] (chart_without s.start list s.next_k s.charts.entries n f.table (sym c.in-None.ensures)) _ (versions_none n list absent) [] (record { retained = λ u i. i; named = λ apart e i t. absurd i }) same)

@@ -2,33 +2,33 @@ use Rattle.std.proofs.Common.{◌≡◌, ◌++◌, Some, sym, ap, ◌∙◌, ari
 use Rattle.std.proofs.lemmas.Bool.{false≢true}
 use Rattle.std.proofs.lemmas.Slice.Eq.{bytes_eq-Decides}
 use Rattle.imap_types.specs.Names.{inbox}
-use Rattle.uid_projection.proofs.Coming.{there_as}
+use Rattle.uid_projection.proofs.ExhaustionLemmas.{exists_as}
 use Rattle.uid_projection.proofs.LaterNumbers.{k_within_after, k_within_table}
-use Rattle.uid_projection.proofs.Noted.{validity_gone, validity_inbox, validity_there}
+use Rattle.uid_projection.proofs.NextOpLemmas.{validity_none, validity_inbox, validity_present}
 use Rattle.uid_projection.proofs.charts.Charts.uidvalidity_after.Goals as goal
 
 pub returns-then-is_inbox : goal.returns-then-is_inbox
-returns-then-is_inbox c = λ list f m a lasts. ap Some c.get.ensures.number ∙ validity_inbox c.args.self.now.start (list ++ c.args.ops.now) c.args.name.now (sym c.is_inbox.ensures ∙ c.if-is_inbox.true)
+returns-then-is_inbox c = λ list f m a not_exhausted. ap Some c.get.ensures.number ∙ validity_inbox c.args.self.now.start (list ++ c.args.ops.now) c.args.name.now (sym c.is_inbox.ensures ∙ c.if-is_inbox.true)
 
-pub returns-then-remains : goal.returns-then-remains
-returns-then-remains c = λ list f m a lasts.
-    c.uidvalidity.ensures list f ∙ sym (c.remains.ensures c.if-remains.true c.args.self.now.start list a m)
+pub returns-then-outlasts_ops : goal.returns-then-outlasts_ops
+returns-then-outlasts_ops c = λ list f m a not_exhausted.
+    c.uidvalidity.ensures list f ∙ sym (c.outlasts_ops.ensures c.if-outlasts_ops.true c.args.self.now.start list a m)
 
 pub returns-then-not-exists_after : goal.returns-then-not-exists_after
-returns-then-not-exists_after c = λ list f m a lasts.
+returns-then-not-exists_after c = λ list f m a not_exhausted.
     let now = list ++ c.args.ops.now in
-    let there = there_as c.args.name.now now c.exists_after.result (c.exists_after.ensures.set list m a.sound a.causal) in
-    validity_gone c.args.self.now.start now c.args.name.now (sym c.is_inbox.ensures ∙ c.if-is_inbox.false) (sym there ∙ c.if-not-exists_after.true)
+    let present = exists_as c.args.name.now now c.exists_after.result (c.exists_after.ensures.set list m a.sound a.causal) in
+    validity_none c.args.self.now.start now c.args.name.now (sym c.is_inbox.ensures ∙ c.if-is_inbox.false) (sym present ∙ c.if-not-exists_after.true)
 
 pub returns : goal.returns
-returns c = λ list f m a lasts.
+returns c = λ list f m a not_exhausted.
     let s = c.args.self.now in
     let n = c.args.name.now in
     let ops = c.args.ops.now in
     let now = list ++ ops in
     let other = sym c.is_inbox.ensures ∙ c.if-is_inbox.false in
-    let there = sym (there_as n now c.exists_after.result (c.exists_after.ensures.set list m a.sound a.causal)) ∙ c.if-not-exists_after.false in
+    let present = sym (exists_as n now c.exists_after.result (c.exists_after.ensures.set list m a.sound a.causal)) ∙ c.if-not-exists_after.false in
     let apart : n ≡ inbox → ⊥ = λ e. false≢true (sym other ∙ (bytes_eq-Decides n inbox).1 e) in
     let k = c.k_of_after.ensures s.start list a m f.table.is_k (c.k_in-now.ensures s.start list f.table) in
-    let small = k_within_after s.start n apart ops list a (k_within_table s.start n apart list s.next_k s.charts.entries f.table) lasts there in
-    c.number_with.ensures (omega (arith, k, small)) ∙ validity_there s.start now n other there c.k_of_after.result k
+    let small = k_within_after s.start n apart ops list a (k_within_table s.start n apart list s.next_k s.charts.entries f.table) not_exhausted present in
+    c.uidvalidity_with.ensures (omega (arith, k, small)) ∙ validity_present s.start now n other present c.k_of_after.result k

@@ -5,7 +5,7 @@ use Rattle.folder_state.specs.Tables.{contents_of}
 use Rattle.uid_projection.specs.UidsAndModSeqs.{kind_names_folder}
 use Rattle.uid_projection.specs.Readiness.{less_room}
 use Rattle.uid_projection.specs.ChartTable.{IsTable}
-use Rattle.uid_projection.proofs.Noted.{made_by, next_on, others_ready, unmoved}
+use Rattle.uid_projection.proofs.NextOpLemmas.{made_by, next_on, others_ready, unmoved}
 use Rattle.uid_projection.proofs.charts.ChartsFollowerFolders.note.Goals as goal
 
 pub note_on-requires-clause-next : goal.note_on-requires-clause-next

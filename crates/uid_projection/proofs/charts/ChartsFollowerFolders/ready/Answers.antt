@@ -1,7 +1,7 @@
 use Rattle.std.proofs.Common.{sym, ◌∙◌}
 use Rattle.std.proofs.lemmas.Bool.{false≢true}
 use Rattle.folder_state.specs.Tables.{contents_of}
-use Rattle.uid_projection.proofs.Noted.{both_applied, made_by}
+use Rattle.uid_projection.proofs.NextOpLemmas.{both_applied, made_by}
 use Rattle.uid_projection.proofs.charts.ChartsFollowerFolders.ready.Goals as goal
 
 pub returns-then-are_exhausting-clause-exhausted : goal.returns-then-are_exhausting-clause-exhausted
@@ -18,7 +18,7 @@ returns-in-Ok-clause-ready c = λ list f d m.
     let h = c.are_exhausting.ensures list a f.table (made_by (contents_of c.args.value.now) list f.applied m) in
     record {
       applied = a;
-      lasts = λ x. false≢true (sym c.if-are_exhausting.false ∙ h.1 x);
+      not_exhausted = λ x. false≢true (sym c.if-are_exhausting.false ∙ h.1 x);
       rooms = λ o i about. c.in-Ok.ensures.ok o i about;
     }
 

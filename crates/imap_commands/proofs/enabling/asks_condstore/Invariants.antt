@@ -1,6 +1,0 @@
-use Rattle.std.proofs.Common.{◌≡◌, drop}
-use Rattle.imap_commands.specs.Enabling.{asks_condstore}
-use Rattle.imap_commands.proofs.enabling.asks_condstore.Given as goal
-
-abbrev pub invariant-loop-name : goal.invariant-loop-name
-invariant-loop-name l = asks_condstore (drop l.name-index l.names) ≡ asks_condstore l.names

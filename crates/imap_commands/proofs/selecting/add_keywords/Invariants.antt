@@ -1,6 +1,0 @@
-use Rattle.std.proofs.Common.{◌≡◌, drop}
-use Rattle.imap_commands.proofs.BorneLemmas.{with_keywords}
-use Rattle.imap_commands.proofs.selecting.add_keywords.Given as goal
-
-abbrev pub invariant-loop-word : goal.invariant-loop-word
-invariant-loop-word l = with_keywords (drop l.word-index l.words) l.keywords ≡ with_keywords l.words l.initial.keywords

@@ -1,9 +1,0 @@
-use Rattle.std.proofs.Common.{◌≡◌, ◌++◌, drop}
-use Rattle.std.specs.List.{flat_map}
-use Rattle.imap_commands.specs.Storing.{stored_answer}
-use Rattle.imap_commands.specs.Report.{message_at}
-use Rattle.imap_commands.proofs.storing.answers_of.Given as goal
-
-abbrev pub invariant-loop-number : goal.invariant-loop-number
-invariant-loop-number l =
-    l.answers.items ++ flat_map (λ n. stored_answer l.condstore l.asked n (message_at l.after l.view.items n)) (drop l.number-index l.taken) ≡ flat_map (λ n. stored_answer l.condstore l.asked n (message_at l.after l.view.items n)) l.taken

@@ -1,7 +1,0 @@
-use Rattle.std.proofs.Common.{◌≡◌, ◌++◌, drop}
-use Rattle.imap_commands.specs.Storing.{refused_messages}
-use Rattle.imap_commands.proofs.storing.refused_messages.Given as goal
-
-abbrev pub invariant-loop-number : goal.invariant-loop-number
-invariant-loop-number l =
-    l.refused.items ++ refused_messages l.before l.view.items l.since (drop l.number-index l.numbers) ≡ refused_messages l.before l.view.items l.since l.numbers

@@ -1,0 +1,83 @@
+-- SEARCH (RFC 9051, section 6.4.4; RFC 7162, section 3.1.5).
+
+use Rattle.std.specs.Prelude.{◌≡◌, ℕ, ◌+◌, Bool, true, false, ◌&&◌, List, [], ◌∷◌, Result, Ok, Err}
+use Rattle.std.specs.Prelude.{if◌then◌else◌}
+use Rattle.std.specs.List.{list_all}
+use Rattle.crdt_ops.specs.declared.kind.Kind.{Kind}
+use Rattle.imap_answers.specs.declared.answer.Answer.TheVariants.{Search}
+use Rattle.imap_answers.specs.declared.mailbox.SearchResults.{SearchResults}
+use Rattle.imap_answers.specs.declared.fixed_words.Refusal.{Refusal}
+use Rattle.imap_answers.specs.declared.fixed_words.Refusal.TheVariants.{NoSuchMessage}
+use Rattle.imap_syntax.specs.declared.search.SearchStep.{SearchStep}
+use Rattle.imap_syntax.specs.declared.search.SearchStep.TheVariants.{Test, Not, Or, And}
+use Rattle.imap_syntax.specs.declared.search.SearchTest.{SearchTest}
+use Rattle.imap_syntax.specs.declared.search.SearchTest.TheVariants as tests
+use Rattle.imap_query.specs.KeyHits.{Asks, Both, Either, Key, Lacks, steps_of}
+use Rattle.imap_query.specs.Search.{asks_modseq, hits_in, results_of}
+use Rattle.imap_query.specs.declared.viewed_message.ViewedMessage.{ViewedMessage}
+use Rattle.session_view.specs.Sets.{is_in_range}
+use Rattle.session_view.specs.declared.view_entry.ViewEntry.{ViewEntry}
+use Rattle.imap_commands.specs.Arguments.{OpenMailbox, SearchArgs}
+use Rattle.imap_commands.specs.Report.{CommandReport, report_of_answers}
+
+-- Whether a test may be asked: a set of message numbers names only numbers that messages have. UIDs
+-- may be any.
+abbrev pub test_is_in_range : List ViewEntry → SearchTest → Bool
+test_is_in_range view (tests.Numbers numbers) = is_in_range false numbers view
+test_is_in_range view tests.All = true
+test_is_in_range view (tests.System flag is_set) = true
+test_is_in_range view (tests.Keyword keyword is_set) = true
+test_is_in_range view (tests.Holds place word) = true
+test_is_in_range view (tests.Header name word) = true
+test_is_in_range view (tests.Dated order day) = true
+test_is_in_range view (tests.Larger octets) = true
+test_is_in_range view (tests.Smaller octets) = true
+test_is_in_range view (tests.ModSeq value) = true
+test_is_in_range view (tests.Uids uids) = true
+
+-- Whether a key may be asked: each test anywhere in it may (RFC 9051, section 6.4.4).
+abbrev pub key_is_in_range : List ViewEntry → Key → Bool
+key_is_in_range view (Asks test) = test_is_in_range view test
+key_is_in_range view (Lacks key) = key_is_in_range view key
+key_is_in_range view (Either this that) = key_is_in_range view this && key_is_in_range view that
+key_is_in_range view (Both this that) = key_is_in_range view this && key_is_in_range view that
+
+-- The intent of SEARCH by its key: it issues nothing, and is refused if a set of message numbers
+-- names one that no message has.
+abbrev pub search_intent_by_key : List ViewEntry → Key → Result (List Kind) Refusal
+search_intent_by_key view key = if key_is_in_range view key then Ok [] else Err NoSuchMessage
+
+-- Whether a step may be asked.
+abbrev pub step_is_in_range : List ViewEntry → SearchStep → Bool
+step_is_in_range view (Test test) = test_is_in_range view test
+step_is_in_range view Not = true
+step_is_in_range view Or = true
+step_is_in_range view And = true
+
+-- The intent of SEARCH by the steps of its key; the law `searches_are_by_keys` says that it is the
+-- one by the key.
+abbrev pub search_intent : List ViewEntry → List SearchStep → Result (List Kind) Refusal
+search_intent view steps =
+    if list_all (step_is_in_range view) steps then Ok [] else Err NoSuchMessage
+
+-- The messages of a view as queries take them, numbered from n.
+abbrev pub shown_from : ℕ → List ViewEntry → List ViewedMessage
+shown_from n [] = []
+shown_from n (e ∷ es) = record { number = n; uid = e.uid } ∷ shown_from (n + 1) es
+
+-- The results of SEARCH in a mailbox, by the key whose steps it has (RFC 9051, section 6.4.4;
+-- RFC 7162, section 3.1.5).
+pub record IsSearchResult (mailbox : OpenMailbox) (request : SearchArgs) (results : SearchResults) :
+    Type 0 where
+  pub key : Key
+  pub steps_are : request.steps ≡ steps_of key
+  pub results_are : results
+      ≡ results_of request.options (asks_modseq key)
+      (hits_in request.by_uid key mailbox.rows (shown_from 1 mailbox.view))
+
+-- The report of SEARCH, which is determined: one answer, with its results.
+pub record IsSearchReport (mailbox : OpenMailbox) (tag : List ℕ) (request : SearchArgs)
+    (report : CommandReport) : Type 0 where
+  pub results : SearchResults
+  pub finds : IsSearchResult mailbox request results
+  pub only : report ≡ report_of_answers (Search tag request.by_uid results ∷ [])

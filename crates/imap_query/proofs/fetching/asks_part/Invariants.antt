@@ -1,6 +1,0 @@
-use Rattle.std.proofs.Common.{◌≡◌, drop}
-use Rattle.imap_query.specs.Fetching.{asks_part}
-use Rattle.imap_query.proofs.fetching.asks_part.Given as goal
-
-abbrev pub invariant-loop-item : goal.invariant-loop-item
-invariant-loop-item l = asks_part l.part (drop l.item-index l.items) ≡ asks_part l.part l.items

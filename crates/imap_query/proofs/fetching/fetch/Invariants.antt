@@ -1,7 +1,0 @@
-use Rattle.std.proofs.Common.{◌≡◌, ◌++◌, drop}
-use Rattle.imap_query.specs.Fetching.{fetch_answers}
-use Rattle.imap_query.proofs.fetching.fetch.Given as goal
-
-abbrev pub invariant-loop-shown : goal.invariant-loop-shown
-invariant-loop-shown l =
-    l.answers.items ++ fetch_answers l.items l.fn.mode l.before l.after (drop l.shown-index l.named) ≡ fetch_answers l.items l.fn.mode l.before l.after l.named

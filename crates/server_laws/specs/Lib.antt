@@ -1,0 +1,4 @@
+pub mod Interleavings
+pub mod WorldEvents
+pub mod BookWorlds
+pub mod ExampleInterleavings

@@ -1,7 +1,0 @@
-use denote.Param.Send.{sendable}
-use Rattle.std.proofs.alloc.Global.TheSendSync as heap
-use Rattle.server_runtime.proofs.ThreadLemmas.{line_sync}
-use Rattle.server_runtime.proofs.connection_threads.talk_and_feed.Goals as goal
-
-pub join-ended-requires-send-F : goal.join-ended-requires-send-F
-join-ended-requires-send-F g c κs within = search (line_sync, heap.the_sync, sendable) depth 60 fits 20000

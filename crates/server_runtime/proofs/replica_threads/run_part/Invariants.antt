@@ -1,4 +1,0 @@
-use Rattle.server_runtime.proofs.replica_threads.run_part.Given as goal
-
-abbrev pub ghosts-run_replica : goal.ghosts-run_replica
-ghosts-run_replica g a = record { name = a.blank.name; parts = a.blank.parts }
