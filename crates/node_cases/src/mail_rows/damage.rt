@@ -17,6 +17,10 @@ const SHORT: usize = 2_000;
 /// How many octets at each end of a longer text are damaged in such rows.
 const EDGE: usize = 500;
 
+/// The most octets of a text that is damaged at its ends in such rows: one of ten thousand commands
+/// takes too long to be replayed for each place.
+const LONG: usize = 65_536;
+
 /// Which places of texts are damaged, and how many damaged texts were replayed and audited.
 #[derive(Clone, Copy)]
 pub struct Tried {
@@ -32,7 +36,7 @@ pub struct Tried {
 impl Tried {
     /// No text was damaged yet. Each place is to be damaged whose number `every` divides, and none
     /// if it is 0; in a text of more than 2,000 octets, only the first and the last 500 places
-    /// count.
+    /// count, and in one of more than 65,536 none.
     pub fn near_edges(every: u64) -> Tried {
         Tried {
             every,
@@ -90,7 +94,7 @@ impl Tried {
 
 /// Whether a place of a text of this length is damaged in rows that don't ask for it.
 fn is_near_edge(length: usize, place: usize) -> bool {
-    length <= SHORT || place < EDGE || length.saturating_sub(place) <= EDGE
+    length <= SHORT || length <= LONG && (place < EDGE || length.saturating_sub(place) <= EDGE)
 }
 
 /// Puts the first place where a script isn't replayed as it should be if it is cut there or its
@@ -127,16 +131,18 @@ fn put_wrong(place: usize, page: &mut Words) {
 }
 
 fn first_wrong(alloc: Global, script: &[u8], tried: &mut Tried) -> Option<usize> {
-    let mut before = play_script(alloc, b"");
+    let mut line = 0;
     for place in 0..script.len() {
         if tried.is_next(script.len(), place) {
             tried.note_replays();
+            let lines_before = script.get(..line).unwrap_or(script);
+            let before = play_script(alloc, lines_before);
             if !survives_damage(alloc, script, place, &before.printed) {
                 return Some(place);
             }
         }
         if script[place] == b'\n' {
-            before = play_script(alloc, &script[..place + 1]);
+            line = place + 1;
         }
     }
     None
