@@ -1,4 +1,4 @@
-//! Calls that may answer that memory ran out, made once with ample memory.
+//! Calls that may run out of memory, each made once with enough.
 
 use crate::fixtures::{Mailboxes, Trouble, empty, operations};
 use crate::state_text::write_mailboxes;
@@ -15,9 +15,9 @@ const LINES: &[&str] = &[
     "2:1 1=1 create a~20b",
 ];
 
-/// The dump of folders and subscriptions that were prepared for the operations: reserving memory
+/// The dump after folders and subscriptions are prepared for the operations: reserving memory
 /// changes nothing.
-fn prepared(alloc: Global) -> Result<Vec<u8>, Trouble> {
+fn dump_after_prepare(alloc: Global) -> Result<Vec<u8>, Trouble> {
     let mut pair = empty(alloc);
     prepare_each(alloc, &mut pair)?;
     let mut text = Vec::new(alloc);
@@ -35,7 +35,7 @@ fn prepare_each(alloc: Global, pair: &mut Mailboxes) -> Result<(), Trouble> {
 
 #[test]
 fn values_are_prepared(rt: HostRuntime) -> Result<(), Fail> {
-    let text = prepared(rt.alloc())?;
+    let text = dump_after_prepare(rt.alloc())?;
     assert_eq!(rt; text.as_slice(), b"folder INBOX -\n".as_slice());
     Ok(())
 }
@@ -46,8 +46,8 @@ fn follower() -> FirstFollower<Unfollowed> {
     }
 }
 
-/// The answer of a follower that notes nothing, before the operations.
-fn readied(alloc: Global) -> Result<Result<(), NotReady>, Trouble> {
+/// What `ready` answers for a follower that records nothing.
+fn answer_of_ready(alloc: Global) -> Result<Result<(), NotReady>, Trouble> {
     let ops = operations(alloc, LINES)?;
     let mut follower = follower();
     let answer = follower.ready(alloc, &empty(alloc), &ops);
@@ -56,7 +56,7 @@ fn readied(alloc: Global) -> Result<Result<(), NotReady>, Trouble> {
 
 #[test]
 fn followers_are_ready(rt: HostRuntime) -> Result<(), Fail> {
-    assert_eq!(rt; readied(rt.alloc())?, Ok(()));
+    assert_eq!(rt; answer_of_ready(rt.alloc())?, Ok(()));
     Ok(())
 }
 
@@ -69,12 +69,12 @@ fn node(alloc: Global) -> Result<Node, AllocError> {
 /// Whether an inbox is ready to issue two operations, and has applied neither.
 fn is_ready_to_issue(alloc: Global) -> Result<bool, Trouble> {
     let mut inbox = node(alloc)?;
-    let is_ready = is_ready_in(alloc, &mut inbox);
+    let is_ready = is_ready_for_ops(alloc, &mut inbox);
     drop(inbox);
     is_ready
 }
 
-fn is_ready_in(alloc: Global, inbox: &mut Node) -> Result<bool, Trouble> {
+fn is_ready_for_ops(alloc: Global, inbox: &mut Node) -> Result<bool, Trouble> {
     let ops = operations(alloc, &["4:1 - create d", "4:2 4=1 create e"])?;
     let answer = inbox.ready(alloc, &ops);
     drop(ops);

@@ -1,8 +1,8 @@
 //! The inbox gives the same answers as one in plain lists.
 
 use crate::fixtures::Trouble;
-use crate::generated::{LISTS, generated};
-use crate::plain_inbox::{PlainInbox, is_at};
+use crate::generated::{LISTS, generated_ops};
+use crate::plain_inbox::{PlainInbox, is_op_at};
 use crate::refused_values::RefusingFollower;
 use causal_inbox::Inbox;
 use crdt_ops::SoundOp;
@@ -48,7 +48,7 @@ fn are_alike(filing: &Filing, plain: &PlainInbox) -> bool {
 
 fn is_applied_alike(ops: &[SoundOp], others: &[SoundOp]) -> bool {
     for (at, op) in ops.iter().enumerate() {
-        if !is_at(others, at, op) {
+        if !is_op_at(others, at, op) {
             return false;
         }
     }
@@ -58,7 +58,7 @@ fn is_applied_alike(ops: &[SoundOp], others: &[SoundOp]) -> bool {
 fn is_held_alike(filing: &Filing, others: &[SoundOp]) -> bool {
     let held = filing.held();
     for (at, op) in held.iter().enumerate() {
-        if !is_at(others, at, op) {
+        if !is_op_at(others, at, op) {
             return false;
         }
     }
@@ -114,7 +114,7 @@ fn is_since_alike(
     clock: &Clock,
 ) -> Result<bool, Trouble> {
     let since = filing.ops_since(alloc, clock)?;
-    Ok(plain.are_since(clock, &since))
+    Ok(plain.equals_ops_since(clock, &since))
 }
 
 /// Whether both give the same answer to each delivery, and end in the same state.
@@ -135,7 +135,7 @@ fn are_answered_alike(
 /// Whether both give the same answers to this list. The application after `number` others is
 /// refused, if there are that many.
 fn is_list_alike(alloc: Global, number: u32) -> Result<bool, Trouble> {
-    let ops = generated(alloc, number)?;
+    let ops = generated_ops(alloc, number)?;
     let before = Some(number);
     let mut filing = Inbox::new(alloc, Unchanged, RefusingFollower { before })?;
     let mut plain = PlainInbox::new(alloc, before);
@@ -147,7 +147,7 @@ fn is_list_alike(alloc: Global, number: u32) -> Result<bool, Trouble> {
 }
 
 /// The first list to which they give different answers.
-fn first_unlike(alloc: Global) -> Result<Option<u32>, Trouble> {
+fn first_unlike_list(alloc: Global) -> Result<Option<u32>, Trouble> {
     for number in 0..LISTS {
         if !is_list_alike(alloc, number)? {
             return Ok(Some(number));
@@ -158,6 +158,6 @@ fn first_unlike(alloc: Global) -> Result<Option<u32>, Trouble> {
 
 #[test]
 fn the_inbox_answers_as_plain_lists_do(rt: HostRuntime) -> Result<(), Fail> {
-    assert!(rt; first_unlike(rt.alloc())?.is_none());
+    assert!(rt; first_unlike_list(rt.alloc())?.is_none());
     Ok(())
 }

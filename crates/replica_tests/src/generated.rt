@@ -136,7 +136,7 @@ fn issue_count(dice: &mut Dice, number: u32) -> usize {
 }
 
 /// The list with this number, of at most 300 operations in the order of their delivery.
-pub fn generated(alloc: Global, number: u32) -> Result<Vec<SoundOp>, Trouble> {
+pub fn generated_ops(alloc: Global, number: u32) -> Result<Vec<SoundOp>, Trouble> {
     let mut dice = Dice::new(number);
     let mut peers = peers(alloc, &mut dice)?;
     let mut ops = Vec::new(alloc);

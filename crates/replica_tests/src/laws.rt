@@ -11,7 +11,7 @@ use merge_laws::{Unfollowed, same_for_all_orders};
 use subs_state::{subs_for_all_orders, subscriptions_follow_the_set, whole_state_for_all_orders};
 
 #[test]
-fn texts() {
+fn one_operation_is_callable() {
     one_operation();
 }
 
@@ -33,7 +33,7 @@ fn subscriptions() {
 }
 
 #[test]
-fn both() {
+fn whole_state_law_is_callable() {
     whole_state_for_all_orders();
 }
 

@@ -23,8 +23,6 @@ mod filed_inbox;
 #[cfg(test)]
 mod fixtures;
 #[cfg(test)]
-mod found_rows;
-#[cfg(test)]
 mod generated;
 #[cfg(test)]
 mod held_count;
@@ -44,6 +42,8 @@ mod refused_call;
 mod refused_values;
 #[cfg(test)]
 mod retries;
+#[cfg(test)]
+mod row_look_ups;
 #[cfg(test)]
 mod shown;
 #[cfg(test)]

@@ -23,24 +23,24 @@ pub struct PlainInbox {
     pub held: Vec<SoundOp>,
     /// The clock of the applied operations.
     clock: Clock,
-    /// The number of applications before the one that is refused memory; `None` if none is refused.
-    before: Option<u32>,
+    /// How many more operations are applied before memory is refused; `None` if it never is.
+    applications_left: Option<u32>,
 }
 
 impl PlainInbox {
-    /// An empty inbox; the application after `before` others is refused memory.
-    pub fn new(alloc: Global, before: Option<u32>) -> PlainInbox {
+    /// An empty inbox, which is refused memory after `applications_left` applied operations.
+    pub fn new(alloc: Global, applications_left: Option<u32>) -> PlainInbox {
         PlainInbox {
             applied: Vec::new(alloc),
             held: Vec::new(alloc),
             clock: Clock::new(alloc),
-            before,
+            applications_left,
         }
     }
 
     /// Receives an operation.
     pub fn deliver(&mut self, op: SoundOp) -> Result<Answer, Trouble> {
-        let known = self.is_known(&op);
+        let known = self.matches_received(&op);
         let id = op.id();
         match known {
             None => self.receive(op),
@@ -58,9 +58,8 @@ impl PlainInbox {
         }
     }
 
-    /// Whether the operation that was received with this id is the same; `None` if none was
-    /// received.
-    fn is_known(&self, op: &SoundOp) -> Option<bool> {
+    /// Whether the received operation with this id equals `op`; `None` if there is none.
+    fn matches_received(&self, op: &SoundOp) -> Option<bool> {
         match find_in(&self.applied, op.id()) {
             Some(known) => Some(known.same(op)),
             None => {
@@ -79,7 +78,7 @@ impl PlainInbox {
     }
 
     fn receive_ripe(&mut self, op: SoundOp) -> Result<Answer, Trouble> {
-        if is_refused(&mut self.before) {
+        if is_refused(&mut self.applications_left) {
             drop(op);
             return Ok(Err(DeliverFault::NoMemory));
         }
@@ -104,12 +103,12 @@ impl PlainInbox {
         first_ripe(&self.clock, &self.held).is_some()
     }
 
-    /// Whether these are the applied operations that the clock doesn't cover, in their order.
-    pub fn are_since(&self, clock: &Clock, ops: &[SoundOp]) -> bool {
+    /// Whether these equal the applied operations that the clock doesn't cover, in their order.
+    pub fn equals_ops_since(&self, clock: &Clock, ops: &[SoundOp]) -> bool {
         let mut at = 0usize;
         for op in &self.applied {
             if !clock.covers(op.id()) {
-                if !is_at(ops, at, op) {
+                if !is_op_at(ops, at, op) {
                     return false;
                 }
                 at = at.saturating_add(1);
@@ -136,7 +135,7 @@ impl PlainInbox {
                     stalled: false,
                 });
             };
-            if is_refused(&mut self.before) {
+            if is_refused(&mut self.applications_left) {
                 return Ok(Drained {
                     applied,
                     stalled: true,
@@ -152,8 +151,8 @@ impl PlainInbox {
     }
 }
 
-/// Whether the operation at this place is the same as this one.
-pub fn is_at(ops: &[SoundOp], at: usize, op: &SoundOp) -> bool {
+/// Whether the operation at this place equals `op`.
+pub fn is_op_at(ops: &[SoundOp], at: usize, op: &SoundOp) -> bool {
     match ops.get(at) {
         Some(other) => other.same(op),
         None => false,

@@ -5,13 +5,13 @@ ghost use Rattle.uid_projection.specs.Following.{Follows};
 
 use crate::drafts::NAMES;
 use crate::fixtures::{Mailboxes, Trouble, empty};
-use crate::found_rows::{
-    are_changes_alike, are_later_origins_alike, are_origins_alike, are_uids_alike,
-};
-use crate::generated::{LISTS, generated};
+use crate::generated::{LISTS, generated_ops};
 use crate::plain_charts::PlainReplica;
 use crate::plain_inbox::PlainInbox;
 use crate::plain_mailboxes::{PlainMailboxes, ids_of};
+use crate::row_look_ups::{
+    are_changes_alike, are_later_origins_alike, are_origins_alike, are_uids_alike,
+};
 use crate::shown::{are_ids_alike, are_messages_alike, are_names_alike, are_rows_alike};
 use causal_inbox::Inbox;
 use crdt_ops::SoundOp;
@@ -48,25 +48,25 @@ fn charts(alloc: Global, replica: ReplicaId) -> Result<Charts, AllocError>
 
 /// The tables of a replica.
 #[derive(Clone, Copy)]
-struct Actual<'a> {
+struct ReplicaTables<'a> {
     folders: &'a Folders,
     subs: &'a Subs,
     charts: &'a Charts,
 }
 
-fn actual_of(replica: &Replica) -> Actual<'_> {
+fn tables_of(replica: &Replica) -> ReplicaTables<'_> {
     let value = replica.value();
-    Actual {
+    ReplicaTables {
         folders: &value.first,
         subs: &value.second,
         charts: &replica.follower().follower,
     }
 }
 
-/// The operations of a generated list, in an order in which they are applied.
-fn applied(alloc: Global, number: u32) -> Result<Vec<SoundOp>, Trouble> {
+/// The operations of a generated list, in the order in which they are applied.
+fn applied_ops(alloc: Global, number: u32) -> Result<Vec<SoundOp>, Trouble> {
     let mut inbox = PlainInbox::new(alloc, None);
-    for op in generated(alloc, number)? {
+    for op in generated_ops(alloc, number)? {
         let answer = inbox.deliver(op)?;
         drop(answer);
     }
@@ -74,7 +74,11 @@ fn applied(alloc: Global, number: u32) -> Result<Vec<SoundOp>, Trouble> {
 }
 
 /// The state in plain lists after these operations, applied in this order.
-fn recounted(alloc: Global, number: u32, ops: &[SoundOp]) -> Result<PlainReplica, Trouble> {
+fn plain_replica_after(
+    alloc: Global,
+    number: u32,
+    ops: &[SoundOp],
+) -> Result<PlainReplica, Trouble> {
     let mut plain = PlainReplica::new(alloc, number)?;
     for op in ops {
         plain.apply(alloc, op.op())?;
@@ -85,23 +89,23 @@ fn recounted(alloc: Global, number: u32, ops: &[SoundOp]) -> Result<PlainReplica
 /// Whether the names of folders and of subscriptions are equal in tables and in plain lists.
 fn are_all_names_alike(
     alloc: Global,
-    actual: &Actual<'_>,
+    tables: &ReplicaTables<'_>,
     plain: &PlainMailboxes,
 ) -> Result<bool, Trouble> {
     Ok(
-        are_names_alike(actual.folders.names(alloc), plain.names(alloc))?
-            && are_names_alike(actual.subs.names(alloc), plain.subscribed_names(alloc))?,
+        are_names_alike(tables.folders.names(alloc), plain.names(alloc))?
+            && are_names_alike(tables.subs.names(alloc), plain.subscribed_names(alloc))?,
     )
 }
 
 /// Whether the ids of a name's tags are equal in tables and in plain lists.
 fn are_tags_alike(
     alloc: Global,
-    actual: &Actual<'_>,
+    tables: &ReplicaTables<'_>,
     plain: &PlainMailboxes,
     name: &Name,
 ) -> Result<bool, AllocError> {
-    let folders = actual.folders;
+    let folders = tables.folders;
     Ok(
         are_ids_alike(
             folders.tags(alloc, name),
@@ -110,7 +114,7 @@ fn are_tags_alike(
             folders.delete_set(alloc, name),
             plain.delete_set(alloc, name),
         )? && are_ids_alike(
-            actual.subs.tags(alloc, name),
+            tables.subs.tags(alloc, name),
             ids_of(alloc, &plain.subscriptions, name),
         )?,
     )
@@ -141,12 +145,12 @@ fn are_numbers_alike(charts: &Charts, plain: &PlainReplica, name: &Name) -> bool
 /// Whether the folder's listing, and the rows found in it, are equal in tables and in plain lists.
 fn is_listing_alike(
     alloc: Global,
-    actual: &Actual<'_>,
+    tables: &ReplicaTables<'_>,
     plain: &PlainReplica,
     name: &Name,
 ) -> Result<bool, AllocError> {
-    let charts = actual.charts;
-    let folders = actual.folders;
+    let charts = tables.charts;
+    let folders = tables.folders;
     let (uidnext, highest) = plain.counters(name);
     let end = uidnext.saturating_add(2);
     let plain_rows = plain.rows(alloc, name)?;
@@ -158,9 +162,9 @@ fn is_listing_alike(
     )
 }
 
-/// A moment of a replay, in plain lists.
+/// A point of a replay, in plain lists.
 #[derive(Clone, Copy)]
-struct Moment<'a> {
+struct ReplayPoint<'a> {
     /// The state now.
     now: &'a PlainReplica,
     /// The operations that come next, six at most.
@@ -175,41 +179,41 @@ struct Moment<'a> {
     ops: &'a [SoundOp],
 }
 
-/// Whether all that concerns a name is equal in tables and in plain lists now.
+/// Whether everything about a name is equal in tables and in plain lists now.
 fn is_name_alike(
     alloc: Global,
-    actual: &Actual<'_>,
-    moment: &Moment<'_>,
+    tables: &ReplicaTables<'_>,
+    point: &ReplayPoint<'_>,
     name: &Name,
 ) -> Result<bool, AllocError> {
-    let now = moment.now;
+    let now = point.now;
     Ok(
-        are_tags_alike(alloc, actual, &now.mailboxes, name)?
-            && are_folders_alike(alloc, actual.folders, &now.mailboxes, name)?
-            && are_origins_alike(alloc, actual.folders, &now.mailboxes, name, moment.ops)?
-            && are_numbers_alike(actual.charts, now, name)
-            && is_listing_alike(alloc, actual, now, name)?,
+        are_tags_alike(alloc, tables, &now.mailboxes, name)?
+            && are_folders_alike(alloc, tables.folders, &now.mailboxes, name)?
+            && are_origins_alike(alloc, tables.folders, &now.mailboxes, name, point.ops)?
+            && are_numbers_alike(tables.charts, now, name)
+            && is_listing_alike(alloc, tables, now, name)?,
     )
 }
 
 /// Whether the folder's existence and origins after the next operations, and its existence at the
 /// end, are those of the later plain lists.
-fn is_later_folder_alike(folders: &Folders, moment: &Moment<'_>, name: &Name) -> bool {
-    let later = &moment.later.mailboxes;
-    folders.exists_after(name, moment.next) == later.exists(name)
-        && folders.exists_after(name, moment.rest) == moment.last.mailboxes.exists(name)
-        && are_later_origins_alike(folders, later, name, moment.next, moment.ops)
+fn is_later_folder_alike(folders: &Folders, point: &ReplayPoint<'_>, name: &Name) -> bool {
+    let later = &point.later.mailboxes;
+    folders.exists_after(name, point.next) == later.exists(name)
+        && folders.exists_after(name, point.rest) == point.last.mailboxes.exists(name)
+        && are_later_origins_alike(folders, later, name, point.next, point.ops)
 }
 
 /// Whether a folder's numbers after these operations are those of the later plain lists.
 fn are_later_numbers_alike(
-    actual: &Actual<'_>,
+    tables: &ReplicaTables<'_>,
     later: &PlainReplica,
     name: &Name,
     ops: &[SoundOp],
 ) -> bool {
-    let charts = actual.charts;
-    let folders = actual.folders;
+    let charts = tables.charts;
+    let folders = tables.folders;
     let (uidnext, highest) = later.counters(name);
     charts.uidvalidity_after(folders, name, ops) == later.uidvalidity(name)
         && charts.uidnext_after(folders, name, ops) == uidnext
@@ -219,63 +223,62 @@ fn are_later_numbers_alike(
 /// Whether a folder's listing after these operations is that of the later plain lists.
 fn is_later_listing_alike(
     alloc: Global,
-    actual: &Actual<'_>,
+    tables: &ReplicaTables<'_>,
     later: &PlainReplica,
     name: &Name,
     ops: &[SoundOp],
 ) -> Result<bool, AllocError> {
-    let rows = actual.charts.rows_after(alloc, actual.folders, name, ops)?;
+    let rows = tables.charts.rows_after(alloc, tables.folders, name, ops)?;
     let plain_rows = later.rows(alloc, name)?;
     are_rows_alike(alloc, &rows, &plain_rows, 0)
 }
 
-/// Whether all that concerns a name is equal in tables and in plain lists after the next
-/// operations.
+/// Whether everything about a name is equal in tables and in plain lists after the next operations.
 fn is_later_name_alike(
     alloc: Global,
-    actual: &Actual<'_>,
-    moment: &Moment<'_>,
+    tables: &ReplicaTables<'_>,
+    point: &ReplayPoint<'_>,
     name: &Name,
 ) -> Result<bool, AllocError> {
-    let later = moment.later;
+    let later = point.later;
     Ok(
-        is_later_folder_alike(actual.folders, moment, name)
-            && are_later_numbers_alike(actual, later, name, moment.next)
-            && is_later_listing_alike(alloc, actual, later, name, moment.next)?,
+        is_later_folder_alike(tables.folders, point, name)
+            && are_later_numbers_alike(tables, later, name, point.next)
+            && is_later_listing_alike(alloc, tables, later, name, point.next)?,
     )
 }
 
 /// Whether the tables equal the plain lists now, and later ones after further operations.
-fn is_moment_alike(
+fn is_point_alike(
     alloc: Global,
-    actual: &Actual<'_>,
-    moment: &Moment<'_>,
+    tables: &ReplicaTables<'_>,
+    point: &ReplayPoint<'_>,
 ) -> Result<bool, Trouble> {
     for octets in NAMES {
-        if !is_name_alike_now_and_later(alloc, actual, moment, octets)? {
+        if !is_name_alike_now_and_later(alloc, tables, point, octets)? {
             return Ok(false);
         }
     }
-    are_all_names_alike(alloc, actual, &moment.now.mailboxes)
+    are_all_names_alike(alloc, tables, &point.now.mailboxes)
 }
 
-/// Whether all that concerns the name with these octets is equal now, and after further operations.
+/// Whether everything about the name with these octets is equal now, and after further operations.
 fn is_name_alike_now_and_later(
     alloc: Global,
-    actual: &Actual<'_>,
-    moment: &Moment<'_>,
+    tables: &ReplicaTables<'_>,
+    point: &ReplayPoint<'_>,
     octets: &[u8],
 ) -> Result<bool, AllocError> {
     let name = Name::from_slice(alloc, octets)?;
     Ok(
-        is_name_alike(alloc, actual, moment, &name)?
-            && is_later_name_alike(alloc, actual, moment, &name)?,
+        is_name_alike(alloc, tables, point, &name)?
+            && is_later_name_alike(alloc, tables, point, &name)?,
     )
 }
 
 /// A list of operations in the order in which a replica applies them.
 #[derive(Drop)]
-struct PlayedList {
+struct AppliedList {
     /// The replica's number.
     number: u32,
     ops: Vec<SoundOp>,
@@ -283,29 +286,29 @@ struct PlayedList {
     last: PlainReplica,
 }
 
-/// The list with this number, played by one of nine replicas.
-fn played(alloc: Global, list: u32) -> Result<PlayedList, Trouble> {
+/// The list with this number, as applied by one of nine replicas.
+fn applied_list(alloc: Global, list: u32) -> Result<AppliedList, Trouble> {
     let number = 1 + list % 9;
-    let ops = applied(alloc, list)?;
-    let last = recounted(alloc, number, &ops)?;
-    Ok(PlayedList { number, ops, last })
+    let ops = applied_ops(alloc, list)?;
+    let last = plain_replica_after(alloc, number, &ops)?;
+    Ok(AppliedList { number, ops, last })
 }
 
 /// Whether the tables equal the plain lists after the first `at` operations, and after some further
 /// ones.
-fn is_cut_alike(
+fn is_prefix_alike(
     alloc: Global,
-    actual: &Actual<'_>,
-    list: &PlayedList,
+    tables: &ReplicaTables<'_>,
+    list: &AppliedList,
     at: usize,
 ) -> Result<bool, Trouble> {
     let ops = list.ops.as_slice();
     let (front, rest) = ops.split_at(at.min(ops.len()));
     let (next, _) = rest.split_at((at % 7).min(rest.len()));
-    let now = recounted(alloc, list.number, front)?;
+    let now = plain_replica_after(alloc, list.number, front)?;
     let (both, _) = ops.split_at(front.len().saturating_add(next.len()).min(ops.len()));
-    let later = recounted(alloc, list.number, both)?;
-    let moment = Moment {
+    let later = plain_replica_after(alloc, list.number, both)?;
+    let point = ReplayPoint {
         now: &now,
         next,
         later: &later,
@@ -313,15 +316,15 @@ fn is_cut_alike(
         last: &list.last,
         ops,
     };
-    is_moment_alike(alloc, actual, &moment)
+    is_point_alike(alloc, tables, &point)
 }
 
 /// The first place of a list at which tables and plain lists differ.
 fn first_unlike_place(alloc: Global, list: u32) -> Result<Option<usize>, Trouble> {
-    let list = played(alloc, list)?;
+    let list = applied_list(alloc, list)?;
     let mut replica = replica(alloc, list.number)?;
     for at in 0..list.ops.len() {
-        if !is_place_alike(alloc, &mut replica, &list, at)? {
+        if !deliver_and_compare(alloc, &mut replica, &list, at)? {
             return Ok(Some(at));
         }
     }
@@ -330,10 +333,10 @@ fn first_unlike_place(alloc: Global, list: u32) -> Result<Option<usize>, Trouble
 
 /// Applies the operation at this place, and returns whether tables and plain lists are equal after
 /// it. They are compared at one place in 25, and at the end.
-fn is_place_alike(
+fn deliver_and_compare(
     alloc: Global,
     replica: &mut Replica,
-    list: &PlayedList,
+    list: &AppliedList,
     at: usize,
 ) -> Result<bool, Trouble> {
     let Some(op) = list.ops.get(at) else {
@@ -347,14 +350,14 @@ fn is_place_alike(
     if count % 25 != 0 && count != list.ops.len() {
         return Ok(true);
     }
-    is_cut_alike(alloc, &actual_of(replica), list, count)
+    is_prefix_alike(alloc, &tables_of(replica), list, count)
 }
 
 /// The number of parts into which the lists are divided, each with a test of its own.
 const PARTS: u32 = 4;
 
 /// The first list of this part for which tables and plain lists differ, and the place.
-fn first_unlike(alloc: Global, part: u32) -> Result<Option<(u32, usize)>, Trouble> {
+fn first_unlike_list(alloc: Global, part: u32) -> Result<Option<(u32, usize)>, Trouble> {
     for number in 0..LISTS {
         if number % PARTS == part {
             if let Some(at) = first_unlike_place(alloc, number)? {
@@ -369,11 +372,11 @@ fn is_long(length: usize) -> bool {
     length >= 150 && length <= 300
 }
 
-/// The number of lists of which 150 to 300 operations are applied.
+/// The number of lists with 150 to 300 applied operations.
 fn long_list_count(alloc: Global) -> Result<u32, Trouble> {
     let mut count = 0u32;
     for number in 0..LISTS {
-        let ops = applied(alloc, number)?;
+        let ops = applied_ops(alloc, number)?;
         if is_long(ops.len()) {
             count = count.saturating_add(1);
         }
@@ -388,25 +391,25 @@ fn fifty_lists_are_long(rt: HostRuntime) -> Result<(), Fail> {
 }
 
 #[test]
-fn tables_give_what_plain_lists_give(rt: HostRuntime) -> Result<(), Fail> {
-    assert!(rt; first_unlike(rt.alloc(), 0)?.is_none());
+fn tables_equal_plain_lists(rt: HostRuntime) -> Result<(), Fail> {
+    assert!(rt; first_unlike_list(rt.alloc(), 0)?.is_none());
     Ok(())
 }
 
 #[test]
-fn tables_give_what_plain_lists_give_in_the_second_part(rt: HostRuntime) -> Result<(), Fail> {
-    assert!(rt; first_unlike(rt.alloc(), 1)?.is_none());
+fn tables_equal_plain_lists_in_the_second_part(rt: HostRuntime) -> Result<(), Fail> {
+    assert!(rt; first_unlike_list(rt.alloc(), 1)?.is_none());
     Ok(())
 }
 
 #[test]
-fn tables_give_what_plain_lists_give_in_the_third_part(rt: HostRuntime) -> Result<(), Fail> {
-    assert!(rt; first_unlike(rt.alloc(), 2)?.is_none());
+fn tables_equal_plain_lists_in_the_third_part(rt: HostRuntime) -> Result<(), Fail> {
+    assert!(rt; first_unlike_list(rt.alloc(), 2)?.is_none());
     Ok(())
 }
 
 #[test]
-fn tables_give_what_plain_lists_give_in_the_fourth_part(rt: HostRuntime) -> Result<(), Fail> {
-    assert!(rt; first_unlike(rt.alloc(), 3)?.is_none());
+fn tables_equal_plain_lists_in_the_fourth_part(rt: HostRuntime) -> Result<(), Fail> {
+    assert!(rt; first_unlike_list(rt.alloc(), 3)?.is_none());
     Ok(())
 }

@@ -1,4 +1,4 @@
-//! What tables find by a UID, an origin or a mod-sequence is what plain lists give.
+//! Look-ups by UID, origin or mod-sequence give the same from tables as from plain lists.
 
 use crate::plain_charts::PlainRow;
 use crate::plain_mailboxes::PlainMailboxes;
@@ -12,7 +12,7 @@ use std::alloc::{AllocError, Global};
 use tags_clocks::OpId;
 use uid_projection::Charts;
 
-/// Whether each UID below `end` finds the folder's row that has it, or none.
+/// Whether looking up each UID below `end` gives the plain row, or none.
 pub fn are_uids_alike(
     alloc: Global,
     charts: &Charts,
@@ -29,7 +29,7 @@ pub fn are_uids_alike(
     Ok(true)
 }
 
-/// Whether the UID finds the folder's row that has it, or none.
+/// Whether looking up the UID gives the plain row, or none.
 fn is_uid_alike(
     alloc: Global,
     charts: &Charts,
@@ -39,8 +39,8 @@ fn is_uid_alike(
     uid: u32,
 ) -> Result<bool, AllocError> {
     match charts.row_by_uid(folders, name, uid) {
-        None => Ok(row_with(rows, uid).is_none()),
-        Some(row) => match row_with(rows, uid) {
+        None => Ok(row_of_uid(rows, uid).is_none()),
+        Some(row) => match row_of_uid(rows, uid) {
             None => Ok(false),
             Some(plain) => is_row_alike(alloc, &row, plain),
         },
@@ -48,7 +48,7 @@ fn is_uid_alike(
 }
 
 /// The row with this UID, if any.
-fn row_with(rows: &[PlainRow], uid: u32) -> Option<&PlainRow> {
+fn row_of_uid(rows: &[PlainRow], uid: u32) -> Option<&PlainRow> {
     for row in rows {
         if row.uid == uid {
             return Some(row);
@@ -57,8 +57,8 @@ fn row_with(rows: &[PlainRow], uid: u32) -> Option<&PlainRow> {
     None
 }
 
-/// Whether the folder's rows that changed since a mod-sequence are the plain ones with greater
-/// ones, for several mod-sequences from 0 to the greatest number.
+/// Whether the folder's rows that changed since a mod-sequence are the plain rows with a greater
+/// mod-sequence, for several mod-sequences from 0 to the greatest number.
 pub fn are_changes_alike(
     alloc: Global,
     charts: &Charts,
@@ -86,8 +86,8 @@ pub fn are_changes_alike(
     Ok(true)
 }
 
-/// Whether the folder's rows that changed since this mod-sequence are the plain ones with greater
-/// ones.
+/// Whether the folder's rows that changed since this mod-sequence are the plain rows with a greater
+/// mod-sequence.
 fn is_change_alike(
     alloc: Global,
     charts: &Charts,
@@ -100,8 +100,7 @@ fn is_change_alike(
     are_rows_alike(alloc, &changed, rows, since)
 }
 
-/// Whether the origins with a version in the folder, and their versions, are equal, for each id of
-/// these operations as an origin.
+/// For each id of `ops`, as an origin: whether its versions in the folder are equal.
 pub fn are_origins_alike(
     alloc: Global,
     folders: &Folders,
@@ -134,8 +133,8 @@ fn is_origin_alike(
     )
 }
 
-/// Whether the origins that will have a version in the folder after `next` are those of the later
-/// plain lists, for each id of these operations as an origin.
+/// For each id of `ops`, as an origin: whether it has a version in the folder after `next` just if
+/// the later plain lists have one.
 pub fn are_later_origins_alike(
     folders: &Folders,
     later: &PlainMailboxes,
