@@ -30,7 +30,7 @@ const SCENES: &[Scene] = &[
         name: "locks are apart: the same replica",
         uid: 1,
         actions: &[],
-        first: &[&[Action::Holds(100_000)], OPENS],
+        first: &[&[Action::Holds(1_000_000)], OPENS],
         second: &[],
         final_report: FinalReport::Entries,
         expected: "over meanwhile 0\n1 entries\n0 entries\n",

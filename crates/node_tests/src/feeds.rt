@@ -9,13 +9,13 @@ use std::alloc::Global;
 
 #[test]
 fn a_feed_gives_its_notes(rt: HostRuntime) {
-    assert!(rt; takes(rt.alloc(), 3) == Some((Some(3), Some(0))));
-    assert!(rt; takes(rt.alloc(), 4_096) == Some((Some(4_096), Some(0))));
+    assert!(rt; gives_its_notes(rt.alloc(), 3) == Some(true));
+    assert!(rt; gives_its_notes(rt.alloc(), 4_096) == Some(true));
 }
 
 #[test]
 fn a_feed_that_missed_a_note_resyncs_once(rt: HostRuntime) {
-    assert!(rt; takes(rt.alloc(), 4_097) == Some((None, Some(0))));
+    assert!(rt; resyncs_once(rt.alloc(), 4_097) == Some(true));
 }
 
 #[test]
@@ -129,21 +129,61 @@ fn take_step(
     }
 }
 
-/// How many notes are taken after `count` were noted, and how many by a second call; `None` for a
-/// resync.
-fn takes(alloc: Global, count: u32) -> Option<(Option<usize>, Option<usize>)> {
-    let mut feed = Feed::new(alloc);
-    for uid in 0..count {
-        feed.ready(1).ok()?;
-        feed.note(Note::Changed { uid });
+/// The note at a place of a list that has each kind.
+fn note_at(place: u32) -> Note {
+    match place % 4 {
+        0 => Note::New { uid: place },
+        1 => Note::Gone { uid: place },
+        2 => Note::Changed { uid: place },
+        _ => Note::Ended,
     }
-    Some((taken(&mut feed), taken(&mut feed)))
 }
 
-fn taken(feed: &mut Feed) -> Option<usize> {
+/// The first `count` notes.
+fn first_notes(alloc: Global, count: u32) -> Option<Vec<Note>> {
+    let mut notes = Vec::new(alloc);
+    for place in 0..count {
+        notes.push(note_at(place)).ok()?;
+    }
+    Some(notes)
+}
+
+/// A feed to which the first `count` notes were added.
+fn feed_of(alloc: Global, count: u32) -> Option<Feed> {
+    let mut feed = Feed::new(alloc);
+    for place in 0..count {
+        feed.ready(1).ok()?;
+        feed.note(note_at(place));
+    }
+    Some(feed)
+}
+
+/// Whether the first call of `take` gives these notes in their order, and the second none.
+fn gives_its_notes(alloc: Global, count: u32) -> Option<bool> {
+    let notes = first_notes(alloc, count)?;
+    let mut feed = feed_of(alloc, count)?;
+    Some(takes(&mut feed, &notes) && takes(&mut feed, &[]))
+}
+
+/// Whether the first call of `take` gives a resync, and the second no notes.
+fn resyncs_once(alloc: Global, count: u32) -> Option<bool> {
+    let mut feed = feed_of(alloc, count)?;
+    Some(takes_resync(&mut feed) && takes(&mut feed, &[]))
+}
+
+/// Whether `take` gives just these notes.
+fn takes(feed: &mut Feed, expected: &[Note]) -> bool {
     match feed.take() {
-        TakenNotes::Changes { changes } => Some(changes.notes().len()),
-        TakenNotes::Resync => None,
+        TakenNotes::Changes { changes } => changes.notes() == expected,
+        TakenNotes::Resync => false,
+    }
+}
+
+/// Whether `take` gives a resync.
+fn takes_resync(feed: &mut Feed) -> bool {
+    match feed.take() {
+        TakenNotes::Changes { .. } => false,
+        TakenNotes::Resync => true,
     }
 }
 

@@ -1,11 +1,10 @@
 //! Audits: inputs that come in pieces, readers and writers that fail, and the status with which an
 //! audit ends.
 
+use crate::programs::screen::Screen;
 use mail_audit::{AuditEnd, MAX_READS, audit};
 use mail_replay::{audit_file, audit_from};
 use std::alloc::{AllocError, Global};
-use std::cell::RefCell;
-use std::fmt::Display;
 use std::io;
 use std::io::{ErrorKind, Read, Write};
 
@@ -172,33 +171,6 @@ impl Write for Pen {
         } else {
             Err(ErrorKind::Other.into())
         }
-    }
-}
-
-/// A screen that stores what is printed, or fails to print.
-#[derive(Drop)]
-struct Screen {
-    shown: RefCell<Vec<u8>>,
-    works: bool,
-}
-
-impl Print for Screen {
-    fn print<D: Display + Drop>(&self, _value: D) -> io::Result<()> {
-        Err(ErrorKind::Unsupported.into())
-    }
-
-    fn println<D: Display + Drop>(&self, _value: D) -> io::Result<()> {
-        Err(ErrorKind::Unsupported.into())
-    }
-
-    fn write_all(&self, bytes: &[u8]) -> io::Result<()> {
-        if self.works {
-            if let Ok(mut shown) = self.shown.try_borrow_mut() {
-                shown.extend_from_slice(bytes)?;
-                return Ok(());
-            }
-        }
-        Err(ErrorKind::Other.into())
     }
 }
 
@@ -427,23 +399,13 @@ fn writes_the_whole_line(rt: HostRuntime) {
 
 /// Whether the program that audits this reader's input ends with this status and prints this line.
 fn shows<S: Read + Drop>(alloc: Global, input: S, status: u8, line: &str) -> bool {
-    let screen = Screen {
-        shown: RefCell::new(Vec::new(alloc)),
-        works: true,
-    };
-    audit_from(&(&screen, alloc), input) == status
-        && screen
-            .shown
-            .try_borrow()
-            .is_ok_and(|shown| shown.as_slice() == line.as_bytes())
+    let screen = Screen::new(alloc, true);
+    audit_from(&(&screen, alloc), input) == status && screen.has_shown(line)
 }
 
 /// Whether the program ends with status 3 if it can't print.
 fn fails_without_a_screen(alloc: Global) -> bool {
-    let screen = Screen {
-        shown: RefCell::new(Vec::new(alloc)),
-        works: false,
-    };
+    let screen = Screen::new(alloc, false);
     audit_from(&(&screen, alloc), RIGHT.as_bytes()) == 3
 }
 
