@@ -2,3 +2,4 @@ pub mod Calls
 pub mod Logins
 pub mod Places
 pub mod Totals
+pub mod ReplicaEnds

@@ -5,12 +5,13 @@
 //! own. A replica's threads share its [`ReplicaContext`], and others reach it by its
 //! [`ReplicaHandle`].
 //!
-//! Contracts are about one connection. That of [`converse_over`] says: one call of the replica
-//! opens the session, each command and each line of IDLE that the octets read spell is one call in
-//! that session, with entries in the journal in the same order, and what is written is the
-//! greeting, the printed outcomes of these calls, and a BYE. That of [`totals_of`] says that the
-//! totals in the log are counts over the journal. What passes between threads is tested and not
-//! proved.
+//! The contract of [`serve`] says what became of each replica, and that the headline holds of the
+//! journals that come out (`server_laws`). Other contracts are about one connection. That of
+//! [`converse_over`] says: one call of the replica opens the session, each command and each line of
+//! IDLE that the octets read spell is one call in that session, with entries in the journal in the
+//! same order, and what is written is the greeting, the printed outcomes of these calls, and a BYE.
+//! That of [`totals_of`] says that the totals in the log are counts over the journal. What passes
+//! between threads is tested and not proved.
 //!
 //! # Decided
 //!
@@ -92,6 +93,7 @@ mod feeder;
 mod joining_replica;
 mod peer_sender;
 mod program;
+mod replica_end;
 mod replica_handle;
 mod replica_threads;
 mod server_state;
@@ -105,6 +107,7 @@ pub use connection_threads::{ReplicaContext, converse_over};
 pub use joining_replica::{JoinOutcome, JoiningReplica};
 pub use peer_sender::PeerSender;
 pub use program::{RunFault, open_all, run};
+pub use replica_end::ReplicaEnd;
 pub use replica_handle::{CopyRequest, JoinSignal, JoiningReplicas, ReplicaHandle};
 pub use replica_threads::{ReplicaSetup, StartMode, serve, serve_over};
 pub use server_settings::{

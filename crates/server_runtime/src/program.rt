@@ -1,6 +1,7 @@
 //! The program: from its command line to its status.
 
 use crate::joining_replica::JoiningReplica;
+use crate::replica_end::ReplicaEnd;
 use crate::replica_handle::{CopyRequest, JoinSignal, JoiningReplicas, ReplicaHandle};
 use crate::replica_threads::{ReplicaSetup, StartMode, serve};
 use crate::server_state::{ServerState, StopCounter};
@@ -117,13 +118,21 @@ fn run_as<
         + Sync
         + Net<Listener = TcpListener, Stream = TcpStream>,
 >(rt: &R, alloc: Global, settings: &CommandLine<'_>) -> Result<(), RunFault> {
-    let (server, parts) = open_all(rt, alloc, settings)?;
+    let (server, setups) = open_all(rt, alloc, settings)?;
     raise_memory_thresholds(alloc);
-    if settings.stop_after != Some(0) && !serve(rt, alloc, &server, parts) {
+    if settings.stop_after != Some(0) && !are_whole(serve(rt, alloc, &server, setups)) {
         return Err(RunFault::Unfinished);
     }
     println!(rt; "stopped")?;
     Ok(())
+}
+
+/// Whether each replica that ran returned its whole journal.
+fn are_whole(ends: Option<Vec<ReplicaEnd>>) -> bool {
+    match ends {
+        Some(ends) => ends.iter().all(ReplicaEnd::is_whole),
+        None => false,
+    }
 }
 
 /// Takes a large block of memory and gives it back. The C library then takes blocks of up to its

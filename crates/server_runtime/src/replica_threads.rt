@@ -1,10 +1,13 @@
 //! The threads of the replicas that a server runs.
 
-ghost use Rattle.std.specs.Prelude.{◌≡◌};
+ghost use Rattle.std.specs.Prelude.{◌≡◌, ℕ, IfOk, IfSome, Some, map, slice_get};
+ghost use Rattle.server_laws.specs.BookWorlds.{KeepTheHeadline};
+ghost use Rattle.server_runtime.specs.ReplicaEnds.{AreEndsOf, IsEndOf, books_of};
 
 use crate::connection_threads::{ReplicaContext, converse_and_close, refuse_connection};
 use crate::joining_replica::{JoinedReplica, JoiningReplica, send_copies};
 use crate::peer_sender::PeerSender;
+use crate::replica_end::{ReplicaEnd, end_of, ends_keep_the_headline};
 use crate::replica_handle::{CopyRequest, others};
 use crate::server_state::ServerState;
 use crate::totals::{Totals, totals_of};
@@ -49,9 +52,10 @@ pub struct ReplicaSetup<'a> {
     pub start_mode: StartMode<'a>,
 }
 
-/// A replica's setup, until its thread takes it.
+/// A replica's setup, until its thread takes it, with its name.
 #[derive(Drop)]
 struct SetupSlot<'a> {
+    replica: ReplicaId,
     setup: Mutex<Option<ReplicaSetup<'a>>>,
 }
 
@@ -109,8 +113,10 @@ impl Gate for OpenGate {
     fn pass(&mut self, _n: u64) {}
 }
 
-/// Runs all replicas, each in a thread of its own, until the server stops. True if each that ran
-/// returned its whole journal.
+/// Runs all replicas, each in a thread of its own, until the server stops, and says what became of
+/// each, in the order of the setups. The headline holds of the books that come out: of every
+/// interleaving of their journals in which each operation is issued before it is delivered. `None`
+/// if memory runs out; then nothing is said of any replica.
 pub fn serve<
     R: Threads
         + Wait
@@ -119,31 +125,68 @@ pub fn serve<
         + Print
         + Sync
         + Net<Listener = TcpListener, Stream = TcpStream>,
->(rt: &R, alloc: Global, server: &ServerState<'_>, setups: Vec<ReplicaSetup<'_>>) -> bool {
-    let Ok((slots, places)) = slots_of(alloc, setups) else {
-        return false;
+>(
+    rt: &R,
+    alloc: Global,
+    server: &ServerState<'_>,
+    setups: Vec<ReplicaSetup<'_>>,
+) -> Option<Vec<ReplicaEnd>>
+    ensures ends { IfSome result
+        (λ ends. AreEndsOf (map (λ setup. setup.replica) setups.entry.items) ends.items) }
+    ensures headline { IfSome result (λ ends. KeepTheHeadline (books_of ends.items)) }
+{
+    let Ok(slots) = slots_of(alloc, setups) else {
+        return None;
     };
-    let slots = slots.as_slice();
-    match thread::map_vec(rt, places, &|place| run_at(rt, alloc, server, slots, place)) {
-        Ok(results) => results.iter().all(|is_whole| *is_whole),
-        Err(_) => false,
-    }
+    let Ok(ends) = run_all(rt, alloc, server, slots.as_slice()) else {
+        return None;
+    };
+    ends_keep_the_headline(&ends);
+    Some(ends)
 }
 
-/// The setups, each in a slot from which its thread takes it, and the places of the slots.
+/// The setups, each in a slot from which its thread takes it. `Err` if memory runs out.
 fn slots_of<'a>(
     alloc: Global,
     setups: Vec<ReplicaSetup<'a>>,
-) -> Result<(Vec<SetupSlot<'a>>, Vec<usize>), AllocError> {
+) -> Result<Vec<SetupSlot<'a>>, AllocError>
+    ensures { IfOk result (λ slots. map (λ slot. slot.replica) slots.items
+        ≡ map (λ setup. setup.replica) setups.entry.items) }
+{
     let mut slots = Vec::new(alloc);
-    let mut places = Vec::new(alloc);
     for setup in setups {
-        places.push(slots.len())?;
         slots.push(SetupSlot {
+            replica: setup.replica,
             setup: Mutex::new(Some(setup)),
         })?;
     }
-    Ok((slots, places))
+    Ok(slots)
+}
+
+/// Runs the replicas in these slots, each in a thread of its own. `Err` if memory runs out.
+fn run_all<
+    R: Threads
+        + Wait
+        + Clock
+        + Log
+        + Print
+        + Sync
+        + Net<Listener = TcpListener, Stream = TcpStream>,
+>(
+    rt: &R,
+    alloc: Global,
+    server: &ServerState<'_>,
+    slots: &[SetupSlot<'_>],
+) -> Result<Vec<ReplicaEnd>, AllocError>
+    ensures { IfOk result
+        (λ ends. AreEndsOf (map (λ slot. slot.replica) slots.now) ends.items) }
+{
+    let run = move |place: usize| -> ReplicaEnd
+        ensures { (name : ℕ)
+            → slice_get (map (λ slot. slot.replica) slots.entry.now) place ≡ Some name
+            → IsEndOf name result }
+    { run_at(rt, alloc, server, slots, place) };
+    thread::map_indices(rt, alloc, slots.len(), &run)
 }
 
 /// Runs the replica whose setup is in the slot at this place.
@@ -155,18 +198,26 @@ fn run_at<
         + Print
         + Sync
         + Net<Listener = TcpListener, Stream = TcpStream>,
->(rt: &R, alloc: Global, server: &ServerState<'_>, slots: &[SetupSlot<'_>], place: usize) -> bool {
+>(
+    rt: &R,
+    alloc: Global,
+    server: &ServerState<'_>,
+    slots: &[SetupSlot<'_>],
+    place: usize,
+) -> ReplicaEnd
+    ensures { (name : ℕ) → slice_get (map (λ slot. slot.replica) slots.now) place ≡ Some name
+        → IsEndOf name result }
+{
     let Some(slot) = slots.get(place) else {
-        return false;
+        return ReplicaEnd::Lost;
     };
     match slot.take(rt) {
-        Some(setup) => run_setup(rt, alloc, server, setup),
-        None => false,
+        Some(setup) => end_of(slot.replica, run_setup(rt, alloc, server, setup)),
+        None => ReplicaEnd::Lost,
     }
 }
 
-/// Runs a replica in a call of its own, so that its ledger has a name of its own. True also if a
-/// replica couldn't join.
+/// Runs a replica in a call of its own, so that its ledger has a name of its own.
 fn run_setup<
     R: Threads
         + Wait
@@ -175,7 +226,7 @@ fn run_setup<
         + Print
         + Sync
         + Net<Listener = TcpListener, Stream = TcpStream>,
->(rt: &R, alloc: Global, server: &ServerState<'_>, setup: ReplicaSetup<'_>) -> bool {
+>(rt: &R, alloc: Global, server: &ServerState<'_>, setup: ReplicaSetup<'_>) -> ReplicaEnd {
     let ReplicaSetup {
         replica,
         own,
@@ -190,7 +241,7 @@ fn run_setup<
         ),
         StartMode::Joining(joiner) => match joiner.join(rt, alloc, server, replica, own) {
             Some(joined) => (Some(joined), true),
-            None => return true,
+            None => return ReplicaEnd::NotJoined,
         },
     };
     let Some(
@@ -201,7 +252,7 @@ fn run_setup<
         },
     ) = started
     else {
-        return false;
+        return ReplicaEnd::Lost;
     };
     let inputs = ReplicaInputs {
         own,
@@ -262,7 +313,7 @@ fn run_replica<
     server: &ServerState<'_>,
     book: Book,
     inputs: ReplicaInputs,
-) -> bool
+) -> ReplicaEnd
     requires { (blank.name ≡ L.name) × (blank.parts ≡ L.parts) × (L.parts ≡ 4294967295) }
 {
     let (shared, first) = Shared::<L>::new(blank, book);
@@ -284,14 +335,14 @@ fn run_replica<
     );
     let mut passes = returned.into_inner();
     if passes.push(first).is_err() {
-        return false;
+        return ReplicaEnd::Lost;
     }
     match shared.finish(passes) {
         Ok(book) => {
             log_totals(rt, &book);
-            true
+            ReplicaEnd::Finished(book)
         }
-        Err(_) => false,
+        Err(_) => ReplicaEnd::Lost,
     }
 }
 

@@ -67,6 +67,14 @@ impl Client {
         }
     }
 
+    /// Waits until octets have arrived, and leaves without having read them, which resets the
+    /// connection (RFC 1122, section 4.2.2.13). False if there are none.
+    pub fn leave_unread(self) -> bool {
+        let mut piece = [0u8; 1];
+        let has_arrived = matches!(self.stream.peek(&mut piece), Ok(1));
+        self.has_succeeded && has_arrived
+    }
+
     /// Drops all that it has received.
     pub fn clear_output(&mut self) {
         self.output.clear();

@@ -1,7 +1,7 @@
 //! Concurrent connections, while a replica's lock is held.
 
 use crate::callers::{Caller, Manner, input};
-use crate::gates::{PATIENCE, TURNS, Way};
+use crate::gates::{TURNS, Way};
 use crate::scene::{Outcome, Plan, play};
 use log::Log;
 use std::alloc::{AllocError, Global};
@@ -60,6 +60,7 @@ fn one_after_another(alloc: Global) -> Result<Plan, AllocError> {
     Ok(Plan {
         first,
         second: Vec::new(alloc),
+        is_full: false,
         called: 0,
         until: 0,
         turns: 0,
@@ -79,13 +80,15 @@ fn while_held(
     Ok(Plan {
         first: callers(alloc, first, Way::Held, text)?,
         second: callers(alloc, second, Way::Held, text)?,
+        is_full: false,
         called: first.saturating_add(second),
         until,
         turns,
     })
 }
 
-fn outcome<
+/// The result of a plan; `None` if it can't be made or fails.
+pub fn outcome<
     R: Threads + Wait + Clock + Log + Sync + Net<Listener = TcpListener, Stream = TcpStream>,
 >(rt: &R, alloc: Global, plan: Result<Plan, AllocError>) -> Option<Outcome> {
     match plan {
@@ -133,6 +136,7 @@ fn two_in_one_piece(alloc: Global) -> Result<Plan, AllocError> {
             b"a NOOP\r\nb NOOP\r\nc LOGOUT\r\n",
         )?,
         second: Vec::new(alloc),
+        is_full: false,
         called: 0,
         until: 0,
         turns: 0,
@@ -169,7 +173,7 @@ fn other_is_served(outcome: &Option<Outcome>) -> bool {
 
 #[test]
 fn a_connection_is_served_while_a_replica_is_held(rt: HostRuntime) {
-    let plan = while_held(rt.alloc(), 0, 1, b"a NOOP\r\nb LOGOUT\r\n", 1, PATIENCE);
+    let plan = while_held(rt.alloc(), 0, 1, b"a NOOP\r\nb LOGOUT\r\n", 1, TURNS);
     let outcome = outcome(&rt, rt.alloc(), plan);
     assert!(rt; other_is_served(&outcome));
 }
@@ -270,7 +274,7 @@ fn crowds_result(alloc: Global, outcome: &Option<Outcome>) -> Option<(u64, u64, 
 #[test]
 fn a_crowd_is_served_while_a_replica_is_held(rt: HostRuntime) {
     let alloc = rt.alloc();
-    let plan = while_held(alloc, 50, 50, CROWD_INPUT, 50, 100_000_000);
+    let plan = while_held(alloc, 50, 50, CROWD_INPUT, 50, TURNS);
     let outcome = outcome(&rt, alloc, plan);
     assert_eq!(rt;
         crowds_result(alloc, &outcome),

@@ -5,12 +5,9 @@ use std::sync::Wait;
 use std::sync::atomic::{AtomicU64, Ordering};
 use std::thread;
 
-/// How many times a thread checks, and lets others run, for what shouldn't happen.
+/// How many times a thread checks, and lets others run, for what is due and for what shouldn't
+/// happen.
 pub const TURNS: u64 = 1_000_000;
-
-/// How many times a thread checks, and lets others run, for what is due: enough for a machine
-/// with other work.
-pub const PATIENCE: u64 = 100_000_000;
 
 /// The counters by which the threads of a scene signal one another.
 #[derive(Drop)]
@@ -93,7 +90,7 @@ pub struct ClientGate<'a> {
 impl<'a> ClientGate<'a> {
     /// Waits for a count, and counts up `satisfied` if it saw it.
     fn await_signal(&self, count: &AtomicU64, least: u64) {
-        if await_count(count, least, PATIENCE) {
+        if await_count(count, least, TURNS) {
             let _ = self.signs.satisfied.fetch_add(1, Ordering::SeqCst);
         }
     }

@@ -96,6 +96,7 @@ fn plan(alloc: Global) -> Result<Plan, AllocError> {
     Ok(Plan {
         first: clients(alloc)?,
         second: Vec::new(alloc),
+        is_full: false,
         called: 0,
         until: 0,
         turns: 0,

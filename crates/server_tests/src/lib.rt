@@ -6,7 +6,8 @@
 //! client that reads late receives everything. Connections are served concurrently: one continues
 //! while another waits, while a replica's lock is held, and with clients that send what no client
 //! should. Messages reach the replicas that have joined, and the lines printed of joining replicas
-//! are compared.
+//! are compared. Replicas join in their order, the last connection's end included; the end of each
+//! connection is logged; and a program that can't run says so and ends with its status.
 //!
 //! # Decided
 //!
@@ -31,6 +32,10 @@ mod loopback;
 #[cfg(test)]
 mod messages;
 #[cfg(test)]
+mod runs;
+#[cfg(test)]
 mod scenarios;
 #[cfg(test)]
 mod scene;
+#[cfg(test)]
+mod terminal;

@@ -3,7 +3,7 @@
 
 use crate::scenarios::Scenario;
 use log::Log;
-use server_runtime::{CommandLine, open_all, read_settings, serve};
+use server_runtime::{CommandLine, ReplicaEnd, open_all, read_settings, serve};
 use std::alloc::{AllocError, Global};
 use std::net::{Net, TcpListener, TcpStream};
 use std::rt::Clock;
@@ -26,10 +26,18 @@ fn scenario_passes<
     let (server, parts) = open_all(rt, alloc, settings).ok()?;
     let (whole, scenario_passes) = thread::join(
         rt,
-        || serve(rt, alloc, &server, parts),
+        || are_whole(serve(rt, alloc, &server, parts)),
         || scenario.play(rt, alloc, &server),
     );
     Some(whole && scenario_passes == Some(true))
+}
+
+/// Whether each replica that ran returned its whole journal.
+fn are_whole(ends: Option<Vec<ReplicaEnd>>) -> bool {
+    match ends {
+        Some(ends) => ends.iter().all(ReplicaEnd::is_whole),
+        None => false,
+    }
 }
 
 /// The words of a command line, cut at spaces.
@@ -43,7 +51,7 @@ fn words_of(alloc: Global, line: &str) -> Result<Vec<String>, AllocError> {
 
 /// Serves as this command line asks while clients connect; true if the server ended well and the
 /// clients received the expected answers.
-fn serves_well<
+pub fn serves_well<
     R: Threads
         + Wait
         + Clock

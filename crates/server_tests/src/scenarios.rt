@@ -26,6 +26,12 @@ pub enum Scenario {
     Clock,
     /// A client that is quick, and then reads late.
     Late,
+    /// A client of a replica, and one of the second that joins after it.
+    Chain,
+    /// A client of a replica, after which another joins and the server stops.
+    Last,
+    /// Clients whose connections end in different ways.
+    Ends,
 }
 
 /// The length of the message for which a late reader asks, in octets.
@@ -52,6 +58,9 @@ impl Scenario {
             Scenario::Password => play_password(rt, alloc, server),
             Scenario::Clock => play_clock(rt, alloc, server),
             Scenario::Late => play_late(rt, alloc, server),
+            Scenario::Chain => play_chain(rt, alloc, server),
+            Scenario::Last => play_last(rt, alloc, server),
+            Scenario::Ends => play_ends(rt, alloc, server),
         }
     }
 }
@@ -308,6 +317,96 @@ fn play_late<R: Wait + Clock + Net<Listener = TcpListener, Stream = TcpStream>>(
     hurry(&mut client);
     leave(&mut client);
     Some(client.has_succeeded())
+}
+
+/// Runs a client of the only replica, and then one of the second replica that joined after it; true
+/// if each received the expected answers.
+fn play_chain<R: Wait + Clock + Net<Listener = TcpListener, Stream = TcpStream>>(
+    rt: &R,
+    alloc: Global,
+    server: &ServerState<'_>,
+) -> Option<bool> {
+    let mut first = client_at(rt, alloc, server, 0)?;
+    first.exchange(b"a CREATE work\r\n", b"a OK CREATE completed\r\n");
+    let were_awaited = is_awaited(rt, server, 1) && is_awaited(rt, server, 2);
+    leave(&mut first);
+    let mut last = client_at(rt, alloc, server, 2)?;
+    last.exchange(
+        b"a LIST \"\" w*\r\n",
+        b"* LIST () \"/\" work\r\na OK LIST completed\r\n",
+    );
+    leave(&mut last);
+    Some(were_awaited && first.has_succeeded() && last.has_succeeded())
+}
+
+/// Runs a client of the only replica, while another is to join; true if it received the expected
+/// answers.
+fn play_last<R: Wait + Clock + Net<Listener = TcpListener, Stream = TcpStream>>(
+    rt: &R,
+    alloc: Global,
+    server: &ServerState<'_>,
+) -> Option<bool> {
+    let mut client = client_at(rt, alloc, server, 0)?;
+    client.exchange(b"a CREATE work\r\n", b"a OK CREATE completed\r\n");
+    let was_awaited = is_awaited(rt, server, 1);
+    leave(&mut client);
+    Some(was_awaited && client.has_succeeded())
+}
+
+/// Runs five clients whose connections end in different ways; true if each received the expected
+/// answers.
+fn play_ends<R: Wait + Clock + Net<Listener = TcpListener, Stream = TcpStream>>(
+    rt: &R,
+    alloc: Global,
+    server: &ServerState<'_>,
+) -> Option<bool> {
+    let logged_out = log_out(client_at(rt, alloc, server, 0)?);
+    let hung_up = client_at(rt, alloc, server, 0)?.has_succeeded();
+    let was_refused = send_nul(client_at(rt, alloc, server, 0)?);
+    let left = leave_after_command(client_at(rt, alloc, server, 0)?);
+    let left_early = leave_early(alloc, client_at(rt, alloc, server, 0)?)?;
+    Some(logged_out && hung_up && was_refused && left && left_early)
+}
+
+/// Logs out; false if that fails.
+fn log_out(client: Client) -> bool {
+    let mut client = client;
+    leave(&mut client);
+    client.has_succeeded()
+}
+
+/// Sends a NUL; true if the server refused it.
+fn send_nul(client: Client) -> bool {
+    let mut client = client;
+    client.exchange(b"a \0\r\n", b"* BYE NUL in text\r\n");
+    client.has_succeeded()
+}
+
+/// Leaves without having read the answer to a command.
+fn leave_after_command(client: Client) -> bool {
+    let mut client = client;
+    client.send_only(b"a NOOP\r\n");
+    client.leave_unread()
+}
+
+/// Leaves without having read answers of which there are more than its connection holds.
+fn leave_early(alloc: Global, client: Client) -> Option<bool> {
+    let mut client = client;
+    let long = long_append(alloc)?;
+    let fetches = late_fetches(alloc)?;
+    select(&mut client);
+    client.exchange(&long, b"b OK [APPENDUID 1 1] APPEND completed\r\n");
+    client.send_only(&fetches);
+    Some(client.leave_unread())
+}
+
+/// FETCHes of the long message, for more than a connection holds.
+fn late_fetches(alloc: Global) -> Option<Vec<u8>> {
+    let mut input = Vec::new(alloc);
+    for _ in 0..LATE_TIMES {
+        input.extend_from_slice(b"c FETCH 1 BODY.PEEK[]\r\n").ok()?;
+    }
+    Some(input)
 }
 
 /// An APPEND of a long message.

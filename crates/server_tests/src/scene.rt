@@ -4,9 +4,9 @@ ghost use Rattle.std.specs.Prelude.{◌≡◌};
 
 use crate::callers::{Caller, Line, receive};
 use crate::gates::{ClientGate, LockHolder, Signs, Way, wait_for};
-use imap_node::Node;
+use imap_node::{Auth, MAX_SESSIONS, Node};
 use log::Log;
-use replica_lock::{Book, Pass, Shared};
+use replica_lock::{Book, BookEvent, Pass, Shared};
 use server_runtime::{
     Access, JoiningReplicas, ReplicaContext, ServerState, StopCounter, serve_over,
 };
@@ -29,6 +29,8 @@ pub struct Plan {
     pub first: Vec<Caller>,
     /// The clients of the second replica.
     pub second: Vec<Caller>,
+    /// Whether the first replica has as many sessions as it can before they call.
+    pub is_full: bool,
     /// How many gates are reached before the lock is taken.
     pub called: u64,
     /// The number of clients that read everything before the lock is released; 0 if it isn't taken.
@@ -67,9 +69,35 @@ fn fresh_book(alloc: Global, number: u32) -> Option<Book> {
     }
 }
 
-/// Two new replicas, numbered 1 and 2.
-fn fresh_books(alloc: Global) -> Option<(Book, Book)> {
-    let first = fresh_book(alloc, 1)?;
+/// Opens as many sessions as a replica can have; false if one can't be opened.
+fn fill(alloc: Global, book: &mut Book) -> bool {
+    for _ in 0..MAX_SESSIONS {
+        match book.step(
+            alloc,
+            BookEvent::Open {
+                auth: Auth::Preauth,
+            },
+        ) {
+            Ok(outcome) => drop(outcome),
+            Err(_) => return false,
+        }
+    }
+    true
+}
+
+/// A new replica, numbered 1, with as many sessions as it can have if `is_full`.
+fn first_book(alloc: Global, is_full: bool) -> Option<Book> {
+    let mut book = fresh_book(alloc, 1)?;
+    if is_full && !fill(alloc, &mut book) {
+        drop(book);
+        return None;
+    }
+    Some(book)
+}
+
+/// Two new replicas, numbered 1 and 2; the first has as many sessions as it can if `is_full`.
+fn fresh_books(alloc: Global, is_full: bool) -> Option<(Book, Book)> {
+    let first = first_book(alloc, is_full)?;
     match fresh_book(alloc, 2) {
         Some(second) => Some((first, second)),
         None => {
@@ -509,6 +537,7 @@ pub fn play<
     let Plan {
         first,
         second,
+        is_full,
         called,
         until,
         turns,
@@ -519,7 +548,7 @@ pub fn play<
         turns,
     };
     let sides = connect_both(rt, alloc, first, second)?;
-    let Some(books) = fresh_books(alloc) else {
+    let Some(books) = fresh_books(alloc, is_full) else {
         drop(sides);
         return None;
     };

@@ -1,0 +1,31 @@
+-- What becomes of the replicas that a server ran: their books, for the headline of
+-- `server_laws`.
+
+use Rattle.std.specs.Prelude.{◌≡◌, ℕ, List, [], ◌∷◌, length, Some, slice_get}
+use Rattle.replica_lock.specs.Histories.{BookState}
+use Rattle.server_laws.specs.Interleavings.{HasHistory}
+use Rattle.server_runtime.specs.declared.replica_end.ReplicaEnd.{ReplicaEnd}
+use Rattle.server_runtime.specs.declared.replica_end.ReplicaEnd.TheVariants.{Finished}
+
+-- The books of those that returned them, in order.
+abbrev pub books_of : List ReplicaEnd → List BookState
+books_of [] = []
+books_of (Finished book ∷ ends) = book ∷ books_of ends
+books_of (_ ∷ ends) = books_of ends
+
+-- If the replica returned its book, the book bears this name.
+abbrev pub IsEndOf : ℕ → ReplicaEnd → Type 0
+IsEndOf name (Finished book) = book.node.start.replica ≡ name
+IsEndOf name _ = Unit {0}
+
+-- There is one end for each of these names, in their order, and the books bear the names.
+pub record AreEndsOf (names : List ℕ) (ends : List ReplicaEnd) : Type 0 where
+  pub count : length ends ≡ length names
+  pub each : (i : ℕ) (name : ℕ) (end : ReplicaEnd) → slice_get names i ≡ Some name
+      → slice_get ends i ≡ Some end
+      → IsEndOf name end
+
+-- If the replica returned its book, the book's journal leads to it.
+abbrev pub EndHasHistory : ReplicaEnd → Type 0
+EndHasHistory (Finished book) = HasHistory book
+EndHasHistory _ = Unit {0}
