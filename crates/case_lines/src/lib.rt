@@ -5,9 +5,9 @@
 //! is the expected answer. A case program reads the line's fields, computes the answer, and prints
 //! the line again with that answer; the gate compares the output with the stored one.
 //!
-//! `question`, `cut` and others read fields; each gives `Trouble::NotACase` for a field that isn't
-//! written as a case is. `Words` collects an answer: once memory has run out, its text is
-//! incomplete and `finish` gives `Err`. `Trouble` says why a line has no answer.
+//! `question`, `cut` and others read fields; each gives `Trouble::NotACase` for a malformed field.
+//! `Words` collects an answer: once memory has run out, its text is incomplete and `finish` gives
+//! `Err`. `Trouble` says why a line has no answer.
 //!
 //! The functions promise no more than that they return, on any input.
 #![tactic(auto)]

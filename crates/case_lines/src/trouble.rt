@@ -6,7 +6,7 @@ use std::alloc::{AllocError, AllocFailed};
 /// Why a line has no answer.
 #[derive(Clone, Copy)]
 pub enum Trouble {
-    /// The line isn't written as a case is, or what a program made of it isn't a case.
+    /// The line doesn't have the form of a case, or a program's result for it doesn't.
     NotACase,
     /// The line names a message number that doesn't exist.
     OutOfRange,

@@ -46,7 +46,7 @@ impl Words {
         self.octets.as_slice()
     }
 
-    /// Marks the text as incomplete, since memory ran out for what comes next.
+    /// Marks the text as incomplete, since memory ran out for the next part.
     pub fn give_up(&mut self) {
         self.is_whole = false;
     }

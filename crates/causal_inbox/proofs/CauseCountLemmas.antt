@@ -8,7 +8,7 @@ use Rattle.merge_laws.proofs.Lists.{element_of_id, id_of_element, id_in_front, i
 use Rattle.causal_inbox.specs.declared.cause_index.CauseEntry.{CauseEntry}
 use Rattle.causal_inbox.specs.Inbox.{AreAscending, IsClockOf}
 use Rattle.causal_inbox.specs.CauseIndex.{AreApart, AreIndexed, AreOrdered, IsAwaited, IsCauseIndex, IsIndexedBefore, IsIndexedUnder, IsReindexed, IsUnderOneOf}
-use Rattle.causal_inbox.proofs.Ascending.{ascending_determines, cut_at}
+use Rattle.causal_inbox.proofs.AscendingLemmas.{ascending_determines, cut_at}
 use Rattle.causal_inbox.proofs.Ordered.{bool_of, inserted_same}
 use Rattle.causal_inbox.proofs.EntryOrder.{same_cause_decided}
 use Rattle.causal_inbox.proofs.Beyond.{awaited_by, awaited_least, has_decided}

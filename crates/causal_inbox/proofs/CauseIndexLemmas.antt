@@ -10,14 +10,14 @@ use Rattle.tree_list.specs.Searches.{IsPartitioned, IsPoint}
 use Rattle.causal_inbox.specs.declared.cause_index.CauseEntry.{CauseEntry}
 use Rattle.causal_inbox.specs.Inbox.{IsLess, AreAscending, IsClockOf}
 use Rattle.causal_inbox.specs.CauseIndex.{AreApart, AreIndexed, AreOrdered, IsAwaited, IsCauseLess, IsCauseIndex, IsIndexedBefore, IsIndexedUnder, IsReindexed, IsUnderOneOf}
-use Rattle.causal_inbox.proofs.Ascending.{ascending_determines, in_at, less_irreflexive, less_trans, inserted_ascending, removed_ascending, removed_others}
+use Rattle.causal_inbox.proofs.AscendingLemmas.{ascending_determines, element_is_in, less_irreflexive, less_trans, inserted_ascending, removed_ascending, removed_others}
 use Rattle.causal_inbox.proofs.Ordered.{bool_of, parts_around, point_before, point_not, element_at_point, first_least, in_place, inserted_same, removed_elements, removed_ordered}
 use Rattle.causal_inbox.proofs.EntryOrder.{before_irr, id_decided, ids_ordered, less_decided}
 use Rattle.causal_inbox.proofs.Beyond.{awaited_least}
 
 -- the element at a place
 pub in_of_get : {X : Type 0} (xs : List X) (n : ℕ) (x : X) → slice_get xs n ≡ Some x → IsIn x xs
-in_of_get xs n x e = in_at xs n x (slice_get_within xs n x e) (sym (get_or_from_slice_get xs n x x e))
+in_of_get xs n x e = element_is_in xs n x (slice_get_within xs n x e) (sym (get_or_from_slice_get xs n x x e))
 
 module _ {O : Type 0} (id : O → OpId) where
   -- the test of a place among the held operations
@@ -219,8 +219,8 @@ module _ {O : Type 0} (id : O → OpId) where
         absurd (m (subst (HasId id held) x.2 (id_of_element id x.0 held x.1)))
     next_place applied held entries f (Some at) a is indexed first none m = (
       m.0,
-      λ o e. (least_ripe applied held entries f o a is indexed first none (in_at held at o m.0 e) (m.1 o e)).0,
-      λ o p e. (least_ripe applied held entries f o a is indexed first none (in_at held at o m.0 e) (m.1 o e)).1 p,
+      λ o e. (least_ripe applied held entries f o a is indexed first none (element_is_in held at o m.0 e) (m.1 o e)).0,
+      λ o p e. (least_ripe applied held entries f o a is indexed first none (element_is_in held at o m.0 e) (m.1 o e)).1 p,
     )
 
 module _ {O : Type 0} (id : O → OpId) where

@@ -8,7 +8,7 @@ use Rattle.merge_laws.specs.Orders.{IsIn, HasId}
 use Rattle.causal_inbox.specs.declared.cause_index.CauseEntry.{CauseEntry}
 use Rattle.causal_inbox.specs.Inbox.{IsLess, AreAscending}
 use Rattle.causal_inbox.specs.CauseIndex.{IsAwaited, IsCauseLess, IsIndexedBefore, IsIndexedUnder, AreOrdered}
-use Rattle.causal_inbox.proofs.Ascending.{less_irreflexive, less_trans, less_or_greater}
+use Rattle.causal_inbox.proofs.AscendingLemmas.{less_irreflexive, less_trans, less_or_greater}
 use Rattle.causal_inbox.proofs.Ordered.{bool_of, is_bool, of_false, parts_around, inserted_ordered, point_before, point_not, point_after, element_at_point, ordered_at}
 
 -- ids

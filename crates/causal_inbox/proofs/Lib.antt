@@ -1,9 +1,10 @@
 pub mod Clocks
 mod Places
-mod Ascending
+mod AscendingLemmas
 mod ReceivedLemmas
 pub mod Union
 pub mod Closure
+pub mod ReleasesLemmas
 mod Ordered
 mod EntryOrder
 mod Beyond

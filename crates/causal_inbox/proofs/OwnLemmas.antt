@@ -23,8 +23,8 @@ module _ {O : Type 0} (id_of : O → OpId) (name : ℕ) where
   own_parts : (front : List O) (op : O) (i : OpId) → IsOwn id_of name (front ++ op ∷ []) i → IsOwn id_of name front i ⊎ ((id_of op ≡ i) × (i.replica ≡ name))
   own_parts front op i h = elim (id_in_parts id_of i front (op ∷ []) h.0) [ inl t ↦ inl (t, h.1) | inr t ↦ elim t [ inl e ↦ inr (e, h.1) | inr n ↦ absurd n ] ]
 
-  pub least_more : (front : List O) (op : O) (old new : Option OpId) → IsLeastOwn id_of name front old → IsLesserOwn name (id_of op) old new → IsLeastOwn id_of name (front ++ op ∷ []) new
-  least_more front op None new least step = elim step [
+  pub least_own_append : (front : List O) (op : O) (old new : Option OpId) → IsLeastOwn id_of name front old → IsLesserOwn name (id_of op) old new → IsLeastOwn id_of name (front ++ op ∷ []) new
+  least_own_append front op None new least step = elim step [
     | inl t ↦ subst (IsLeastOwn id_of name (front ++ op ∷ [])) (sym t.1) (
       (id_in_back id_of (id_of op) front (op ∷ []) (inl refl), t.0),
       λ other own less. elim (own_parts front op other own) [
@@ -37,7 +37,7 @@ module _ {O : Type 0} (id_of : O → OpId) (name : ℕ) where
       | inr u ↦ t.0 (ap (λ (j : OpId). j.replica) u.0 ∙ u.1)
     ])
   ]
-  least_more front op (Some best) new least step = elim step [
+  least_own_append front op (Some best) new least step = elim step [
     | inl t ↦ subst (IsLeastOwn id_of name (front ++ op ∷ [])) (sym t.1) (
       (id_in_back id_of (id_of op) front (op ∷ []) (inl refl), t.0.0),
       λ other own less. elim (own_parts front op other own) [
@@ -57,4 +57,4 @@ module _ {O : Type 0} (id_of : O → OpId) (name : ℕ) where
   pub least_next : (ops : List O) (i : ℕ) (op : O) (id : OpId) (old new : Option OpId) → i < length ops → op ≡ get_or ops i op → IsLeastOwn id_of name (take i ops) old → id ≡ id_of op → IsLesserOwn name id old new → IsLeastOwn id_of name (take (i + 1) ops) new
   least_next ops i op id old new l is least e step =
       subst (λ (os : List O). IsLeastOwn id_of name os new) (sym (take_more ops i op l ∙ ap (λ y. take i ops ++ y ∷ []) (sym is)))
-      (least_more (take i ops) op old new least (subst (λ (j : OpId). IsLesserOwn name j old new) e step))
+      (least_own_append (take i ops) op old new least (subst (λ (j : OpId). IsLesserOwn name j old new) e step))

@@ -5,7 +5,7 @@ use Rattle.merge_laws.proofs.Lists.{in_parts, in_cases, in_front, in_back, id_of
 use Rattle.std.specs.List.{remove}
 use Rattle.merge_laws.proofs.Causal.{causal_determines}
 use Rattle.causal_inbox.specs.Inbox.{ReceivedOps, AreAscending, IsLess, IsLawfulInbox, IsReceived, IsStalled, IsLeastRipe, IsNextReleased, IsReleased, held_limit}
-use Rattle.causal_inbox.proofs.Ascending.{less_irreflexive, less_trans, ascending_determines, ascending_back, cut_at, in_at, element_at, removed_others}
+use Rattle.causal_inbox.proofs.AscendingLemmas.{less_irreflexive, less_trans, ascending_determines, ascending_back, cut_at, element_is_in, element_at, removed_others}
 
 -- no operation that is still held has the id of one applied now
 pub remaining_apart : {O : Type 0} (id : O → OpId) (applied ops all old new : List O) → all ≡ applied ++ ops → ((i : OpId) → HasId id old i → ¬ HasId id applied i) → ((o : O) → IsIn o new → IsIn o old × ¬ HasId id ops (id o)) → (i : OpId) → HasId id new i → ¬ HasId id all i
@@ -82,7 +82,7 @@ module _ {S O : Type 0} (id : O → OpId) (clock : O → List (ℕ × ℕ)) wher
       (λ o t. h.2 o (subst (λ xs. IsIn o (take at xs)) (sym e) t)) a
 
   pub stalled_at : (s : ReceivedOps S O) (at : ℕ) → IsLeastRipe id clock s at → IsStalled id clock s
-  stalled_at s at h = let x = element_at s.held at h.0 in (x.0, in_at s.held at x.0 h.0 x.1, h.1 x.0 x.1)
+  stalled_at s at h = let x = element_at s.held at h.0 in (x.0, element_is_in s.held at x.0 h.0 x.1, h.1 x.0 x.1)
 
   pub stalled_from : (s : ReceivedOps S O) (r : Option ℕ) (b : Bool) → MatchOption r (¬ IsStalled id clock s) (IsLeastRipe id clock s) → b ≡ is_some r → IsTrue b ↔ IsStalled id clock s
   stalled_from s None b h e = (λ t. absurd cc, λ t. absurd (h t))
@@ -110,7 +110,7 @@ module _ {S O : Type 0} (id : O → OpId) (clock : O → List (ℕ × ℕ)) wher
   -- in a lawful inbox, the least ripe operation is released next
   pub next_released : (s : ReceivedOps S O) (at : ℕ) (op : O) → IsLeastRipe id clock s at → op ≡ get_or s.held at op → IsNextReleased id clock s op
   next_released s at op least is = record {
-    held = in_at s.held at op least.0 is;
+    held = element_is_in s.held at op least.0 is;
     ripe = least.1 op is;
     least = λ o h r. least.2 op o is h r;
   }
@@ -129,7 +129,7 @@ module _ {S O : Type 0} (id : O → OpId) (clock : O → List (ℕ × ℕ)) wher
         held = λ o. (
           λ h. elim (in_cases op o (take at old.held) (drop (suc at) old.held) (subst (IsIn o) cut h)) [ inl e ↦ inl e | inr t ↦ inr (subst (IsIn o) (sym held) t) ],
           λ h. elim h [
-            | inl e ↦ subst (λ (x : O). IsIn x old.held) e (in_at old.held at op least.0 is)
+            | inl e ↦ subst (λ (x : O). IsIn x old.held) e (element_is_in old.held at op least.0 is)
             | inr t ↦ ((others o).0 (subst (IsIn o) held t)).0
           ],
         );

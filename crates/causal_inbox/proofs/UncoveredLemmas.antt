@@ -171,7 +171,7 @@ module _ {O : Type 0} (id : O → OpId) (clock : O → List (ℕ × ℕ)) where
       ∙ left_out (is_cause next (id o)) o (uncovered_ops id next back) now in
       before ∙ ap (λ (xs : List O). o ∷ xs) (alike ∙ sym after)
 
-  -- none is uncovered among the first ones if none is among more of them
+  -- if none of the first operations is uncovered, none of fewer first ones is
   pub none_within : (applied : List O) (covered : List (ℕ × ℕ)) (at within : ℕ) → uncovered_ops id covered (take at applied) ≡ [] → within ≤ at → uncovered_ops id covered (take within applied) ≡ []
   none_within applied covered at within none l =
       let front : take within (take at applied) ≡ take within applied = take-take within at applied l in
@@ -181,7 +181,7 @@ module _ {O : Type 0} (id : O → OpId) (clock : O → List (ℕ × ℕ)) where
   none_to_end applied covered at within none l =
       none_uncovered id covered (take within applied) (λ p h. uncovered_front covered (take at applied) p none (subst (IsIn p) (sym (take_all at applied l)) (in_take p within applied h)))
 
-  -- the copies made so far, with the next one, and what is still uncovered
+  -- the copies made so far, with the next one, and the operations still uncovered
   pub copies_next : (applied copies : List O) (clock_then covered next : List (ℕ × ℕ)) (at within limit counter : ℕ) (o : O) → IsCausal id clock applied → at < within → slice_get applied at ≡ Some o → uncovered_ops id covered (take at applied) ≡ [] → IsNextOf covered (id_numbers id o) → IsRaised covered (id o).replica (id o).number next → counter < limit → copies ++ take (limit - counter) (uncovered_ops id covered (take within applied)) ≡ take limit (uncovered_ops id clock_then (take within applied)) → (copies ++ o ∷ []) ++ take (limit - (counter + 1)) (uncovered_ops id next (take within applied)) ≡ take limit (uncovered_ops id clock_then (take within applied))
   copies_next applied copies clock_then covered next at within limit counter o causal l member none number raised below rest =
       let more = uncovered_ops id next (take within applied) in

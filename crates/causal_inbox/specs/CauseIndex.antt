@@ -9,7 +9,7 @@ use Rattle.merge_laws.specs.Orders.{IsIn, HasId, IsRipe}
 use Rattle.causal_inbox.specs.Inbox.{IsClockOf, IsLess}
 use Rattle.causal_inbox.specs.declared.cause_index.CauseEntry.{CauseEntry}
 
--- The least cause of the operation that the list lacks, by replica and then by number.
+-- The operation's least cause that the list lacks, by replica and then by number.
 pub record IsLeastMissing {O : Type 0} (id : O → OpId) (clock : O → List (ℕ × ℕ)) (applied : List O)
     (o : O) (i : OpId) : Type 0 where
   pub cause : IsCause (clock o) i

@@ -1,6 +1,6 @@
--- What an inbox has received: the applied and the held operations, and how they change when held
--- ones are released and own ones are issued. It is causal delivery (Jungnickel, Oldenburg, Loibl,
--- OPODIS 2017).
+-- The operations that an inbox has received, applied or held, and how they change when held ones
+-- are released and own ones are issued. It is causal delivery (Jungnickel, Oldenburg, Loibl, OPODIS
+-- 2017).
 
 use Rattle.std.specs.Prelude.{◌≡◌, ◌↔◌, ◌⊎◌, ℕ, ◌+◌, ◌<◌, ◌≤◌, suc, zero, List, [], ◌∷◌, ◌++◌}
 use Rattle.std.specs.Prelude.{length, slice_index_or, Bool, not, ◌&&◌, nat_lt, nat_le}
@@ -37,7 +37,7 @@ IsClockOf id os clock = (i : OpId) → IsCause clock i ↔ HasId id os i
 abbrev pub held_limit : ℕ
 held_limit = 65536
 
--- What holds of every inbox at any time.
+-- The invariant of every inbox.
 pub record IsLawfulInbox {S O : Type 0} (id : O → OpId) (clock : O → List (ℕ × ℕ))
     (s : ReceivedOps S O) : Type 0 where
   -- the applied list is causal

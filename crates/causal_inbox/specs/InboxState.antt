@@ -1,5 +1,5 @@
--- An inbox and its history as contracts see them: what was received, and the room that calls
--- without memory rely on.
+-- An inbox and its history as contracts see them: the received operations, and the room, on which
+-- calls that take no memory rely.
 
 use Rattle.std.specs.Prelude.{◌≡◌, ◌⊎◌, ℕ, ◌+◌, ◌≤◌, List, ◌++◌, length}
 use Rattle.tags_clocks.specs.declared.id.OpId.{OpId}
@@ -7,15 +7,15 @@ use Rattle.tags_clocks.specs.Clock.{count_of}
 use Rattle.merge_laws.specs.Orders.{IsIn, IsCausal}
 use Rattle.causal_inbox.specs.Inbox.{ReceivedOps, IsClockOf}
 
--- What the calls that take no memory rely on: the value and its follower as they were made ready,
--- the next clock, and the number of further operations that the list has room for.
+-- The room, on which the calls that take no memory rely: the value and its follower as they were
+-- made ready, the next clock, and the number of further operations that the list has room for.
 pub record InboxRoom (R F : Type 0) : Type 0 where
   pub value : R
   pub follower : F
   pub clock : List (ℕ × ℕ)
   pub count : ℕ
 
--- An inbox: what it has received, and its room.
+-- An inbox: the operations that it has received, and its room.
 pub record InboxState (S R F O : Type 0) : Type 0 where
   pub received : ReceivedOps S O
   pub room : InboxRoom R F
@@ -29,7 +29,7 @@ pub record IsReadied {R F O : Type 0} (is_prepared : R → List O → Type 0)
   pub next : IsCausal id clock (applied ++ ops) → IsClockOf id (applied ++ ops) room.clock
   pub count : length ops ≤ room.count
 
--- A history: what its follower began with, the applied operations, and its room.
+-- A history: the counters that its follower began with, the applied operations, and its room.
 pub record HistoryState (S R F O : Type 0) : Type 0 where
   pub start : S
   pub applied : List O
@@ -44,8 +44,8 @@ id_numbers id o = ((id o).replica, (id o).number)
 abbrev pub IsNextOf : List (ℕ × ℕ) → ℕ × ℕ → Type 0
 IsNextOf clock id = id.1 ≡ count_of clock id.0 + 1
 
--- The entry counts a replica's operations. Either the clock covers that many, or `keys` lacks the
--- first number that it doesn't cover.
+-- The entry counts a replica's operations. Either the clock covers that number of them, or `keys`
+-- lacks the first number that it doesn't cover.
 abbrev pub LacksNext : List (ℕ × ℕ) → List (ℕ × ℕ) → ℕ × ℕ → Type 0
 LacksNext clock keys entry =
     (entry.1 ≤ count_of clock entry.0) ⊎ (¬ IsIn (entry.0, count_of clock entry.0 + 1) keys)

@@ -4,6 +4,7 @@ pub mod Inbox
 pub mod InboxState
 pub mod Delivery
 pub mod Stalls
+pub mod Releases
 pub mod OpStatus
 pub mod ReceivedSets
 pub mod OwnIds

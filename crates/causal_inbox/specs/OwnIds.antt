@@ -1,4 +1,4 @@
--- The least id among operations that names a given replica.
+-- The least of the ids of operations that name a given replica.
 
 use Rattle.std.specs.Prelude.{◌≡◌, ◌⊎◌, ℕ, List, Option, None, Some}
 use Rattle.tags_clocks.specs.declared.id.OpId.{OpId}
@@ -9,7 +9,7 @@ use Rattle.merge_laws.specs.Orders.{HasId}
 abbrev pub IsOwn : {O : Type 0} → (O → OpId) → ℕ → List O → OpId → Type 0
 IsOwn id_of name ops id = HasId id_of ops id × (id.replica ≡ name)
 
--- The least id of the operations that names this replica; none if none does.
+-- The least of the operations' ids that name this replica; none if none does.
 abbrev pub IsLeastOwn : {O : Type 0} → (O → OpId) → ℕ → List O → Option OpId → Type 0
 IsLeastOwn id_of name ops None = (id : OpId) → ¬ IsOwn id_of name ops id
 IsLeastOwn id_of name ops (Some id) =

@@ -1,5 +1,5 @@
--- What an inbox has received, as a set: how deliveries, releases and issues change it, and which
--- part of it is applied.
+-- The operations that an inbox has received, as a set: how deliveries, releases and issues change
+-- it, and which part of it is applied.
 
 use Rattle.std.specs.Prelude.{◌≡◌, ◌↔◌, ◌⊎◌, ℕ, List, ◌++◌}
 use Rattle.tags_clocks.specs.declared.id.OpId.{OpId}
@@ -28,7 +28,7 @@ ReceivedTakesIssued {S} {O} id old ops new =
     → IsReceived new o
     ↔ (IsIn o ops ⊎ (IsReceived old o × (IsIn o old.held → ¬ HasId id ops (id o))))
 
--- What holds of all received operations, whatever they are: the applied list is causal, no id is
+-- The invariant of the received operations, whatever they are: the applied list is causal, no id is
 -- both in it and in the held list, and an id determines the operation.
 pub record IsConsistent {S O : Type 0} (id : O → OpId) (clock : O → List (ℕ × ℕ))
     (s : ReceivedOps S O) : Type 0 where

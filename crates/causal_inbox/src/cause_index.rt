@@ -26,7 +26,7 @@ pub struct CauseEntry {
 /// The operation's index entry, for the clock that covers the applied operations.
 pub fn entry_of<O: Caused>(clock: &Clock, op: &O) -> CauseEntry
     ensures id { result.id ≡ O.id op.now }
-    ensures under { (applied : List O)
+    ensures indexed { (applied : List O)
         → IsClockOf O.id applied clock.now
         → ¬ HasId O.id applied (O.id op.now)
         → IsIndexedUnder O.id O.clock applied op.now result.cause }

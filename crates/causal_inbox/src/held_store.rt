@@ -200,8 +200,8 @@ impl<O: Caused + Drop> HeldStore<O> {
         }
     }
 
-    /// Moves the index entry at place `at` to where the operation's least missing cause puts it
-    /// now. Takes no memory.
+    /// Moves the index entry at place `at` to the place that the operation's least missing cause
+    /// gives it now. Takes no memory.
     fn reindex(&mut self, clock: &Clock, at: usize)
         requires { at < length self.old.entries }
         ensures list { self.new.list ≡ self.old.list }

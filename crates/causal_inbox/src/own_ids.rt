@@ -1,4 +1,4 @@
-//! The least id among operations that names a given replica.
+//! The least of the ids of operations that name a given replica.
 
 ghost use Rattle.std.specs.Prelude.{◌≡◌, ◌↔◌, IsTrue};
 ghost use Rattle.causal_inbox.specs.Inbox.{IsLess};

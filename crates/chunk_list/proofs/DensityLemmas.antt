@@ -1,4 +1,4 @@
--- Dense chunks: two neighbours hold more items than fit into one.
+-- Dense chunks: two neighbours have more items than fit into one.
 use Rattle.std.proofs.Common.{◌≡◌, ℕ, suc, ◌+◌, ◌-◌, ◌*◌, ◌<◌, ◌≤◌, List, [], ◌∷◌, ◌++◌, length, get_or, take, drop, set, map, ap, sym, subst, ◌∙◌, arith, length-append, inl, inr, Bool, IsTrue, ◌↔◌}
 use Rattle.std.proofs.Math.Numerals.{add-one}
 use Rattle.std.proofs.lemmas.Bool.{cases_lt, cases_order}
@@ -9,7 +9,7 @@ use Rattle.chunk_list.specs.declared.chunks.TheConstants.{CHUNK}
 use Rattle.chunk_list.proofs.FreePlaceLemmas.{free_append}
 use Rattle.chunk_list.proofs.SplitLemmas.{chunk_is, parts_around}
 
--- Dense chunks before others, and after them.
+-- The chunks before a place, and those after it, are dense.
 pub dense_front : {T : Type 0} (free : ℕ) (xs ys : List (Chunk T)) → AreDense free (xs ++ ys) → AreDense free xs
 dense_front free [] ys h = tt
 dense_front free (c ∷ xs) ys h = (h.0, dense_front (CHUNK - length c.items.items) xs ys h.1)
@@ -31,12 +31,12 @@ pub dense_down : {T : Type 0} (free : ℕ) (cs : List (Chunk T)) → AreDense fr
 dense_down free [] h = tt
 dense_down free (c ∷ cs) h = (h.0, dense_down (CHUNK - length c.items.items) cs h.1)
 
--- There are few dense chunks for their items.
+-- The number of dense chunks is limited by that of their items.
 pub dense_few : {T : Type 0} (free before : ℕ) (cs : List (Chunk T)) → free ≤ CHUNK → AreChunks before cs → AreDense free cs → CHUNK * length cs + free ≤ 2 * length (items_of cs) + CHUNK
 dense_few free before [] h k d = omega (arith, h)
 dense_few free before (c ∷ cs) h k d = omega (arith, k.0.most, d.0, dense_few (CHUNK - length c.items.items) (before + length c.items.items) cs (omega arith) k.1 d.1, length-append c.items.items (items_of cs))
 
--- Dense chunks around one of them.
+-- Dense chunks, divided at one of them.
 module _ {T : Type 0} (cs : List (Chunk T)) (i : ℕ) (d : Chunk T) (inside : i < length cs) (h : AreDense 0 cs) where
   pub dense_before : AreDense 0 (take i cs)
   dense_before = dense_front 0 (take i cs) (drop i cs) (subst (AreDense 0) (sym (take-append-drop i cs)) h)
@@ -69,7 +69,7 @@ dense_lost cs i d inside h c many =
     let from = dense_from cs i d inside h in
     loose_between (take i cs) c (map with_one_less (drop (suc i) cs)) i (length-take-le i cs (omega (arith, inside))) (dense_before cs i d inside h) (omega (arith, many, from.0)) (dense_down _ (drop (suc i) cs) (subst (λ n. AreDense (CHUNK - n) (drop (suc i) cs)) (sym many) from.1))
 
--- The chunks when it and the next one are to be joined, and when it and the one before it are.
+-- The chunks if the one that has lost an item is to be joined with the next or the previous one.
 filled_next : {T : Type 0} (d : Chunk T) (cs : List (Chunk T)) (at : ℕ) → AreNearlyDense cs at → at + 1 < length cs → ((e : Chunk T) → length (get_or cs at e).items.items + length (get_or cs (at + 1) e).items.items ≤ CHUNK) → FillOne cs at
 filled_next d cs at loose inside fits = record {
   front = loose.front;
@@ -103,7 +103,7 @@ fill_front (c ∷ cs) at loose some inside fits =
     let back : at ≡ at - 1 + 1 = omega (arith, some) in
     filled_front c (c ∷ cs) (at - 1) (subst (AreNearlyDense (c ∷ cs)) back loose) (omega (arith, some, inside)) (λ e. subst (λ j. length (get_or (c ∷ cs) (at - 1) e).items.items + length (get_or (c ∷ cs) j e).items.items ≤ CHUNK) back (fits e))
 
--- The chunks are dense if it can be joined with neither.
+-- The chunks are dense if the one that has lost an item can be joined with neither neighbour.
 module _ {T : Type 0} (d : Chunk T) (cs : List (Chunk T)) (at : ℕ) (h : AreChunks 0 cs) (loose : AreNearlyDense cs at) (inside : at < length cs) (alone : 0 < at → length (get_or cs (at - 1) d).items.items + length (get_or cs at d).items.items ≤ CHUNK → ⊥) (apart : at + 1 < length cs → length (get_or cs at d).items.items + length (get_or cs (at + 1) d).items.items ≤ CHUNK → ⊥) where
   more_here : free_at_end 0 (take at cs) < length (get_or cs at d).items.items
   more_here = elim (cases_order at 0) [

@@ -77,21 +77,21 @@ pub items_from : {T : Type 0} (cs : List (Chunk T)) (index at : ℕ) (k : Chunk 
 items_from cs index at k xs ys h place is items all =
     ap (λ zs. zs ++ items_of (take (length ys - (at + 1)) (drop (at + 1) ys))) (take_rest xs (index - k.start)) ∙ ap (λ zs. drop (index - k.start) xs ++ items_of zs) (take_rest ys (at + 1)) ∙ ap (λ zs. drop (index - k.start) zs ++ items_of (drop (at + 1) ys)) items ∙ ap (λ zs. drop (index - k.start) k.items.items ++ items_of (drop (at + 1) zs)) all ∙ ap (λ (c : Chunk _). drop (index - c.start) c.items.items ++ items_of (drop (at + 1) cs)) is ∙ ap (λ j. drop (index - (get_or cs at k).start) (get_or cs at k).items.items ++ items_of (drop j cs)) (add-one at) ∙ rest_in cs index at k h place
 
--- The elements after one place are mapped,
+-- The elements after one place are mapped.
 pub written_after : {X : Type 0} (f : X → X) (xs ys : List X) (i : ℕ) → i < length xs → ys ≡ map f (take (length xs - (i + 1)) (drop (i + 1) xs)) → put_mid (i + 1) (length xs - (i + 1)) xs ys ≡ take (i + 1) xs ++ map f (drop (i + 1) xs)
 written_after f xs ys i inside is =
     let k = length xs - (i + 1) in
     let none : drop k (drop (i + 1) xs) ≡ [] = drop_all k (drop (i + 1) xs) (omega (arith, length-drop (i + 1) xs)) in
     ap (λ zs. take (i + 1) xs ++ (ys ++ zs)) none ∙ ap (λ zs. take (i + 1) xs ++ zs) (append-nil ys ∙ is ∙ ap (map f) (take_rest xs (i + 1)))
 
--- and the element at that place is replaced,
+-- The elements after one place are mapped, and the element at that place is replaced.
 pub written_with : {X : Type 0} (f : X → X) (xs : List X) (i : ℕ) (y : X) → i < length xs → take (i + 1) (set xs i y) ++ map f (drop (i + 1) (set xs i y)) ≡ take i xs ++ y ∷ map f (drop (suc i) xs)
 written_with f xs i y inside =
     let front : take (i + 1) (set xs i y) ≡ take i xs ++ y ∷ [] = take_more_set xs i y inside in
     let tail : drop (i + 1) (set xs i y) ≡ drop (i + 1) xs = drop-set-lt (i + 1) xs i y (omega arith) in
     ap (λ zs. zs ++ map f (drop (i + 1) (set xs i y))) front ∙ ap (λ zs. (take i xs ++ y ∷ []) ++ map f zs) tail ∙ append_assoc (take i xs) (y ∷ []) (map f (drop (i + 1) xs)) ∙ ap (λ j. take i xs ++ y ∷ map f (drop j xs)) (add-one i)
 
--- or removed.
+-- The elements after one place are mapped, and the element at that place is removed.
 pub written_without : {X : Type 0} (f : X → X) (xs : List X) (i : ℕ) → i < length xs → remove (take (i + 1) xs ++ map f (drop (i + 1) xs)) i ≡ take i xs ++ map f (drop (i + 1) xs)
 written_without f xs i inside =
     let ys = map f (drop (i + 1) xs) in

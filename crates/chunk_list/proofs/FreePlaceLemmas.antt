@@ -10,12 +10,12 @@ pub free_append : {T : Type 0} (free : ℕ) (xs ys : List (Chunk T)) → free_at
 free_append free [] ys = refl
 free_append free (c ∷ xs) ys = free_append (CHUNK - length c.items.items) xs ys
 
--- There are at most CHUNK of them.
+-- There are at most CHUNK free places.
 pub free_at_most_chunk : {T : Type 0} (free : ℕ) (cs : List (Chunk T)) → free ≤ CHUNK → free_at_end free cs ≤ CHUNK
 free_at_most_chunk free [] h = h
 free_at_most_chunk free (c ∷ cs) h = free_at_most_chunk (CHUNK - length c.items.items) cs (omega arith)
 
--- There are fewer than CHUNK of them, since no chunk is empty.
+-- There are fewer than CHUNK free places, since no chunk is empty.
 pub free_below_chunk : {T : Type 0} (free before : ℕ) (cs : List (Chunk T)) → free < CHUNK → AreChunks before cs → free_at_end free cs < CHUNK
 free_below_chunk free before [] h k = h
 free_below_chunk free before (c ∷ cs) h k = free_below_chunk (CHUNK - length c.items.items) (before + length c.items.items) cs (omega (arith, k.0.some)) k.1

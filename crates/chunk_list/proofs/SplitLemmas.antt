@@ -21,7 +21,7 @@ items_around cs i d inside = ap (λ xs. items_of xs) (parts_around cs i d inside
 pub items_with : {T : Type 0} (cs : List (Chunk T)) (i : ℕ) (c : Chunk T) → i < length cs → items_of (set cs i c) ≡ items_of (take i cs) ++ (c.items.items ++ items_of (drop (suc i) cs))
 items_with cs i c inside = ap (λ xs. items_of xs) (set_split cs i c inside) ∙ flat_map-append (λ c. c.items.items) (take i cs) (c ∷ drop (suc i) cs)
 
--- Chunks before others, and after them.
+-- The chunks before a place, and those after it, are chunks.
 pub front_of : {T : Type 0} (n : ℕ) (xs ys : List (Chunk T)) → AreChunks n (xs ++ ys) → AreChunks n xs
 front_of n [] ys h = tt
 front_of n (c ∷ xs) ys h = (h.0, front_of (n + length c.items.items) xs ys h.1)
@@ -65,7 +65,7 @@ last_end cs i d last h =
     let none = ap (λ xs. length (items_of xs)) (drop_all (suc i) cs (omega (arith, last))) in
     omega (arith, here.start, around, none, length-append (items_of (take i cs)) ((get_or cs i d).items.items ++ items_of (drop (suc i) cs)), length-append (get_or cs i d).items.items (items_of (drop (suc i) cs)))
 
--- A chunk holds the item if it doesn't start after it and the next chunk does.
+-- A chunk contains the item if it doesn't start after the item and the next chunk does.
 pub is_in_chunk : {T : Type 0} (cs : List (Chunk T)) (index i : ℕ) → AreChunks 0 cs → index < length (items_of cs) → i < length cs → ((d : Chunk T) → (get_or cs i d).start ≤ index) → ((d : Chunk T) → i + 1 < length cs → index < (get_or cs (i + 1) d).start) → IsInChunk cs index i
 is_in_chunk cs index i h within inside start late = record {
   within = inside;
@@ -77,7 +77,7 @@ is_in_chunk cs index i h within inside start late = record {
   ];
 }
 
--- All chunks have one item less before them.
+-- All chunks have one item fewer before them.
 pub down_items : {T : Type 0} (cs : List (Chunk T)) → items_of (map with_one_less cs) ≡ items_of cs
 down_items [] = refl
 down_items (c ∷ cs) = ap (λ xs. c.items.items ++ xs) (down_items cs)
@@ -96,12 +96,12 @@ starts_late n [] h some k d inside = absurd (omega (arith, inside))
 starts_late n (c ∷ cs) h some zero d inside = omega (arith, h.0.start, some)
 starts_late n (c ∷ cs) h some (suc k) d inside = starts_late (n + length c.items.items) cs h.1 (omega (arith, some)) k d (omega (arith, inside))
 
--- A list has at most as many items as its chunks have places,
+-- A list has at most as many items as its chunks have places.
 pub few_items : {T : Type 0} (n : ℕ) (cs : List (Chunk T)) → AreChunks n cs → length (items_of cs) ≤ CHUNK * length cs
 few_items n [] h = omega arith
 few_items n (c ∷ cs) h = omega (arith, h.0.most, few_items (n + length c.items.items) cs h.1, length-append c.items.items (items_of cs))
 
--- and at most as many chunks as items.
+-- A list has at most as many chunks as items.
 pub few_chunks : {T : Type 0} (n : ℕ) (cs : List (Chunk T)) → AreChunks n cs → length cs ≤ length (items_of cs)
 few_chunks n [] h = omega arith
 few_chunks n (c ∷ cs) h = omega (arith, h.0.some, few_chunks (n + length c.items.items) cs h.1, length-append c.items.items (items_of cs))

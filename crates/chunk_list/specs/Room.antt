@@ -1,4 +1,4 @@
--- A list's items and room, and when chunks and spares hold them.
+-- A list's items and room, and when chunks and spares represent them.
 
 use Rattle.std.specs.Prelude.{◌≡◌, ℕ, ◌+◌, ◌-◌, ◌*◌, ◌/◌, ◌≤◌, List, [], Vec, length, All, vec_len}
 use Rattle.std.specs.Prelude.{vec_capacity}
@@ -35,7 +35,7 @@ pub record RoomState : Type 0 where
   pub room : ℕ
 
 -- The most items of a list whose chunks leave `spares` of these places free: each pair of
--- neighbours holds more items than fit into one chunk.
+-- neighbours has more items than fit into one chunk.
 abbrev pub most_items : ℕ → ℕ → ℕ
 most_items places spares = (places - spares - 1) * (CHUNK / 2)
 

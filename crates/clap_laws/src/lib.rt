@@ -1,5 +1,5 @@
-//! What clap finds in the words of a command line, stated as rows of its table, and what an
-//! argument adds to the words that a program knows.
+//! Clap's matches of the words of a command line, stated as rows of its table, and the words that
+//! an argument adds to those that a program knows.
 //!
 //! The crate has no code, only definitions and lemmas, for the proofs of programs that read a
 //! command line with `clap`. `specs/Words` says which word an argument adds (`IsWord`), and what a

@@ -9,7 +9,7 @@ use Rattle.crdt_ops.specs.Reading.{◌>>=◌, all_read, are_ascending, prepend_a
 use Rattle.crdt_ops.specs.Text.{join_by_commas}
 use Rattle.crdt_ops.proofs.PartLemmas.{all_taken}
 
--- What a loop has done after some elements of a list.
+-- The state of a loop after some elements of a list.
 
 -- a further element
 pub taken_more : {X : Type 0} (xs : List X) (i : ℕ) (x : X) → i < length xs → x ≡ get_or xs i x → take i xs ++ x ∷ [] ≡ take (i + 1) xs
@@ -37,7 +37,7 @@ listed_more text xs i x before old mid new l e o m n =
     ∙ ap (flat_map (λ next. 44 ∷ next)) (sym (map-append text (take i xs) (x ∷ [])) ∙ ap (map text) (taken_more xs i x l e))
     )
 
--- a further part that is read
+-- one further part, and the value read from it
 pub all_more : {X : Type 0} (read : List ℕ → Option X) (parts : List (List ℕ)) (i : ℕ) (item part : List ℕ) (x : X) (old new : List X) → i < length parts → item ≡ get_or parts i item → part ≡ item → read part ≡ Some x → new ≡ old ++ x ∷ [] → prepend_all old (all_read read (drop i parts)) ≡ all_read read parts → prepend_all new (all_read read (drop (i + 1) parts)) ≡ all_read read parts
 all_more read parts i item part x old new l e s r n h =
     let more = all_read read (drop (suc i) parts) in

@@ -2,8 +2,8 @@
 //! an id, a clock of its causes, and a `Kind`.
 //!
 //! [`check`] turns exactly the sound operations, those that replicas may apply, into a [`SoundOp`];
-//! another comes back with its first fault. [`write_op`] appends exactly the one text of an
-//! operation, and [`read_op`] reads exactly the texts that spell one, sound or not.
+//! any other operation is returned with its first fault. [`write_op`] appends exactly the one text
+//! of an operation, and [`read_op`] reads exactly the texts that spell one, sound or not.
 //!
 //! `specs/Sets.antt` defines what a set of operations means: its folders, messages with their
 //! versions, delete sets and subscriptions, by filters over the set, so that no list order matters.
@@ -17,9 +17,9 @@
 //!   definition, so that the crates above can compute with the definition.
 //! - `expunge NAME -` and `store NAME FLAGS - ORIGIN` are texts of operations, though of unsound
 //!   ones: how many old ids an operation names is checked after everything else.
-//! - A Store may name an origin other than that of the ids that it removes. It is then a version of
-//!   the message of the origin it names; if that origin has no version in the folder, it begins a
-//!   message. No command issues such a Store.
+//! - A Store may name an origin other than that of the ids that it removes. The Store's id is then
+//!   a version of the message of the origin that it names; if that origin has no version in the
+//!   folder, a message begins. No command issues such a Store.
 #![tactic(auto)]
 
 mod dump_lines;

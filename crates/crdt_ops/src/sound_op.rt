@@ -78,7 +78,7 @@ fn fault_of(op: &Op) -> Option<Unsound>
     None
 }
 
-/// The operation as a sound one; None if it isn't sound, for which [`check`] gives the reason.
+/// The operation as a sound one; None if it isn't sound ([`check`] gives the reason).
 pub fn into_sound_op(op: Op) -> Option<SoundOp>
     ensures sound { IfSome result (λ sound. sound ≡ op) }
     ensures exact { IsSome result ↔ IsSound op }

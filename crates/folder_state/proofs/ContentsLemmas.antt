@@ -24,7 +24,7 @@ use Rattle.folder_state.proofs.FolderTablesLemmas.{ids_are, key_iff_lookup, tag_
 use Rattle.folder_state.proofs.Lenses.{named, some_is}
 use Rattle.folder_state.proofs.SetLemmas.{carries, contents_made}
 
--- ---- what one folder contains
+-- ---- the contents of one folder
 
 module _ (c : Contents) (n : List ℕ) (table : Option FolderTables) (tags : (i : OpId) → c.tags n i ≡ has_tag_in table i) (tag_data : (i : OpId) → c.tag_data n i ≡ tag_data_in table i) where
   pub has_tag_by_tables : (i : OpId) → HasTagIn (folder_tag_data table) i ↔ HasTag c n i
@@ -44,7 +44,7 @@ inbox_exists c n b e t = (λ h. inl ((bytes_eq-Decides n inbox).0 (sym e ∙ t))
 pub other_exists : (c : Contents) (n : List ℕ) (b r : Bool) → b ≡ bytes_eq n inbox → b ≡ false → (r ≡ true) ↔ ((i : OpId) × HasTag c n i) → (r ≡ true) ↔ IsFolder c n
 other_exists c n b r e f h = (λ t. inr (h.0 t), λ k. elim k [ inl is ↦ absurd (false≢true (sym f ∙ e ∙ (bytes_eq-Decides n inbox).1 is)) | inr w ↦ h.1 w ])
 
--- ---- what folders contain by a set of operations
+-- ---- the contents that a set of operations defines
 
 given : {Y : Type 0} (b : Bool) (x : Option Y) → IsSome x → IsSome (cond b x None) ↔ (b ≡ true)
 given true x h = (λ t. refl, λ t. h)

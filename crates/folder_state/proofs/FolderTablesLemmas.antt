@@ -107,7 +107,7 @@ ids_are k indexed i =
       λ h. elim h [ inl t ↦ in_front i k.tags (keys_of k.origins) (tag.1 t) | inr t ↦ in_back i k.tags (keys_of k.origins) (key.1 (content.0 t)) ],
     )
 
--- ---- one version less
+-- ---- without one version
 
 split_at : (new old : List (OpId × Vec Version)) (o : OpId) (changed : List Version → List Version) → versions_at new o ≡ changed (versions_at old o) → ((p : OpId) → same_id p o ≡ false → lookup (same_id p) new ≡ lookup (same_id p) old) → (p : OpId) → versions_at new p ≡ cond (same_id p o) (changed (versions_at old p)) (versions_at old p)
 split_at new old o changed here others p =
@@ -179,7 +179,7 @@ module _ (o id : OpId) (old new : List (OpId × Vec Version)) (taken : IsTakenOu
         each None i f = refl
         each (Some p) i f = ap (option_map (message_tag_data p)) (taken_flags p i f)
 
--- ---- one version more
+-- ---- with one further version
 
 cond_some : {Y : Type 0} (b : Bool) (x y : Y) (z : Option Y) → cond b (Some x) z ≡ Some y → ((b ≡ true) × (x ≡ y)) ⊎ ((b ≡ false) × (z ≡ Some y))
 cond_some true x y z h = inl (refl, cc)
@@ -260,7 +260,7 @@ module _ (o : OpId) (v : Version) (old new : List (OpId × Vec Version)) (put : 
         each None i f = refl
         each (Some p) i f = ap (option_map (message_tag_data p)) (put_flags p i f)
 
--- ---- whether there are any
+-- ---- whether there are any tags
 
 no_ids : (ids : List OpId) → not (not (length ids == 0)) ≡ true → ids ≡ []
 no_ids [] h = refl

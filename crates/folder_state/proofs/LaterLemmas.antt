@@ -72,7 +72,7 @@ after_from (o ∷ ops) c n i h =
       ]
     ]
 
--- ---- one folder by itself
+-- ---- only one folder
 
 -- whether a tag is present afterwards depends only on whether it was before
 tag_alike : (c d : Contents) (ops : List Op) (n : List ℕ) (i : OpId) → c.tags n i ≡ d.tags n i → (after c ops).tags n i ≡ (after d ops).tags n i

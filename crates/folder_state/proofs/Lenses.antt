@@ -1,4 +1,4 @@
--- What one change of a map leaves, and loops over ids.
+-- Maps after one change, and loops over ids.
 use Rattle.std.specs.Result.{is_err}
 use Rattle.std.proofs.Common.{Result, Ok, Err, OnErr, OnOk, ◌≡◌, inl, inr, ℕ, ◌+◌, ◌<◌, add-one, Bool, true, false, cond, not, ◌&&◌, ◌||◌, Option, None, Some, List, [], ◌∷◌, get_or, length, take, refl, sym, ap, ◌∙◌, subst}
 use Rattle.std.specs.Global.{Vec}
@@ -78,7 +78,7 @@ module _ {X : Type 0} (name : List ℕ) (old new : List (Vec ℕ × X)) (keeps :
         | inr d ↦ other_name f d ∙ (λ k. cond (sym d k) a (named f old))
       ]
 
--- the same if the name was looked up by its octets
+-- a folder changed, if its name was looked up by its octets
 pub folder_changed : {X : Type 0} (name octets : List ℕ) → octets ≡ name → (old new : List (Vec ℕ × X)) → KeepsOthers (λ (x y : Vec ℕ). bytes_eq x.items y.items) (λ (key : Vec ℕ). bytes_eq octets key.items) old new → (a : Option X) → named octets new ≡ a → (f : List ℕ) → named f new ≡ cond (bytes_eq f name) a (named f old)
 folder_changed name octets e old new keeps a is f = subst (λ n. named f new ≡ cond (bytes_eq f n) a (named f old)) e (name_now octets old new keeps a is f)
 

@@ -108,7 +108,7 @@ names_more es i names new l h = at (slice_get es i) refl h
 pub names_done : (es : List (Vec ℕ × FolderTables)) (i : ℕ) (names all : List (List ℕ)) → length es ≤ i → names_put names (filter_map name_if_tagged (drop i es)) ≡ all → names ≡ all
 names_done es i names all l h = sym (ap (λ xs. names_put names (filter_map name_if_tagged xs)) (drop_all i es l)) ∙ h
 
--- the same list by another property
+-- a list of the ids with a property is a list of those with an equivalent one
 pub listed_so : (P Q : OpId → Type 0) (ids : List OpId) → IsListOf id_order P ids → ((i : OpId) → P i ↔ Q i) → IsListOf id_order Q ids
 listed_so P Q ids h e = (h.0, λ i. (λ t. (e i).0 ((h.1 i).0 t), λ t. (h.1 i).1 ((e i).1 t)))
 
@@ -119,7 +119,7 @@ pub if_ok_by : {A E : Type 0} {P Q : A → Type 0} (r : Result A E) → ((a : A)
 if_ok_by (Ok a) f h = f a h
 if_ok_by (Err e) f h = h
 
--- a further place
+-- the elements with one further place
 pub in_taken : {X : Type 0} (xs : List X) (i : ℕ) (y : X) → IsIn y (take (i + 1) xs) → IsIn y (take i xs) ⊎ (slice_get xs i ≡ Some y)
 in_taken xs i y h = at xs i (subst (IsIn y) (ap (λ j. take j xs) (add-one i)) h)
   where

@@ -29,7 +29,7 @@ use Rattle.folder_state.proofs.FolderTablesLemmas.{carried_by, message_tag_data,
 use Rattle.folder_state.proofs.SetLemmas.{contents_made}
 use Rattle.folder_state.proofs.ContentsLemmas.{filter_map_same}
 
--- ---- where a tag's data comes from
+-- ---- the source of a tag's data
 
 pub cond_some : {Y : Type 0} (b : Bool) (x : Option Y) (y : Y) → cond b x None ≡ Some y → b ≡ true
 cond_some true x y h = refl
@@ -175,7 +175,7 @@ module _ (c : Contents) (n : List ℕ) (k : FolderTables) (indexed : AreIndexed 
   flags_of : (o : OpId) → united_flags (versions_at k.messages o) ≡ union_of (filter_map (flags_in c n) (version_ids (versions_at k.messages o)))
   flags_of o = ap union_of (flags_by_tables c n o (versions_at k.messages o) (λ v t. same v.id ∙ carried_by k.messages k.origins indexed o v t))
 
-  -- the message of an origin, by the tables
+  -- the message of an origin, read from the tables
   pub message_exists : (dated_texts : List (OpId × StoredDatedText)) → ((i : OpId) → c.dated_texts i ≡ option_map stored_dated_text (lookup (same_id i) dated_texts)) → (o : OpId) → IsMessage c n (stored_message k.messages dated_texts o)
   message_exists dated_texts l o = (
     versions_listed_in o,
@@ -272,7 +272,7 @@ mailbox_by_tables c n (Some k) indexed tag_data dated_texts l o messages e =
     subst (λ (ms : Option (List (OpId × Vec Version))). IsMessageOf c n o (option_map (message_of_data o) (option_map (λ (vs : List Version). message_data_of vs (lookup (same_id o) dated_texts)) (versions_in ms o)))) (sym e)
     (subst (IsMessageOf c n o) (message_of_items o (lookup (same_id o) k.messages) (lookup (same_id o) dated_texts)) (message_by_tables c n k indexed tag_data dated_texts l o (lookup (same_id o) k.messages) refl))
 
--- whether a version exists, by one folder
+-- whether a version exists, read from one folder
 pub has_version_by_tables : (c : Contents) (n : List ℕ) (o : OpId) (table : Option FolderTables) → ((i : OpId) → c.tag_data n i ≡ tag_data_in table i) → (b : Bool) → MatchBool b ((i : OpId) × (option_map (λ (b : MessageTagData). b.origin) (tag_data_in table i) ≡ Some o)) ((i : OpId) → option_map (λ (b : MessageTagData). b.origin) (tag_data_in table i) ≡ Some o → ⊥) → (b ≡ true) ↔ HasVersion c n o
 has_version_by_tables c n o table tag_data true h = (λ t. (h.0, ap (option_map (λ (b : MessageTagData). b.origin)) (tag_data h.0) ∙ h.1), λ t. refl)
 has_version_by_tables c n o table tag_data false h = (λ t. absurd (false≢true t), λ w. absurd (h w.0 (ap (option_map (λ (b : MessageTagData). b.origin)) (sym (tag_data w.0)) ∙ w.1)))

@@ -1,4 +1,4 @@
--- Lists of versions: their ids and flags, with one more or one less.
+-- Lists of versions: their ids and flags, without one version and with a further one.
 use Rattle.std.proofs.Common.{◌≡◌, ◌↔◌, ◌⊎◌, inl, inr, ◌+◌, ◌≤◌, ◌<◌, arith, Bool, true, false, cond, not, None, Some, List, [], ◌∷◌, ◌++◌, length, map, refl, sym, ap, ◌∙◌, subst}
 use Rattle.std.specs.List.{filter}
 use Rattle.std.specs.Option.{option_or}
@@ -45,7 +45,7 @@ not_before_itself i e = let k : Less ≡ Equal = sym e ∙ tied_itself id_order_
 pub id_in : (v : Version) (vs : List Version) → IsIn v vs → IsIn v.id (version_ids vs)
 id_in v vs h = (in_map (λ (v : Version). v.id) vs v.id).1 (v, h, refl)
 
--- The flags of each version are found under its id.
+-- The look-up of a version's id gives its flags.
 pub flags_own : (vs : List Version) (v : Version) → IsAscending id_order (version_ids vs) → IsIn v vs → flags_among vs v.id ≡ Some v.flags
 flags_own [] v h i = absurd i
 flags_own (w ∷ ws) v h i =
@@ -72,7 +72,7 @@ flags_some (w ∷ ws) i h =
           (looked_up.0, ap (λ b. option_or (cond b (Some w.flags) None) (flags_among ws i)) f ∙ looked_up.1)
     ]
 
--- ---- one less
+-- ---- without one version
 
 flags_first : (b : Bool) (i : OpId) (w : Version) (ws : List Version) → flags_among (cond b (w ∷ ws) ws) i ≡ cond b (option_or (cond (same_id i w.id) (Some w.flags) None) (flags_among ws i)) (flags_among ws i)
 flags_first true i w ws = refl
@@ -133,7 +133,7 @@ shorter_without id (x ∷ xs) = at (not (same_id id x.id)) (without id xs) (shor
     at true zs h = omega (arith, h)
     at false zs h = omega (arith, h)
 
--- ---- one more
+-- ---- with a further version
 
 pub ids_placed : (v : Version) (vs : List Version) → version_ids (insert_ordered by_id v vs) ≡ insert_ordered id_order v.id (version_ids vs)
 ids_placed v [] = refl

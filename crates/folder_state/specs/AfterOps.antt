@@ -1,4 +1,4 @@
--- What folders will contain after operations that come next.
+-- The contents of folders after operations that are yet to be applied.
 
 use Rattle.std.specs.Prelude.{ℕ, Bool, true, false, ◌&&◌, ◌||◌, Option, None, Some, List}
 use Rattle.tags_clocks.specs.declared.id.OpId.{OpId}
@@ -25,7 +25,7 @@ after c ops = fold_of effect_of c ops
 abbrev pub has_tag_after : Contents → List Op → List ℕ → OpId → Bool
 has_tag_after c ops folder id = (after c ops).tags folder id || has_tag_data (after c ops) folder id
 
--- The contents of one folder, as if each folder had them, without dates and texts.
+-- Contents in which each folder has the tags of one folder, without dates and texts.
 abbrev pub alone : Option FolderTables → Contents
 alone folder =
     record {

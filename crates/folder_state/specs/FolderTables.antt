@@ -1,4 +1,4 @@
--- The tables of a folder, what they contain, and how changes leave them.
+-- The tables of a folder, their contents, and the tables after changes.
 
 use Rattle.std.specs.Prelude.{◌≡◌, ◌⊎◌, ◌↔◌, ℕ, ◌<◌, ◌≤◌, ◌==◌, not, Bool, true, false, Option}
 use Rattle.std.specs.Prelude.{None, Some, IsSome, List, [], ◌++◌, length, if◌then◌else◌}

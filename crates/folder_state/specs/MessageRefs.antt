@@ -40,7 +40,7 @@ message_ref message = record {
   text = unwrap_or (option_map (λ text. text.now) message.text) no_dated_text.text;
 }
 
--- The message of an origin by the tables.
+-- The message of an origin, read from the tables.
 abbrev pub stored_message : List (OpId × Vec Version) → List (OpId × StoredDatedText) → OpId
     → Message
 stored_message messages dated_texts origin =

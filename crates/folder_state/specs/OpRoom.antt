@@ -164,7 +164,7 @@ abbrev pub AreRoomier : List (Vec ℕ × FolderTables) → List (Vec ℕ × Fold
 AreRoomier old new = (name : List ℕ) → IsRoomierIn (find_folder name old) (find_folder name new)
 
 -- A tag was put into the folder, as a version of the origin if there is one. The remaining room
--- suffices for the tags after it, also if a new message began in a list with `places` places.
+-- suffices for the tags after it, even if a new message began in a list with `places` places.
 abbrev pub LeavesRoom : List ℕ → Option OpId → ℕ → (List ℕ → Option FolderTables)
     → (List ℕ → Option FolderTables) → Type 0
 LeavesRoom name origin places old new =

@@ -296,7 +296,7 @@ fn is_version_after(
     is_id(origin, origin_after(ops, folder, id, origin_at(table, id)))
 }
 
-/// Whether the two ids are equal, if there is a second.
+/// Whether there is a second id, and it equals the first.
 fn is_id(id: &OpId, given: Option<OpId>) -> bool
     ensures { result ≡ is_some_id id.now given }
 {

@@ -133,8 +133,8 @@ impl Folder {
         self.tags.len() + self.origins.len()
     }
 
-    /// The id of the tag at `place`, from 0, in no set order, tags of both kinds counted; `None`
-    /// from [`Folder::count`] on.
+    /// The id of the tag at `place`, counted from 0 over the tags of both kinds in no particular
+    /// order; `None` from [`Folder::count`] on.
     pub fn id_at(&self, place: usize) -> Option<OpId>
         ensures { result ≡ slice_get (folder_ids self.now) place }
     {
@@ -186,7 +186,7 @@ impl Folder {
         Ok(ids)
     }
 
-    /// The origin of the message at `place`, from 0.
+    /// The origin of the message at `place`, counted from 0.
     fn origin_at(&self, place: usize) -> Option<OpId>
         ensures { result ≡ slice_get (keys_of self.now.messages) place }
     {

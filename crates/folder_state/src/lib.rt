@@ -8,18 +8,18 @@
 //! Its contents are functions of folder and id, whatever the tables; that the tables agree with one
 //! another is an invariant. Applying an operation is its effect on the contents, and takes no
 //! memory once prepared. Concurrent operations commute, so folders keep the laws of `Replicated`.
-//! What is read of folders after a causal list of sound operations is what the set of these
-//! operations means, and `exists_after` and `has_version_after` give what it will mean with the
-//! operations that come next.
+//! What is read from folders after a causal list of sound operations is what the set of these
+//! operations means, and `exists_after` and `has_version_after` give what it will mean with
+//! operations that are yet to be applied.
 //!
 //! # Decided
 //!
 //! - A folder's versions and the dates and texts of Appends are separate tables: an origin's Append
-//!   may come after a Store that names it, and may be of another folder. Contracts see the contents
-//!   as functions of name and id; the tables are borrowed as they are (`FolderMessages`), and only
-//!   windows and the look ahead at one folder read them.
-//! - A folder that lost its last tag keeps its empty table and its place in the index: a name that
-//!   is used again finds it, and no removal takes room that was made for pending operations.
+//!   may be applied after a Store that names it, and may be of another folder. Contracts see the
+//!   contents as functions of name and id; the tables are borrowed as they are (`FolderMessages`),
+//!   and only the windows of `mailbox_rows` and the look ahead at one folder read them.
+//! - A folder that lost its last tag still has its empty table and its place in the index: a name
+//!   that is used again finds it, and no removal takes room that was made for pending operations.
 //!   `exists` and `names` ask whether the folder has a tag.
 #![tactic(auto)]
 

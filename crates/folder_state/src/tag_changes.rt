@@ -38,13 +38,17 @@ pub fn remove_tags_of(by_name: &mut IndexMap<Vec<u8>, Folder>, op: &Op)
     ensures room { AreNoFuller by_name.old.entries by_name.new.entries }
 {
     match &op.kind {
-        Kind::Delete { folder, seen } => forget_both(by_name, folder, seen.as_slice()),
-        Kind::Expunge { folder, old_ids } => forget_messages(by_name, folder, old_ids.as_slice()),
+        Kind::Delete { folder, seen } => remove_both_kinds(by_name, folder, seen.as_slice()),
+        Kind::Expunge { folder, old_ids } => remove_message_tags(
+            by_name,
+            folder,
+            old_ids.as_slice(),
+        ),
         Kind::Store {
             folder,
             old_ids,
             ..
-        } => forget_messages(by_name, folder, old_ids.as_slice()),
+        } => remove_message_tags(by_name, folder, old_ids.as_slice()),
         Kind::Create { .. } => {}
         Kind::Append { .. } => {}
         Kind::Subscribe { .. } => {}
@@ -53,7 +57,7 @@ pub fn remove_tags_of(by_name: &mut IndexMap<Vec<u8>, Folder>, op: &Op)
 }
 
 /// Removes the folder's tags of both kinds with these ids.
-fn forget_both(by_name: &mut IndexMap<Vec<u8>, Folder>, name: &Name, ids: &[OpId])
+fn remove_both_kinds(by_name: &mut IndexMap<Vec<u8>, Folder>, name: &Name, ids: &[OpId])
     ensures tags { (f : List ℕ) (i : OpId)
         → has_tag_in (find_folder f by_name.new.entries) i
         ≡ (not (is_among f i name.now ids.now)
@@ -71,7 +75,7 @@ fn forget_both(by_name: &mut IndexMap<Vec<u8>, Folder>, name: &Name, ids: &[OpId
 }
 
 /// Removes the folder's message tags with these ids.
-fn forget_messages(by_name: &mut IndexMap<Vec<u8>, Folder>, name: &Name, ids: &[OpId])
+fn remove_message_tags(by_name: &mut IndexMap<Vec<u8>, Folder>, name: &Name, ids: &[OpId])
     ensures tags { (f : List ℕ) (i : OpId)
         → has_tag_in (find_folder f by_name.new.entries) i
         ≡ has_tag_in (find_folder f by_name.old.entries) i }
@@ -125,7 +129,7 @@ pub fn add_tag_of(
             date,
             text,
         } => {
-            put_first(by_name, &folder, &id, flags, list);
+            put_append_tag(by_name, &folder, &id, flags, list);
             put_dated_text(dated_texts, &id, DatedText { date, text });
         }
         Kind::Store {
@@ -191,7 +195,7 @@ fn put_message(
 }
 
 /// Inserts the message tag of an Append, which is its own origin.
-fn put_first(
+fn put_append_tag(
     by_name: &mut IndexMap<Vec<u8>, Folder>,
     name: &Name,
     id: &OpId,

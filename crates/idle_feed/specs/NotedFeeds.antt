@@ -1,10 +1,10 @@
 -- Feeds that name every difference between a view and its mailbox's listing, and the changes of a
--- view that keep them so.
+-- view that preserve this.
 
-use Rattle.std.specs.Prelude.{◌≡◌, ◌⊎◌, Bool, true, List, []}
+use Rattle.std.specs.Prelude.{◌≡◌, ◌⊎◌, Bool, true, List}
 use Rattle.mailbox_rows.specs.ListedMessage.{ListedMessage}
 use Rattle.idle_feed.specs.declared.view_change.ViewChange.{ViewChange}
-use Rattle.idle_feed.specs.declared.view_change.ViewChange.TheVariants.{InPlace, Rebuilt}
+use Rattle.idle_feed.specs.declared.view_change.ViewChange.TheVariants.{InPlace, Kept, Rebuilt}
 use Rattle.idle_feed.specs.Feeds.{Pending}
 use Rattle.idle_feed.specs.declared.feed.TakenNotes.{TakenNotes}
 use Rattle.idle_feed.specs.declared.feed.TakenNotes.TheVariants.{Changes, Resync}
@@ -24,7 +24,7 @@ abbrev pub IsLeftNoted : TakenNotes → List ListedMessage → List ViewEntry �
 IsLeftNoted (Changes notes) rows entries = NoteAllChanges notes rows entries
 IsLeftNoted Resync rows entries = Unit {0}
 
--- If `whole` says that these notes are all, they name every such row.
+-- If `whole` says that these notes are complete, they name every such row.
 abbrev pub IsLeftBy : List Note → Bool → List ListedMessage → List ViewEntry → Type 0
 IsLeftBy left whole rows entries = whole ≡ true → NoteAllChanges left rows entries
 
@@ -33,14 +33,17 @@ abbrev pub entries_after_change : List ViewEntry → ViewChange → List ViewEnt
 entries_after_change view (InPlace first patch left whole) =
     patched_entries (after_silent view first.items) patch.gone.items patch.arrivals.items
     patch.flags.items
+entries_after_change view (Kept first left) = after_silent view first.items
 entries_after_change view (Rebuilt entries left whole) = entries.items
 
--- The notes that the change leaves, if they are all, name every row that differs then between the
--- view and the listing.
+-- The notes that the change leaves, if they are complete, name every row that then differs between
+-- the view and the listing.
 abbrev pub IsChangeTo : List ListedMessage → List ViewEntry → ViewChange → Type 0
 IsChangeTo rows view (InPlace first patch left whole) =
     IsLeftBy left.items whole rows (patched_entries (after_silent view first.items) patch.gone.items
     patch.arrivals.items patch.flags.items)
+IsChangeTo rows view (Kept first left) =
+    NoteAllChanges left.items rows (after_silent view first.items)
 IsChangeTo rows view (Rebuilt entries left whole) = IsLeftBy left.items whole rows entries.items
 
 -- The change can be made without further memory, and the UIDs ascend after it.
@@ -50,4 +53,5 @@ CanCommit view (InPlace first patch left whole) =
     × AreRising 1
     (patched_entries (after_silent view first.items) patch.gone.items patch.arrivals.items
     patch.flags.items)
+CanCommit view (Kept first left) = Unit {0}
 CanCommit view (Rebuilt entries left whole) = AreRising 1 entries.items

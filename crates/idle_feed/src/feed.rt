@@ -11,7 +11,7 @@ use std::alloc::{AllocError, Global};
 use std::marker::Model;
 use std::mem;
 
-/// The most notes that a feed holds.
+/// The largest number of notes that a feed can have.
 pub const MAX_NOTES: usize = 4_096;
 
 /// The notes that were taken out of a feed.
@@ -26,7 +26,7 @@ pub enum TakenNotes {
 /// Notes of what is still to be sent to a session.
 pub struct Feed {
     notes: Vec<Note>,
-    /// Whether some notes were missed. The feed then holds none.
+    /// Whether some notes were missed. The feed then has none.
     missed: bool,
 }
 
@@ -97,7 +97,7 @@ impl Feed {
         }
     }
 
-    /// Takes all notes that came or were put back since the last time, or says that some were
+    /// Takes all notes that were added or put back since the last time, or says that some were
     /// missed. Takes no memory. The feed is empty then.
     pub fn take(&mut self) -> TakenNotes
         ensures taken { result ≡ taken_from self.old.pending }
@@ -114,7 +114,7 @@ impl Feed {
         }
     }
 
-    /// Puts back what was taken. Takes no memory if nothing came since.
+    /// Puts back what was taken. Takes no memory if no note was added since.
     pub fn restore(&mut self, taken: TakenNotes)
         ensures back { self.old.pending.notes ≡ []
             → self.new.pending ≡ pending_after self.old.pending (input_of_restore taken true) }
@@ -168,7 +168,7 @@ impl Feed {
         if self.missed { None } else { Some(&self.notes) }
     }
 
-    /// Drops all notes but not their room. Takes no memory.
+    /// Drops all notes, but their room stays. Takes no memory.
     pub fn clear(&mut self)
         ensures pending { self.new.pending ≡ no_pending }
         ensures room { self.new.room ≡ self.old.room + length self.old.pending.notes }

@@ -1,12 +1,12 @@
 //! Notes of what is still to be sent to a session about its selected mailbox.
 //!
-//! A [`Feed`] holds notes of what happened to the mailbox's messages since the last sync of the
-//! session, so that its whole view needn't be compared with the whole mailbox. It holds at most
-//! 4,096 notes. If it misses some, because there are more or memory ran out, it says so.
+//! A [`Feed`] contains notes of what happened to the mailbox's messages since the session's last
+//! sync, so that its whole view needn't be compared with the whole mailbox. It has at most 4,096
+//! notes. If it misses some, because there are more or memory ran out, it says so.
 //!
-//! The contract of a feed says that taking its notes gives all that came since the last time, or a
-//! resync if and only if some was missed. [`plan`] plans a sync of the view by its feed and takes
-//! all memory for it; it leaves view and feed unchanged. Its answers are those of a sync by
+//! The contract of a feed says that taking its notes gives all that were added since the last time,
+//! or a resync if and only if some were missed. [`plan`] plans a sync of the view by its feed and
+//! takes all memory for it; it leaves view and feed unchanged. Its answers are those of a sync by
 //! comparison. [`commit`] then carries the sync out in place without memory, and the notes that it
 //! leaves in the feed name all that still differs.
 #![tactic(auto)]

@@ -1,24 +1,26 @@
 //! Plans the sync of a view by its feed.
 
 ghost use Rattle.std.specs.List.{list_any};
-ghost use Rattle.std.specs.Prelude.{◌≡◌, ◌++◌, ◌+◌, ◌/◌, ◌∷◌, [], nat_lt, true, List, IfOk, OnOk};
+ghost use Rattle.std.specs.Prelude.{◌≡◌, ◌++◌, ◌∷◌, [], true, length, List, IfOk, OnOk};
 ghost use Rattle.mailbox_rows.specs.ListedMessage.{ListedMessage};
 ghost use Rattle.session_view.specs.NoteChanges.{NoteAllChanges, is_end};
 ghost use Rattle.session_view.specs.Replay.{after_silent};
-ghost use Rattle.session_view.specs.Sync.{sync_answers, view_after_sync};
+ghost use Rattle.session_view.specs.Sync.{expunges, sync_answers, view_after_sync};
 ghost use Rattle.session_view.specs.Views.{entries_of};
 ghost use Rattle.session_view.specs.declared.notes.Note.TheVariants.{Ended};
 ghost use Rattle.session_view.specs.declared.view_entry.SyncKind.TheVariants.{Full};
+ghost use Rattle.session_view.specs.declared.view_entry.ViewEntry.{ViewEntry};
 ghost use Rattle.idle_feed.specs.NotedFeeds.{CanCommit, IsChangeTo, NotesAllOf};
 ghost use Rattle.idle_feed.specs.NotedFeeds.{entries_after_change};
 
 use crate::feed::Feed;
 use crate::view_change::ViewChange;
+use chunk_list::ChunkList;
 use imap_answers::Answer;
 use mailbox_rows::Rows;
 use session_view::{
     Note, SilentFlags, SyncForm, SyncKind, SyncOutcome, SyncPlan, SyncPlanAfterFlags, View,
-    equal_counts_suffice, notes_keep_up, replay_reply, sync_by_comparison,
+    count_of, equal_counts_suffice, notes_keep_up, replay_reply, sync_by_comparison,
 };
 use std::alloc::{AllocError, Global};
 
@@ -40,12 +42,12 @@ pub struct NotedChanges<'a> {
     pub notes: &'a [Note],
 }
 
-/// Plans a sync that first sets `first`: flags that the session set itself or that were
-/// reported to it. `noted` names every row that differs between the view and the listing. View and
-/// feed stay unchanged, so a refused input has nothing to put back. `Err` if memory runs out.
-/// Cost: the number of notes. One pass over the view and the listing if the feed missed some, if
-/// all of a mailbox may differ, or if there are many notes: more than 64 and a sixteenth of the
-/// view's messages.
+/// Plans a sync that first sets `first`: flags that the session set itself or that were reported to
+/// it. `noted` names every row that differs between the view and the listing. View and feed stay
+/// unchanged, so nothing must be put back if the input is refused. `Err` if memory runs out. The
+/// cost is a look-up for each note, and one pass over the view and the listing only if the feed
+/// missed some notes. If the incarnation ended, the cost is an EXPUNGE for each of the view's
+/// messages in a full sync, and nothing in a partial one.
 pub fn plan(
     alloc: Global,
     view: &mut View,
@@ -69,19 +71,60 @@ pub fn plan(
     let Some(feed_notes) = feed.notes() else {
         return plan_by_comparison(alloc, view, rows, first, form);
     };
-    let count = feed_notes.len().saturating_add(notes.len());
-    if have_end(feed_notes) || have_end(notes) || are_many(count, view.entries().len()) {
-        return plan_by_comparison(alloc, view, rows, first, form);
+    if rows.count() == 0 && (have_end(feed_notes) || have_end(notes)) {
+        return plan_at_end(alloc, view, first, form);
     }
     let all = join_notes(alloc, feed_notes, notes)?;
     plan_in_place(alloc, view, rows, all, first, form)
 }
 
-/// Whether `notes` notes are too many to look up each in a view of `messages` messages.
-fn are_many(notes: usize, messages: usize) -> bool
-    ensures { result ≡ nat_lt (64 + messages / 16) notes }
+/// The plan of a sync after the end of an incarnation, when nothing is listed: a full sync takes
+/// all messages out, and a partial one takes none out. `Err` if memory runs out.
+fn plan_at_end(
+    alloc: Global,
+    view: &View,
+    first: Vec<SilentFlags>,
+    form: SyncForm,
+) -> Result<PlannedSync, AllocError>
+    ensures answers { IfOk result (λ plan. plan.answers.items
+        ≡ sync_answers form.kind form.modseq [] (after_silent view.now.entries first.items)) }
+    ensures changed { IfOk result (λ plan. entries_after_change view.now.entries plan.change
+        ≡ view_after_sync form.kind [] (after_silent view.now.entries first.items)) }
+    ensures change { IfOk result (λ plan. IsChangeTo [] view.now.entries plan.change) }
+    ensures can { IfOk result (λ plan. CanCommit view.now.entries plan.change) }
 {
-    notes > 64 + messages / 16
+    match form.kind {
+        SyncKind::Full => {
+            drop(first);
+            Ok(PlannedSync {
+                answers: expunges_of_all(alloc, count_of(view.entries()))?,
+                change: ViewChange::Rebuilt {
+                    entries: ChunkList::new(alloc),
+                    left: Vec::new(alloc),
+                    whole: true,
+                },
+            })
+        }
+        SyncKind::Partial => Ok(PlannedSync {
+            answers: Vec::new(alloc),
+            change: ViewChange::Kept {
+                first,
+                left: all_may_differ(alloc)?,
+            },
+        }),
+    }
+}
+
+/// EXPUNGE of all of `count` messages, from the greatest number down. `Err` if memory runs out.
+fn expunges_of_all(alloc: Global, count: u32) -> Result<Vec<Answer>, AllocError>
+    ensures { IfOk result (λ answers. (view : List ViewEntry) → length view ≡ count
+        → answers.items ≡ expunges [] 1 view) }
+{
+    let mut answers = Vec::new(alloc);
+    for place in (0..count).rev() {
+        answers.push(Answer::Expunge { number: place + 1 })?;
+    }
+    Ok(answers)
 }
 
 /// The plan of a sync that looks at the whole view.

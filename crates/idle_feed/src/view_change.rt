@@ -14,15 +14,20 @@ use session_view::{Changes, Note, Patch, SilentFlags, View, ViewEntries};
 #[derive(Drop)]
 pub enum ViewChange {
     /// The view is changed in place: first these flags are set, then the patch is applied. The
-    /// notes `left` stay in the feed if `whole` says that they name all that differs then.
+    /// notes `left` stay in the feed if `whole` says that they then name all differences.
     InPlace {
         first: Vec<SilentFlags>,
         patch: Patch,
         left: Vec<Note>,
         whole: bool,
     },
+    /// The view's messages stay, with these flags set. The notes `left` stay in the feed.
+    Kept {
+        first: Vec<SilentFlags>,
+        left: Vec<Note>,
+    },
     /// The view shows these messages. The notes `left` stay in the feed if `whole` says that they
-    /// name all that differs then.
+    /// then name all differences.
     Rebuilt {
         entries: ViewEntries,
         left: Vec<Note>,
@@ -65,6 +70,11 @@ fn change_view(view: &mut View, change: ViewChange) -> TakenNotes
             view.set_flags(&mut first);
             view.patch(patch);
             notes_if_all(left, whole)
+        }
+        ViewChange::Kept { first, left } => {
+            let mut first = first;
+            view.set_flags(&mut first);
+            notes_if_all(left, true)
         }
         ViewChange::Rebuilt {
             entries,

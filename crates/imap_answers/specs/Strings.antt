@@ -43,12 +43,12 @@ abbrev pub name_text : List ℕ → List ℕ
 name_text name =
     if is_inbox name then inbox else (if is_plain name then name else quoted_string name)
 
--- Whether a string has octets that quotes can't hold: CR (13) or LF (10).
+-- Whether a string has octets that can't be between quotes: CR (13) or LF (10).
 abbrev pub has_line_octet : List ℕ → Bool
 has_line_octet string = list_any (λ octet. (octet == 13) || (octet == 10)) string
 
--- The name of a header field: without quotes if possible, as a literal only if quotes can't hold it
--- (RFC 9051, section 9, header-fld-name).
+-- The name of a header field: without quotes if possible, as a literal only if it can't be between
+-- quotes (RFC 9051, section 9, header-fld-name).
 abbrev pub field_text : List ℕ → List ℕ
 field_text name =
     if is_plain name then name

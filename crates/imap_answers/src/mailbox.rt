@@ -5,7 +5,7 @@ ghost use Rattle.std.specs.Prelude.{◌≡◌, ◌↔◌, IfOk, IsTrue};
 use imap_types::NumberSet;
 use std::alloc::{AllocError, Global};
 
-/// What a name in LIST is (RFC 9051, section 7.3.1).
+/// The state of a name in LIST (RFC 9051, section 7.3.1).
 #[derive(Clone, Copy, Debug, PartialEq, Eq)]
 pub enum MailboxState {
     /// A mailbox, which can be selected.

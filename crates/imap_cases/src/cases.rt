@@ -44,9 +44,9 @@ fn played(alloc: Global, subject: Subject, text: &str) -> Result<Vec<u8>, AllocE
     page.finish()
 }
 
-/// Puts the line with its LF. In a case, `KIND INPUT => ANSWER`, the answer is replaced by what the
-/// code answers now. Comments, which begin with `#`, empty lines and lines that set what is asked
-/// about are put unchanged.
+/// Puts the line with its LF. In a case, `KIND INPUT => ANSWER`, the answer is replaced by the one
+/// that the code gives now. Comments, which begin with `#`, empty lines and lines that set a
+/// query's subject are put unchanged.
 fn put_line(alloc: Global, page: &mut Words, setup: &mut Setup, subject: Subject, line: &str) {
     if line.is_empty() || line.starts_with('#') {
         page.put(line);

@@ -1,4 +1,4 @@
-//! Damages texts, and looks for the first place where that breaks a demand.
+//! Damages texts, and looks for the first place at which damage breaks a demand.
 
 use crate::frames::is_answered;
 use crate::round_trips::is_front_printed;
@@ -7,14 +7,14 @@ use case_lines::{Words, with_octet};
 use imap_lex::Limits;
 use std::alloc::{AllocError, Global};
 
-/// What must hold of a text wherever it is damaged.
+/// A demand that a text must meet wherever it is damaged.
 #[derive(Clone, Copy)]
 pub enum Demand {
     /// It is a frame that is answered, and so is the part of it before the damaged place.
     Answered,
     /// It is a stream that gives the same in one piece and octet by octet.
     SameInPieces(Limits),
-    /// No answer is read from it, or one that is printed as its beginning.
+    /// No answer is read from it, or one that is printed as a prefix of it.
     ReadAsPrinted,
 }
 
@@ -55,7 +55,7 @@ fn holds_cut(alloc: Global, demand: Demand, front: &[u8]) -> bool {
     }
 }
 
-/// Whether the demand holds with each damage at this place.
+/// Whether the demand is met with each damage at this place.
 fn holds_at(alloc: Global, words: &mut Words, demand: Demand, text: &[u8], place: usize) -> bool {
     for octet in DAMAGES {
         match with_octet(alloc, text, place, octet) {

@@ -2,18 +2,18 @@
 
 use crate::commands::put_tagged;
 use crate::damage::{Demand, first_failing, put_failing};
-use crate::parts::joined;
+use crate::parts::concat;
 use case_lines::Words;
 use imap_grammar::{IdleLine, ParseFault, idle_line, parse, tag_of};
 use std::alloc::{AllocError, Global};
 
-/// Frames of at most this many octets are damaged at each octet.
+/// The greatest length, in octets, of frames that are damaged at each octet.
 const SHORT: usize = 400;
 
 /// Puts the tag and the command that a line with its CRLF spells, or the fault. If that frame is
-/// short and goes unanswered when it is cut or damaged at some place, the first such place follows.
+/// short and isn't answered when it is cut or damaged at some place, the first such place follows.
 pub fn put_command(alloc: Global, words: &mut Words, line: &[u8]) {
-    match joined(alloc, line, b"\r\n") {
+    match concat(alloc, line, b"\r\n") {
         Ok(frame) => put_frame(alloc, words, &frame),
         Err(AllocError) => words.give_up(),
     }
@@ -44,8 +44,7 @@ pub fn put_idle(words: &mut Words, frame: &[u8]) {
     words.put_lowered("", &idle_line(frame));
 }
 
-/// Puts whether each beginning of a frame, and the frame with each damage at each octet, is
-/// answered.
+/// Puts whether each prefix of a frame, and the frame with each damage at each octet, is answered.
 pub fn put_damaged(alloc: Global, words: &mut Words, frame: &[u8]) {
     match first_failing(alloc, words, Demand::Answered, frame) {
         None => words.put("answered"),
@@ -53,8 +52,8 @@ pub fn put_damaged(alloc: Global, words: &mut Words, frame: &[u8]) {
     }
 }
 
-/// Whether a frame is answered by a command or by a fault of its own. The fault that it has no tag
-/// is right exactly if it has none.
+/// Whether a frame is answered by a command or by a fault of its own. The fault `NoTag` is right
+/// exactly if the frame has no tag.
 pub fn is_answered(alloc: Global, frame: &[u8]) -> bool {
     let has_tag = tag_of(frame).is_some();
     match parse(alloc, frame) {

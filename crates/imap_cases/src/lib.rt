@@ -1,14 +1,15 @@
 //! Plays cases of three kinds: IMAP texts (commands, answers, framing), queries of a mailbox, and
-//! views. The program `node_cases` plays them, and its stored output is what must be printed.
+//! views. The program `node_cases` plays them, and must print its stored output.
 //!
 //! A case is a line, `KIND INPUT => ANSWER`. It is printed again with the answer that the code
 //! gives now, so a text is printed unchanged exactly if every answer is right. Comments and empty
 //! lines are printed as they are. The head of the cases in `crates/node_cases/stdin` lists the
 //! kinds and says how inputs and answers are written.
 //!
-//! Nothing is proved of the answers but what the called crates promise: this crate compares what no
-//! contract says, such as worked rows, and it damages short texts at each octet and cuts short
-//! streams at each place.
+//! Nothing is proved of the answers beyond the contracts of the called crates: this crate compares
+//! what no contract says, such as worked rows, and it damages short texts at each octet and cuts
+//! short streams at each place. Each sync of a view is also made by notes, which are proved to name
+//! all that differs, as `View::sync_by` requires.
 #![tactic(auto)]
 
 mod answers;

@@ -1,11 +1,11 @@
-//! Writes as text what commands and answers have in common.
+//! Writes the parts that commands and answers have in common as text.
 
 use case_lines::Words;
 use imap_types::{Day, Flags, Octets, Section};
 use std::alloc::{AllocError, Global};
 
 /// The octets of `front`, then those of `back`.
-pub fn joined(alloc: Global, front: &[u8], back: &[u8]) -> Result<Vec<u8>, AllocError> {
+pub fn concat(alloc: Global, front: &[u8], back: &[u8]) -> Result<Vec<u8>, AllocError> {
     let mut whole = front.to_vec(alloc)?;
     whole.extend_from_slice(back)?;
     Ok(whole)

@@ -5,7 +5,7 @@ ghost use Rattle.std.specs.Prelude.{◌<◌};
 use case_lines::{Words, parts_around};
 use std::alloc::{AllocError, Global};
 
-/// A text repeated at least this often is written in the short form.
+/// The least number of repetitions that are written in the short form.
 const MIN_REPEATS: usize = 50;
 /// The longest repeated text, in octets, that is looked for.
 const LONGEST: usize = 16;
@@ -39,8 +39,8 @@ fn put_times(words: &mut Words, count: u32, text: &str) {
     }
 }
 
-/// The text, with repeated texts in the short form. The first place from which a text is repeated
-/// counts, with the shortest such text.
+/// The text, with repeated texts in the short form. Each repetition is taken at the first place
+/// where a text is repeated, with the shortest such text.
 pub fn written_short(alloc: Global, text: &[u8]) -> Result<Vec<u8>, AllocError> {
     let mut words = Words::new(alloc);
     let mut rest = text;
@@ -73,7 +73,7 @@ fn put_short(words: &mut Words, text: &[u8], count: usize) {
     words.put("~>");
 }
 
-/// How often a text of this length is repeated at the beginning of `rest`.
+/// How often a text of this length is repeated at the start of `rest`.
 fn times(rest: &[u8], text: &[u8], length: usize) -> usize
     requires { 0 < length }
 {

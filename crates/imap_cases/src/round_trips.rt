@@ -2,15 +2,15 @@
 
 use crate::answers::put_answer;
 use crate::damage::{Demand, put_failing};
-use crate::parts::joined;
+use crate::parts::concat;
 use case_lines::Words;
 use imap_print::{Answer, MailboxState, print, read};
 use imap_types::Name;
 use std::alloc::{AllocError, Global};
 
-/// Puts the answer that a text spells. If the text isn't the one text of that answer, what is wrong
-/// follows. If a short text can be damaged so that it is read as an answer that is printed
-/// otherwise, the place follows.
+/// Puts the answer that a text spells. If the text isn't the one text of that answer, the fault
+/// follows. If a short text can be damaged so that it is read as an answer with another text, the
+/// place follows.
 pub fn put_read(alloc: Global, words: &mut Words, text: &[u8]) {
     match read(alloc, text) {
         Ok(Some((answer, length))) => {
@@ -33,7 +33,7 @@ pub fn put_read(alloc: Global, words: &mut Words, text: &[u8]) {
     );
 }
 
-/// Whether a text is read as no answer, or as one that is printed as the beginning of the text.
+/// Whether a text is read as no answer, or as one that is printed as a prefix of the text.
 pub fn is_front_printed(alloc: Global, words: &mut Words, text: &[u8]) -> bool {
     match read(alloc, text) {
         Ok(Some((answer, length))) => {
@@ -49,9 +49,9 @@ pub fn is_front_printed(alloc: Global, words: &mut Words, text: &[u8]) -> bool {
     }
 }
 
-/// What is wrong, if anything. Printing the answer must append the text, whatever precedes it.
-/// Reading must give the answer, whatever follows the text, and none from a shorter beginning of
-/// it. A copy of the answer must be the same answer.
+/// The fault, if any. Printing the answer must append the text, whatever precedes it. Reading must
+/// give the answer, whatever follows the text, and none from a shorter prefix of it. A copy of the
+/// answer must be the same answer.
 fn amiss(
     alloc: Global,
     words: &mut Words,
@@ -76,7 +76,7 @@ fn amiss(
 
 /// Whether printing the answer after other octets appends this text.
 fn is_printed(alloc: Global, words: &mut Words, answer: &Answer, text: Option<&[u8]>) -> bool {
-    match printed_after(alloc, b"+ idling\r\n", answer) {
+    match text_after(alloc, b"+ idling\r\n", answer) {
         Ok(out) => out.strip_prefix(b"+ idling\r\n") == text,
         Err(AllocError) => {
             words.give_up();
@@ -115,7 +115,7 @@ fn is_read_before(
     text: &[u8],
     more: &[u8],
 ) -> bool {
-    match joined(alloc, text, more) {
+    match concat(alloc, text, more) {
         Ok(input) => is_read_of(alloc, words, answer, text.len(), &input),
         Err(AllocError) => {
             words.give_up();
@@ -146,7 +146,7 @@ fn is_read_of(
     }
 }
 
-/// How many beginnings of a text are read at most: the longest ones.
+/// The greatest number of prefixes of a text that are read: the longest ones.
 const MAX_PREFIXES: usize = 500;
 
 fn is_prefix_read(alloc: Global, words: &mut Words, text: &[u8]) -> bool {
@@ -195,12 +195,12 @@ pub fn put_mailbox(alloc: Global, words: &mut Words, name: &[u8]) {
 
 /// Puts an answer as it is printed.
 pub fn put_printed(alloc: Global, words: &mut Words, answer: Answer) {
-    words.put_result(printed_after(alloc, b"", &answer));
+    words.put_result(text_after(alloc, b"", &answer));
     drop(answer);
 }
 
 /// The octets `front`, and after them the answer as it is printed.
-pub fn printed_after(alloc: Global, front: &[u8], answer: &Answer) -> Result<Vec<u8>, AllocError> {
+pub fn text_after(alloc: Global, front: &[u8], answer: &Answer) -> Result<Vec<u8>, AllocError> {
     let mut text = front.to_vec(alloc)?;
     print(answer, &mut text)?;
     Ok(text)

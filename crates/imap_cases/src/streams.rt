@@ -14,12 +14,12 @@ pub const NARROW: Limits = Limits {
 /// The sizes of pieces, in octets, that streams are cut into, besides single octets.
 const SIZES: [usize; 5] = [2, 3, 100, 1_000, 2_000_000];
 
-/// Streams of at most this many octets are also cut in two at each place.
+/// The greatest length, in octets, of streams that are also cut in two at each place.
 const SHORT: usize = 100;
 
-/// Puts what the framer gives for a stream that comes octet by octet: `(ready)`, `(frame OCTETS)`,
-/// `(refused OCTETS)`, and the first fault with the framer's answer to one further octet. If the
-/// stream gives something else when it is cut otherwise, that follows.
+/// Puts what the framer gives for a stream that arrives octet by octet: `(ready)`,
+/// `(frame OCTETS)`, `(refused OCTETS)`, and the first fault with the framer's answer to one
+/// further octet. If the stream gives something else when it is cut otherwise, that follows.
 pub fn put_stream(alloc: Global, words: &mut Words, limits: Limits, stream: &[u8]) {
     match in_pieces(alloc, limits, b"", stream, 1) {
         Ok(given) => {
@@ -90,7 +90,7 @@ fn other_cut(
     None
 }
 
-/// Whether a stream gives this if its first part comes in one piece and the rest in pieces of
+/// Whether a stream gives this if its first part arrives in one piece and the rest in pieces of
 /// `size` octets.
 fn gives(
     alloc: Global,
@@ -110,7 +110,7 @@ fn gives(
     }
 }
 
-/// What a stream gives if its first part comes in one piece and the rest in pieces of `size`
+/// What a stream gives if its first part arrives in one piece and the rest in pieces of `size`
 /// octets.
 fn in_pieces(
     alloc: Global,

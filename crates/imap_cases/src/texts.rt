@@ -7,7 +7,7 @@ use imap_lex::Limits;
 use imap_types::{Escape, EscapeFault, read_escaped, write_escaped};
 use std::alloc::{AllocError, Global};
 
-/// What the code answers to an input of this kind, in the escape. `Err` if memory runs out.
+/// The code's answer to an input of this kind, in the escape. `Err` if memory runs out.
 pub fn answer_to(alloc: Global, kind: &str, input: &str) -> Result<Vec<u8>, AllocError> {
     let text = written_out(alloc, input)?;
     match read_escaped(alloc, Escape::Text, &text) {

@@ -34,7 +34,7 @@ filtered test (a ∷ words) h =
       | inr f ↦ rw f (filtered test words (ascending_tail a words h))
     ]
 
--- What holds for all words holds for the remaining ones.
+-- A property of all words is one of the remaining words.
 pub all_filtered : (p test : List ℕ → Bool) (words : List (List ℕ)) → list_all p words ≡ true → list_all p (filter test words) ≡ true
 all_filtered p test [] h = refl
 all_filtered p test (a ∷ words) h =

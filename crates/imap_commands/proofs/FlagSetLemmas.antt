@@ -83,7 +83,7 @@ lowered_in (first ∷ words) word h i =
       | inr t ↦ lowered_in words word parts.1 t
     ]
 
--- among keywords in lower case a word is found exactly if it is one of them
+-- the test for a word among keywords in lower case succeeds exactly if it is one of them
 has_keyword_is : (word : List ℕ) (given : List (List ℕ)) → to_lower_case word ≡ word → list_all is_lower_case given ≡ true → (has_keyword word given ≡ true) ↔ IsIn word given
 has_keyword_is word given l all =
     let same = λ (other : List ℕ). bytes_eq (to_lower_case other) (to_lower_case word) in (
@@ -116,7 +116,7 @@ pub replaced_flags : (old given : Flags) → changed_flags Replace old given ≡
 unfolding changed_flags
 replaced_flags old given = refl
 
--- ---- their one spelling
+-- ---- the keywords after a STORE ascend in lower case
 
 united_spelled : (given keywords : List (List ℕ)) → list_all is_lower_case given ≡ true → AreKeywords keywords → AreKeywords (united given keywords)
 united_spelled [] keywords g k = k

@@ -111,7 +111,7 @@ lawful_change Remove old given h i = all_filtered is_lawful_keyword (λ (keyword
 
 -- ---- limits
 
--- an operation that is issuable, apart from its numbers of keywords and ids
+-- an operation that is issuable, apart from how many keywords and ids it has
 abbrev IsCandidate : List ℕ → List ℕ → List ListedMessage → Kind → Type 0
 IsCandidate folder destination rows (Store f flags old_ids origin) = (f ≡ folder) × (list_all is_lawful_keyword flags.keywords ≡ true) × AreListedWithOrigin rows old_ids origin
 IsCandidate folder destination rows (Expunge f old_ids) = (f ≡ folder) × AreListedIds rows old_ids

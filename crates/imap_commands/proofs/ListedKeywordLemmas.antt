@@ -12,15 +12,15 @@ use Rattle.merge_laws.specs.Orders.{IsIn}
 use Rattle.mailbox_rows.specs.ListedMessage.{ListedMessage}
 use Rattle.imap_commands.specs.SelectCommand.{AreListedKeywords, BearsKeyword}
 
--- A set of keywords after words are added in lower case, and after those of messages are, one after
--- another.
+-- A set of keywords after these words, or the keywords of these messages, are added in lower case,
+-- one after another.
 abbrev pub with_keywords : List (List ℕ) → List (List ℕ) → List (List ℕ)
 with_keywords words keywords = fold (λ done word. with_word (to_lower_case word) done) keywords words
 
 abbrev pub with_rows : List ListedMessage → List (List ℕ) → List (List ℕ)
 with_rows rows keywords = fold (λ done row. fold (λ done word. with_word (to_lower_case word) done) done row.flags.keywords) keywords rows
 
--- The keywords with the given ones, which are in lower case.
+-- The keywords and those given, which are added unchanged.
 abbrev pub united : List (List ℕ) → List (List ℕ) → List (List ℕ)
 united given keywords = fold (λ done word. with_word word done) keywords given
 

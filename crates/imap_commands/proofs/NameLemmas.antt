@@ -49,7 +49,7 @@ test_from_lawful name h =
 pub lawful_name_is : (name : List ℕ) → IsTrue (is_lawful_name name) ↔ IsLawfulName name
 lawful_name_is name = (lawful_from_test name, test_from_lawful name)
 
--- each test that decides this is equal to it
+-- each test that decides this equals `is_lawful_name`
 pub lawful_by : (name : List ℕ) (b : Bool) → (IsTrue b ↔ IsLawfulName name) → b ≡ is_lawful_name name
 lawful_by name true h = sym (test_from_lawful name (h.0 refl))
 lawful_by name false h =

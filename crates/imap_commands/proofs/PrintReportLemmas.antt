@@ -32,21 +32,21 @@ only_printable answers h = record { own = h; code = tt }
 
 -- ---- LIST
 
--- INBOX in capitals stays so
-pub folded_again : (name : List ℕ) → IsFolded (fold_inbox name)
-folded_again name =
+-- after `fold_inbox` a name has INBOX in capitals
+pub folded_fold_inbox : (name : List ℕ) → IsFolded (fold_inbox name)
+folded_fold_inbox name =
     elim (cases_Bool (is_inbox name)) [
       | inl t ↦ rw t refl
       | inr f ↦ rw (f, f) refl
     ]
 
-in_list : {X : Type 0} (x : X) (xs : List X) → patterns.IsIn x xs → IsIn x xs
-in_list x [] h = absurd h
-in_list x (y ∷ ys) h = elim h [ inl e ↦ inl e | inr t ↦ inr (in_list x ys t) ]
+is_in_from_patterns : {X : Type 0} (x : X) (xs : List X) → patterns.IsIn x xs → IsIn x xs
+is_in_from_patterns x [] h = absurd h
+is_in_from_patterns x (y ∷ ys) h = elim h [ inl e ↦ inl e | inr t ↦ inr (is_in_from_patterns x ys t) ]
 
-of_list : {X : Type 0} (x : X) (xs : List X) → IsIn x xs → patterns.IsIn x xs
-of_list x [] h = absurd h
-of_list x (y ∷ ys) h = elim h [ inl e ↦ inl e | inr t ↦ inr (of_list x ys t) ]
+patterns_from_is_in : {X : Type 0} (x : X) (xs : List X) → IsIn x xs → patterns.IsIn x xs
+patterns_from_is_in x [] h = absurd h
+patterns_from_is_in x (y ∷ ys) h = elim h [ inl e ↦ inl e | inr t ↦ inr (patterns_from_is_in x ys t) ]
 
 each_mapped : {X Y : Type 0} (Q : X → Type 0) (P : Y → Type 0) (f : X → Y) (xs : List X) → ((x : X) → Q x → P (f x)) → Each Q xs → Each P (map f xs)
 each_mapped Q P f [] g h = tt
@@ -54,16 +54,16 @@ each_mapped Q P f (x ∷ xs) g h = (g x h.0, each_mapped Q P f xs g h.1)
 
 entry_folded : (pattern : List ℕ) (folders : List (List ℕ)) (entries : List ListEntry) → Each IsFolded folders → AreListEntries folders pattern entries → (entry : ListEntry) → IsIn entry entries → IsFolded entry.name
 entry_folded pattern folders entries all h entry i =
-    elim (((h.exactly entry).0 (of_list entry entries i)).1) [
-      | inl m ↦ each_in IsFolded folders entry.name all (in_list entry.name folders m.1)
-      | inr l ↦ subst IsFolded (sym l.2.4) (folded_again l.2.0)
+    elim (((h.exactly entry).0 (patterns_from_is_in entry entries i)).1) [
+      | inl m ↦ each_in IsFolded folders entry.name all (is_in_from_patterns entry.name folders m.1)
+      | inr l ↦ subst IsFolded (sym l.2.4) (folded_fold_inbox l.2.0)
     ]
 
 matched_printable : (only returned : Bool) (pattern : List ℕ) (folders subscriptions : List (List ℕ)) (answers : List Answer) → Each IsFolded folders → Each IsFolded subscriptions
     → ListsMatching only returned pattern folders subscriptions answers → Each IsPrintable answers
 matched_printable true returned pattern folders subscriptions answers f s h =
     let names = h.0 in
-    let folded : Each IsFolded names = each_of IsFolded names (λ name i. each_in IsFolded subscriptions name s (in_list name subscriptions ((h.1.exactly name).0 (of_list name names i)).1)) in
+    let folded : Each IsFolded names = each_of IsFolded names (λ name i. each_in IsFolded subscriptions name s (is_in_from_patterns name subscriptions ((h.1.exactly name).0 (patterns_from_is_in name names i)).1)) in
     subst (Each IsPrintable) (sym h.2) (each_mapped IsFolded IsPrintable (subscribed_answer folders) names (λ name k. k) folded)
 matched_printable false returned pattern folders subscriptions answers f s h =
     let entries = h.0 in
@@ -125,12 +125,12 @@ one_asked item.Deleted items counters rows = has_some_status (status_of (item.De
 one_asked item.Size items counters rows = has_some_status (status_of (item.Size ∷ items) counters rows) (inr (inr (inr (inr (inr (inl refl))))))
 one_asked item.HighestModSeq items counters rows = has_some_status (status_of (item.HighestModSeq ∷ items) counters rows) (inr (inr (inr (inr (inr (inr refl))))))
 
-all_asked : (items : List StatusItem) (counters : MailboxCounters) (rows : List ListedMessage) → 0 < length items → has_mailbox_item (status_of items counters rows) ≡ true
-all_asked [] counters rows l = absurd (omega (arith, l))
-all_asked (one ∷ items) counters rows l = one_asked one items counters rows
+status_of_has_item : (items : List StatusItem) (counters : MailboxCounters) (rows : List ListedMessage) → 0 < length items → has_mailbox_item (status_of items counters rows) ≡ true
+status_of_has_item [] counters rows l = absurd (omega (arith, l))
+status_of_has_item (one ∷ items) counters rows l = one_asked one items counters rows
 
-asked_is : (P : ℕ → Type 0) (one : StatusItem) (items : List StatusItem) (number : ℕ) → P number → IfPresent P (if_asked one items number)
-asked_is P one items number h = elim (cases_Bool (is_asked one items)) [ inl t ↦ rw t h | inr f ↦ rw f tt ]
+if_asked_holds : (P : ℕ → Type 0) (one : StatusItem) (items : List StatusItem) (number : ℕ) → P number → IfPresent P (if_asked one items number)
+if_asked_holds P one items number h = elim (cases_Bool (is_asked one items)) [ inl t ↦ rw t h | inr f ↦ rw f tt ]
 
 filter_fewer : {X : Type 0} (test : X → Bool) (xs : List X) → length (filter test xs) ≤ length xs
 filter_fewer test [] = omega arith
@@ -145,14 +145,14 @@ status_printable name items counters rows f l m r =
     let unseen = filter_fewer (is_flagged system.Seen false) rows in
     let deleted = filter_fewer (is_flagged system.Deleted true) rows in
     let report : AreStatusItems (status_of items counters rows) = record {
-      some = all_asked items counters rows l;
-      messages = asked_is IsSmall item.Messages items (length rows) n;
-      uidnext = asked_is IsNonzero item.UidNext items counters.uidnext m.uidnext;
-      uidvalidity = asked_is IsNonzero item.UidValidity items counters.uidvalidity m.uidvalidity;
-      unseen = asked_is IsSmall item.Unseen items (length (filter (is_flagged system.Seen false) rows)) (omega (arith, n, unseen));
-      deleted = asked_is IsSmall item.Deleted items (length (filter (is_flagged system.Deleted true) rows)) (omega (arith, n, deleted));
-      size = asked_is IsWide item.Size items (min (sum_by size_of rows) 18446744073709551615) (omega arith);
-      highest_modseq = asked_is IsModSeq item.HighestModSeq items counters.highest_modseq m.highest;
+      some = status_of_has_item items counters rows l;
+      messages = if_asked_holds IsSmall item.Messages items (length rows) n;
+      uidnext = if_asked_holds IsNonzero item.UidNext items counters.uidnext m.uidnext;
+      uidvalidity = if_asked_holds IsNonzero item.UidValidity items counters.uidvalidity m.uidvalidity;
+      unseen = if_asked_holds IsSmall item.Unseen items (length (filter (is_flagged system.Seen false) rows)) (omega (arith, n, unseen));
+      deleted = if_asked_holds IsSmall item.Deleted items (length (filter (is_flagged system.Deleted true) rows)) (omega (arith, n, deleted));
+      size = if_asked_holds IsWide item.Size items (min (sum_by size_of rows) 18446744073709551615) (omega arith);
+      highest_modseq = if_asked_holds IsModSeq item.HighestModSeq items counters.highest_modseq m.highest;
     } in
     only_printable (_ ∷ []) ((f, report), tt)
 

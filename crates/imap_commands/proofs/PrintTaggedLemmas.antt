@@ -19,7 +19,7 @@ use Rattle.imap_types.specs.Keywords.{is_tag_octet}
 use Rattle.imap_types.specs.declared.section.Section.{Section}
 use Rattle.imap_types.specs.declared.section.Section.TheVariants as sections
 use Rattle.imap_commands.specs.Printing.{AreAnswerableItems, IsAnswerable, IsAnswerableItem}
-use Rattle.imap_commands.proofs.PrintReportLemmas.{folded_again}
+use Rattle.imap_commands.proofs.PrintReportLemmas.{folded_fold_inbox}
 
 -- ---- parts of a text
 
@@ -36,7 +36,7 @@ tag_is [] text h = absurd (h.0 refl)
 tag_is (octet ∷ octets) text h = subst (λ (b : Bool). (not b && list_all is_tag_octet (octet ∷ octets)) ≡ true) (sym (eqb-suc-zero (length octets))) h.1
 
 name_folded : (name text : List ℕ) → mailbox name text → IsFolded name
-name_folded name text h = subst IsFolded h.2 (folded_again h.0)
+name_folded name text h = subst IsFolded h.2 (folded_fold_inbox h.0)
 
 escaped_longer : (octets : List ℕ) → length octets ≤ length (quoted_escape octets)
 escaped_longer [] = omega arith

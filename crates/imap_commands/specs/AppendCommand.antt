@@ -21,8 +21,8 @@ given_date None stamp = stamp
 given_date (Some date) stamp = date
 
 -- The intent of APPEND (RFC 9051, section 6.3.12). `exists` says whether the mailbox exists;
--- `stamp` is the current date-time. A keyword that no message may bear is too long, since keywords
--- in commands have no other fault.
+-- `stamp` is the current date-time. A keyword that no message may bear is refused as too long,
+-- since keywords in commands have no other fault.
 abbrev pub append_intent : Bool → List ℕ → AppendArgs → Result (List Kind) Refusal
 append_intent exists stamp request =
     if exists

@@ -32,7 +32,8 @@ abbrev pub appends_of : List ℕ → List ListedMessage → List ViewEntry → L
 appends_of destination before view numbers =
     flat_map (λ n. append_of destination (message_at before view n)) numbers
 
--- The Expunge of a moved message, with or without `\Deleted`: it removes all its versions.
+-- The Expunge of a moved message, whether or not it has `\Deleted`: it removes all versions of the
+-- message.
 abbrev pub expunge_of_moved : List ℕ → Option ListedMessage → List Kind
 expunge_of_moved folder None = []
 expunge_of_moved folder (Some row) = Expunge folder row.versions ∷ []
@@ -69,12 +70,12 @@ move_intent mailbox request exists =
 abbrev pub sources_of : List ListedMessage → List ViewEntry → List ℕ → List ℕ
 sources_of before view numbers = names_of true view (existing_messages before view numbers)
 
--- The UIDs of their copies: those of the destination's messages after the command that have at
--- least its UIDNEXT before the command.
+-- The UIDs of their copies: after the command, those UIDs of the destination that are at least its
+-- UIDNEXT before the command.
 abbrev pub copies_in : ℕ → List ListedMessage → List ℕ
 copies_in uidnext target_rows = map (λ row. row.uid) (rows_after_uid (uidnext - 1) target_rows)
 
--- The code of a COPY: COPYUID, or the other code if nothing was copied.
+-- The code of a COPY: COPYUID, or `code` if nothing was copied.
 abbrev pub copied_code : ℕ → List ℕ → List ℕ → Option Code → Option Code
 copied_code uidvalidity [] copies code = code
 copied_code uidvalidity (n ∷ sources) copies code =

@@ -51,8 +51,7 @@ abbrev pub asks_condstore_first : List (List ℕ) → Bool
 asks_condstore_first names =
     begins_with_condstore (filter (λ name. is_condstore name || is_imap4rev2 name) names)
 
--- The extensions that are enabled, from which of the two were requested, and whether CONDSTORE was
--- first.
+-- The enabled extensions, given which of the two were requested and whether CONDSTORE was first.
 abbrev pub extensions_by : Bool → Bool → Bool → EnabledExtensions
 extensions_by false false first = Nothing
 extensions_by true false first = Condstore
@@ -89,6 +88,6 @@ abbrev pub fetch_asks_modseq : List FetchItem → Option ℕ → Bool
 fetch_asks_modseq items changed_since = list_any is_modseq_item items || is_some changed_since
 
 -- Whether the steps of a SEARCH have a MODSEQ test; by the law `searches_are_by_keys` they have one
--- exactly if its key has.
+-- exactly if its key does.
 abbrev pub search_asks_modseq : List SearchStep → Bool
 search_asks_modseq steps = list_any step_names_modseq steps

@@ -32,9 +32,9 @@ mode_of mailbox condstore request =
 abbrev pub seen_flags : Flags → Flags
 seen_flags flags = record flags { seen = true }
 
--- The Store of `\Seen` for a message, in place of all its versions: if the mailbox is read-write,
--- an item sets the flag, CHANGEDSINCE doesn't exclude the message and none of its versions has the
--- flag.
+-- The Store of `\Seen` for a message, which replaces all its versions. There is one if the mailbox
+-- is read-write, an item sets the flag, CHANGEDSINCE doesn't exclude the message and none of its
+-- versions has the flag.
 abbrev pub seen_store : List ℕ → List FetchItem → FetchMode → Option ListedMessage → List Kind
 seen_store folder items mode None = []
 seen_store folder items mode (Some row) =
@@ -57,12 +57,12 @@ fetch_intent mailbox request =
     else within_limits
     (seen_stores mailbox request (numbers_in_set request.by_uid request.messages mailbox.view))
 
--- A message of a view as queries take it.
+-- A message of a view, in the form that queries take.
 abbrev pub shown_at : ℕ → Option ViewEntry → List ViewedMessage
 shown_at n None = []
 shown_at n (Some e) = record { number = n; uid = e.uid } ∷ []
 
--- The view's messages with these numbers, as queries take them.
+-- The view's messages with these numbers, in the form that queries take.
 abbrev pub shown_of : List ViewEntry → List ℕ → List ViewedMessage
 shown_of view numbers = flat_map (λ n. shown_at n (entry_at view n)) numbers
 

@@ -21,13 +21,13 @@ HaveLawfulKeywords rows =
 abbrev pub AreListedIds : List ListedMessage → List OpId → Type 0
 AreListedIds rows old_ids = (row : ListedMessage) × IsIn row rows × (old_ids ≡ row.versions)
 
--- The ids are those of all versions of a listed message, and the other id is that of its Append.
+-- The ids are those of all versions of a listed message, and `origin` is the id of its Append.
 abbrev pub AreListedWithOrigin : List ListedMessage → List OpId → OpId → Type 0
 AreListedWithOrigin rows old_ids origin =
     (row : ListedMessage) × IsIn row rows × (old_ids ≡ row.versions) × (origin ≡ row.origin)
 
--- A lawful change of a message of the folder's listing, which names no more ids than one operation
--- may, or a copy with lawful flags in the destination.
+-- The kind lawfully changes a message of the folder's listing and names no more ids than one
+-- operation may, or it appends a copy with lawful flags to the destination.
 abbrev pub IsIssuable : List ℕ → List ℕ → List ListedMessage → Kind → Type 0
 IsIssuable folder destination rows (Store f flags old_ids origin) =
     (f ≡ folder)

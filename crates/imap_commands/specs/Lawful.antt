@@ -1,4 +1,4 @@
--- Operations that are lawful by their kind only, whatever the replica holds.
+-- Operations that only their kind makes lawful, whatever the replica contains.
 
 use Rattle.std.specs.Prelude.{List, [], ◌∷◌}
 use Rattle.crdt_ops.specs.declared.kind.Kind.{Kind}

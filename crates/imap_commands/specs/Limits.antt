@@ -9,8 +9,8 @@ use Rattle.imap_answers.specs.declared.fixed_words.Refusal.{Refusal}
 use Rattle.imap_answers.specs.declared.fixed_words.Refusal.TheVariants.{TooManyKeywords}
 use Rattle.imap_answers.specs.declared.fixed_words.Refusal.TheVariants.{TooManyVersions}
 
--- Whether an operation gives a message more than 32 keywords, which none may. A message's versions
--- together may have more.
+-- Whether an operation gives a message more than 32 keywords, which no operation may. A message's
+-- versions together may have more.
 abbrev pub has_many_keywords : Kind → Bool
 has_many_keywords (Create folder) = false
 has_many_keywords (Delete folder seen) = false
@@ -20,8 +20,8 @@ has_many_keywords (Store folder flags old_ids origin) = nat_lt 32 (length flags.
 has_many_keywords (Subscribe name) = false
 has_many_keywords (Unsubscribe name seen) = false
 
--- Whether an operation names more than 64 versions of a message, which none may. A message may have
--- more.
+-- Whether an operation names more than 64 versions of a message, which no operation may. A message
+-- may have more.
 abbrev pub has_many_versions : Kind → Bool
 has_many_versions (Create folder) = false
 has_many_versions (Delete folder seen) = false

@@ -59,7 +59,7 @@ subscribe_intent is_subscribed name =
     then Ok (if is_subscribed then [] else Subscribe name ∷ [])
     else Err NameNotAllowed
 
--- The Unsubscribe that lists the ids of a name's present subscription tags, if it has any.
+-- The Unsubscribe that lists the ids of a name's present subscription tags, if the name has any.
 abbrev pub unsubscribes : List OpId → List ℕ → List Kind
 unsubscribes [] name = []
 unsubscribes (id ∷ ids) name = Unsubscribe name (id ∷ ids) ∷ []

@@ -20,7 +20,7 @@ use Rattle.imap_commands.specs.Arguments.{CopyArgs, CopyTarget, OpenMailbox}
 use Rattle.imap_commands.specs.CopyCommand.{copies_in, sources_of}
 use Rattle.imap_commands.specs.Report.{CommandReport}
 
--- A report can be printed: its own answers, and the code of its tagged line.
+-- A report can be printed: its own answers can, and so can the code of its tagged line.
 pub record IsPrintableReport (report : CommandReport) : Type 0 where
   pub own : Each IsPrintable report.own
   pub code : IfPresent IsCode report.code

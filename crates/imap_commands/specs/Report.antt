@@ -11,8 +11,8 @@ use Rattle.mailbox_rows.specs.RowViews.{row_of}
 use Rattle.session_view.specs.declared.view_entry.ViewEntry.{ViewEntry}
 use Rattle.session_view.specs.declared.reply_replay.SilentFlags.{SilentFlags}
 
--- A command's report: its own answers, the flags that the session set in silence (RFC 9051,
--- section 6.4.6), and the code of its tagged line (RFC 9051, section 7.1).
+-- A command's report: its own answers, the flags that the session set silently (RFC 9051, section
+-- 6.4.6), and the code of its tagged line (RFC 9051, section 7.1).
 pub record CommandReport : Type 0 where
   pub own : List Answer
   pub silent : List SilentFlags

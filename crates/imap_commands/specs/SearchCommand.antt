@@ -20,8 +20,8 @@ use Rattle.session_view.specs.declared.view_entry.ViewEntry.{ViewEntry}
 use Rattle.imap_commands.specs.Arguments.{OpenMailbox, SearchArgs}
 use Rattle.imap_commands.specs.Report.{CommandReport, report_of_answers}
 
--- Whether a test may be asked: a set of message numbers names only numbers that messages have. UIDs
--- may be any.
+-- Whether a test may be asked: a set of message numbers names only numbers that messages have. A
+-- set of UIDs may name any.
 abbrev pub test_is_in_range : List ViewEntry → SearchTest → Bool
 test_is_in_range view (tests.Numbers numbers) = is_in_range false numbers view
 test_is_in_range view tests.All = true
@@ -54,18 +54,18 @@ step_is_in_range view Not = true
 step_is_in_range view Or = true
 step_is_in_range view And = true
 
--- The intent of SEARCH by the steps of its key; the law `searches_are_by_keys` says that it is the
--- one by the key.
+-- The intent of SEARCH by the steps of its key; the law `searches_are_by_keys` says that it equals
+-- the intent by the key.
 abbrev pub search_intent : List ViewEntry → List SearchStep → Result (List Kind) Refusal
 search_intent view steps =
     if list_all (step_is_in_range view) steps then Ok [] else Err NoSuchMessage
 
--- The messages of a view as queries take them, numbered from n.
+-- The messages of a view in the form that queries take, numbered from n.
 abbrev pub shown_from : ℕ → List ViewEntry → List ViewedMessage
 shown_from n [] = []
 shown_from n (e ∷ es) = record { number = n; uid = e.uid } ∷ shown_from (n + 1) es
 
--- The results of SEARCH in a mailbox, by the key whose steps it has (RFC 9051, section 6.4.4;
+-- The results of SEARCH in a mailbox, by the key whose steps are given (RFC 9051, section 6.4.4;
 -- RFC 7162, section 3.1.5).
 pub record IsSearchResult (mailbox : OpenMailbox) (request : SearchArgs) (results : SearchResults) :
     Type 0 where
@@ -75,7 +75,7 @@ pub record IsSearchResult (mailbox : OpenMailbox) (request : SearchArgs) (result
       ≡ results_of request.options (asks_modseq key)
       (hits_in request.by_uid key mailbox.rows (shown_from 1 mailbox.view))
 
--- The report of SEARCH, which is determined: one answer, with its results.
+-- The report of SEARCH, which its arguments determine: a single answer with its results.
 pub record IsSearchReport (mailbox : OpenMailbox) (tag : List ℕ) (request : SearchArgs)
     (report : CommandReport) : Type 0 where
   pub results : SearchResults

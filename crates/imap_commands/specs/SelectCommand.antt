@@ -28,7 +28,7 @@ select_intent exists = if exists then Ok [] else Err NoSuchMailbox
 
 -- ---- the keywords of a listing
 
--- A message of the listing has a keyword that is spelled so in lower case.
+-- A message of the listing has a keyword with this spelling in lower case.
 abbrev pub BearsKeyword : List ListedMessage → List ℕ → Type 0
 BearsKeyword rows word =
     (row : ListedMessage)
@@ -88,8 +88,8 @@ select_report was_selected read_only name counters rows keywords = record {
   code = Some (access_code read_only);
 }
 
--- The report of SELECT and of EXAMINE, which selects read-only. It is determined, since a listing
--- has one set of keywords.
+-- The report of SELECT and of EXAMINE, which selects read-only. It is unique, since a listing has
+-- one set of keywords.
 pub record IsSelectReport (was_selected read_only : Bool) (name : List ℕ)
     (counters : MailboxCounters)
     (rows : List ListedMessage) (report : CommandReport) : Type 0 where

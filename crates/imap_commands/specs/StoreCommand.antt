@@ -118,7 +118,7 @@ silents_of view request taken =
     then flat_map (λ n. silent_at request.action.mode request.flags n (entry_at view n)) taken
     else []
 
--- The code of a STORE: MODIFIED with the refused messages, or the other code if there are none.
+-- The code of a STORE: MODIFIED with the refused messages, or `code` if there are none.
 abbrev pub modified_code : List ℕ → Option Code → Option Code
 modified_code [] code = code
 modified_code (n ∷ refused) code = Some (Modified (n ∷ refused))

@@ -40,7 +40,7 @@ impl<'a> Model for OpenMailbox<'a> {
 
 impl<'a> OpenMailbox<'a> {
     /// The listing's row for the view's message with this number, from 1; `None` if it is gone or
-    /// the view has no such number. A binary search.
+    /// the view has no such number. Cost: a binary search.
     pub fn message_at(&self, number: u32) -> Option<Row<'_>>
         ensures { option_map listed_message result ≡ message_at self.now.rows self.now.view number }
     {
@@ -104,7 +104,7 @@ pub struct StoreArgs<'a> {
     pub by_uid: bool,
     /// The messages.
     pub messages: &'a SequenceSet,
-    /// UNCHANGEDSINCE: only messages that haven't changed since this mod-sequence are stored.
+    /// UNCHANGEDSINCE: STORE changes only messages that haven't changed since this mod-sequence.
     pub unchanged_since: Option<u64>,
     /// How their flags change, and whether the answers are silent about that.
     pub action: StoreAction,

@@ -41,8 +41,8 @@ struct Copied {
 
 /// The intent of COPY (RFC 9051, section 6.4.7): it appends the named messages to the destination,
 /// and the copies share their texts. Otherwise the first reason for refusing it: `NoSuchMessage`,
-/// `NoDestination` (`exists` says that the destination doesn't exist), `TooManyKeywords` (more
-/// than 32 on a message). `NoMemory` may replace any result.
+/// `NoDestination` (the destination doesn't exist, by `exists`), `TooManyKeywords` (more than 32 on
+/// a message). `NoMemory` may replace any result.
 pub fn copy_intent(
     alloc: Global,
     mailbox: &OpenMailbox<'_>,
@@ -63,11 +63,11 @@ pub fn copy_intent(
     intent_within_limits(kinds, NamedMessages::new(numbers, Vec::new(alloc)))
 }
 
-/// The intent of MOVE (RFC 9051, section 6.4.8): it first appends the named messages to the
-/// destination, all of them, and then expunges them from the folder; the copies share their texts.
-/// Otherwise the first reason for refusing it: `NoSuchMessage`, `ReadOnly`, `NoDestination`
-/// (`exists` says that the destination doesn't exist), `TooManyKeywords` (more than 32 on a
-/// message), `TooManyVersions` (more than 64 of one). `NoMemory` may replace any result.
+/// The intent of MOVE (RFC 9051, section 6.4.8): it first appends all named messages to the
+/// destination, and then expunges them from the folder; the copies share their texts. Otherwise the
+/// first reason for refusing it: `NoSuchMessage`, `ReadOnly`, `NoDestination` (the destination
+/// doesn't exist, by `exists`), `TooManyKeywords` (more than 32 on a message), `TooManyVersions`
+/// (more than 64 of one). `NoMemory` may replace any result.
 pub fn move_intent(
     alloc: Global,
     mailbox: &OpenMailbox<'_>,
@@ -255,7 +255,7 @@ fn copies_in(alloc: Global, uidnext: u32, target_rows: &Rows<'_>) -> Result<Numb
     set_of(alloc, &uids)
 }
 
-/// The code of a COPY: COPYUID, or the other code if nothing was copied.
+/// The code of a COPY: COPYUID, or `gone` if nothing was copied.
 fn copied_code(
     uidvalidity: u32,
     source: NumberSet,
@@ -308,7 +308,7 @@ fn uids_beyond(alloc: Global, uid: u32, rows: &Rows<'_>) -> Result<Vec<u32>, All
     Ok(uids)
 }
 
-/// The UIDs of the messages from this place on.
+/// The UIDs of the message at this place and of those after it.
 fn uids_from(alloc: Global, start: usize, rows: &Rows<'_>) -> Result<Vec<u32>, AllocError>
     ensures { IfOk result (λ uids. uids.items ≡ map (λ row. row.uid) (drop start rows.now)) }
 {

@@ -22,7 +22,7 @@ use std::alloc::{AllocError, Global};
 /// The report of ENABLE: which of CONDSTORE and IMAP4rev2 were requested, in any case, in the order
 /// of their first requests (RFC 9051, section 6.3.1). `Err` if memory runs out.
 pub fn enable_report(alloc: Global, names: &[Octets]) -> Result<CommandReport, AllocError>
-    ensures { IfOk result (λ sent. sent ≡ enable_report names.now) }
+    ensures { IfOk result (λ report. report ≡ enable_report names.now) }
 {
     let extensions = enabled_extensions(names);
     one_answer(alloc, Answer::Enabled { extensions })
@@ -73,7 +73,7 @@ fn asks_imap4rev2(names: &[Octets]) -> bool
     false
 }
 
-/// Whether CONDSTORE comes before IMAP4rev2 among the names.
+/// Whether CONDSTORE precedes IMAP4rev2 among the names.
 fn asks_condstore_first(names: &[Octets]) -> bool
     ensures { result ≡ asks_condstore_first names.now }
 {

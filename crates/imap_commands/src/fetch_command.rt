@@ -120,9 +120,9 @@ fn seen_flags(alloc: Global, versions: &Versions<'_>) -> Result<Flags, AllocErro
 
 /// The report of FETCH: the answers of `imap_query::fetch` for the named messages, and
 /// EXPUNGEISSUED if some of them are gone. `after` is the listing after the command; `None`, for a
-/// FETCH that issues nothing, means the one before it. `Err` if memory runs out. It costs what
-/// `imap_query::fetch` costs, or `fetch_unchanged` if `after` is `None`, and if a message has no
-/// answer, one look-up of each for the code.
+/// FETCH that issues nothing, means the one before it. `Err` if memory runs out. Cost: that of
+/// `imap_query::fetch`, or of `fetch_unchanged` if `after` is `None`; and if a message has no
+/// answer, one look-up of each message for the code.
 pub fn fetch_report(
     alloc: Global,
     mailbox: &OpenMailbox<'_>,
@@ -165,8 +165,7 @@ fn code_for_answers(
     gone_code(rows, view, numbers)
 }
 
-/// The answers of FETCH, from the listing before it and the one after it; `None` means an unchanged
-/// listing.
+/// The answers of FETCH, from the listings before and after it; `None` means an unchanged listing.
 fn fetch_answers_of(
     alloc: Global,
     shown: &[ViewedMessage],
@@ -185,7 +184,7 @@ fn fetch_answers_of(
     }
 }
 
-/// The view's messages with these numbers, as `imap_query` takes them.
+/// The view's messages with these numbers, in the form that `imap_query` takes.
 fn shown_of(
     alloc: Global,
     view: &ViewEntries,

@@ -1,4 +1,4 @@
-//! STORE as a change of sets of flags: laws (RFC 9051, section 6.4.6).
+//! Laws that STORE changes flags as sets (RFC 9051, section 6.4.6).
 
 ghost use Rattle.std.specs.Prelude.{◌≡◌, ◌↔◌, ◌⊎◌, ℕ, List, IsTrue};
 ghost use Rattle.imap_commands.specs.FlagChange.{changed_flags};

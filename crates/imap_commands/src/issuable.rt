@@ -1,5 +1,5 @@
-//! The operations that commands issue: laws. They change only listed messages, name all versions of
-//! each, and have flags that an operation may carry.
+//! Laws of the operations that commands issue: these change only listed messages, name all versions
+//! of each, and have flags that an operation may carry.
 
 ghost use Rattle.std.specs.Prelude.{◌≡◌, ℕ, Bool, List, Ok};
 ghost use Rattle.crdt_ops.specs.declared.kind.Kind.{Kind};
@@ -21,7 +21,7 @@ pub fn stores_are_issuable()
         → AreIssuable mailbox.name destination mailbox.rows kinds }
 {}
 
-/// EXPUNGE and UID EXPUNGE issue Expunges of listed messages; CLOSE issues what EXPUNGE does, or
+/// EXPUNGE and UID EXPUNGE issue Expunges of listed messages; CLOSE issues the same as EXPUNGE, or
 /// nothing.
 pub fn expunges_are_issuable()
     ensures all { (mailbox : OpenMailbox) (destination : List ℕ) (kinds : List Kind)

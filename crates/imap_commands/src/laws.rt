@@ -1,4 +1,4 @@
-//! Laws that say what the definitions of commands mean.
+//! Laws of the definitions of commands.
 
 ghost use Rattle.std.specs.Prelude.{◌≡◌, ◌↔◌, ℕ, List, IsTrue};
 ghost use Rattle.imap_commands.specs.EnableCommand.{search_asks_modseq};
@@ -30,9 +30,8 @@ pub fn one_set_of_keywords()
         → these ≡ those }
 {}
 
-/// The steps of a SEARCH say the same as its key: whether it has a MODSEQ test (RFC 7162,
-/// section 3.1.5), and whether it is refused for a number that no message has (RFC 9051,
-/// section 6.4.4).
+/// The steps of a SEARCH and its key agree on whether it has a MODSEQ test (RFC 7162, section
+/// 3.1.5) and whether it is refused for a number that no message has (RFC 9051, section 6.4.4).
 pub fn searches_are_by_keys()
     ensures modseq { (key : Key) → search_asks_modseq (steps_of key) ≡ asks_modseq key }
     ensures intent { (view : List ViewEntry) (key : Key)

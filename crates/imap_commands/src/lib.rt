@@ -2,28 +2,28 @@
 //!
 //! Each command has two functions. One computes its intent: the operations that it issues, or the
 //! first reason for refusing it. The other computes its report: the command's own answers, the
-//! flags that its session sets in silence, and the code of its tagged line. Both read only
-//! listings, views and the command's arguments; `imap_node` provides these, and does all that
-//! commands have in common. The messages that a command names are looked up once: the intent
-//! returns them, and the report takes them.
+//! flags that its session sets silently, and the code of its tagged line. Both read only listings,
+//! views and the command's arguments; `imap_node` provides these, and does all that commands have
+//! in common. The messages that a command names are looked up once: the intent returns them, and
+//! the report takes them.
 //!
 //! Contracts say for each command which operations it issues, in what order reasons for refusing it
-//! are tried, and what it reports from the listings before and after it (`specs/`, one file a
-//! family). Laws say that the operations are lawful changes of listed messages (`issuable`), that
-//! STORE forms the union or the difference of sets of flags (`flag_sets`), and that all answers can
-//! be printed (`printable`). An error always leaves everything as it was; `NoMemory` may replace
-//! any result.
+//! are tried, and what it reports from the listings before and after it (`specs/`, one file for
+//! each family). Laws say that the operations are lawful changes of listed messages (`issuable`),
+//! that STORE forms the union or the difference of sets of flags (`flag_sets`), and that all
+//! answers can be printed (`printable`). An error always leaves everything as it was; `NoMemory`
+//! may replace any result.
 //!
 //! # Decided
 //!
 //! - The mailbox that a command works on is one value, `OpenMailbox`, and its arguments are another
 //!   (`StoreArgs` and the like), in code and in definitions; both borrow their parts.
 //! - The report of SELECT is a relation, so that its keywords are defined by the messages that bear
-//!   them. The flags that STORE computes stay a function, since operations are functions of them;
-//!   laws say that they are the union or the difference, with each keyword once.
-//! - STORE refuses a keyword that no message may bear as too long, since commands can spell no
-//!   other fault of a keyword. Too many keywords, and after them too many versions, are judged by
-//!   all the operations that a command would issue, whichever message they change.
+//!   them. The flags that STORE computes are defined by a function, since operations are functions
+//!   of them; laws say that they are the union or the difference, with each keyword once.
+//! - STORE refuses a keyword that no message may bear as too long, since a keyword in a command can
+//!   have no other fault. Too many keywords, and after them too many versions, are judged by all
+//!   the operations that a command would issue, whichever message they change.
 #![tactic(auto)]
 
 mod append_command;

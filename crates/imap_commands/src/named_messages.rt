@@ -15,7 +15,7 @@ use session_view::{BadSet, View, ViewEntries};
 use std::alloc::{AllocError, Global};
 
 /// The numbers of the view's messages that a set names. `NoSuchMessage` if it names a number that
-/// no message has; UIDs may be any. `NoMemory` if memory runs out.
+/// no message has; a set of UIDs may name any. `NoMemory` if memory runs out.
 pub fn messages_named(
     alloc: Global,
     by_uid: bool,

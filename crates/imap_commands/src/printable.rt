@@ -1,4 +1,4 @@
-//! Reports can be printed: laws over `specs/Printing`, one for each family of commands.
+//! Laws that reports can be printed (`specs/Printing`), one for each family of commands.
 
 ghost use Rattle.std.specs.Prelude.{ℕ, ◌<◌, Bool, List, length};
 ghost use Rattle.imap_answers.specs.Printable.{Each, IsFolded, IsNonzero, IsPrintable, IsTag};
@@ -75,8 +75,8 @@ pub fn uid_expunge_is_printable()
         → IsPrintableReport (uid_expunge_report mailbox uids) }
 {}
 
-/// The answers of a sync can be printed: the expunged messages, the number of messages then, and
-/// the flags that changed.
+/// The answers of a sync can be printed: the expunged messages, the new number of messages, and the
+/// flags that changed.
 pub fn sync_is_printable()
     ensures { (kind : SyncKind) (modseq : Bool) (rows : List ListedMessage) (view : List ViewEntry)
         → AreShowable rows → IsNumbered view

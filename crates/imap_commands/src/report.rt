@@ -13,8 +13,8 @@ use session_view::{SilentFlags, ViewEntries, ViewEntry};
 use std::alloc::Global;
 use std::marker::Model;
 
-/// A command's report: its own answers, the flags that the session set in silence (RFC 9051,
-/// section 6.4.6), and the code of its tagged line (RFC 9051, section 7.1).
+/// A command's report: its own answers, the flags that the session set silently (RFC 9051, section
+/// 6.4.6), and the code of its tagged line (RFC 9051, section 7.1).
 #[derive(Drop)]
 pub struct CommandReport {
     own: Vec<Answer>,
@@ -59,7 +59,7 @@ impl CommandReport {
         &self.own
     }
 
-    /// The flags that the session set in silence.
+    /// The flags that the session set silently.
     pub fn silent(&self) -> &[SilentFlags]
         ensures { result.now ≡ self.now.silent }
     {
@@ -95,7 +95,7 @@ fn place_of(number: u32) -> usize
 }
 
 /// The listing's row for the view's message with this number, from 1; `None` if it is gone or the
-/// view has no such number. One look-up.
+/// view has no such number. Cost: one look-up.
 pub fn message_at<'a>(rows: &'a Rows<'_>, view: &ViewEntries, number: u32) -> Option<Row<'a>>
     ensures { option_map listed_message result ≡ message_at rows.now view.now.items number }
 {

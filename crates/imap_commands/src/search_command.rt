@@ -101,7 +101,7 @@ fn search_results_of(
     )
 }
 
-/// All messages of a view, as `imap_query` takes them.
+/// All messages of a view, in the form that `imap_query` takes.
 fn all_shown(alloc: Global, view: &ViewEntries) -> Result<Vec<ViewedMessage>, AllocError>
     requires { AreRising 1 view.now.items }
     ensures { IfOk result (λ shown. shown.items ≡ shown_from 1 view.now.items) }

@@ -38,8 +38,8 @@ pub fn select_intent(alloc: Global, exists: bool) -> Result<Vec<Kind>, Refusal>
 }
 
 /// The report of SELECT and of EXAMINE, which selects read-only: CLOSED if another mailbox was
-/// selected, and then the answers about the new mailbox (RFC 9051, sections 6.3.2 and 6.3.3;
-/// RFC 7162, section 3.1.2.1). Each message's keywords are looked up among those found so far.
+/// selected, and then the answers about the new mailbox (RFC 9051, sections 6.3.2 and 6.3.3; RFC
+/// 7162, section 3.1.2.1). Each message's keywords are looked up among those collected so far.
 /// `Err` if memory runs out.
 pub fn select_report(
     alloc: Global,
@@ -220,7 +220,7 @@ fn flags_in_use(keywords: Keywords) -> Flags
     }
 }
 
-/// The keywords of all messages. Each is looked up among those found so far.
+/// The keywords of all messages. Each is looked up among those collected so far.
 fn listed_keywords(alloc: Global, rows: &Rows<'_>) -> Result<Keywords, AllocError>
     ensures { IfOk result (λ keywords. AreListedKeywords rows.now keywords) }
 {

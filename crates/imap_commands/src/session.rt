@@ -39,9 +39,9 @@ pub enum State {
     Authenticated,
     /// A mailbox is selected.
     Selected {
-        /// The messages that the session was shown of it.
+        /// The session's view of the mailbox.
         view: View,
-        /// Whether it was selected by EXAMINE, so that the session changes nothing in it.
+        /// Whether it was selected by EXAMINE, so that the session can't change it.
         read_only: bool,
     },
     /// A LOGOUT was answered with OK: only CAPABILITY, NOOP and LOGOUT are allowed until the

@@ -1,4 +1,4 @@
-use Rattle.std.proofs.Common.{◌≡◌, ◌⊎◌, ◌+◌, ◌<◌, ◌≤◌, inl, inr, ℕ, zero, suc, length, take, get_or, arith, Bool, true, false, List, [], ◌∷◌, ◌++◌, Option, Some, None, Result, Ok, Err, refl, sym, ap, ◌∙◌, subst, append_assoc, append-nil, if◌then◌else◌}
+use Rattle.std.proofs.Common.{◌≡◌, ◌⊎◌, ◌+◌, ◌<◌, ◌≤◌, inl, inr, ℕ, zero, suc, length, take, drop, get_or, arith, Bool, true, false, List, [], ◌∷◌, ◌++◌, Option, Some, None, Result, Ok, Err, refl, sym, ap, ◌∙◌, subst, append_assoc, append-nil, if◌then◌else◌}
 use Rattle.std.specs.Prelude.{◌&&◌}
 use Rattle.std.proofs.lemmas.Bool.{false≢true}
 use Rattle.std.proofs.lemmas.Grind.{flat_map-append}
@@ -12,10 +12,10 @@ use Rattle.imap_syntax.specs.declared.command.Command.TheVariants as commands
 use Rattle.imap_syntax.specs.declared.command.Tagged.{Tagged}
 use Rattle.imap_connection.specs.PortCalls.{PortCall}
 use Rattle.imap_connection.specs.PortCalls as asked
-use Rattle.imap_connection.specs.Batches.{AreAsked, CarriesCommands, EndsInBatch, answers_by, are_brief, is_brief, tags_of}
+use Rattle.imap_connection.specs.Batches.{AreAsked, CarriesCommands, EndsInBatch, EndsInReply, answers_by, are_brief, is_brief, tags_of}
 use Rattle.imap_connection.specs.Conversation.{IsPrefixOf}
-use Rattle.imap_connection.specs.Conversations.{EndsAtItem, Converses, HasAnsweredSome, HasTaken, EndsOverItems, LacksAnswers}
-use Rattle.imap_connection.specs.EndReasons.{ended_by}
+use Rattle.imap_connection.specs.Conversations.{EndsAtItem, Converses, HasTaken, EndsOverItems, LacksAnswers}
+use Rattle.imap_connection.specs.EndReasons.{end_reason_of}
 use Rattle.imap_connection.specs.RequestSteps.{IsRequest}
 use Rattle.imap_connection.specs.Replies.{answers_of}
 use Rattle.imap_connection.specs.Requests.{StopsAt, Takes, is_done, is_logout, texts}
@@ -23,7 +23,7 @@ use Rattle.imap_connection.specs.declared.end_reason.Ended.{Ended}
 use Rattle.imap_connection.specs.declared.end_reason.Ended.TheVariants.{NoMemory}
 use Rattle.imap_connection.specs.declared.fault.PortFault.{PortFault}
 use Rattle.imap_connection.specs.declared.request.Request.TheVariants as requests
-use Rattle.imap_connection.proofs.ConversationsLemmas.{ends_at_item_append, converses-append, ends_over_items_append, leaves_first}
+use Rattle.imap_connection.proofs.ConversationsLemmas.{ends_at_item_append, converses-append, ends_over_items_append, lacks_answers_append, leaves_first}
 use Rattle.imap_connection.proofs.RequestLemmas.{of_command}
 
 -- ---- brief commands
@@ -99,20 +99,16 @@ answers_next tags replies i tag reply h k e f =
     let one : i + 1 ≡ suc i = omega arith in
     ap (λ (n : ℕ). answers_by tags (take n replies)) one ∙ next_answers tags replies i tag reply h k e f
 
--- the first answers are an initial part of all answers
-pub answers_first : (tags : List (List ℕ)) (replies : List Reply) (i : ℕ) → IsPrefixOf (answers_by tags (take i replies)) (answers_by tags replies)
-answers_first [] replies i = ([], refl)
-answers_first (t ∷ tags) [] zero = ([], refl)
-answers_first (t ∷ tags) [] (suc i) = ([], refl)
-answers_first (t ∷ tags) (r ∷ replies) zero = (answers_of t r ++ answers_by tags replies, refl)
-answers_first (t ∷ tags) (r ∷ replies) (suc i) =
-    let h = answers_first tags replies i in
-    (h.0, ap (λ (rest : List Answer). answers_of t r ++ rest) h.1 ∙ sym (append_assoc (answers_of t r) (answers_by tags (take i replies)) h.0))
+first_answers : (tags : List (List ℕ)) (replies : List Reply) (tag : List ℕ) (reply : Reply) → answers_by (tag ∷ tags) (take 1 (reply ∷ replies)) ≡ answers_of tag reply
+first_answers tags replies tag reply = ap (λ (rest : List Answer). answers_of tag reply ++ rest) (no_answers tags replies) ∙ append-nil (answers_of tag reply)
 
--- the first answers, and an initial part of the next ones, are an initial part of all answers
-pub prefix_next : (first next all front : List Answer) → IsPrefixOf (first ++ next) all → IsPrefixOf front next → IsPrefixOf (first ++ front) all
-prefix_next first next all front h f =
-    (f.0 ++ h.0, h.1 ∙ ap (λ (x : List Answer). (first ++ x) ++ h.0) f.1 ∙ ap (λ (x : List Answer). x ++ h.0) (sym (append_assoc first front f.0)) ∙ append_assoc (first ++ front) f.0 h.0)
+-- only one reply
+pub answers_at : (tags : List (List ℕ)) (replies : List Reply) (i : ℕ) (tag : List ℕ) (reply : Reply) → i < length tags → i < length replies → tag ≡ get_or tags i tag → reply ≡ get_or replies i reply
+    → answers_by (drop i tags) (take 1 (drop i replies)) ≡ answers_of tag reply
+answers_at [] replies i tag reply h k e f = absurd (none_below_zero i h)
+answers_at (t ∷ tags) [] i tag reply h k e f = absurd (none_below_zero i k)
+answers_at (t ∷ tags) (r ∷ replies) zero tag reply h k e f = first_answers tags replies t r ∙ ap (λ (x : List ℕ). answers_of x r) (sym e) ∙ ap (λ (x : Reply). answers_of tag x) (sym f)
+answers_at (t ∷ tags) (r ∷ replies) (suc i) tag reply h k e f = answers_at tags replies i tag reply (omega (arith, h)) (omega (arith, k)) e f
 
 module _ {S : Type 0} (steps : S → PortCall → Result Reply PortFault → S → Type 0) where
   -- there are at most as many replies as commands
@@ -147,9 +143,9 @@ module _ {S : Type 0} (steps : S → PortCall → Result Reply PortFault → S �
     carried items all replies c.0 new u a.1 (rest_brief tagged all b) c.2,
   )
 
-  -- the port gave no reply to one of them
+  -- the port gave no reply to one of the commands
   faulted : (items : List Item) (all : List Tagged) (replies : List Reply) (old new : S) (fault : PortFault) → AreAsked items all → are_brief all ≡ true → CarriesCommands steps old all replies (Err fault) new
-      → EndsAtItem steps old None items (ended_by fault) (texts (answers_by (tags_of all) replies)) new
+      → EndsAtItem steps old None items (end_reason_of fault) (texts (answers_by (tags_of all) replies)) new
   faulted [] [] [] old new fault a b c = absurd c
   faulted [] [] (reply ∷ replies) old new fault a b c = absurd c
   faulted [] (tagged ∷ all) replies old new fault a b c = absurd a
@@ -173,38 +169,76 @@ module _ {S : Type 0} (steps : S → PortCall → Result Reply PortFault → S �
       let rest = answers_by (tags_of all) replies in
       let first : Converses steps old None (item ∷ []) (texts one) c.0 None = (one, c.0, None, [], brief_taken old c.0 item tagged reply a.0 (first_brief tagged all b) c.1, sym (append-nil (texts one)), (refl, refl, refl)) in
       let tail_ends = faulted items all replies c.0 new fault a.1 (rest_brief tagged all b) c.2 in
-      subst (λ (output : List ℕ). EndsAtItem steps old None (item ∷ items) (ended_by fault) output new) (sym (texts-append one rest)) (ends_at_item_append steps old None (item ∷ []) items (ended_by fault) (texts one) c.0 None (texts rest) new first tail_ends)
+      subst (λ (output : List ℕ). EndsAtItem steps old None (item ∷ items) (end_reason_of fault) output new) (sym (texts-append one rest)) (ends_at_item_append steps old None (item ∷ []) items (end_reason_of fault) (texts one) c.0 None (texts rest) new first tail_ends)
 
-  answered_none : (old : S) (idling : Option (List ℕ)) (items : List Item) (output : List ℕ) (new : S) → output ≡ [] → new ≡ old → HasAnsweredSome steps old idling items output new
-  answered_none old idling items output new s e = record { front = []; first = (items, refl); answered_front = record { after = idling; answered = (s, e, refl) } }
+  -- memory ran out for a reply to one of the commands
+  lacks_answers : (items : List Item) (all : List Tagged) (replies : List Reply) (given : Result (Unit {0}) PortFault) (old new : S) (whole : ℕ) (answers first : List Answer) → AreAsked items all → are_brief all ≡ true
+      → CarriesCommands steps old all replies given new → whole < length replies → answers ≡ answers_by (tags_of all) (take whole replies) ++ first → IsPrefixOf first (answers_by (drop whole (tags_of all)) (take 1 (drop whole replies)))
+      → LacksAnswers steps old None items (texts answers) new
+  lacks_answers [] [] [] given old new whole answers first a b c w e f = absurd (none_below_zero whole w)
+  lacks_answers [] [] (reply ∷ replies) given old new whole answers first a b c w e f = absurd c
+  lacks_answers [] (tagged ∷ all) replies given old new whole answers first a b c w e f = absurd a
+  lacks_answers (item ∷ items) [] replies given old new whole answers first a b c w e f = absurd a
+  lacks_answers (item ∷ items) (tagged ∷ all) [] given old new whole answers first a b c w e f = absurd (none_below_zero whole w)
+  lacks_answers (item ∷ items) (tagged ∷ all) (reply ∷ replies) given old new zero answers first a b c w e f =
+      record {
+        front = [];
+        batch = item ∷ items;
+        back = [];
+        before = [];
+        mid = old;
+        command = tagged;
+        later = all;
+        reply = reply;
+        replies = replies;
+        fault = given;
+        written = first;
+        items_are = sym (append-nil (item ∷ items));
+        answered = (refl, refl, refl);
+        asked = a;
+        brief = b;
+        carried_out = c;
+        first_answers = subst (λ (xs : List Answer). IsPrefixOf first xs) (first_answers (tags_of all) replies tagged.tag reply) f;
+        output_is = ap texts e;
+      }
+  lacks_answers (item ∷ items) (tagged ∷ all) (reply ∷ replies) given old new (suc whole) answers first a b c w e f =
+      let one = answers_of tagged.tag reply in
+      let rest = answers_by (tags_of all) (take whole replies) ++ first in
+      let has_conversed : Converses steps old None (item ∷ []) (texts one) c.0 None = (one, c.0, None, [], brief_taken old c.0 item tagged reply a.0 (first_brief tagged all b) c.1, sym (append-nil (texts one)), (refl, refl, refl)) in
+      let lacks = lacks_answers items all replies given c.0 new whole rest first a.1 (rest_brief tagged all b) c.2 (omega (arith, w)) refl f in
+      let split : answers ≡ one ++ rest = e ∙ append_assoc one (answers_by (tags_of all) (take whole replies)) first in
+      subst (λ (output : List ℕ). LacksAnswers steps old None (item ∷ items) output new) (sym (ap texts split ∙ texts-append one rest)) (lacks_answers_append steps old None (item ∷ []) items (texts one) c.0 None (texts rest) new has_conversed lacks)
 
-  answered_all : (old : S) (idling : Option (List ℕ)) (items : List Item) (output : List ℕ) (new : S) (after : Option (List ℕ)) → Converses steps old idling items output new after → HasAnsweredSome steps old idling items output new
-  answered_all old idling items output new after c = record { front = items; first = ([], sym (append-nil items)); answered_front = record { after = after; answered = c } }
+  -- memory ran out before an item was given to the port
+  ends_unasked : (old : S) (idling : Option (List ℕ)) (front : List Item) (item : Item) (back items : List Item) (output : List ℕ) (new : S) (between : Option (List ℕ)) → items ≡ front ++ item ∷ back → Converses steps old idling front output new between
+      → EndsAtItem steps old idling items NoMemory (output ++ []) new
+  ends_unasked old idling front item back items output new between e c =
+      record { front = front; item = item; back = back; before = output; mid = new; between = between; given = []; items_are = e; answered = c; stops = inl (refl, refl, refl); output_is = refl }
 
-  -- memory ran out for the last answers
-  lacks_answers : (items : List Item) (all : List Tagged) (replies : List Reply) (given : Result (Unit {0}) PortFault) (old new : S) (answers : List Answer) → AreAsked items all → are_brief all ≡ true
-      → CarriesCommands steps old all replies given new → IsPrefixOf answers (answers_by (tags_of all) replies) → LacksAnswers steps old None items (texts answers) new
-  lacks_answers items all replies (Ok u) old new answers a b c f =
-      let whole : texts (answers_by (tags_of all) replies) ≡ texts answers ++ texts f.0 = ap texts f.1 ∙ texts-append answers f.0 in
-      let has_conversed = carried items all replies old new u a b c in
-      record { lost = f.0; all = inl (answered_all old None items (texts answers ++ texts f.0) new None (subst (λ (output : List ℕ). Converses steps old None items output new None) whole has_conversed)) }
-  lacks_answers items all replies (Err fault) old new answers a b c f =
-      let whole : texts (answers_by (tags_of all) replies) ≡ texts answers ++ texts f.0 = ap texts f.1 ∙ texts-append answers f.0 in
-      let broken = faulted items all replies old new fault a b c in
-      record { lost = f.0; all = inr (ended_by fault, subst (λ (output : List ℕ). EndsAtItem steps old None items (ended_by fault) output new) whole broken) }
+  -- memory ran out before a batch was given to the port
+  batch_unasked : (items : List Item) (all : List Tagged) (ended : Ended) (answers : List Answer) (old new : S) → AreAsked items all → ended ≡ NoMemory → answers ≡ [] → new ≡ old → ((all ≡ []) → ⊥) → EndsAtItem steps old None items ended (texts answers) new
+  batch_unasked [] [] ended answers old new a e n s some = absurd (some refl)
+  batch_unasked [] (tagged ∷ all) ended answers old new a e n s some = absurd a
+  batch_unasked (item ∷ items) all ended answers old new a e n s some =
+      let none : EndsAtItem steps old None (item ∷ items) NoMemory (texts []) old = ends_unasked old None [] item items (item ∷ items) [] old None refl (refl, refl, refl) in
+      let here : EndsAtItem steps old None (item ∷ items) NoMemory (texts answers) old = subst (λ (xs : List Answer). EndsAtItem steps old None (item ∷ items) NoMemory (texts xs) old) (sym n) none in
+      let ends : EndsAtItem steps old None (item ∷ items) ended (texts answers) old = subst (λ (x : Ended). EndsAtItem steps old None (item ∷ items) x (texts answers) old) (sym e) here in
+      subst (λ (x : S). EndsAtItem steps old None (item ∷ items) ended (texts answers) x) (sym s) ends
 
   faltered : (items : List Item) (all : List Tagged) (ended : Ended) (answers : List Answer) (old new : S) → AreAsked items all → are_brief all ≡ true → EndsInBatch steps old all ended answers new
       → EndsOverItems steps old None items ended (texts answers) new
   faltered items all ended answers old new a b h =
       elim h [
-        | inl none ↦ inr (inr (none.0, record { lost = []; all = inl (answered_none old None items (texts answers ++ []) new (append-nil (texts answers) ∙ ap texts none.1) none.2) }))
+        | inl none ↦ inr (inl (batch_unasked items all ended answers old new a none.0 none.1 none.2 none.3))
         | inr some ↦ elim some.3 [
           | inl fault ↦
               let c = subst (λ (given : Result (Unit {0}) PortFault). CarriesCommands steps old all some.0 given new) fault.1 some.2 in
               let broken = faulted items all some.0 old new fault.0 a b c in
-              let same = subst (λ (output : List ℕ). EndsAtItem steps old None items (ended_by fault.0) output new) (sym (ap texts fault.3)) broken in
+              let same = subst (λ (output : List ℕ). EndsAtItem steps old None items (end_reason_of fault.0) output new) (sym (ap texts fault.3)) broken in
               inr (inl (subst (λ (e : Ended). EndsAtItem steps old None items e (texts answers) new) (sym fault.2) same))
-          | inr lost ↦ inr (inr (lost.0, lacks_answers items all some.0 some.1 old new answers a b some.2 lost.1))
+          | inr lost ↦
+              let in_reply = lost.1 in
+              inr (inr (lost.0, lacks_answers items all some.0 some.1 old new in_reply.whole answers in_reply.first a b some.2 in_reply.within in_reply.answers_are in_reply.first_of_reply))
         ]
       ]
 
@@ -217,21 +251,21 @@ module _ {S : Type 0} (steps : S → PortCall → Result Reply PortFault → S �
   none_carried (item ∷ items) all replies old new idling u e a c = cc
 
   none_given : (ended : Ended) (answers : List Answer) (old new : S) (idling : Option (List ℕ)) (replies : List Reply) (given : Result (Unit {0}) PortFault) → CarriesCommands steps old [] replies given new
-      → ((fault : PortFault) × (given ≡ Err fault) × (ended ≡ ended_by fault) × (answers ≡ answers_by [] replies)) ⊎ ((ended ≡ NoMemory) × IsPrefixOf answers (answers_by [] replies))
+      → ((fault : PortFault) × (given ≡ Err fault) × (ended ≡ end_reason_of fault) × (answers ≡ answers_by [] replies)) ⊎ ((ended ≡ NoMemory) × EndsInReply [] replies answers)
       → EndsOverItems steps old idling [] ended (texts answers) new
   none_given ended answers old new idling [] (Err fault) c k = absurd c
   none_given ended answers old new idling (reply ∷ replies) given c k = absurd c
   none_given ended answers old new idling [] (Ok u) c k =
       elim k [
         | inl fault ↦ let no : ◌≡◌ {A = Result (Unit {0}) PortFault} (Ok u) (Err fault.0) = fault.1 in cc
-        | inr lost ↦ inr (inr (lost.0, record { lost = lost.1.0; all = inl (answered_none old idling [] (texts answers ++ texts lost.1.0) new (sym (texts-append answers lost.1.0) ∙ sym (ap texts lost.1.1)) c) }))
+        | inr lost ↦ absurd (none_below_zero lost.1.whole lost.1.within)
       ]
 
   none_faltered : (items : List Item) (all : List Tagged) (ended : Ended) (answers : List Answer) (old new : S) (idling : Option (List ℕ)) → items ≡ [] → AreAsked items all → EndsInBatch steps old all ended answers new
       → EndsOverItems steps old idling items ended (texts answers) new
   none_faltered [] [] ended answers old new idling e a h =
       elim h [
-        | inl none ↦ inr (inr (none.0, record { lost = []; all = inl (answered_none old idling [] (texts answers ++ []) new (append-nil (texts answers) ∙ ap texts none.1) none.2) }))
+        | inl none ↦ absurd (none.3 refl)
         | inr some ↦ none_given ended answers old new idling some.0 some.1 some.2 some.3
       ]
   none_faltered [] (tagged ∷ all) ended answers old new idling e a h = absurd a
@@ -286,17 +320,17 @@ module _ {S : Type 0} (steps : S → PortCall → Result Reply PortFault → S �
     pub leaves_more : (items : List Item) (item : Item) (ended : Ended) (output : List ℕ) (new : S) → EndsOverItems steps old idling items ended output new → EndsOverItems steps old idling (items ++ item ∷ []) ended output new
     leaves_more items item ended output new h = leaves_first steps old idling items (items ++ item ∷ []) ended output new (item ∷ [], refl) h
 
+    unasked_first : (front waiting : List Item) (item : Item) (items : List Item) (output : List ℕ) (new : S) (between : Option (List ℕ)) → items ≡ front ++ (waiting ++ item ∷ []) → Converses steps old idling front output new between
+        → EndsAtItem steps old idling items NoMemory (output ++ []) new
+    unasked_first front [] item items output new between e c = ends_unasked old idling front item [] items output new between e c
+    unasked_first front (one ∷ waiting) item items output new between e c = ends_unasked old idling front one (waiting ++ item ∷ []) items output new between e c
+
     -- memory ran out before the port was called
     pub taken_unasked : (items : List Item) (output : List ℕ) (new : S) (between : Option (List ℕ)) (waiting : List Tagged) (item : Item)
         → HasTaken steps old idling items output new between waiting → EndsOverItems steps old idling (items ++ item ∷ []) NoMemory (output ++ []) new
     taken_unasked items output new between waiting item g =
-        let answered_front : HasAnsweredSome steps old idling (items ++ item ∷ []) output new =
-        record {
-          front = g.front;
-          first = (g.back ++ item ∷ [], ap (λ (xs : List Item). xs ++ item ∷ []) g.items_are ∙ append_assoc g.front g.back (item ∷ []));
-          answered_front = record { after = between; answered = g.answered };
-        } in
-        inr (inr (refl, record { lost = []; all = inl (subst (λ (t : List ℕ). HasAnsweredSome steps old idling (items ++ item ∷ []) t new) (sym (append-nil output) ∙ sym (append-nil (output ++ []))) answered_front) }))
+        let here : items ++ item ∷ [] ≡ g.front ++ (g.back ++ item ∷ []) = ap (λ (xs : List Item). xs ++ item ∷ []) g.items_are ∙ append_assoc g.front g.back (item ∷ []) in
+        inr (inl (unasked_first g.front g.back item (items ++ item ∷ []) output new between here g.answered))
 
     -- an item was answered at once
     pub taken_item : (items : List Item) (output : List ℕ) (new : S) (between : Option (List ℕ)) (item : Item) (given : List Answer) (next : S) (after : Option (List ℕ))

@@ -11,11 +11,11 @@ use Rattle.imap_connection.specs.declared.turn.Turn.{Turn}
 use Rattle.imap_connection.proofs.PlaceLemmas.{active_or_not}
 use Rattle.imap_connection.proofs.StreamLemmas.{items_joined, state_joined}
 
--- no steps in between
+-- no steps of others in between
 quiet : (session : ℕ) (node : NodeState) → SomeOtherSteps session node node
 quiet session node = (zero, refl)
 
--- a piece, with the node to which it comes
+-- a piece, with the node at which it arrives
 abbrev pub piece_at_node : NodeState → Piece → PieceAt
 piece_at_node node piece = record { node = node; piece = piece }
 
@@ -50,7 +50,7 @@ talks_between_others old new session limits state end (piece_at ∷ pieces_at) t
       later.1 ∙ ap (λ s. (cut_from limits s (octets_of_pieces pieces_at)).1) here ∙ sym (state_joined limits state piece_at.piece.octets (octets_of_pieces pieces_at)),
     )
 
--- with a last piece after them, which may end the session
+-- with a last piece, which may end the session, after the others
 pub last_talk_between_others : (old mid new : NodeState) (session : ℕ) (limits : Limits) (state between : Result FrameProgress FrameFaultKind) (pieces_at : List PieceAt) (piece : Piece) (turns more : List Turn)
     → TalksBetweenOthers old session limits state pieces_at turns mid between → Converses mid session (cut_by limits between piece).0 more new
     → ConversesBetweenOthers old session (items_at_each limits state (pieces_at ++ piece_at_node mid piece ∷ [])) (turns ++ more) new
@@ -74,7 +74,7 @@ last_talk_between_others old mid new session limits state between (piece_at ∷ 
       ),
     )
 
--- timed items, without their moment
+-- timed items, without their moments
 untimed_all : (moment : ℕ) (items : List Item) → items_without_moments (items_at moment items) ≡ items
 untimed_all moment [] = refl
 untimed_all moment (item ∷ items) = ap (λ is. item ∷ is) (untimed_all moment items)

@@ -6,7 +6,7 @@ use Rattle.imap_connection.specs.PortCalls as asked
 use Rattle.imap_connection.specs.Batches.{CarriesCommands}
 use Rattle.imap_connection.specs.declared.fault.PortFault.{PortFault}
 
--- ---- commands that a port was given, one after another
+-- ---- commands given to a port, one after another
 
 module _ {S : Type 0} (steps : S → PortCall → Result Reply PortFault → S → Type 0) where
   -- one further command

@@ -20,9 +20,9 @@ use Rattle.imap_connection.specs.declared.request.Request.TheVariants.{Immediate
 use Rattle.imap_connection.proofs.TalkLemmas.{items_before_fault}
 use Rattle.imap_connection.proofs.TurnLemmas.{prefix_append}
 use Rattle.imap_connection.specs.PortCalls.{PortCall}
-use Rattle.imap_connection.specs.Devices.{GaveOctets, IsOutput, TookOctets, TookAllOrPart}
+use Rattle.imap_connection.specs.Devices.{GivesOctets, IsOutput, TakesOctets, TakesAllOrPart}
 use Rattle.imap_connection.specs.PortCalls as asked
-use Rattle.imap_connection.specs.EndReasons.{IsLastOutput, ended_by, failed_writes}
+use Rattle.imap_connection.specs.EndReasons.{IsLastOutput, end_reason_of, failed_writes}
 use Rattle.imap_connection.specs.Requests.{Fails, Handles, StopsAt, Takes, call_of, texts}
 use Rattle.imap_connection.specs.Conversations.{EndsAtItem, Converses, EndsOverOctets, HasAnswered, HasAnsweredSome, HasTaken, EndsOverCut, IsCut, IsWritten, EndsOverItems, LacksAnswers}
 use Rattle.imap_connection.specs.declared.end_reason.Ended.{Ended}
@@ -30,12 +30,12 @@ use Rattle.imap_connection.specs.declared.end_reason.Ended.TheVariants.{Logout, 
 use Rattle.imap_connection.specs.declared.fault.PortFault.{PortFault}
 use Rattle.imap_connection.specs.declared.fault.PortFault.TheVariants as faults
 
--- ---- text that was taken or is held back
+-- ---- text that was taken or is buffered
 
-pub took-append : (a b c : Option (List ℕ)) (x y : List ℕ) → TookOctets a x b → TookOctets b y c → TookOctets a (x ++ y) c
+pub took-append : (a b c : Option (List ℕ)) (x y : List ℕ) → TakesOctets a x b → TakesOctets b y c → TakesOctets a (x ++ y) c
 took-append None b c x y h k = tt
 took-append (Some old) b c x y h k =
-    let k' : TookOctets (Some (old ++ x)) y c = subst (λ (o : Option (List ℕ)). TookOctets o y c) h k in
+    let k' : TakesOctets (Some (old ++ x)) y c = subst (λ (o : Option (List ℕ)). TakesOctets o y c) h k in
     k' ∙ ap Some (append_assoc old x y)
 
 pub output_empty : (k : Option (List ℕ)) (held : List ℕ) → IsOutput k held [] k held
@@ -55,11 +55,11 @@ output-append (Some old) l m held output mid more left h g =
       sym (append_assoc held output more) ∙ ap (λ t. t ++ more) h.2 ∙ append_assoc h.0 mid more ∙ ap (λ t. h.0 ++ t) g'.2 ∙ sym (append_assoc h.0 g'.0 left),
     )
 
--- the rest is lost after an initial part
-pub output_part : (k l m : Option (List ℕ)) (held output mid more : List ℕ) → IsOutput k held output l mid → TookAllOrPart false l (mid ++ more) m → TookAllOrPart false k (held ++ (output ++ more)) m
+-- an initial part of the text was taken, and the rest is lost
+pub output_part : (k l m : Option (List ℕ)) (held output mid more : List ℕ) → IsOutput k held output l mid → TakesAllOrPart false l (mid ++ more) m → TakesAllOrPart false k (held ++ (output ++ more)) m
 output_part None l m held output mid more h g = ([], held ++ (output ++ more), refl, tt)
 output_part (Some old) l m held output mid more h g =
-    let t : TookOctets (Some (old ++ h.0)) g.0 m = subst (λ (o : Option (List ℕ)). TookOctets o g.0 m) h.1 g.3 in (
+    let t : TakesOctets (Some (old ++ h.0)) g.0 m = subst (λ (o : Option (List ℕ)). TakesOctets o g.0 m) h.1 g.3 in (
       h.0 ++ g.0,
       g.1,
       sym (append_assoc held output more) ∙ ap (λ t. t ++ more) h.2 ∙ append_assoc h.0 mid more ∙ ap (λ t. h.0 ++ t) g.2 ∙ sym (append_assoc h.0 g.0 g.1),
@@ -70,19 +70,19 @@ output_part (Some old) l m held output mid more h g =
 pub output_then_written : (k l m : Option (List ℕ)) (held output mid left : List ℕ) → IsOutput k held output l mid → IsOutput l mid [] m left → IsOutput k held output m left
 output_then_written k l m held output mid left h g = subst (λ (t : List ℕ). IsOutput k held t m left) (append-nil output) (output-append k l m held output mid [] left h g)
 
-pub lost_now : (k l m : Option (List ℕ)) (held output mid : List ℕ) → IsOutput k held output l mid → TookAllOrPart false l mid m → TookAllOrPart false k (held ++ output) m
+pub lost_now : (k l m : Option (List ℕ)) (held output mid : List ℕ) → IsOutput k held output l mid → TakesAllOrPart false l mid m → TakesAllOrPart false k (held ++ output) m
 lost_now k l m held output mid h g =
-    subst (λ (t : List ℕ). TookAllOrPart false k (held ++ t) m) (append-nil output) (output_part k l m held output mid [] h (subst (λ (t : List ℕ). TookAllOrPart false l t m) (sym (append-nil mid)) g))
+    subst (λ (t : List ℕ). TakesAllOrPart false k (held ++ t) m) (append-nil output) (output_part k l m held output mid [] h (subst (λ (t : List ℕ). TakesAllOrPart false l t m) (sym (append-nil mid)) g))
 
--- all was taken
-pub output_taken : (k l m : Option (List ℕ)) (held output mid more : List ℕ) → IsOutput k held output l mid → TookOctets l (mid ++ more) m → TookOctets k (held ++ (output ++ more)) m
+-- all the text was taken
+pub output_taken : (k l m : Option (List ℕ)) (held output mid more : List ℕ) → IsOutput k held output l mid → TakesOctets l (mid ++ more) m → TakesOctets k (held ++ (output ++ more)) m
 output_taken None l m held output mid more h g = tt
 output_taken (Some old) l m held output mid more h g =
-    let t : TookOctets (Some (old ++ h.0)) (mid ++ more) m = subst (λ (o : Option (List ℕ)). TookOctets o (mid ++ more) m) h.1 g in
+    let t : TakesOctets (Some (old ++ h.0)) (mid ++ more) m = subst (λ (o : Option (List ℕ)). TakesOctets o (mid ++ more) m) h.1 g in
     let e : held ++ (output ++ more) ≡ h.0 ++ (mid ++ more) = sym (append_assoc held output more) ∙ ap (λ x. x ++ more) h.2 ∙ append_assoc h.0 mid more in
     t ∙ ap Some (append_assoc old h.0 (mid ++ more) ∙ ap (λ x. old ++ x) (sym e))
 
-pub took_less : (a b : Option (List ℕ)) (x y : List ℕ) → TookAllOrPart false a x b → TookAllOrPart false a (x ++ y) b
+pub took_less : (a b : Option (List ℕ)) (x y : List ℕ) → TakesAllOrPart false a x b → TakesAllOrPart false a (x ++ y) b
 took_less a b x y h = (h.0, h.1 ++ y, ap (λ t. t ++ y) h.2 ∙ append_assoc h.0 h.1 y, h.3)
 
 pub not_failed : (ended : Ended) → failed_writes ended ≡ 0 → (ended ≡ WriteFailed) → ⊥
@@ -98,14 +98,14 @@ none_failed WriteFailed n = absurd (n refl)
 none_failed NoMemory n = refl
 none_failed Torn n = refl
 
-pub port_writes : (fault : PortFault) → failed_writes (ended_by fault) ≡ 0
+pub port_writes : (fault : PortFault) → failed_writes (end_reason_of fault) ≡ 0
 port_writes faults.TooManySessions = refl
 port_writes faults.NoMemory = refl
 port_writes faults.NoRoom = refl
 port_writes faults.Torn = refl
 port_writes faults.PassedOver = refl
 
--- the text that was held back at first is a part of the whole
+-- the text that was buffered at first is a part of the whole
 output_after_held : (k l : Option (List ℕ)) (held output left : List ℕ) → IsOutput k held output l left → IsOutput k [] (held ++ output) l left
 output_after_held None l held output left h = tt
 output_after_held (Some old) l held output left h = h
@@ -123,7 +123,7 @@ all_written ended result k l m output left bye h w f =
     elim h [
       | inl lost ↦ (
           let r = f lost.0 in
-          inr (r.0, subst (λ (o : Option (List ℕ)). TookAllOrPart false k (output ++ bye) o) (sym r.1) (took_less k l output bye lost.1))
+          inr (r.0, subst (λ (o : Option (List ℕ)). TakesAllOrPart false k (output ++ bye) o) (sym r.1) (took_less k l output bye lost.1))
           )
       | inr all ↦ elim (w (none_failed ended all.0)) [
         | inl done ↦ inl (done.0, output_taken k l m [] output left bye all.1 done.1)
@@ -139,19 +139,19 @@ last_output_after ended k l m held output mid more left h g =
       | inr s ↦ inr (s.0, output-append k l m held output mid more left h s.1)
     ]
 
--- ---- what was read
+-- ---- the octets read
 
-gave-append : (a b c : Option (List ℕ)) (x y : List ℕ) → GaveOctets a x b → GaveOctets b y c → GaveOctets a (x ++ y) c
+gave-append : (a b c : Option (List ℕ)) (x y : List ℕ) → GivesOctets a x b → GivesOctets b y c → GivesOctets a (x ++ y) c
 gave-append None b c x y h k = tt
 gave-append (Some old) b c x y h k =
-    let k' : GaveOctets (Some h.0) y c = subst (λ (o : Option (List ℕ)). GaveOctets o y c) h.1 k in
+    let k' : GivesOctets (Some h.0) y c = subst (λ (o : Option (List ℕ)). GivesOctets o y c) h.1 k in
     (k'.0, k'.1, h.2 ∙ (ap (λ t. x ++ t) k'.2 ∙ sym (append_assoc x y k'.0)))
 
-pub gave-nil : (a : Option (List ℕ)) → GaveOctets a [] a
+pub gave-nil : (a : Option (List ℕ)) → GivesOctets a [] a
 gave-nil None = tt
 gave-nil (Some old) = (old, refl, refl)
 
--- ---- items that were answered
+-- ---- answered items
 
 pub prefix_trans : (front items all : List Item) → IsPrefix front items → IsPrefix items all → IsPrefix front all
 prefix_trans front items all f g = (f.0 ++ g.0, g.1 ∙ ap (λ t. t ++ g.0) f.1 ∙ append_assoc front f.0 g.0)
@@ -203,17 +203,28 @@ module _ {S : Type 0} (steps : S → PortCall → Result Reply PortFault → S �
         output_is = ap (λ t. output ++ t) b.output_is ∙ sym (append_assoc output b.before (texts b.given));
       }
 
-  lacks_answers_append : (old : S) (idling : Option (List ℕ)) (items more : List Item) (output : List ℕ) (mid : S) (between : Option (List ℕ)) (rest : List ℕ) (new : S)
+  pub lacks_answers_append : (old : S) (idling : Option (List ℕ)) (items more : List Item) (output : List ℕ) (mid : S) (between : Option (List ℕ)) (rest : List ℕ) (new : S)
       → Converses steps old idling items output mid between → LacksAnswers steps mid between more rest new → LacksAnswers steps old idling (items ++ more) (output ++ rest) new
   lacks_answers_append old idling items more output mid between rest new c u =
-      let at = sym (append_assoc output rest (texts u.lost)) in
       record {
-        lost = u.lost;
-        all =
-            elim u.all [
-              | inl g ↦ inl (subst (λ (t : List ℕ). HasAnsweredSome steps old idling (items ++ more) t new) at (answered_some_append old idling items more output mid between (rest ++ texts u.lost) new c g))
-              | inr b ↦ inr (b.0, subst (λ (t : List ℕ). EndsAtItem steps old idling (items ++ more) b.0 t new) at (ends_at_item_append old idling items more b.0 output mid between (rest ++ texts u.lost) new c b.1))
-            ];
+        front = items ++ u.front;
+        batch = u.batch;
+        back = u.back;
+        before = output ++ u.before;
+        mid = u.mid;
+        command = u.command;
+        later = u.later;
+        reply = u.reply;
+        replies = u.replies;
+        fault = u.fault;
+        written = u.written;
+        items_are = ap (λ t. items ++ t) u.items_are ∙ sym (append_assoc items u.front (u.batch ++ u.back));
+        answered = converses-append old idling items u.front output mid between u.before u.mid None c u.answered;
+        asked = u.asked;
+        brief = u.brief;
+        carried_out = u.carried_out;
+        first_answers = u.first_answers;
+        output_is = ap (λ t. output ++ t) u.output_is ∙ sym (append_assoc output u.before (texts u.written));
       }
 
   pub ends_over_items_append : (old : S) (idling : Option (List ℕ)) (items more : List Item) (ended : Ended) (output : List ℕ) (mid : S) (between : Option (List ℕ)) (rest : List ℕ) (new : S)
@@ -246,6 +257,29 @@ module _ {S : Type 0} (steps : S → PortCall → Result Reply PortFault → S �
         output_is = b.output_is;
       }
 
+  lacks_answers_first : (old : S) (idling : Option (List ℕ)) (items all : List Item) (output : List ℕ) (new : S) → IsPrefix items all → LacksAnswers steps old idling items output new → LacksAnswers steps old idling all output new
+  lacks_answers_first old idling items all output new f u =
+      record {
+        front = u.front;
+        batch = u.batch;
+        back = u.back ++ f.0;
+        before = u.before;
+        mid = u.mid;
+        command = u.command;
+        later = u.later;
+        reply = u.reply;
+        replies = u.replies;
+        fault = u.fault;
+        written = u.written;
+        items_are = f.1 ∙ ap (λ t. t ++ f.0) u.items_are ∙ append_assoc u.front (u.batch ++ u.back) f.0 ∙ ap (λ t. u.front ++ t) (append_assoc u.batch u.back f.0);
+        answered = u.answered;
+        asked = u.asked;
+        brief = u.brief;
+        carried_out = u.carried_out;
+        first_answers = u.first_answers;
+        output_is = u.output_is;
+      }
+
   -- items after the one at which the conversation ended don't matter
   pub leaves_first : (old : S) (idling : Option (List ℕ)) (items all : List Item) (ended : Ended) (output : List ℕ) (new : S) → IsPrefix items all → EndsOverItems steps old idling items ended output new → EndsOverItems steps old idling all ended output new
   leaves_first old idling items all ended output new f h =
@@ -253,13 +287,7 @@ module _ {S : Type 0} (steps : S → PortCall → Result Reply PortFault → S �
         | inl w ↦ inl (w.0, answered_some_first old idling items all output new f w.1)
         | inr other ↦ elim other [
           | inl b ↦ inr (inl (breaks_first old idling items all ended output new f b))
-          | inr u ↦ inr (inr (
-            u.0,
-            record {
-              lost = u.1.lost;
-              all = elim u.1.all [ inl g ↦ inl (answered_some_first old idling items all (output ++ texts u.1.lost) new f g) | inr b ↦ inr (b.0, breaks_first old idling items all b.0 (output ++ texts u.1.lost) new f b.1) ];
-            },
-          ))
+          | inr u ↦ inr (inr (u.0, lacks_answers_first old idling items all output new f u.1))
         ]
       ]
 
@@ -314,13 +342,13 @@ module _ {S : Type 0} (steps : S → PortCall → Result Reply PortFault → S �
       → FaultsNow why items state now cut → EndsOverItems steps old idling items ended output new → EndsOverCut steps old idling cut ended output new
   halts_before why old idling items state now cut ended output new f l = inr (leaves_first old idling items cut.0 ended output new (items_before_fault why items state now cut f) l)
 
-  -- ---- all that was read
+  -- ---- all octets read
 
-  -- What was read so far, and the state of the conversation over it.
+  -- The octets read so far, and the state of the conversation over them.
   pub record Underway (limits : Limits) (old : S) (left : Option (List ℕ)) (taken : Option (List ℕ)) (held : List ℕ) (new : S) (idling : Option (List ℕ)) (rest : Option (List ℕ)) (now : Option (List ℕ)) (text : List ℕ) (state : Result FrameProgress FrameFaultKind) : Type 0 where
     pub octets : List ℕ
     pub output : List ℕ
-    pub gave : GaveOctets left octets rest
+    pub gave : GivesOctets left octets rest
     pub state_is : state ≡ (cut_from limits (Ok start) octets).1
     pub framer_ok : IsOk state
     pub answered : Converses steps old None (cut_from limits (Ok start) octets).0 output new idling
@@ -329,7 +357,7 @@ module _ {S : Type 0} (steps : S → PortCall → Result Reply PortFault → S �
   -- The contract of the loop when it ends.
   abbrev pub HasEnded : Limits → S → Option (List ℕ) → Option (List ℕ) → List ℕ → Ended → Bool → S → Option (List ℕ) → Option (List ℕ) → List ℕ → Type 0
   HasEnded limits old left taken held ended at_end new rest now text =
-      (octets : List ℕ) × (output : List ℕ) × GaveOctets left octets rest × EndsOverOctets steps old (cut_from limits (Ok start) octets) ended at_end output new × IsLastOutput ended taken held output now text
+      (octets : List ℕ) × (output : List ℕ) × GivesOctets left octets rest × EndsOverOctets steps old (cut_from limits (Ok start) octets) ended at_end output new × IsLastOutput ended taken held output now text
 
   module _ {limits : Limits} {old : S} {left taken : Option (List ℕ)} {held : List ℕ} where
     pub underway_first : (idling : Option (List ℕ)) (state : Result FrameProgress FrameFaultKind) → state ≡ Ok start → idling ≡ None → Underway limits old left taken held old idling left taken held state
@@ -351,7 +379,7 @@ module _ {S : Type 0} (steps : S → PortCall → Result Reply PortFault → S �
 
     -- further octets, and the conversation continues
     pub underway_on : (mid new : S) (idling after rest further now then : Option (List ℕ)) (text more_text piece output : List ℕ) (state next : Result FrameProgress FrameFaultKind)
-        → Underway limits old left taken held mid idling rest now text state → GaveOctets rest piece further
+        → Underway limits old left taken held mid idling rest now text state → GivesOctets rest piece further
         → Converses steps mid idling (cut_from limits state piece).0 output new after → IsOutput now text output then more_text → (next ≡ (cut_from limits state piece).1) × IsOk next
         → Underway limits old left taken held new after further then more_text next
     underway_on mid new idling after rest further now then text more_text piece output state next u g c s n =
@@ -371,7 +399,7 @@ module _ {S : Type 0} (steps : S → PortCall → Result Reply PortFault → S �
 
     -- further octets, and the conversation ends
     pub underway_ends : (mid new : S) (idling rest further now then : Option (List ℕ)) (text more_text piece output : List ℕ) (state : Result FrameProgress FrameFaultKind) (ended : Ended) (at_end : Bool)
-        → Underway limits old left taken held mid idling rest now text state → GaveOctets rest piece further
+        → Underway limits old left taken held mid idling rest now text state → GivesOctets rest piece further
         → EndsOverCut steps mid idling (cut_from limits state piece) ended output new → IsLastOutput ended now text output then more_text
         → HasEnded limits old left taken held ended at_end new further then more_text
     underway_ends mid new idling rest further now then text more_text piece output state ended at_end u g h s =
@@ -390,26 +418,26 @@ module _ {S : Type 0} (steps : S → PortCall → Result Reply PortFault → S �
     still_cut new idling rest now text state u = subst (λ (r : Result FrameProgress FrameFaultKind). IsOk r) u.state_is u.framer_ok
 
     pub underway_closed : (new : S) (idling rest further now : Option (List ℕ)) (text piece : List ℕ) (state : Result FrameProgress FrameFaultKind) (at_end : Bool) → Underway limits old left taken held new idling rest now text state
-        → piece ≡ [] → GaveOctets rest piece further → at_end ≡ true → HasEnded limits old left taken held PeerClosed at_end new further now text
+        → piece ≡ [] → GivesOctets rest piece further → at_end ≡ true → HasEnded limits old left taken held PeerClosed at_end new further now text
     underway_closed new idling rest further now text piece state at_end u e g t =
-        let gave : GaveOctets left u.octets further = subst (λ (os : List ℕ). GaveOctets left os further) (append-nil u.octets) (gave-append left rest further u.octets [] u.gave (subst (λ (os : List ℕ). GaveOctets rest os further) e g)) in
+        let gave : GivesOctets left u.octets further = subst (λ (os : List ℕ). GivesOctets left os further) (append-nil u.octets) (gave-append left rest further u.octets [] u.gave (subst (λ (os : List ℕ). GivesOctets rest os further) e g)) in
         (u.octets, u.output, gave, inl (refl, t, still_cut new idling rest now text state u, answered_now new idling rest now text state u), inr ((λ x. cc), u.output_is))
 
     pub underway_read_failed : (new : S) (idling rest further now : Option (List ℕ)) (text : List ℕ) (state : Result FrameProgress FrameFaultKind) (at_end : Bool) → Underway limits old left taken held new idling rest now text state
         → further ≡ rest → HasEnded limits old left taken held ReadFailed at_end new further now text
     underway_read_failed new idling rest further now text state at_end u e =
-        (u.octets, u.output, subst (λ (r : Option (List ℕ)). GaveOctets left u.octets r) (sym e) u.gave, inr (inl (refl, still_cut new idling rest now text state u, answered_now new idling rest now text state u)), inr ((λ x. cc), u.output_is))
+        (u.octets, u.output, subst (λ (r : Option (List ℕ)). GivesOctets left u.octets r) (sym e) u.gave, inr (inl (refl, still_cut new idling rest now text state u, answered_now new idling rest now text state u)), inr ((λ x. cc), u.output_is))
 
     pub underway_write_failed : (new : S) (idling rest now then : Option (List ℕ)) (text left_text : List ℕ) (state : Result FrameProgress FrameFaultKind) (at_end : Bool) → Underway limits old left taken held new idling rest now text state
-        → TookAllOrPart false now text then → HasEnded limits old left taken held WriteFailed at_end new rest then left_text
+        → TakesAllOrPart false now text then → HasEnded limits old left taken held WriteFailed at_end new rest then left_text
     underway_write_failed new idling rest now then text left_text state at_end u t =
         let items = (cut_from limits (Ok start) u.octets).0 in
-        let lost : TookAllOrPart false taken (held ++ (u.output ++ [])) then = output_part taken now then held u.output text [] u.output_is (subst (λ (x : List ℕ). TookAllOrPart false now x then) (sym (append-nil text)) t) in (
+        let lost : TakesAllOrPart false taken (held ++ (u.output ++ [])) then = output_part taken now then held u.output text [] u.output_is (subst (λ (x : List ℕ). TakesAllOrPart false now x then) (sym (append-nil text)) t) in (
           u.octets,
           u.output,
           u.gave,
           inr (inr (inr (inl (refl, record { front = items; first = ([], sym (append-nil items)); answered_front = answered_now new idling rest now text state u })))),
-          inl (refl, subst (λ (x : List ℕ). TookAllOrPart false taken (held ++ x) then) (append-nil u.output) lost),
+          inl (refl, subst (λ (x : List ℕ). TakesAllOrPart false taken (held ++ x) then) (append-nil u.output) lost),
         )
 
 -- ---- one request
@@ -427,7 +455,7 @@ module _ {S : Type 0} (steps : S → PortCall → Result Reply PortFault → S �
   printed_err (Err e) p answer o = ([], inl (o.0, refl, refl), o.1 ∙ sym (append-nil before))
 
   -- the port gives no reply
-  pub refused : (old new : S) (request : Request) (call : PortCall) (fault : PortFault) (ended : Ended) → call_of request ≡ Some call → steps old call (Err fault) new → ended ≡ ended_by fault → after ≡ before
+  pub refused : (old new : S) (request : Request) (call : PortCall) (fault : PortFault) (ended : Ended) → call_of request ≡ Some call → steps old call (Err fault) new → ended ≡ end_reason_of fault → after ≡ before
       → (given : List Answer) × Fails steps old idling request ended given new × (after ≡ before ++ texts given)
   refused old new request call fault ended c s e t = ([], inr (inr (inr (inr (call, fault, c, s, e, refl)))), t ∙ sym (append-nil before))
 

@@ -100,7 +100,7 @@ listed_from ops low (e ∷ es) o a h =
       | inr t ↦ let is_above : e.0 + 1 ≤ o.id.replica = listed_from ops (e.0 + 1) es o a.2 t in omega arith
     ]
 
--- of one replica's operations in a causal list, the later one has the greater number
+-- in a causal list, the later of two operations of one replica has the greater number
 later_is_greater : (earlier os : List Op) (o p : Op) → IsCausalAfter id_of clock_of earlier (o ∷ os) → HasOwnEntry o → HasOwnEntry p → IsIn p os → o.id.replica ≡ p.id.replica → o.id.number < p.id.number
 later_is_greater earlier os o p c own owned h same =
     elim (cases_lt o.id.number p.id.number) [
@@ -162,8 +162,8 @@ listed_whole ops clock causal sound is_clock counts = (
   ),
 )
 
--- the text written is a dump of the replica, if the operations and the entries are those applied
--- and their clock's
+-- the text written is a dump of the replica, if the operations are those applied and the entries
+-- are those of their clock
 pub lists_applied : (replica : ℕ) (applied ops : List Op) (clock entries : List (ℕ × ℕ)) (text : List ℕ) → IsCausal id_of clock_of applied → AreSound IsSound applied → IsClock clock → IsClockOf id_of applied clock → ops ≡ applied → entries ≡ clock → text ≡ codes "dump " ++ decimal replica ++ 10 ∷ [] ++ flat_map (op_lines_by ops) entries ++ state_text applied ++ codes "end" ++ 10 ∷ [] → IsDump replica applied text
 lists_applied replica applied ops clock entries text causal sound is_clock counts same shown written =
     let listed = listed_whole applied clock causal sound is_clock counts in
@@ -175,7 +175,7 @@ lists_applied replica applied ops clock entries text causal sound is_clock count
       written ∙ ap (λ (ls : List ℕ). codes "dump " ++ decimal replica ++ 10 ∷ [] ++ ls ++ state_text applied ++ codes "end" ++ 10 ∷ []) lines,
     )
 
--- of two ids, at most one is less than the other
+-- at most one of two ids is less than the other
 less_both : (i j : OpId) → IsLess i j → IsLess j i → ⊥
 less_both i j h k =
     elim h [

@@ -19,7 +19,7 @@ use Rattle.imap_connection.proofs.PlaceLemmas.{closed_stops}
 use Rattle.imap_connection.proofs.StreamLemmas.{converses_on, items_more, state_more, talks_joined, untimed_whole}
 use Rattle.imap_connection.proofs.TurnLemmas.{prefix_append}
 
--- a conversation that continues, and one that is broken off after it
+-- a conversation that continues, and after it one that is broken off
 breaks_on : (why : TalkFaultKind) (old mid new : NodeState) (session : ℕ) (items more : List TimedItem) (turns rest : List Turn) → IsActive mid session → Converses old session items turns mid → BreaksOff why mid session more rest new
     → BreaksOff why old session (items ++ more) (turns ++ rest) new
 breaks_on why old mid new session [] more turns rest active c d =
@@ -39,7 +39,8 @@ no_both : (state : Result FrameProgress FrameFaultKind) → IsOk state → IsErr
 no_both (Ok p) ok err = cc
 no_both (Err why) ok err = cc
 
--- a framer that had failed before the last piece had failed before all pieces, and there were none
+-- if the framer had failed before the last piece, it had failed before all pieces, and there are no
+-- turns
 failed_at_first : (old mid new : NodeState) (session : ℕ) (limits : Limits) (state between : Result FrameProgress FrameFaultKind) (pieces : List Piece) (turns more : List Turn)
     → AreTalks old session limits state pieces turns mid between → IsErr between → more ≡ [] → new ≡ with_session_closed mid session
     → IsErr state × (turns ++ more ≡ []) × (new ≡ with_session_closed old session)
@@ -64,7 +65,7 @@ named_fault NulByte bye old session state cut turns new b e = e
 named_fault NoMemory bye old session state cut turns new b e = let k : ◌≡◌ {A = Option Answer} None (Some bye) = b in cc
 named_fault Failed bye old session state cut turns new b e = let k : ◌≡◌ {A = Option Answer} None (Some bye) = b in cc
 
--- the turns before the BYE, with those of earlier pieces
+-- the turns before the BYE, after those of the earlier pieces
 turns_append : (turns more before : List Turn) (why : FrameFaultKind) → more ≡ before ++ bye_turns why → turns ++ more ≡ (turns ++ before) ++ bye_turns why
 turns_append turns more before why e = ap (λ ts. turns ++ ts) e ∙ sym (append_assoc turns before (bye_turns why))
 
@@ -86,7 +87,7 @@ module _ (old mid new : NodeState) (session : ℕ) (limits : Limits) (state betw
         e.6,
       )
 
-  -- an initial part of the last piece's items, after those of the pieces before
+  -- an initial part of the last piece's items, after those of the earlier pieces
   cut_prefix : (items : List TimedItem) → between ≡ (cut_from limits state (octets_in pieces)).1 → IsPrefixOf items (cut_by limits between piece).0 → IsPrefixOf (items_of limits state pieces ++ items) whole.0
   cut_prefix items e p =
       subst (λ (all : List TimedItem). IsPrefixOf (items_of limits state pieces ++ items) all) (sym (items_more limits piece state between pieces e)) (prefix_append _ items _ p)

@@ -28,7 +28,7 @@ reason_is frame faults.BadSyntax t r = (unspelled frame faults.BadSyntax r (λ e
 reason_is frame faults.NotInProfile t r = (unspelled frame faults.NotInProfile r (λ e. cc), known frame faults.NotInProfile r (λ e. cc))
 reason_is frame faults.NoMemory t r = known frame faults.NoMemory r (λ e. cc)
 
--- the answer given by the tag is the answer to the frame
+-- the answer to the fault, with or without a tag, is the answer to the frame
 pub answers_fault : (frame : List ℕ) (why : ParseFault) (answer : Answer) → Refuses frame why → AnswersFault why frame answer → IsFaultAnswer frame answer
 answers_fault frame why answer r a =
     elim a [

@@ -7,6 +7,7 @@ mod EndLemmas
 pub mod FaultLemmas
 pub mod OtherStepsLemmas
 pub mod NodeEndLemmas
+mod NodePortLemmas
 pub mod NodeTalkLemmas
 mod PlaceLemmas
 mod PrintableLemmas

@@ -19,8 +19,8 @@ use Rattle.imap_connection.specs.Conversation.{turns_of}
 use Rattle.imap_connection.specs.Replies.{tag_of_idling}
 use Rattle.imap_connection.specs.Streams.{ConversesBetweenOthers, SomeOtherSteps}
 use Rattle.imap_connection.specs.declared.turn.Turn.{Turn}
-use Rattle.imap_connection.specs.Devices.{GaveOctets, TookOctets}
-use Rattle.imap_connection.specs.EndReasons.{bye_text_of, ended_by}
+use Rattle.imap_connection.specs.Devices.{GivesOctets, TakesOctets}
+use Rattle.imap_connection.specs.EndReasons.{bye_text_of, end_reason_of}
 use Rattle.imap_connection.specs.NodePorts.{HasNoSession, NodeCloses, NodeOpens, NodeSession, NodeSteps, login_by}
 use Rattle.imap_connection.specs.NodeTalks.{ItemAt, ClosesAfter, IsWhole, IsOpenSession, TalksAtNode, items_at_each_one, items_of, text_sent}
 use Rattle.imap_connection.specs.Requests.{Takes, texts}
@@ -38,7 +38,7 @@ abbrev IsLogout : Ended → Type 0
 IsLogout Logout = Unit {0}
 IsLogout _ = ⊥
 
-fault_not_whole : (fault : PortFault) → IsWhole (ended_by fault) → ⊥
+fault_not_whole : (fault : PortFault) → IsWhole (end_reason_of fault) → ⊥
 fault_not_whole faults.TooManySessions w = w
 fault_not_whole faults.NoMemory w = w
 fault_not_whole faults.NoRoom w = w
@@ -51,7 +51,7 @@ differs_if_whole ended other never w e = never (subst IsWhole e w)
 logout_differs : (other : Ended) → (IsLogout other → ⊥) → Logout ≡ other → ⊥
 logout_differs other never e = never (subst IsLogout e tt)
 
-fault_not_logout : (fault : PortFault) → IsLogout (ended_by fault) → ⊥
+fault_not_logout : (fault : PortFault) → IsLogout (end_reason_of fault) → ⊥
 fault_not_logout faults.TooManySessions o = o
 fault_not_logout faults.NoMemory o = o
 fault_not_logout faults.NoRoom o = o
@@ -68,7 +68,8 @@ module _ {O : Type 0} (takes_turn : O → ℕ → NodeState → ℕ → NodeStat
   answered_if_framing Memory w c = absurd w
   answered_if_framing Failed w c = absurd w
 
-  -- at an item it ends because memory ran out, at a fault of the port, or at a LOGOUT
+  -- a conversation that ends at an item ends because memory ran out, at a fault of the port, or at
+  -- a LOGOUT
   no_end_at_item : (ended : Ended) → IsWhole ended → ((ended ≡ Logout) → ⊥) → EndsAtItem (NodeSteps takes_turn) old None cut.0 ended output last → ⊥
   no_end_at_item ended w on b = elim b.stops [
     | inl unasked ↦ differs_if_whole ended NoMemory (λ x. x) w unasked.0
@@ -78,7 +79,7 @@ module _ {O : Type 0} (takes_turn : O → ℕ → NodeState → ℕ → NodeStat
         | inl lacks_answers ↦ differs_if_whole ended NoMemory (λ x. x) w lacks_answers.0
         | inr refused ↦ elim refused [
           | inl line ↦ differs_if_whole ended NoMemory (λ x. x) w line.5
-          | inr fault ↦ differs_if_whole ended (ended_by fault.1) (fault_not_whole fault.1) w fault.4
+          | inr fault ↦ differs_if_whole ended (end_reason_of fault.1) (fault_not_whole fault.1) w fault.4
         ]
       ]
     ]
@@ -96,7 +97,7 @@ module _ {O : Type 0} (takes_turn : O → ℕ → NodeState → ℕ → NodeStat
     ]
   ]
 
-  -- ---- at a LOGOUT
+  -- ---- a conversation that ends at a LOGOUT
 
   pub logout_at_item : (at_end : Bool) → EndsOverOctets (NodeSteps takes_turn) old cut Logout at_end output last → EndsAtItem (NodeSteps takes_turn) old None cut.0 Logout output last
   logout_at_item at_end h = elim h [
@@ -119,7 +120,7 @@ module _ {O : Type 0} (takes_turn : O → ℕ → NodeState → ℕ → NodeStat
         | inl lacks_answers ↦ absurd (logout_differs NoMemory (λ x. x) lacks_answers.0)
         | inr refused ↦ elim refused [
           | inl line ↦ absurd (logout_differs NoMemory (λ x. x) line.5)
-          | inr fault ↦ absurd (logout_differs (ended_by fault.1) (fault_not_logout fault.1) fault.4)
+          | inr fault ↦ absurd (logout_differs (end_reason_of fault.1) (fault_not_logout fault.1) fault.4)
         ]
       ]
     ]
@@ -172,7 +173,7 @@ module _ {O : Type 0} (takes_turn : O → ℕ → NodeState → ℕ → NodeStat
         ),
       )
 
--- ---- the close
+-- ---- the close of the session
 
 module _ {O : Type 0} (takes_turn : O → ℕ → NodeState → ℕ → NodeState → O → Type 0) where
   open_number : (port : NodeSession O) (n : ℕ) (s : Session) → port.session ≡ Some n → session_at port.node.sessions n ≡ Some s → HasNoSession port → ⊥
@@ -190,7 +191,7 @@ module _ {O : Type 0} (takes_turn : O → ℕ → NodeState → ℕ → NodeStat
         )
   ]
 
--- ---- the whole
+-- ---- the whole conversation
 
 new_session_active : (auth : Auth) → (new_session auth).state ≡ LoggedOut → ⊥
 new_session_active Preauth e = let k : ◌≡◌ {A = State} Authenticated LoggedOut = e in cc
@@ -260,11 +261,11 @@ module _ {O : Type 0} (takes_turn : O → ℕ → NodeState → ℕ → NodeStat
           output_is = ap (λ x. x ++ bye_text_of ended) (greeted ∙ ap (λ l. text_of_answer (Greeting l) ++ more) o.2 ∙ ap (λ x. text_of_answer (Greeting (login_by o.0)) ++ x) (sym k.4));
         }
 
-  gave_rest : (octets : List ℕ) → GaveOctets (Some left) octets (Some rest) → left ≡ octets ++ rest
+  gave_rest : (octets : List ℕ) → GivesOctets (Some left) octets (Some rest) → left ≡ octets ++ rest
   gave_rest octets g = g.2 ∙ ap (λ x. octets ++ x) (sym (some_is g.1))
 
-  module _ (login : Login) (first last : NodeSession O) (octets : List ℕ) (output : List ℕ) (o : NodeOpens old (Ok login) first) (c : NodeCloses takes_turn last new) (g : GaveOctets (Some left) octets (Some rest)) where
-    held : HoldsConversation (NodeSteps takes_turn) first login limits octets ended at_end output last → TookOctets (Some taken_before) (output ++ bye_text_of ended) (Some taken_now) → Outcome
+  module _ (login : Login) (first last : NodeSession O) (octets : List ℕ) (output : List ℕ) (o : NodeOpens old (Ok login) first) (c : NodeCloses takes_turn last new) (g : GivesOctets (Some left) octets (Some rest)) where
+    held : HoldsConversation (NodeSteps takes_turn) first login limits octets ended at_end output last → TakesOctets (Some taken_before) (output ++ bye_text_of ended) (Some taken_now) → Outcome
     held h t = elim h [
       | inl talk ↦ (o.0, octets, output ++ bye_text_of ended, o.7, gave_rest octets g, some_is t, at_node login first last octets output talk.0 o c talk.2 talk.1)
       | inr lacks_answers ↦ absurd (differs_if_whole ended NoMemory (λ x. x) w lacks_answers.0)
@@ -274,13 +275,13 @@ module _ {O : Type 0} (takes_turn : O → ℕ → NodeState → ℕ → NodeStat
     outcome_of_holds other h t = elim t [
       | inl all ↦
           let h' = subst (λ (x : Ended). HoldsConversation (NodeSteps takes_turn) first login limits octets x at_end output last) (sym all.0) h in
-          let t' = subst (λ (x : Ended). TookOctets (Some taken_before) (output ++ bye_text_of x) (Some taken_now)) (sym all.0) all.1 in
+          let t' = subst (λ (x : Ended). TakesOctets (Some taken_before) (output ++ bye_text_of x) (Some taken_now)) (sym all.0) all.1 in
           held h' t'
       | inr failed ↦ absurd (differs_if_whole ended WriteFailed (λ x. x) w failed.0)
     ]
 
-  not_refused : (fault : PortFault) → IsWritten (ended_by fault) (bye_text_of (ended_by fault)) ended (Some taken_before) (Some taken_now) → ⊥
-  not_refused fault t = elim t [ inl all ↦ differs_if_whole ended (ended_by fault) (fault_not_whole fault) w all.0 | inr failed ↦ differs_if_whole ended WriteFailed (λ x. x) w failed.0 ]
+  not_refused : (fault : PortFault) → IsWritten (end_reason_of fault) (bye_text_of (end_reason_of fault)) ended (Some taken_before) (Some taken_now) → ⊥
+  not_refused fault t = elim t [ inl all ↦ differs_if_whole ended (end_reason_of fault) (fault_not_whole fault) w all.0 | inr failed ↦ differs_if_whole ended WriteFailed (λ x. x) w failed.0 ]
 
   pub conversation_at_node : IsConversation NodeOpens (NodeSteps takes_turn) (NodeCloses takes_turn) old new limits (Some left) (Some rest) at_end (Some taken_before) (Some taken_now) ended → Outcome
   conversation_at_node h = elim h [ inl refused ↦ absurd (not_refused refused.0 refused.3) | inr t ↦ outcome_of_holds t.0 t.1 t.2 t.3 t.5 t.6 t.7 t.8 t.4 t.9 t.10 ]

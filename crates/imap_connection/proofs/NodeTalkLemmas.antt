@@ -39,7 +39,7 @@ use Rattle.imap_connection.specs.Requests.{Handles, Takes, idling_after_reply, i
 use Rattle.imap_connection.specs.Conversations.{Converses}
 use Rattle.imap_connection.proofs.OtherStepsLemmas.{active_after_others, idling_after_others, no_other_steps}
 
--- ---- what is sent
+-- ---- the octets sent
 
 text_sent_of_item : (item : Item) → text_sent (turns_of_item item) ≡ []
 text_sent_of_item Ready = refl
@@ -177,7 +177,7 @@ module _ (old new : NodeState) (n : ℕ) (line : IdleLine) where
 
 -- ---- one item
 
--- Whether the session has logged out after it.
+-- The session after an item: open, or logged out if the flag is true.
 abbrev pub ContinuesUnless : {O : Type 0} → Bool → NodeSession O → ℕ → Option (List ℕ) → Type 0
 ContinuesUnless {O} false port n after = IsOpenSession port n after
 ContinuesUnless {O} true port n after = (port.session ≡ Some n) × HasLoggedOut port.node n
@@ -285,7 +285,8 @@ module _ {O : Type 0} (takes_turn : O → ℕ → NodeState → ℕ → NodeStat
 
   -- ---- many items
 
-  -- The session after these items; a conversation from there on continues to one over all items.
+  -- The session after these items. A conversation over further items from this state can be
+  -- prolonged to one over all items.
   pub record HasConversed (old mid : NodeSession O) (n : ℕ) (items : List Item) (between : Option (List ℕ)) (output : List ℕ) : Type 0 where
     pub is_open : IsOpenSession mid n between
     pub on : (tail : List ItemAt) (more : List Turn) (last : NodeState) → ConversesBetweenOthers mid.node n (items_at_each_one tail) more last

@@ -5,10 +5,11 @@ use Rattle.causal_inbox.specs.declared.delivery.Delivered.{Delivered}
 use Rattle.crdt_ops.specs.declared.op.Op.{Op}
 use Rattle.imap_commands.specs.declared.session.Session.{Session}
 use Rattle.imap_node.specs.Deliveries.{Delivers, IsRefusedAt}
-use Rattle.imap_node.specs.Nodes.{HasLoggedOut, IsActive, NodeState, with_session_closed}
+use Rattle.imap_node.specs.Nodes.{Awaits, HasLoggedOut, Idles, IsActive, NodeState, with_session_closed}
 use Rattle.imap_node.specs.Responses.{Responds}
 use Rattle.imap_node.specs.Sessions.{IsOpen, session_at}
 use Rattle.imap_node.specs.declared.input.Input.{Input}
+use Rattle.imap_node.specs.declared.input.Input.TheVariants.{Command, Line, Poll}
 use Rattle.imap_node.specs.declared.reply.Reply.{Reply}
 use Rattle.imap_node.specs.declared.reply.Reply.TheVariants.{Done, Refused}
 use Rattle.imap_node.proofs.SessionLemmas.{open_is, others_stay, session_put}
@@ -51,6 +52,18 @@ session_after_others n old new h = session_after_steps n h.0 old new h.1
 pub open_after_others : (n : ℕ) (old new : NodeState) → SomeOtherSteps n old new → IsOpen old.sessions n → IsOpen new.sessions n
 open_after_others n old new h o = subst (λ (s : Option Session). IsSome s) (sym (session_after_others n old new h)) o
 
+pub idles_after_others : (n : ℕ) (old new : NodeState) → SomeOtherSteps n old new → Idles old n → Idles new n
+idles_after_others n old new h i = (i.0, session_after_others n old new h ∙ i.1, i.2)
+
+idled_before_others : (n : ℕ) (old new : NodeState) → SomeOtherSteps n old new → Idles new n → Idles old n
+idled_before_others n old new h i = (i.0, sym (session_after_others n old new h) ∙ i.1, i.2)
+
+-- the others' steps leave what the session awaits as it was
+pub awaits_after_others : (n : ℕ) (old new : NodeState) (input : Input) → SomeOtherSteps n old new → Awaits old n input → Awaits new n input
+awaits_after_others n old new (Command moment tagged) h a = (open_after_others n old new h a.0, λ i. a.1 (idled_before_others n old new h i))
+awaits_after_others n old new (Line line) h a = idles_after_others n old new h a
+awaits_after_others n old new Poll h a = idles_after_others n old new h a
+
 pub active_after_others : (n : ℕ) (old new : NodeState) → SomeOtherSteps n old new → IsActive old n → IsActive new n
 active_after_others n old new h g = (g.0, session_after_others n old new h ∙ g.1, g.2)
 
@@ -71,7 +84,7 @@ closed_stops node n out g =
     let e : ◌≡◌ {A = Option Session} None (Some g.0) = sym (session_put node.sessions n None out.0 out.1) ∙ g.1 in
     cc
 
--- an operation was delivered
+-- an operation was delivered or refused
 pub delivery_of_result : (old new : NodeState) (op : Op) (r : Result Delivered DeliverFault) → MatchResult r (λ d. Delivers old op d.arrival new) (λ e. IsRefusedAt old op e) → OnErr r (new ≡ old) → IsDeliveredOrRefused old op new
 delivery_of_result old new op (Ok d) m e = inl (d.arrival, m)
 delivery_of_result old new op (Err why) m e = inr (why, m, e)
@@ -82,7 +95,7 @@ delivery_is_step n old new op h = elim h [
   | inr refused ↦ subst (λ (node : NodeState). SomeOtherSteps n old node) (sym refused.2) (no_other_steps n old)
 ]
 
--- the last of those that are left was delivered; or there are none
+-- the last of the operations was delivered; or there are none
 pub last_delivered : (ops left : List Op) (popped : Option Op) (node mid : NodeState) (op : Op) → ops ≡ left ++ option_to_list popped → popped ≡ Some op → IsDeliveredOrRefused node op mid
     → LastIsDelivered ops node mid left
 last_delivered ops left popped node mid op e s h = inr (op, subst (λ (o : Option Op). ops ≡ left ++ option_to_list o) s e, h)

@@ -7,19 +7,19 @@ use Rattle.imap_node.specs.Sessions.{Places, session_at, with_session}
 
 -- ---- places
 
--- a place that exists holds what is put in it
+-- an existing place contains what is put in it
 get_set_place : (places : Places) (i : ℕ) (place : Option Session) (s : Session) → get_or places i None ≡ Some s → get_or (set places i place) i None ≡ place
 get_set_place [] i place s h = let e : ◌≡◌ {A = Option Session} None (Some s) = h in cc
 get_set_place (p ∷ places) zero place s h = refl
 get_set_place (p ∷ places) (suc i) place s h = get_set_place places i place s h
 
--- putting back what a place holds changes nothing
+-- putting the content of a place in it again changes nothing
 put_again : (places : Places) (i : ℕ) (s : Session) → get_or places i None ≡ Some s → set places i (Some s) ≡ places
 put_again [] i s h = refl
 put_again (p ∷ places) zero s h = ap (λ (q : Option Session). q ∷ places) (sym h)
 put_again (p ∷ places) (suc i) s h = ap (λ (qs : Places). p ∷ qs) (put_again places i s h)
 
--- the later of two changes of a place counts
+-- of two changes of a place only the later one counts
 put_twice : (places : Places) (i : ℕ) (first second : Option Session) → set (set places i first) i second ≡ set places i second
 put_twice [] i first second = refl
 put_twice (p ∷ places) zero first second = refl

@@ -28,7 +28,7 @@ responds_open old new n input reply r =
     let after = session_after_reply old new n input reply r.0 r.1 r.2 in
     open_active new n after.0 after.1
 
--- a node whose parts stay as they were
+-- a node is as it was if its parts are
 same_node : (a b : NodeState) → a.start ≡ b.start → a.applied ≡ b.applied → a.held ≡ b.held → a.sessions ≡ b.sessions → a ≡ b
 same_node a b s p h q = λ t. record { start = s t; applied = p t; held = h t; sessions = q t }
 

@@ -1,5 +1,6 @@
-use Rattle.std.proofs.Common.{◌≡◌, inl, inr, ℕ, List, [], ◌∷◌, ◌++◌, ap, refl, sym, ◌∙◌, subst, append_assoc, append-nil, Option, None, Some, Result, Ok, Err, OnOk}
+use Rattle.std.proofs.Common.{◌≡◌, inl, inr, ℕ, List, [], ◌∷◌, ◌++◌, ap, refl, sym, ◌∙◌, subst, append_assoc, append-nil, Option, None, Some, IsSome, Result, Ok, Err, OnOk}
 use Rattle.std.specs.Prelude.{IfErr}
+use Rattle.std.proofs.lemmas.Bool.{false≢true}
 use Rattle.imap_answers.specs.declared.answer.Answer.{Answer}
 use Rattle.imap_answers.specs.declared.answer.Answer.TheVariants.{Bye}
 use Rattle.imap_answers.specs.declared.fixed_words.ByeReason.TheVariants as reasons
@@ -7,10 +8,12 @@ use Rattle.imap_syntax.specs.declared.command.Tagged.{Tagged}
 use Rattle.imap_syntax.specs.declared.idle.IdleLine.{IdleLine}
 use Rattle.imap_lex.specs.declared.item.Item.{Item}
 use Rattle.imap_lex.specs.declared.item.Item.TheVariants.{Ready, Frame, Refused}
-use Rattle.imap_node.specs.Nodes.{NodeState}
+use Rattle.imap_commands.specs.declared.session.Session.{Session}
+use Rattle.imap_node.specs.Nodes.{Idles, NodeState}
+use Rattle.imap_node.specs.Sessions.{session_at}
 use Rattle.imap_connection.specs.Conversation.{IsPrefixOf, IsLine, StopsAt, TakesItemAt, TakesItem, turns_of_item, turns_of_answers, item_at, turns_of}
-use Rattle.imap_connection.specs.RequestSteps.{Fails, Handles, IsOfLine, IsRequest}
-use Rattle.imap_connection.specs.Replies.{answers_of, idling_at}
+use Rattle.imap_connection.specs.RequestSteps.{AwaitsRequest, Fails, Handles, IsOfLine, IsRequest}
+use Rattle.imap_connection.specs.Replies.{answers_of, idling_at, tag_of_idling}
 use Rattle.imap_connection.specs.Talks.{EndsAtRefusedLine}
 use Rattle.imap_connection.specs.declared.request.Request.{Request}
 use Rattle.imap_connection.specs.declared.request.Request.TheVariants.{Immediate, Command, Line}
@@ -19,7 +22,7 @@ use Rattle.imap_connection.specs.declared.turn.TalkFaultKind.TheVariants as kind
 use Rattle.imap_connection.specs.declared.turn.Turn.{Turn}
 use Rattle.imap_connection.proofs.TurnLemmas.{prefix_append}
 
--- a request of an item that is carried out is what the node does with the item
+-- if the node carries out the request of an item, it takes the item
 pub handled : (idling : Option (List ℕ)) (old new : NodeState) (session moment : ℕ) (item : Item) (request : Request) (given : List Answer)
     → IsRequest idling item request → Handles old session moment request given new → TakesItem idling old session moment item given new
 handled idling old new session moment Ready (Immediate answer) given i h = (h.0 ∙ ap (λ (a : Answer). a ∷ []) i, h.1)
@@ -38,14 +41,14 @@ handled (Some tag) old new session moment (Refused octets) (Immediate answer) gi
 handled (Some tag) old new session moment (Refused octets) (Command tagged) given i h = absurd i
 handled (Some tag) old new session moment (Refused octets) (Line own line) given i h = (line, h.0, i.1, h.1, h.2, h.3 ∙ ap (λ t. answers_of t h.0) i.0)
 
--- a command is one of a session that doesn't idle
+-- the request of an item is a command only if the session doesn't idle
 pub of_command : (idling : Option (List ℕ)) (item : Item) (tagged : Tagged) → IsRequest idling item (Command tagged) → idling ≡ None
 of_command None item tagged i = refl
 of_command (Some tag) Ready tagged i = absurd i
 of_command (Some tag) (Frame octets) tagged i = absurd i
 of_command (Some tag) (Refused octets) tagged i = absurd i
 
--- a line is one of a session that idles
+-- the request of an item is a line only if the session idles
 pub of_line : (idling : Option (List ℕ)) (item : Item) (request : Request) → IsRequest idling item request → IsOfLine request
     → (tag : List ℕ) × (line : IdleLine) × (idling ≡ Some tag) × IsLine item line
 of_line idling item (Immediate answer) i l = absurd l
@@ -56,6 +59,26 @@ of_line None (Refused octets) (Line own line) i l = absurd i
 of_line (Some tag) Ready (Line own line) i l = absurd i
 of_line (Some tag) (Frame octets) (Line own line) i l = (tag, line, refl, i.1)
 of_line (Some tag) (Refused octets) (Line own line) i l = (tag, line, refl, i.1)
+
+-- a session idles exactly if it is in an IDLE with some tag
+tag_idles : (node : NodeState) (n : ℕ) (tag : List ℕ) (place : Option Session) → place ≡ session_at node.sessions n → tag_of_idling place ≡ Some tag → Idles node n
+tag_idles node n tag None at t = let e : ◌≡◌ {A = Option (List ℕ)} None (Some tag) = t in absurd cc
+tag_idles node n tag (Some session) at t = (session, sym at, subst (λ (o : Option (List ℕ)). IsSome o) (sym t) refl)
+
+pub idles_with_tag : (node : NodeState) (n : ℕ) (tag : List ℕ) → idling_at node n ≡ Some tag → Idles node n
+idles_with_tag node n tag t = tag_idles node n tag (session_at node.sessions n) refl t
+
+pub awake_without_tag : (node : NodeState) (n : ℕ) → idling_at node n ≡ None → Idles node n → ⊥
+awake_without_tag node n none i =
+    let some : IsSome (idling_at node n) = subst (λ (o : Option Session). IsSome (tag_of_idling o)) (sym i.1) i.2 in
+    let never : IsSome {T = List ℕ} None = subst (λ (o : Option (List ℕ)). IsSome o) none some in
+    absurd (false≢true never)
+
+-- the request of an item is one that the session awaits
+pub request_awaited : (node : NodeState) (n : ℕ) (item : Item) (request : Request) → IsRequest (idling_at node n) item request → AwaitsRequest node n request
+request_awaited node n item (Immediate answer) i = tt
+request_awaited node n item (Command tagged) i = awake_without_tag node n (of_command (idling_at node n) item tagged i)
+request_awaited node n item (Line own line) i = let l = of_line (idling_at node n) item (Line own line) i tt in idles_with_tag node n l.0 l.2
 
 module _ (session moment : ℕ) (item : Item) (before mid after : List Turn) (shown : mid ≡ before ++ turns_of_item item) (old new : NodeState) (request : Request) (is : IsRequest (idling_at old session) item request) where
   took : (given : List Answer) → Handles old session moment request given new → TakesItemAt old session (item_at moment item) given new

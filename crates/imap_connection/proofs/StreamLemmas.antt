@@ -35,7 +35,7 @@ items_joined limits state xs ys = ap (λ (c : Cut). c.0) (cut_of-append limits s
 pub state_joined : (limits : Limits) (state : Result FrameProgress FrameFaultKind) (xs ys : List ℕ) → (cut_from limits state (xs ++ ys)).1 ≡ (cut_from limits (cut_from limits state xs).1 ys).1
 state_joined limits state xs ys = ap (λ (c : Cut). c.1) (cut_of-append limits state xs ys)
 
--- timed items, without their moment
+-- timed items, without their moments
 pub untimed_at : (moment : ℕ) (items : List Item) (more : List TimedItem) → items_without_moments (items_at moment items ++ more) ≡ items ++ items_without_moments more
 untimed_at moment [] more = refl
 untimed_at moment (item ∷ items) more = ap (λ is. item ∷ is) (untimed_at moment items more)
@@ -54,7 +54,7 @@ octets_more pieces piece =
     flat_map-append (λ (p : Piece). p.octets) pieces (piece ∷ []) ∙ ap (λ os. octets_in pieces ++ os) (append-nil piece.octets)
 
 module _ (limits : Limits) (piece : Piece) where
-  -- what one further piece gives, after the items of the pieces before it
+  -- the items that one further piece completes, after those of the earlier pieces
   pub items_more : (state between : Result FrameProgress FrameFaultKind) (pieces : List Piece) → between ≡ (cut_from limits state (octets_in pieces)).1
       → items_of limits state (pieces ++ piece ∷ []) ≡ items_of limits state pieces ++ (cut_by limits between piece).0
   items_more state between [] e = append-nil _ ∙ ap (λ s. (cut_by limits s piece).0) (sym e)
@@ -89,7 +89,7 @@ talks_joined old new session limits state end (piece ∷ pieces) turns t =
       later.1 ∙ ap (λ s. (cut_from limits s (octets_in pieces)).1) here ∙ sym (state_joined limits state piece.octets (octets_in pieces)),
     )
 
--- with a last piece after them, which may end the session
+-- with a last piece, which may end the session, after the others
 pub last_talk_joined : (old mid new : NodeState) (session : ℕ) (limits : Limits) (state between end : Result FrameProgress FrameFaultKind) (pieces : List Piece) (piece : Piece) (turns more : List Turn)
     → IsActive mid session → AreTalks old session limits state pieces turns mid between → Talks mid session (cut_by limits between piece) more new end
     → Converses old session (items_of limits state (pieces ++ piece ∷ [])) (turns ++ more) new

@@ -12,7 +12,7 @@ use Rattle.imap_connection.specs.declared.turn.TalkFaultKind.TheVariants as kind
 use Rattle.imap_connection.specs.declared.turn.Turn.{Turn}
 use Rattle.imap_connection.proofs.PlaceLemmas.{closed_stops}
 
--- an initial part of items is one at any moment
+-- an initial part of items stays one if all items get the same moment
 pub timed_prefix : (moment : ℕ) (items all : List Item) → IsPrefix items all → IsPrefixOf (items_at moment items) (items_at moment all)
 timed_prefix moment items all p = (items_at moment p.0, ap (items_at moment) p.1 ∙ map-append (item_at moment) items p.0)
 
@@ -24,7 +24,7 @@ items_before_fault NulByte items old new cut f = ([], ap (λ (c : Cut). c.0) f.2
 items_before_fault NoMemory items old new cut f = f.2
 items_before_fault Failed items old new cut f = (cut.0, ap (λ front. front ++ cut.0) (sym f.1))
 
--- items after a LOGOUT don't count
+-- items after a LOGOUT change nothing
 pub stopped_early : (old : NodeState) (session : ℕ) (items more : List TimedItem) (turns : List Turn) (new : NodeState) → IsActive old session → (IsActive new session → ⊥) → Converses old session items turns new → Converses old session (items ++ more) turns new
 stopped_early old session [] more turns new active stopped c = absurd (stopped (subst (λ (n : NodeState). IsActive n session) (sym c.1) active))
 stopped_early old session (item ∷ items) more turns new active stopped c = (
@@ -37,7 +37,7 @@ stopped_early old session (item ∷ items) more turns new active stopped c = (
   ],
 )
 
--- a conversation that continued up to here, broken off
+-- a conversation that continued so far is broken off after its items
 pub broken_at_end : (old : NodeState) (session : ℕ) (items : List TimedItem) (turns : List Turn) (mid : NodeState) → IsActive mid session → Converses old session items turns mid → BreaksOff kinds.NoMemory old session items turns (with_session_closed mid session)
 broken_at_end old session [] turns mid active c = (refl, c.0, ap (λ n. with_session_closed n session) c.1)
 broken_at_end old session (item ∷ items) turns mid active c =
@@ -50,7 +50,7 @@ module _ (old mid : NodeState) (session moment : ℕ) (items : List Item) (state
   abbrev HasTurns : List Turn → Type 0
   HasTurns before = Converses old session (items_at moment items) before mid
 
-  -- the conversation over all that was cut
+  -- the conversation over all items that were cut
   over_cut : (before : List Turn) → cut.0 ≡ items → HasTurns before → Converses old session (items_at moment cut.0) before mid
   over_cut before e c = subst (λ (xs : List Item). Converses old session (items_at moment xs) before mid) (sym e) c
 
@@ -84,7 +84,7 @@ no_framing fault old session (timed ∷ items) turns new b =
       | inr on ↦ no_framing fault on.1 session items on.4.0 new on.4.2
     ]
 
--- a conversation that is broken off ends so
+-- a conversation that is broken off meets the definition of an end
 pub ends_broken_off : (kind : TalkFaultKind) (old : NodeState) (session : ℕ) (state : Result FrameProgress FrameFaultKind) (cut : TimedCut) (items : List TimedItem) (turns : List Turn) (new : NodeState)
     → IsPrefixOf items cut.0 → BreaksOff kind old session items turns new → EndsTalk kind old session state cut turns new
 ends_broken_off kinds.NoMemory old session state cut items turns new p b = (items, p, b)

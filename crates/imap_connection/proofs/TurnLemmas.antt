@@ -5,7 +5,7 @@ use Rattle.imap_connection.specs.Conversation.{BreaksOff, Converses, IsPrefixOf,
 use Rattle.imap_connection.specs.declared.turn.TalkFaultKind.{TalkFaultKind}
 use Rattle.imap_connection.specs.declared.turn.Turn.{Turn}
 
--- the first answers and the rest are all of them
+-- the turns of the first answers and those of the rest are all turns
 pub sent_parts : (i : ℕ) (given : List Answer) → turns_of_answers given ≡ turns_of_answers (take i given) ++ turns_of_answers (drop i given)
 sent_parts zero given = refl
 sent_parts (suc i) [] = refl
@@ -15,12 +15,13 @@ sent_parts (suc i) (answer ∷ given) = ap (λ turns. turn_of_answer answer ∷ 
 pub prefix_append : {T : Type 0} (before front all : List T) → IsPrefixOf front all → IsPrefixOf (before ++ front) (before ++ all)
 prefix_append before front all f = (f.0, ap (λ xs. before ++ xs) f.1 ∙ sym (append_assoc before front f.0))
 
--- what is true in any case is true at an error
+-- a statement that is true is true at an error
 pub at_error : {T E : Type 0} (r : Result T E) (P : Type 0) → P → OnErr r P
 at_error (Ok x) P p = tt
 at_error (Err e) P p = p
 
--- A conversation in progress: from here, the rest of the items leads to what all items lead to.
+-- A conversation in progress: a conversation over the remaining items, after the turns so far, is
+-- one over all items.
 pub record Underway (start : NodeState) (session : ℕ) (items : List TimedItem) (before : List Turn) (node : NodeState) (left : List TimedItem) (turns : List Turn) : Type 0 where
   pub active : IsActive node session
   pub done : List Turn

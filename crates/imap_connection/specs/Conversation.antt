@@ -1,5 +1,5 @@
--- The conversation of a node with a session over items of the framer, as turns: the items that came
--- and the answers to them (RFC 9051, section 2.2).
+-- The conversation of a node with a session over items of the framer, as turns: the items that
+-- arrived and the answers to them (RFC 9051, section 2.2).
 
 use Rattle.std.specs.Prelude.{◌≡◌, ◌↔◌, ◌⊎◌, ℕ, false, Option, Some, None, List, [], ◌∷◌, ◌++◌, map}
 use Rattle.imap_syntax.specs.Commands.{EndsIdle, IsSpelled}
@@ -24,7 +24,7 @@ use Rattle.imap_connection.specs.declared.turn.TalkFaultKind.TheVariants as kind
 use Rattle.imap_connection.specs.declared.turn.Turn.{Turn}
 use Rattle.imap_connection.specs.declared.turn.Turn.TheVariants.{Got, Sent}
 
--- An item of the framer, and the moment at which it came.
+-- An item of the framer, and the moment at which it arrived.
 pub record TimedItem : Type 0 where
   pub moment : ℕ
   pub item : Item
@@ -32,7 +32,7 @@ pub record TimedItem : Type 0 where
 abbrev pub item_at : ℕ → Item → TimedItem
 item_at moment item = record { moment = moment; item = item }
 
--- Items that came at one moment.
+-- Items that arrived at one moment.
 abbrev pub items_at : ℕ → List Item → List TimedItem
 items_at moment items = map (item_at moment) items
 
@@ -46,7 +46,7 @@ turn_of_answer answer = Sent (text_of_answer answer)
 abbrev pub turns_of_answers : List Answer → List Turn
 turns_of_answers given = map turn_of_answer given
 
--- What an item shows of the client.
+-- The turns that show what the client sent as an item; none for a continuation request.
 abbrev pub turns_of_item : Item → List Turn
 turns_of_item Ready = []
 turns_of_item (Frame octets) = Got octets ∷ []
@@ -67,8 +67,8 @@ TakesFrame old session moment octets given new =
     × (given ≡ answers_of tagged.tag reply))
     ⊎ ((answer : Answer) × IsFaultAnswer octets answer × (given ≡ answer ∷ []) × (new ≡ old))
 
--- The line that an item is in IDLE (RFC 2177, section 3). A command beginning that is refused for
--- its literal counts as another line; the notice that a literal may come is no line.
+-- The item is this line of IDLE (RFC 2177, section 3). A command beginning that is refused for its
+-- literal counts as another line; the notice that a literal may be sent is no line.
 abbrev pub IsLine : Item → IdleLine → Type 0
 IsLine Ready line = ⊥
 IsLine (Frame octets) line = (line ≡ Done) ↔ EndsIdle octets
@@ -99,7 +99,7 @@ TakesItem (Some tag) old session moment (Frame octets) given new =
 TakesItem (Some tag) old session moment (Refused octets) given new =
     TakesLine old session tag (Refused octets) given new
 
--- The node takes an item at the moment at which it came, and gives these answers.
+-- The node takes an item at the moment at which it arrived, and gives these answers.
 abbrev pub TakesItemAt : NodeState → ℕ → TimedItem → List Answer → NodeState → Type 0
 TakesItemAt old session timed given new =
     TakesItem (idling_at old session) old session timed.moment timed.item given new
@@ -129,13 +129,13 @@ IsIdleLine node session item =
 
 -- An item at which the conversation stops.
 abbrev pub StopsAt : TalkFaultKind → NodeState → ℕ → TimedItem → List Turn → NodeState → Type 0
--- Memory ran out during its answers: it was not carried out; or it was, and some of its turns were
--- added.
+-- Memory ran out during the answers to the item: it was not carried out; or it was, and some of its
+-- turns were added.
 StopsAt kinds.NoMemory old session timed turns new =
     (IsPrefixOf turns (turns_of_item timed.item) × (new ≡ old))
     ⊎ ((given : List Answer) × TakesItemAt old session timed given new
     × IsPrefixOf turns (turns_of timed.item given))
--- A line of IDLE was refused because memory ran out: nothing changed, and a BYE says so.
+-- A line of IDLE was refused because memory ran out: nothing changed, and a BYE reports it.
 StopsAt kinds.LineRefused old session timed turns new =
     IsIdleLine old session timed.item
     × (turns ≡ turns_of timed.item (Bye reasons.NoMemory ∷ []))
@@ -143,8 +143,8 @@ StopsAt kinds.LineRefused old session timed turns new =
 StopsAt (kinds.Framing why) old session timed turns new = ⊥
 
 -- The turns of a conversation over these items that was broken off: those of some items in full,
--- then what the item at which it stops shows; or, if memory ran out, those of all items in full.
--- The session is closed; a command that was carried out stays so.
+-- then those that show the item at which it stops; or, if memory ran out, those of all items in
+-- full. The session is closed; a command that was carried out isn't undone.
 abbrev pub BreaksOff : TalkFaultKind → NodeState → ℕ → List TimedItem → List Turn → NodeState
     → Type 0
 BreaksOff why old session [] turns new =

@@ -18,9 +18,11 @@ use Rattle.imap_lex.specs.declared.limits.Limits.{Limits}
 use Rattle.imap_node.specs.declared.reply.Reply.{Reply}
 use Rattle.imap_syntax.specs.declared.command.Tagged.{Tagged}
 use Rattle.imap_connection.specs.PortCalls.{PortCall}
-use Rattle.imap_connection.specs.Batches.{AreAsked, are_brief}
-use Rattle.imap_connection.specs.Devices.{GaveOctets, TookOctets, TookAllOrPart}
-use Rattle.imap_connection.specs.EndReasons.{bye_text_of, ended_by}
+use Rattle.imap_connection.specs.Batches.{AreAsked, CarriesCommands, are_brief}
+use Rattle.imap_connection.specs.Conversation.{IsPrefixOf}
+use Rattle.imap_connection.specs.Replies.{answers_of}
+use Rattle.imap_connection.specs.Devices.{GivesOctets, TakesOctets, TakesAllOrPart}
+use Rattle.imap_connection.specs.EndReasons.{bye_text_of, end_reason_of}
 use Rattle.imap_connection.specs.Requests.{StopsAt, Takes, texts}
 use Rattle.imap_connection.specs.declared.end_reason.Ended.{Ended}
 use Rattle.imap_connection.specs.declared.end_reason.Ended.TheVariants.{PeerClosed}
@@ -71,8 +73,8 @@ module _ {S : Type 0} (steps : S → PortCall → Result Reply PortFault → S �
     pub first : IsPrefix front items
     pub answered_front : HasAnswered old idling front output new
 
-  -- The octets can't be cut any further, and this is why: after the items before the fault; if
-  -- memory ran out, after some of the first.
+  -- The octets can't be cut any further, for this reason: the items before the fault were answered;
+  -- or memory ran out, and some of the first items were answered.
   abbrev pub IsCut : S → Option (List ℕ) → Cut → FrameFaultKind → List ℕ → S → Type 0
   IsCut old idling cut NoRoomForItem output new = HasAnsweredSome old idling cut.0 output new
   IsCut old idling cut Failed output new = ⊥
@@ -95,16 +97,33 @@ module _ {S : Type 0} (steps : S → PortCall → Result Reply PortFault → S �
     pub brief : are_brief waiting ≡ true
     pub awake : (back ≡ []) ⊎ (between ≡ None)
 
-  -- Memory ran out for the last answers: items were answered, up to one that ends the conversation
-  -- or not, and the port is as it is after them; but the texts of these last answers are missing.
+  -- Memory ran out for the reply to a brief command, after its batch was given to the port: all
+  -- items before it were answered, and the first answers of this reply were written. The rest of it
+  -- is lost, and so are the replies to the later commands of the batch, although the port was given
+  -- these commands.
   pub record LacksAnswers (old : S) (idling : Option (List ℕ)) (items : List Item) (output : List ℕ)
       (new : S) : Type 0 where
-    pub lost : List Answer
-    pub all : (HasAnsweredSome old idling items (output ++ texts lost) new)
-        ⊎ ((ended : Ended) × EndsAtItem old idling items ended (output ++ texts lost) new)
+    pub front : List Item
+    pub batch : List Item
+    pub back : List Item
+    pub before : List ℕ
+    pub mid : S
+    pub command : Tagged
+    pub later : List Tagged
+    pub reply : Reply
+    pub replies : List Reply
+    pub fault : Result (Unit {0}) PortFault
+    pub written : List Answer
+    pub items_are : items ≡ front ++ (batch ++ back)
+    pub answered : Converses old idling front before mid None
+    pub asked : AreAsked batch (command ∷ later)
+    pub brief : are_brief (command ∷ later) ≡ true
+    pub carried_out : CarriesCommands steps mid (command ∷ later) (reply ∷ replies) fault new
+    pub first_answers : IsPrefixOf written (answers_of command.tag reply)
+    pub output_is : output ≡ before ++ texts written
 
   -- The conversation over these items ends: a write failed after some of them; it ends at one of
-  -- them; or memory ran out for the last answers.
+  -- them; or memory ran out for the reply to a brief command.
   abbrev pub EndsOverItems : S → Option (List ℕ) → List Item → Ended → List ℕ → S → Type 0
   EndsOverItems old idling items ended output new =
       ((ended ≡ WriteFailed) × HasAnsweredSome old idling items output new)
@@ -126,8 +145,8 @@ module _ {S : Type 0} (steps : S → PortCall → Result Reply PortFault → S �
       ⊎ (((ended ≡ ReadFailed) × IsOk cut.1 × HasAnswered old None cut.0 output new)
       ⊎ EndsOverCut old None cut ended output new)
 
-  -- A conversation after its session was opened: the greeting comes first; or memory ran out for
-  -- it, and nothing was read.
+  -- A conversation after its session was opened: the greeting is the first answer; or memory ran
+  -- out for it, and nothing was read.
   abbrev pub HoldsConversation : S → Login → Limits → List ℕ → Ended → Bool → List ℕ → S
       → Type 0
   HoldsConversation old login limits octets ended at_end output new =
@@ -139,10 +158,10 @@ module _ {S : Type 0} (steps : S → PortCall → Result Reply PortFault → S �
 -- initial part was written.
 abbrev pub IsWritten : Ended → List ℕ → Ended → Option (List ℕ) → Option (List ℕ) → Type 0
 IsWritten ended output result old new =
-    ((result ≡ ended) × TookOctets old output new)
-    ⊎ ((result ≡ WriteFailed) × TookAllOrPart false old output new)
+    ((result ≡ ended) × TakesOctets old output new)
+    ⊎ ((result ≡ WriteFailed) × TakesAllOrPart false old output new)
 
--- `opens`, `steps` and `closes` are the port before and after its session is opened, before and
+-- `opens`, `steps` and `closes` relate the port before and after its session is opened, before and
 -- after a command or a line of IDLE, and before and after its session is closed.
 module _ {S : Type 0} (opens : S → Result Login PortFault → S → Type 0)
     (steps : S → PortCall → Result Reply PortFault → S → Type 0) (closes : S → S → Type 0) where
@@ -154,11 +173,11 @@ module _ {S : Type 0} (opens : S → Result Login PortFault → S → Type 0)
       → Option (List ℕ) → Ended → Type 0
   IsConversation old new limits left rest at_end taken written result =
       ((fault : PortFault) × opens old (Err fault) new × (rest ≡ left)
-      × IsWritten (ended_by fault) (bye_text_of (ended_by fault)) result taken written)
+      × IsWritten (end_reason_of fault) (bye_text_of (end_reason_of fault)) result taken written)
       ⊎ ((login : Login) × (first : S) × (last : S) × (octets : List ℕ) × (ended : Ended)
       × (output : List ℕ)
       × opens old (Ok login) first
       × closes last new
-      × GaveOctets left octets rest
+      × GivesOctets left octets rest
       × HoldsConversation steps first login limits octets ended at_end output last
       × IsWritten ended (output ++ bye_text_of ended) result taken written)

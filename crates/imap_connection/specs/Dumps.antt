@@ -1,4 +1,4 @@
--- The text of a replica's dump: its applied operations, and what they define as a set.
+-- The text of a replica's dump: its applied operations, and what the set of them defines.
 
 use Rattle.std.specs.Prelude.{◌≡◌, ℕ, ◌==◌, List, [], ◌∷◌, ◌++◌, codes, if◌then◌else◌}
 use Rattle.std.specs.Fmt.{decimal}
@@ -10,7 +10,7 @@ use Rattle.merge_laws.specs.Orders.{HaveSameElements}
 use Rattle.crdt_ops.specs.Ops.{id_of}
 
 -- The text is the dump of a replica that applied these operations: the operations, each once,
--- ascending by replica and then by number, and what they define as a set.
+-- ascending by replica and then by number, and what the set of them defines.
 abbrev pub IsDump : ℕ → List Op → List ℕ → Type 0
 IsDump replica applied text =
     (listed : List Op)

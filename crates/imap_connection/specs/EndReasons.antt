@@ -7,7 +7,7 @@ use Rattle.imap_answers.specs.AnswerText.{text_of_answer}
 use Rattle.imap_answers.specs.declared.answer.Answer.TheVariants.{Bye}
 use Rattle.imap_answers.specs.declared.fixed_words.ByeReason.{ByeReason}
 use Rattle.imap_answers.specs.declared.fixed_words.ByeReason.TheVariants as reasons
-use Rattle.imap_connection.specs.Devices.{IsOutput, TookAllOrPart}
+use Rattle.imap_connection.specs.Devices.{IsOutput, TakesAllOrPart}
 use Rattle.imap_connection.specs.declared.end_reason.Ended.{Ended}
 use Rattle.imap_connection.specs.declared.end_reason.Ended.TheVariants.{Logout, PeerClosed}
 use Rattle.imap_connection.specs.declared.end_reason.Ended.TheVariants.{TooManySessions}
@@ -19,15 +19,15 @@ use Rattle.imap_connection.specs.declared.fault.PortFault.{PortFault}
 use Rattle.imap_connection.specs.declared.fault.PortFault.TheVariants as faults
 
 -- How a conversation ends at a fault of the port.
-abbrev pub ended_by : PortFault → Ended
-ended_by faults.TooManySessions = TooManySessions
-ended_by faults.NoMemory = NoMemory
-ended_by faults.NoRoom = NoMemory
-ended_by faults.Torn = Torn
-ended_by faults.PassedOver = Torn
+abbrev pub end_reason_of : PortFault → Ended
+end_reason_of faults.TooManySessions = TooManySessions
+end_reason_of faults.NoMemory = NoMemory
+end_reason_of faults.NoRoom = NoMemory
+end_reason_of faults.Torn = Torn
+end_reason_of faults.PassedOver = Torn
 
--- The reason that the BYE of an end names (RFC 9051, section 7.1.5). A LOGOUT has sent its BYE
--- already; a disconnected client is sent none.
+-- The reason that the BYE of an end names (RFC 9051, section 7.1.5). After a LOGOUT the BYE has
+-- been sent already; a disconnected client is sent none.
 abbrev pub reason_of : Ended → Option ByeReason
 reason_of Logout = None
 reason_of PeerClosed = None
@@ -42,7 +42,7 @@ reason_of WriteFailed = None
 reason_of NoMemory = Some reasons.NoMemory
 reason_of Torn = Some reasons.ReplicaChanged
 
--- The text of a BYE, or of none.
+-- The text of a BYE; empty if there is none.
 abbrev pub text_of_bye : Option ByeReason → List ℕ
 text_of_bye None = []
 text_of_bye (Some reason) = text_of_answer (Bye reason)
@@ -51,12 +51,12 @@ text_of_bye (Some reason) = text_of_answer (Bye reason)
 abbrev pub bye_text_of : Ended → List ℕ
 bye_text_of ended = text_of_bye (reason_of ended)
 
--- How many reads failed in a conversation that ended so.
+-- How many reads failed in a conversation that ended in this way.
 abbrev pub failed_reads : Ended → ℕ
 failed_reads ReadFailed = 1
 failed_reads _ = 0
 
--- How many writes failed in a conversation that ended so.
+-- How many writes failed in a conversation that ended in this way.
 abbrev pub failed_writes : Ended → ℕ
 failed_writes WriteFailed = 1
 failed_writes _ = 0
@@ -66,10 +66,10 @@ abbrev pub failed : Result (Unit {0}) Ended → ℕ
 failed (Ok all) = 0
 failed (Err ended) = failed_writes ended
 
--- The text of a conversation that ended so was taken or is held back; if a write failed, an initial
--- part was taken.
+-- The text of a conversation that ended in this way was taken or is buffered; if a write failed, an
+-- initial part was taken.
 abbrev pub IsLastOutput : Ended → Option (List ℕ) → List ℕ → List ℕ → Option (List ℕ) → List ℕ
     → Type 0
 IsLastOutput ended old held output new left =
-    ((ended ≡ WriteFailed) × TookAllOrPart false old (held ++ output) new)
+    ((ended ≡ WriteFailed) × TakesAllOrPart false old (held ++ output) new)
     ⊎ (((ended ≡ WriteFailed) → ⊥) × IsOutput old held output new left)

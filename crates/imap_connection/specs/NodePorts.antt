@@ -1,4 +1,4 @@
--- A node as a port: its session is opened, called and closed there, while others come to the node.
+-- A node as a port: a session is opened, called and closed at the node, while others use it.
 
 use Rattle.std.specs.Prelude.{◌≡◌, ◌⊎◌, ℕ, List, [], ◌∷◌, ◌++◌, Option, Some, None, Result, Ok, Err}
 use Rattle.causal_inbox.specs.declared.delivery.Arrival.{Arrival}
@@ -7,7 +7,7 @@ use Rattle.crdt_ops.specs.declared.op.Op.{Op}
 use Rattle.imap_answers.specs.declared.fixed_words.Login.{Login}
 use Rattle.imap_answers.specs.declared.fixed_words.Login.TheVariants.{PreAuthenticated, Required}
 use Rattle.imap_node.specs.Deliveries.{Delivers, IsRefusedAt}
-use Rattle.imap_node.specs.Nodes.{NodeState, with_session_closed}
+use Rattle.imap_node.specs.Nodes.{Awaits, Idles, NodeState, with_session_closed}
 use Rattle.imap_node.specs.Responses.{Responds}
 use Rattle.imap_node.specs.Sessions.{IsOpen, Opens}
 use Rattle.imap_node.specs.Steps.{IsFull}
@@ -24,7 +24,7 @@ use Rattle.imap_connection.specs.declared.fault.PortFault.TheVariants.{NoMemory,
 use Rattle.imap_connection.specs.declared.fault.PortFault.TheVariants.{TooManySessions}
 
 -- A node, the way in which its session's user becomes known (`None` once the session was opened or
--- couldn't be), the session, and the others who come to the node.
+-- couldn't be), the session, and the others who use the node.
 pub record NodeSession (O : Type 0) : Type 0 where
   pub node : NodeState
   pub auth : Option Auth
@@ -35,12 +35,19 @@ pub record NodeSession (O : Type 0) : Type 0 where
 abbrev pub HasNoSession : {O : Type 0} → NodeSession O → Type 0
 HasNoSession {O} s = (n : ℕ) → s.session ≡ Some n → IsOpen s.node.sessions n → ⊥
 
+-- The session awaits this call: a command if it is open and doesn't idle, a line if it idles.
+abbrev pub AwaitsCall : {O : Type 0} → NodeSession O → PortCall → Type 0
+AwaitsCall {O} s (asked.Command tagged) =
+    (n : ℕ) × (s.session ≡ Some n) × IsOpen s.node.sessions n × (Idles s.node n → ⊥)
+AwaitsCall {O} s (asked.Line line) = (n : ℕ) × (s.session ≡ Some n) × Idles s.node n
+
 -- The login that a greeting reports, by authentication (RFC 9051, section 7.1.4).
 abbrev pub login_by : Auth → Login
 login_by Preauth = PreAuthenticated
 login_by (Password credentials) = Required
 
--- Why no session was opened: all numbers are open; memory ran out; or it isn't the first attempt.
+-- Why no session was opened: all session numbers are in use; memory ran out; or it isn't the first
+-- attempt.
 abbrev pub IsUnopened : {O : Type 0} → NodeSession O → PortFault → Type 0
 IsUnopened {O} old TooManySessions = IsFull old.node
 IsUnopened {O} old NoMemory = Unit {0}
@@ -68,32 +75,35 @@ NodeOpens {O} old (Ok login) new =
     × (old.auth ≡ Some auth)
     × (new.auth ≡ None)
 
--- `takes_turn` is a turn of the others: their state before it, the session, the node before it,
--- the moment at which the session's next command comes, the node after it, and their state after
--- it.
+-- `takes_turn` is a turn of the others: their state before it, the session, the node before it, the
+-- moment at which the session's next command arrives, the node after it, and their state after it.
 module _ {O : Type 0} (takes_turn : O → ℕ → NodeState → ℕ → NodeState → O → Type 0) where
-  -- Others took a turn at the node of a port, during its session: what came to the node is exactly
-  -- what they do, and consists of deliveries and what other sessions do.
+  -- Others took a turn at the node of a port, during its session: the node changed exactly as
+  -- `takes_turn` says, by deliveries and steps of other sessions.
   pub record TakesTurn (old : NodeSession O) (n : ℕ) (moment : ℕ) (mid : NodeState) (others : O) :
       Type 0 where
     pub other_steps : SomeOtherSteps n old.node mid
     pub exact : takes_turn old.others n old.node moment mid others
 
-  -- Others took a turn, and then the node responded to the port's input as defined.
+  -- The session awaited the port's input; others took a turn, and then the node responded to the
+  -- input as defined.
   pub record RespondsTo (old : NodeSession O) (input : ℕ → Input) (reply : Reply)
       (new : NodeSession O) : Type 0 where
     pub number : ℕ
     pub moment : ℕ
     pub mid : NodeState
     pub opened : old.session ≡ Some number
+    pub awaited : Awaits old.node number (input moment)
     pub turn : TakesTurn old number moment mid new.others
     pub responds : Responds mid number (input moment) reply new.node
     pub session : new.session ≡ Some number
     pub auth : new.auth ≡ old.auth
 
-  -- The node before and after a call, and its reply. Nothing changes if no session is open.
+  -- The node before and after a call, and its reply. If the session doesn't await the call, it is
+  -- passed over, and nothing changes.
   abbrev pub NodeSteps : NodeSession O → PortCall → Result Reply PortFault → NodeSession O → Type 0
-  NodeSteps old call (Err fault) new = (fault ≡ PassedOver) × (new ≡ old) × HasNoSession old
+  NodeSteps old call (Err fault) new =
+      (fault ≡ PassedOver) × (new ≡ old) × (AwaitsCall old call → ⊥)
   NodeSteps old (asked.Command tagged) (Ok reply) new =
       RespondsTo old (λ moment. inputs.Command moment tagged) reply new
   NodeSteps old (asked.Line line) (Ok reply) new =
@@ -117,7 +127,7 @@ module _ {O : Type 0} (takes_turn : O → ℕ → NodeState → ℕ → NodeStat
 
 -- ---- others
 
--- Nobody else comes, and commands come at this moment.
+-- Nobody else uses the node, and commands arrive at this moment.
 abbrev pub IsEmptyTurn : ℕ → ℕ → NodeState → ℕ → NodeState → ℕ → Type 0
 IsEmptyTurn old n node moment mid new = (moment ≡ old) × (mid ≡ node) × (new ≡ old)
 

@@ -51,13 +51,13 @@ IsWhole (Framing LiteralTooLong) = Unit {0}
 IsWhole (Framing NulByte) = Unit {0}
 IsWhole ended = ⊥
 
--- An item, with the node and the moment at which it came.
+-- An item, with the node and the moment at which it arrived.
 pub record ItemAt : Type 0 where
   pub node : NodeState
   pub moment : ℕ
   pub item : Item
 
--- Each item on its own: others may come to the node between any two.
+-- Each item on its own: others may use the node between any two.
 abbrev pub items_at_one : ItemAt → ItemsAt
 items_at_one placed = record { node = placed.node; items = item_at placed.moment placed.item ∷ [] }
 
@@ -68,9 +68,9 @@ items_at_each_one all = map items_at_one all
 abbrev pub items_of : List ItemAt → List Item
 items_of all = map (λ (placed : ItemAt). placed.item) all
 
--- The node has had the conversation over these items, with these turns, while others came between
--- any two, and closed the session, before which others may have come too: after a LOGOUT, or at the
--- end of the items.
+-- The node has had the conversation over these items, with these turns, while others used it
+-- between any two items, and closed the session after a LOGOUT or at the end of the items; others
+-- may have used it before the close too.
 abbrev pub ClosesAfter : Ended → NodeState → ℕ → List ItemsAt → List Turn → NodeState → Type 0
 ClosesAfter Logout first n given turns new =
     (out : NodeState)
@@ -85,10 +85,10 @@ ClosesAfter ended first n given turns new =
     × IsActive last n
     × (new ≡ with_session_closed last n)
 
--- A session is opened at a node for a user who becomes known by `auth`, and has the node's
--- conversation over the items that these octets give, each at the moment and at the node to which
--- it came; it is closed; and the text written is the greeting, what the turns send, and the BYE of
--- the end.
+-- A session is opened at a node for a user who becomes known by `auth`. It has the node's
+-- conversation over the items that these octets give, each at the moment and in the state of the
+-- node at which it arrives, and is closed. The text written is the greeting, what the turns send,
+-- and the BYE of the end.
 pub record TalksAtNode (old : NodeState) (auth : Auth) (limits : Limits) (octets : List ℕ)
     (ended : Ended) (output : List ℕ) (new : NodeState) : Type 0 where
   pub session : ℕ

@@ -1,4 +1,4 @@
--- The calls that a conversation makes of a port while its session is open.
+-- The calls that a conversation makes to a port while its session is open.
 
 use Rattle.imap_syntax.specs.declared.command.Tagged.{Tagged}
 use Rattle.imap_syntax.specs.declared.idle.IdleLine.{IdleLine}

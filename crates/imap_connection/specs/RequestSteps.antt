@@ -13,7 +13,7 @@ use Rattle.imap_answers.specs.declared.fixed_words.Refusal.{Refusal}
 use Rattle.imap_answers.specs.declared.fixed_words.Refusal.TheVariants as refusals
 use Rattle.imap_lex.specs.declared.item.Item.{Item}
 use Rattle.imap_lex.specs.declared.item.Item.TheVariants.{Ready, Frame, Refused}
-use Rattle.imap_node.specs.Nodes.{NodeState}
+use Rattle.imap_node.specs.Nodes.{Idles, NodeState}
 use Rattle.imap_node.specs.Responses.{Responds}
 use Rattle.imap_node.specs.declared.input.Input.TheVariants as inputs
 use Rattle.imap_node.specs.declared.reply.Reply.{Reply}
@@ -37,6 +37,12 @@ IsRequest None (Refused octets) (Immediate answer) = IsLiteralAnswer octets answ
 IsRequest (Some tag) (Frame octets) (Line own line) = (own ≡ tag) × IsLine (Frame octets) line
 IsRequest (Some tag) (Refused octets) (Line own line) = (own ≡ tag) × IsLine (Refused octets) line
 IsRequest idling item request = ⊥
+
+-- The session is open and awaits this request: a command if it doesn't idle, a line if it does.
+abbrev pub AwaitsRequest : NodeState → ℕ → Request → Type 0
+AwaitsRequest node session (Immediate answer) = Unit {0}
+AwaitsRequest node session (Command tagged) = Idles node session → ⊥
+AwaitsRequest node session (Line tag line) = Idles node session
 
 -- The node carries out a request, and gives these answers.
 abbrev pub Handles : NodeState → ℕ → ℕ → Request → List Answer → NodeState → Type 0

@@ -1,5 +1,5 @@
--- How a conversation takes one item: the request that it is, the call of the port, the answers, and
--- how it ends the conversation.
+-- How a conversation takes one item: its request, the call of the port, the answers, and how the
+-- item ends the conversation.
 
 use Rattle.std.specs.Prelude.{◌≡◌, ◌⊎◌, ℕ, Bool, true, false, ◌&&◌, Option, Some, None, List, []}
 use Rattle.std.specs.Prelude.{◌∷◌, Result, Ok, Err, if◌then◌else◌}
@@ -24,7 +24,7 @@ use Rattle.imap_connection.specs.declared.request_steps.Asking.TheVariants.{Late
 use Rattle.imap_connection.specs.Batches.{is_brief}
 use Rattle.imap_connection.specs.PortCalls.{PortCall}
 use Rattle.imap_connection.specs.PortCalls as asked
-use Rattle.imap_connection.specs.EndReasons.{ended_by}
+use Rattle.imap_connection.specs.EndReasons.{end_reason_of}
 use Rattle.imap_connection.specs.declared.end_reason.Ended.{Ended}
 use Rattle.imap_connection.specs.declared.end_reason.Ended.TheVariants.{Logout, NoMemory}
 use Rattle.imap_connection.specs.declared.fault.PortFault.{PortFault}
@@ -62,9 +62,9 @@ IsAskingOf request (Now asked) = asked ≡ request
 abbrev pub IsUnasked : {S : Type 0} → S → Ended → List Answer → S → Type 0
 IsUnasked {S} old ended given new = (ended ≡ NoMemory) × (given ≡ []) × (new ≡ old)
 
--- `steps` is the port before and after a command or a line of IDLE.
+-- `steps` relates the port before and after a command or a line of IDLE.
 module _ {S : Type 0} (steps : S → PortCall → Result Reply PortFault → S → Type 0) where
-  -- A session, which idles with this tag or doesn't idle, makes a request of the port; `given` are
+  -- A session, which idles with this tag or doesn't idle, makes a request to the port; `given` are
   -- the answers, `after` is the tag of its IDLE afterwards, and `out` says whether it has logged
   -- out.
   abbrev pub Handles : S → Option (List ℕ) → Request → List Answer → S → Option (List ℕ) → Bool
@@ -92,7 +92,7 @@ module _ {S : Type 0} (steps : S → PortCall → Result Reply PortFault → S �
       × (fault : PortFault)
       × (call_of request ≡ Some call)
       × steps old call (Err fault) new
-      × (ended ≡ ended_by fault)
+      × (ended ≡ end_reason_of fault)
       × (given ≡ [])
 
   -- A line of IDLE is refused because memory ran out, and nothing is answered.

@@ -1,5 +1,5 @@
 -- A connection's octets, piece by piece, and the calls of `talk` on them, with or without others
--- coming to the node between the pieces.
+-- using the node between the pieces.
 
 use Rattle.std.specs.Prelude.{◌≡◌, ◌≢◌, ◌⊎◌, ℕ, zero, suc, List, [], ◌∷◌, ◌++◌, map, Result}
 use Rattle.std.specs.List.{flat_map}
@@ -21,9 +21,9 @@ use Rattle.imap_connection.specs.Talks.{EndsTalk, Talks, TimedCut, cut_at}
 use Rattle.imap_connection.specs.declared.turn.TalkFaultKind.{TalkFaultKind}
 use Rattle.imap_connection.specs.declared.turn.Turn.{Turn}
 
--- ---- what a stream of octets holds
+-- ---- the contents of a stream of octets
 
--- A piece of input, and the moment at which it came.
+-- A piece of input, and the moment at which it arrived.
 pub record Piece : Type 0 where
   pub moment : ℕ
   pub octets : List ℕ
@@ -32,7 +32,7 @@ pub record Piece : Type 0 where
 abbrev pub octets_in : List Piece → List ℕ
 octets_in pieces = flat_map (λ (piece : Piece). piece.octets) pieces
 
--- What the octets of a piece give.
+-- The items that the octets of a piece complete, and the state of the framer after them.
 abbrev pub cut_by : Limits → Result FrameProgress FrameFaultKind → Piece → TimedCut
 cut_by limits state piece = cut_at piece.moment (cut_from limits state piece.octets)
 
@@ -42,7 +42,7 @@ items_of limits state [] = []
 items_of limits state (piece ∷ pieces) =
     (cut_by limits state piece).0 ++ items_of limits (cut_by limits state piece).1 pieces
 
--- What the octets of all pieces give.
+-- The items that the octets of all pieces complete, and the state of the framer after them.
 abbrev pub cut_of_pieces : Limits → Result FrameProgress FrameFaultKind → List Piece → TimedCut
 cut_of_pieces limits state pieces =
     (items_of limits state pieces, (cut_from limits state (octets_in pieces)).1)
@@ -102,7 +102,8 @@ EndsAfter why run call =
     × EndsTalk why run.new run.session run.after (cut_by run.limits run.after call.piece) call.turns
     call.new
 
--- What all pieces of a run give, and what they give with the piece of a further call.
+-- The items and the framer's state after all pieces of a run, and after these and the piece of a
+-- further call.
 abbrev pub cut_in : Run Piece → TimedCut
 cut_in run = cut_of_pieces run.limits run.before run.pieces
 
@@ -126,14 +127,14 @@ OtherSessionStep session old new =
     × (((input : Input) × (reply : Reply) × Responds old other input reply new)
     ⊎ (new ≡ with_session_closed old other))))
 
--- What comes to a node besides the calls of this session: an operation of another replica is
--- delivered, held operations are released, or another session takes a step.
+-- A step at a node that is no call of this session: an operation of another replica is delivered,
+-- held operations are released, or another session takes a step.
 abbrev pub OtherStep : ℕ → NodeState → NodeState → Type 0
 OtherStep session old new =
     ((op : Op) × (arrival : Arrival) × Delivers old op arrival new)
     ⊎ (((count : ℕ) × Drains old count new) ⊎ OtherSessionStep session old new)
 
--- A number of such steps, one after another.
+-- This number of such steps, one after another.
 abbrev pub OtherSteps : ℕ → ℕ → NodeState → NodeState → Type 0
 OtherSteps session zero old new = new ≡ old
 OtherSteps session (suc n) old new =
@@ -143,7 +144,7 @@ OtherSteps session (suc n) old new =
 abbrev pub SomeOtherSteps : ℕ → NodeState → NodeState → Type 0
 SomeOtherSteps session old new = (n : ℕ) × OtherSteps session n old new
 
--- A piece of input, and the node to which it comes.
+-- A piece of input, and the node at which it arrives.
 pub record PieceAt : Type 0 where
   pub node : NodeState
   pub piece : Piece
@@ -153,7 +154,8 @@ abbrev pub octets_of_pieces : List PieceAt → List ℕ
 octets_of_pieces pieces_at = flat_map (λ (piece_at : PieceAt). piece_at.piece.octets) pieces_at
 
 -- The calls of `talk` for a session, one for each of these pieces of input; operations of other
--- replicas and other sessions came to the node before each, and the session continued after each.
+-- replicas were delivered and other sessions took steps before each, and the session continued
+-- after each.
 abbrev pub TalksBetweenOthers : NodeState → ℕ → Limits → Result FrameProgress FrameFaultKind
     → List PieceAt → List Turn → NodeState → Result FrameProgress FrameFaultKind → Type 0
 TalksBetweenOthers old session limits state [] turns new end =
@@ -176,7 +178,7 @@ IsRunBetweenOthers run =
 abbrev pub pieces_with : Run PieceAt → Call → List PieceAt
 pieces_with run call = run.pieces ++ record { node = run.new; piece = call.piece } ∷ []
 
--- Items, and the node to which the piece that completes them came.
+-- Items, and the node at which the piece that completes them arrived.
 pub record ItemsAt : Type 0 where
   pub node : NodeState
   pub items : List TimedItem
@@ -193,10 +195,10 @@ items_at_each limits state (piece_at ∷ pieces_at) =
 abbrev pub items_in : List ItemsAt → List Item
 items_in given = flat_map (λ (stretch : ItemsAt). items_without_moments stretch.items) given
 
--- The turns of a conversation over these items, if operations of other replicas and other sessions
--- came to the node between the pieces that complete them, and nothing came within a piece: the
--- items of a piece are answered from the node to which it came, one after another, up to a LOGOUT
--- answered OK, after which the rest is dropped.
+-- The turns of a conversation over these items, if operations of other replicas were delivered and
+-- other sessions took steps between the pieces that complete them, but not within a piece: the
+-- items of a piece are answered from the node at which it arrived, one after another, up to a
+-- LOGOUT answered OK, after which the rest is dropped.
 abbrev pub ConversesBetweenOthers : NodeState → ℕ → List ItemsAt → List Turn → NodeState → Type 0
 ConversesBetweenOthers old session [] turns new = (turns ≡ []) × SomeOtherSteps session old new
 ConversesBetweenOthers old session (stretch ∷ given) turns new =

@@ -21,12 +21,12 @@ use Rattle.imap_connection.specs.declared.turn.TalkFaultKind.{TalkFaultKind}
 use Rattle.imap_connection.specs.declared.turn.TalkFaultKind.TheVariants as kinds
 use Rattle.imap_connection.specs.declared.turn.Turn.{Turn}
 
--- The items that octets complete, each with the moment at which it came, and the state of the
+-- The items that octets complete, each with the moment at which it arrived, and the state of the
 -- framer after them.
 abbrev pub TimedCut : Type 0
 TimedCut = List TimedItem × Result FrameProgress FrameFaultKind
 
--- A cut of octets that came at one moment.
+-- A cut of octets that arrived at one moment.
 abbrev pub cut_at : ℕ → Cut → TimedCut
 cut_at moment cut = (items_at moment cut.0, cut.1)
 

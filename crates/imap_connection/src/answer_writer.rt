@@ -1,10 +1,10 @@
-//! Answers to a mail client as text, held back until it is written.
+//! Answers to a mail client as text, buffered until it is written.
 
 ghost use Rattle.std.specs.Prelude.{◌≡◌, ◌++◌, ◌<◌, ◌+◌, [], false, List, OnOk, OnErr, MatchBool};
 ghost use Rattle.imap_answers.specs.declared.answer.Answer.{Answer};
 ghost use Rattle.imap_connection.specs.Conversation.{IsPrefixOf};
 ghost use Rattle.imap_connection.specs.Replies.{answers_of, refused_answers};
-ghost use Rattle.imap_connection.specs.Devices.{IsOutput, TookAllOrPart};
+ghost use Rattle.imap_connection.specs.Devices.{IsOutput, TakesAllOrPart};
 ghost use Rattle.imap_connection.specs.Requests.{texts};
 
 use crate::io_traits::Sink;
@@ -14,7 +14,7 @@ use imap_print::print;
 use imap_types::Octets;
 use std::alloc::{AllocError, Global};
 
-/// The most octets that are held back after all answers to an item, before they are written.
+/// After all answers to an item, the number of buffered octets from which on they are written.
 const MAX_BUFFERED: usize = 65_536;
 
 /// Adds answers to the text. `Err` if memory runs out; then some of the first answers were added.
@@ -82,12 +82,12 @@ fn print_refusal(
     )
 }
 
-/// Writes the text that is held back; `false` if the device failed.
+/// Writes the buffered text; `false` if the device failed.
 pub fn write_pending<K: Sink>(sink: &mut K, text: &mut Vec<u8>) -> bool
     requires { K.failures sink.old < 18446744073709551615 }
     ensures output { MatchBool result
         (IsOutput (K.taken sink.old) text.old.items [] (K.taken sink.new) text.new.items)
-        (TookAllOrPart false (K.taken sink.old) text.old.items (K.taken sink.new)) }
+        (TakesAllOrPart false (K.taken sink.old) text.old.items (K.taken sink.new)) }
     ensures none { MatchBool result (text.new.items ≡ []) (text.new.items ≡ text.old.items) }
     ensures failed { MatchBool result (K.failures sink.new ≡ K.failures sink.old)
         (K.failures sink.new ≡ K.failures sink.old + 1) }
@@ -107,7 +107,7 @@ pub fn write_if_full<K: Sink>(sink: &mut K, text: &mut Vec<u8>) -> bool
     requires { K.failures sink.old < 18446744073709551615 }
     ensures output { MatchBool result
         (IsOutput (K.taken sink.old) text.old.items [] (K.taken sink.new) text.new.items)
-        (TookAllOrPart false (K.taken sink.old) text.old.items (K.taken sink.new)) }
+        (TakesAllOrPart false (K.taken sink.old) text.old.items (K.taken sink.new)) }
     ensures failed { MatchBool result (K.failures sink.new ≡ K.failures sink.old)
         (K.failures sink.new ≡ K.failures sink.old + 1) }
 {

@@ -1,18 +1,17 @@
-//! Batches of brief commands that came one after another. They are given to the port at once, so
-//! that a replica is asked for all of them in one turn.
+//! Batches of brief commands that arrived one after another. They are given to the port together,
+//! so that a replica takes all of them in one turn.
 
 ghost use Rattle.std.specs.Prelude.{◌≡◌, ◌≤◌, ◌++◌, ◌∷◌, [], true, length, List, Ok, OnOk, OnErr};
 ghost use Rattle.std.specs.Prelude.{IfErr};
 ghost use Rattle.imap_answers.specs.declared.answer.Answer.{Answer};
 ghost use Rattle.imap_node.specs.declared.reply.Reply.{Reply};
 ghost use Rattle.imap_connection.specs.Batches.{CarriesCommands, EndsInBatch, answers_by, is_brief};
-ghost use Rattle.imap_connection.specs.Batches.{tags_of};
-ghost use Rattle.imap_connection.specs.Conversation.{IsPrefixOf};
+ghost use Rattle.imap_connection.specs.Batches.{EndsInReply, tags_of};
 ghost use Rattle.imap_connection.specs.EndReasons.{failed_reads, failed_writes};
 ghost use Rattle.imap_connection.specs.Requests.{texts};
 
 use crate::answer_writer::print_reply;
-use crate::end_reason::{Ended, ended_by};
+use crate::end_reason::{Ended, end_reason_of};
 use crate::io_traits::Port;
 use imap_node::Reply;
 use imap_syntax::{Command, Tagged};
@@ -44,7 +43,7 @@ impl Model for Batch {
 }
 
 impl Batch {
-    /// No commands.
+    /// A batch without commands.
     pub fn new(alloc: Global) -> Batch
         ensures { result ≡ [] }
     {
@@ -99,13 +98,13 @@ impl Batch {
         };
         match given {
             Ok(()) => Ok(()),
-            Err(fault) => Err(ended_by(fault)),
+            Err(fault) => Err(end_reason_of(fault)),
         }
     }
 }
 
-/// Adds the answers of replies to the commands with these tags. `Err` if memory runs out; then some
-/// of the first answers were added.
+/// Adds the answers of replies to the commands with these tags. `Err` if memory runs out for one of
+/// the replies; then the answers before it and some of its first were added.
 fn print_replies(
     alloc: Global,
     tags: &[Octets],
@@ -117,7 +116,7 @@ fn print_replies(
         (text.new.items ≡ text.old.items ++ texts (answers_by tags.now replies.now)) }
     ensures err { OnErr result ((front : List Answer)
         × (text.new.items ≡ text.old.items ++ texts front)
-        × IsPrefixOf front (answers_by tags.now replies.now)) }
+        × EndsInReply tags.now replies.now front) }
 {
     for i in 0..replies.len() {
         match print_reply(alloc, text, &tags[i], &replies[i]) {

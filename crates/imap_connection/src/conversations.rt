@@ -5,7 +5,7 @@ ghost use Rattle.std.specs.Prelude.{IsOk, MatchBool};
 ghost use Rattle.imap_answers.specs.AnswerText.{text_of_answer};
 ghost use Rattle.imap_answers.specs.declared.answer.Answer.TheVariants.{Greeting as Greets};
 ghost use Rattle.imap_lex.specs.Framing.{cut_from, start};
-ghost use Rattle.imap_connection.specs.Devices.{GaveOctets, IsOutput, TookAllOrPart};
+ghost use Rattle.imap_connection.specs.Devices.{GivesOctets, IsOutput, TakesAllOrPart};
 ghost use Rattle.imap_connection.specs.EndReasons.{IsLastOutput, bye_text_of, failed, failed_reads};
 ghost use Rattle.imap_connection.specs.EndReasons.{failed_writes};
 ghost use Rattle.imap_connection.specs.Conversations.{Converses, EndsOverOctets, EndsOverCut};
@@ -16,7 +16,7 @@ ghost use Rattle.imap_connection.specs.declared.end_reason.Ended.TheVariants.{Wr
 
 use crate::answer_writer::{write_if_full, write_pending};
 use crate::batch::Batch;
-use crate::end_reason::{Ended, bye_text, ended_by};
+use crate::end_reason::{Ended, bye_text_of, end_reason_of};
 use crate::io_traits::{Port, Sink, Source};
 use crate::request_steps::take_item;
 use imap_answers::Login;
@@ -40,13 +40,13 @@ struct ConversationState {
 }
 
 /// Holds a conversation with a mail client: opens a session, greets, answers what the client sends,
-/// in order, until the conversation ends, and closes the session. The answers to what one read
-/// gives are written together, after the last of them.
+/// in order, until the conversation ends, and closes the session. The answers to the octets of one
+/// read are written together, after the last of them.
 ///
 /// It ends in `ReadFailed` or `WriteFailed` only if the device failed in this call, in `PeerClosed`
 /// only if the source reported its end, in `Logout` only after a LOGOUT that was answered OK, and
-/// in `Framing`, `TooManySessions` or `Torn` only if the framer or the port reported it. If
-/// memory runs out for an answer, the conversation ends after the whole answers before it.
+/// in `Framing`, `TooManySessions` or `Torn` only if the framer or the port reported it. If memory
+/// runs out for an answer, the conversation ends after the complete answers before it.
 pub fn converse<R: Wait, S: Source, K: Sink, P: Port>(
     rt: &R,
     alloc: Global,
@@ -65,14 +65,14 @@ pub fn converse<R: Wait, S: Source, K: Sink, P: Port>(
 {
     let login = match port.open(alloc) {
         Ok(login) => login,
-        Err(fault) => return write_last(sink, &mut Vec::new(alloc), ended_by(fault)),
+        Err(fault) => return write_last(sink, &mut Vec::new(alloc), end_reason_of(fault)),
     };
     let (ended, mut text) = hold_conversation(rt, alloc, login, source, sink, port);
     port.close(alloc);
     write_last(sink, &mut text, ended)
 }
 
-/// Writes what is held back, then the BYE for this end. Returns how the conversation ended:
+/// Writes the buffered text, then the BYE for this end. Returns how the conversation ended:
 /// `WriteFailed` if the device failed.
 fn write_last<K: Sink>(sink: &mut K, text: &mut Vec<u8>, ended: Ended) -> Ended
     requires { failed_writes ended ≡ 0 → K.failures sink.old < 18446744073709551615 }
@@ -90,7 +90,7 @@ fn write_last<K: Sink>(sink: &mut K, text: &mut Vec<u8>, ended: Ended) -> Ended
     if !write_pending(sink, text) {
         return Ended::WriteFailed;
     }
-    if !write_bye(sink, bye_text(ended)) {
+    if !write_bye(sink, bye_text_of(ended)) {
         return Ended::WriteFailed;
     }
     ended
@@ -98,7 +98,7 @@ fn write_last<K: Sink>(sink: &mut K, text: &mut Vec<u8>, ended: Ended) -> Ended
 
 fn write_bye<K: Sink>(sink: &mut K, bye: &[u8]) -> bool
     requires { K.failures sink.old < 18446744073709551615 }
-    ensures octets { TookAllOrPart result (K.taken sink.old) bye.now (K.taken sink.new) }
+    ensures octets { TakesAllOrPart result (K.taken sink.old) bye.now (K.taken sink.new) }
     ensures failed { MatchBool result (K.failures sink.new ≡ K.failures sink.old)
         (K.failures sink.new ≡ K.failures sink.old + 1) }
 {
@@ -109,7 +109,7 @@ fn write_bye<K: Sink>(sink: &mut K, bye: &[u8]) -> bool
 }
 
 /// Greets, and answers what the client sends, until the conversation ends. Returns how it ended,
-/// and the answers still held back.
+/// and the answers still buffered.
 fn hold_conversation<R: Wait, S: Source, K: Sink, P: Port>(
     rt: &R,
     alloc: Global,
@@ -122,7 +122,7 @@ fn hold_conversation<R: Wait, S: Source, K: Sink, P: Port>(
     requires sink { K.failures sink.old < 18446744073709551615 }
     ensures conversation { (octets : List ℕ)
         × (output : List ℕ)
-        × GaveOctets (S.left source.old) octets (S.left source.new)
+        × GivesOctets (S.left source.old) octets (S.left source.new)
         × HoldsConversation P.steps port.old login Limits.STANDARD octets result.0
         (S.is_ended source.new) output
         port.new
@@ -168,7 +168,7 @@ fn answer_all<R: Wait, S: Source, K: Sink, P: Port>(
     requires idling { talk.old.idling ≡ None }
     ensures conversation { (octets : List ℕ)
         × (output : List ℕ)
-        × GaveOctets (S.left source.old) octets (S.left source.new)
+        × GivesOctets (S.left source.old) octets (S.left source.new)
         × EndsOverOctets P.steps port.old (cut_from Limits.STANDARD (Ok start) octets) result
         (S.is_ended source.new) output port.new
         × IsLastOutput result (K.taken sink.old) talk.old.text.items output (K.taken sink.new)

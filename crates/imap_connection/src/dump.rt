@@ -1,4 +1,4 @@
-//! The dump of a node: its operations, and what they define as a set.
+//! The dump of a node: its operations, and what the set of them defines.
 
 ghost use Rattle.std.specs.Prelude.{◌≡◌, ◌++◌, ◌∷◌, [], ℕ, List, OnOk, OnErr, IfOk, codes};
 ghost use Rattle.std.specs.Fmt.{decimal};
@@ -120,7 +120,7 @@ fn push_op(alloc: Global, op: &SoundOp, text: &mut Vec<u8>) -> Result<(), AllocE
     Ok(())
 }
 
-/// The lines of what the operations define as a set.
+/// The lines of what the set of operations defines.
 fn push_state(alloc: Global, replica: &ReplicaState, text: &mut Vec<u8>) -> Result<(), AllocError>
     ensures { OnOk result (text.new.items ≡ text.old.items ++ state_text replica.now.applied) }
 {

@@ -1,7 +1,7 @@
 //! How a conversation ends.
 
 ghost use Rattle.std.specs.Prelude.{◌≡◌};
-ghost use Rattle.imap_connection.specs.EndReasons.{bye_text_of, ended_by};
+ghost use Rattle.imap_connection.specs.EndReasons.{bye_text_of, end_reason_of};
 ghost use Rattle.imap_connection.specs.declared.end_reason.Ended.TheVariants.{Framing as EndsFraming};
 
 use crate::fault::PortFault;
@@ -30,8 +30,8 @@ pub enum Ended {
 }
 
 /// How a conversation ends at this fault of the port.
-pub fn ended_by(fault: PortFault) -> Ended
-    ensures { result ≡ ended_by fault }
+pub fn end_reason_of(fault: PortFault) -> Ended
+    ensures { result ≡ end_reason_of fault }
 {
     match fault {
         PortFault::TooManySessions => Ended::TooManySessions,
@@ -42,10 +42,10 @@ pub fn ended_by(fault: PortFault) -> Ended
 
 /// The BYE that names the end, with its line end; empty if the end has none.
 #[tactic(auto, unfolding(imap_answers::specs::AnswerText::line_of_answer))]
-pub fn bye_text(ended: Ended) -> &'static [u8]
-    ensures { result.now ≡ bye_text_of ended }
+pub fn bye_text_of(reason: Ended) -> &'static [u8]
+    ensures { result.now ≡ bye_text_of reason }
 {
-    match ended {
+    match reason {
         Ended::Logout | Ended::PeerClosed | Ended::ReadFailed | Ended::WriteFailed => b"",
         Ended::TooManySessions => b"* BYE too many sessions\r\n",
         Ended::Framing(why) => framing_text(why),

@@ -11,25 +11,25 @@ use imap_types::Moment;
 use std::alloc::Global;
 use std::marker::Model;
 
-/// What comes to a node besides the calls of one of its sessions: operations of other replicas, and
-/// what other sessions do.
+/// Others who use a node between the calls of one of its sessions: replicas whose operations are
+/// delivered, and other sessions.
 pub trait Others {
     ghost use Rattle.imap_node.specs.Nodes.{NodeState};
 
     /// What happens in a turn of the others: their state before it, the session's number, the node
-    /// before it, the moment at which the session's next command comes, the node after it, and
+    /// before it, the moment at which the session's next command arrives, the node after it, and
     /// their state after it.
     ghost takes_turn: { Self → ℕ → NodeState → ℕ → NodeState → Self → Type 0 };
 
     /// Gives the others a turn at the node, during a session that is open. Returns the moment at
-    /// which the session's next command comes.
+    /// which the session's next command arrives.
     fn take_turn(&mut self, alloc: Global, session: SessionNo, node: &mut Node) -> Moment
         requires { IsOpen node.old.state.sessions session }
         ensures other_steps { SomeOtherSteps session node.old.state node.new.state }
         ensures exact { takes_turn self.old session node.old.state result node.new.state self.new };
 }
 
-/// No others; all commands come at one moment.
+/// Nobody else uses the node; all commands arrive at one moment.
 #[derive(Drop)]
 pub struct NoOthers {
     moment: Moment,
@@ -44,7 +44,7 @@ impl Model for NoOthers {
 }
 
 impl NoOthers {
-    /// No others; all commands come at this moment.
+    /// Nobody else uses the node; all commands arrive at this moment.
     pub fn new(moment: Moment) -> NoOthers
         ensures { result ≡ moment }
     {
@@ -62,7 +62,7 @@ impl Others for NoOthers {
     }
 }
 
-/// Operations of other replicas. Each turn delivers the last of those left. All commands come at
+/// Operations of other replicas. Each turn delivers the last of those left. All commands arrive at
 /// one moment.
 #[derive(Drop)]
 pub struct Deliveries {
@@ -71,7 +71,7 @@ pub struct Deliveries {
 }
 
 impl Deliveries {
-    /// These operations; all commands come at this moment.
+    /// These operations are delivered; all commands arrive at this moment.
     pub fn new(moment: Moment, ops: Vec<SoundOp>) -> Deliveries
         ensures moment { result.moment ≡ moment }
         ensures ops { result.ops.items ≡ ops.items }
@@ -96,7 +96,7 @@ impl Others for Deliveries {
     }
 }
 
-/// Delivers an operation to a node. If the node refuses it, it stays as it was.
+/// Delivers an operation to a node. A node that refuses it stays as it was.
 fn deliver_op(alloc: Global, node: &mut Node, op: SoundOp)
     ensures { IsDeliveredOrRefused node.old.state op node.new.state }
 {

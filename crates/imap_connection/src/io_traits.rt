@@ -3,7 +3,7 @@
 ghost use Rattle.std.specs.Prelude.{◌≡◌, ◌≤◌, ◌<◌, ◌+◌, ℕ, List, length, take, vec_capacity, []};
 ghost use Rattle.std.specs.Prelude.{Bool, true, IfSome, IfNone, MatchBool, MatchOption, Option};
 ghost use Rattle.std.specs.Prelude.{Result};
-ghost use Rattle.imap_connection.specs.Devices.{GaveOctets, TookAllOrPart};
+ghost use Rattle.imap_connection.specs.Devices.{GivesOctets, TakesAllOrPart};
 
 use crate::fault::PortFault;
 use imap_answers::Login;
@@ -29,7 +29,7 @@ pub trait Source {
         requires count { failures self.old < 18446744073709551615 }
         ensures count { IfSome result (λ n. n ≤ length piece.old) }
         ensures octets { IfSome result
-            (λ n. GaveOctets (left self.old) (take n piece.new) (left self.new)) }
+            (λ n. GivesOctets (left self.old) (take n piece.new) (left self.new)) }
         ensures end { IfSome result (λ n. n ≡ 0 → is_ended self.new ≡ true) }
         ensures same { IfNone result (left self.new ≡ left self.old) }
         ensures failed { MatchOption result (failures self.new ≡ failures self.old + 1)
@@ -47,7 +47,7 @@ pub trait Sink {
     /// Writes all octets; `false` if the device failed after some of them.
     fn write(&mut self, octets: &[u8]) -> bool
         requires { failures self.old < 18446744073709551615 }
-        ensures octets { TookAllOrPart result (taken self.old) octets.now (taken self.new) }
+        ensures octets { TakesAllOrPart result (taken self.old) octets.now (taken self.new) }
         ensures failed { MatchBool result (failures self.new ≡ failures self.old)
             (failures self.new ≡ failures self.old + 1) };
 }
@@ -60,13 +60,13 @@ pub trait Port {
     ghost use Rattle.imap_connection.specs.Batches.{CarriesCommands, are_brief};
     ghost use Rattle.imap_connection.specs.declared.fault.PortFault.{PortFault};
 
-    /// The port before and after its session is opened.
+    /// Relates the port before and after its session is opened.
     ghost opens: { Self → Result Login PortFault → Self → Type 0 };
 
-    /// The port before and after a command or a line of IDLE.
+    /// Relates the port before and after a command or a line of IDLE.
     ghost steps: { Self → PortCall → Result Reply PortFault → Self → Type 0 };
 
-    /// The port before and after its session is closed.
+    /// Relates the port before and after its session is closed.
     ghost closes: { Self → Self → Type 0 };
 
     /// Opens the session, and says whether the user is known.

@@ -1,6 +1,6 @@
-//! Laws of conversations, whatever the pieces in which their octets come (`specs/Streams.antt`),
-//! and that a replica has one dump (`specs/Dumps.antt`). Each is the contract of a function that
-//! does nothing.
+//! Laws of conversations, whatever the pieces in which their octets arrive (`specs/Streams.antt`),
+//! and the law that a replica has one dump (`specs/Dumps.antt`). Each is the contract of a function
+//! that does nothing.
 
 ghost use Rattle.std.specs.Prelude.{◌≡◌, ℕ, List, ◌++◌, ◌∷◌, [], Some, Result, Ok, Err};
 ghost use Rattle.crdt_ops.specs.declared.op.Op.{Op};
@@ -27,7 +27,7 @@ ghost use Rattle.imap_connection.specs.declared.turn.Turn.{Turn};
 
 /// It doesn't matter how the octets of a connection were cut into pieces: the turns of the calls of
 /// `talk` on them, the last of which may have ended the session by a LOGOUT, are the conversation
-/// over the items of all these octets. Each item comes at the moment of the piece that completes
+/// over the items of all these octets. Each item arrives at the moment of the piece that completes
 /// it.
 pub fn pieces_are_one_stream()
     ensures runs { (run : Run Piece) → IsRun run
@@ -42,9 +42,9 @@ pub fn pieces_are_one_stream()
 {}
 
 /// A connection whose octets are these commands, lines, refused command beginnings and this rest,
-/// in whatever pieces they came, has the conversation over exactly these, each at the moment of the
-/// piece that completes it: each is answered in its order, and nothing else is. The last piece may
-/// have ended the session by a LOGOUT.
+/// in whatever pieces they arrived, has the conversation over exactly these, each at the moment of
+/// the piece that completes it: each is answered in its order, and nothing else is. The last piece
+/// may have ended the session by a LOGOUT.
 pub fn commands_are_answered()
     ensures runs { (run : Run Piece) (items : List Item) (rest : List ℕ) → run.before ≡ Ok start
         → IsRun run
@@ -60,10 +60,11 @@ pub fn commands_are_answered()
 {}
 
 /// If a fault of the framer, or memory running out, ends a connection, it doesn't matter in which
-/// pieces the octets came: the whole ends as its last piece does, for the same reason and with the
-/// same node, after the turns of the pieces before it. If the octets from the first on fail at an
-/// octet for a reason that a BYE names, the turns are the conversation over exactly the items
-/// before that octet, and that BYE as the last; the session, which was open until then, is closed.
+/// pieces the octets arrived: the whole conversation ends as its last piece does, for the same
+/// reason and with the same node, after the turns of the pieces before it. If the octets from the
+/// first on fail at an octet for a reason that a BYE names, the turns are the conversation over
+/// exactly the items before that octet, and that BYE as the last; the session, which was open until
+/// then, is closed.
 pub fn faults_end_the_stream()
     ensures ends { (run : Run Piece) (call : Call) (why : TalkFaultKind) → IsRun run
         → EndsAfter why run call
@@ -82,14 +83,14 @@ pub fn faults_end_the_stream()
         × (call.new ≡ with_session_closed last run.session) }
 {}
 
-/// Operations of other replicas may come to the node between the pieces of a session's input, and
-/// other sessions may be opened, send commands and lines, be polled and be closed: the turns of the
-/// calls of `talk` on the pieces are the conversation over the items that each piece completes,
-/// answered from the node to which the piece came. All these items are those of all octets: if the
-/// octets are these commands, lines, refused command beginnings and this rest, they are exactly
-/// these. If a fault of the framer that a BYE names ends the connection, the octets do end in that
-/// fault, and the turns are that conversation over the items before it, and the BYE as the last;
-/// the session, which was open until then, is closed.
+/// Operations of other replicas may be delivered between the pieces of a session's input, and other
+/// sessions may be opened, send commands and lines, be polled and be closed: the turns of the calls
+/// of `talk` on the pieces are the conversation over the items that each piece completes, answered
+/// from the node at which the piece arrived. All these items are those of all octets: if the octets
+/// are these commands, lines, refused command beginnings and this rest, they are exactly these. If
+/// a fault of the framer that a BYE names ends the connection, the octets do end in that fault, and
+/// the turns are that conversation over the items before it, and the BYE as the last; the session,
+/// which was open until then, is closed.
 pub fn others_come_between()
     ensures runs { (run : Run PieceAt) → IsRunBetweenOthers run
         → ConversesBetweenOthers run.old run.session

@@ -2,48 +2,50 @@
 //! replica as text.
 //!
 //! [`talk`] is a conversation with a session of a node, in turns, as a script plays it.
-//! [`converse`] is one with a mail client, over any [`Source`], [`Sink`] and [`Port`]. What callers
-//! of these need of `imap_node` is re-exported here.
+//! [`converse`] is one with a mail client, over any [`Source`], [`Sink`] and [`Port`]. The items of
+//! `imap_node` that their callers need are re-exported here.
 //!
 //! What the contracts promise:
 //!
 //! - `talk`: the turns are those of the defined conversation (`specs/Talks`), each frame at the
 //!   moment of the piece that completes it, however the octets were cut and whatever other sessions
 //!   and replicas do between the pieces (`laws`).
-//! - `converse`: the port is opened and closed, and given each command and each line of IDLE that
-//!   the octets read spell, once and in their order. What is written is the greeting, the answers
-//!   in order and the BYE of the end (`specs/Conversations`).
+//! - `converse`: the port is opened and closed, and given each command and each line of IDLE in the
+//!   octets read, once and in their order. What is written is the greeting, the answers in order
+//!   and the BYE of the end (`specs/Conversations`).
 //! - `NodePort`: over the port of a node, `converse` has the conversation that `talk` has
 //!   (`nodes_converse`, `specs/NodeTalks`).
 //! - `write_dump` writes the applied operations, each once and ascending, and the folders, messages
-//!   and subscriptions that they define as a set (`specs/Dumps`).
+//!   and subscriptions that the set of them defines (`specs/Dumps`).
 //!
 //! # Decided
 //!
 //! - A fault that follows a LOGOUT in the same piece of input is dropped with everything else after
-//!   it, as it would be if it came in a piece of its own.
+//!   it, as it would be if it arrived in a piece of its own.
 //! - `talk` returns the turns before a fault. If memory ran out there is no BYE among them, since
 //!   it could not be printed either.
-//! - `converse` holds back its answers, and writes them in one write after the last answer to a
-//!   piece of what was read, before it reads again, or once 64 KiB are held back after an item. So
-//!   a sink has no call that flushes, and nothing is held back while the client is awaited.
+//! - `converse` buffers its answers, and writes them in one write after the last answer to the
+//!   octets of a read, before it reads again, or once 64 KiB are buffered after an item. Therefore
+//!   a sink has no call that flushes, and nothing is buffered while the client is awaited.
 //! - Commands that issue nothing and answer without reading a mailbox (`is_brief`: NOOP,
-//!   CAPABILITY, NAMESPACE, ENABLE) wait until another command comes or the piece is used up, and
-//!   are then given to the port at once. If memory runs out for the answer to one of them, the
-//!   connection ends after the answers before it; those after it were carried out, each with its
-//!   entry in the journal. A command that takes longer, or issues operations, is given on its own,
-//!   so that other sessions come between any two of these.
+//!   CAPABILITY, NAMESPACE, ENABLE) wait until another command arrives or the piece is used up, and
+//!   are then given to the port together. If memory runs out for the reply to one of them, the
+//!   connection ends after the answers before it and the first complete ones of this reply; the
+//!   commands after it, which issue nothing, were carried out, each with its entry in the journal.
+//!   A command that takes longer, or issues operations, is given on its own, so that other sessions
+//!   can take turns between any two of these.
 //! - A session idles after an IDLE that was answered by a `Done`, with the tag of that command,
 //!   until the next line. `converse` tracks this itself, so that a port needn't report it.
 //! - A conversation ends in `WriteFailed` if any write failed, even the last one, after the session
 //!   is closed (`IsConversation`).
 //! - A node's port contains its others (`Others`, a type parameter): `converse` borrows its port
-//!   for the whole conversation, so whoever comes between two calls has to come through the port.
-//!   `Others::take_turn` also returns the moment of the next command. The law `nodes_converse` is a
-//!   function of that parameter, as laws on replicated values are of theirs.
-//! - A LOGOUT leaves the session open until the port is closed, and others may come in between: the
-//!   node is then the one that they left, with the session closed (`ClosesAfter`), not the one that
-//!   the conversation over items closes at once.
+//!   for the whole conversation, so whoever uses the node between two calls has to use it through
+//!   the port. `Others::take_turn` also returns the moment of the next command. The law
+//!   `nodes_converse` is a function of that parameter, as laws on replicated values are functions
+//!   of theirs.
+//! - A LOGOUT leaves the session open until the port is closed, and others may use the node in
+//!   between. The node at the end is then as they left it, with the session closed (`ClosesAfter`);
+//!   the conversation over items closes the session at once.
 #![tactic(auto)]
 
 mod answer_writer;

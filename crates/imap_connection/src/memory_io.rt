@@ -17,7 +17,7 @@ pub struct MemorySource<'a> {
 }
 
 impl<'a> MemorySource<'a> {
-    /// The octets `rest`, in pieces of at most `most` octets, and of one at least. The first
+    /// The octets `rest`, in pieces of at most `most` octets, or of one if `most` is 0. The first
     /// `reads` reads succeed, the rest fail.
     pub fn new(rest: &'a [u8], most: usize, reads: u64) -> MemorySource<'a>
         ensures rest { result.rest.now ≡ rest.now }
@@ -67,7 +67,7 @@ impl<'a> Source for MemorySource<'a> {
 }
 
 /// What was written, in memory, up to a limit: a write that would pass it fails, and so do all
-/// after it. Each write goes octet by octet.
+/// later ones. Each write appends octet by octet.
 #[derive(Drop)]
 pub struct MemorySink {
     octets: Vec<u8>,

@@ -14,7 +14,8 @@ use imap_syntax::{IdleLine, Tagged};
 use std::alloc::Global;
 use std::marker::Model;
 
-/// One session of a node; others come to the node before each of the session's calls.
+/// One session of a node; others use the node before each of the session's calls. A call that the
+/// session doesn't await is passed over: a command while it idles, or a line while it doesn't.
 #[derive(Drop)]
 pub struct NodePort<O: Others> {
     node: Node,
@@ -38,7 +39,7 @@ impl<O: Others> Model for NodePort<O> {
 
 impl<O: Others> NodePort<O> {
     /// A session that can be opened at this node once, for a user who becomes known by `auth`, and
-    /// the others who come to the node.
+    /// the others who use the node.
     pub fn new(node: Node, auth: Auth, others: O) -> NodePort<O>
         ensures { result
             ≡ record { node = node.state; auth = Some auth; session = None; others = others } }
@@ -71,13 +72,17 @@ impl<O: Others> NodePort<O> {
         Some(session)
     }
 
-    /// Gives the session, if it is open, a command after what others do at the node.
+    /// Gives the session a command if it is open and doesn't idle; others take a turn at the node
+    /// first.
     fn give_command(&mut self, alloc: Global, tagged: Tagged) -> Result<Reply, PortFault>
         ensures { NodeSteps O.takes_turn self.old (Command tagged) result self.new }
     {
         let Some(session) = self.open_session() else {
             return Err(PortFault::PassedOver);
         };
+        if self.node.is_idling(session) {
+            return Err(PortFault::PassedOver);
+        }
         let moment = self.others.take_turn(alloc, session, &mut self.node);
         Ok(self.node.command(alloc, session, moment, tagged))
     }
@@ -124,6 +129,9 @@ impl<O: Others> Port for NodePort<O> {
         let Some(session) = self.open_session() else {
             return Err(PortFault::PassedOver);
         };
+        if !self.node.is_idling(session) {
+            return Err(PortFault::PassedOver);
+        }
         let _moment = self.others.take_turn(alloc, session, &mut self.node);
         Ok(self.node.done(alloc, session, line))
     }

@@ -11,13 +11,12 @@ ghost use Rattle.imap_connection.specs.declared.end_reason.Ended.{Ended};
 
 use crate::interleaving::Others;
 
-/// What `converse` promises over the port of a node to which others come between its calls, if the
-/// conversation ends after all that the client sent, or after a LOGOUT, and the octets of the
-/// source and the sink are known. The octets read are answered by the node's own conversation
-/// (`talk`) over the items that they give, each from the node and at the moment to which it came,
-/// whatever operations of other replicas and other sessions came between. What was written is the
-/// greeting, what the turns of that conversation send, and the BYE of the end. The session is
-/// closed then.
+/// The promise of `converse` over a node's port, with others using the node between the port's
+/// calls, if the conversation ends after all that the client sent or after a LOGOUT, and the octets
+/// of source and sink are known. The node's own conversation (`talk`) answers the items that the
+/// octets read give, each item at the moment and in the state of the node at which it arrives,
+/// whatever operations other replicas and sessions add in between. The output is the greeting, what
+/// that conversation's turns send, and the final BYE. At the end the session is closed.
 pub fn nodes_converse<O: Others>()
     ensures { (old new : NodeSession O) (limits : Limits) (left rest before after : List ℕ)
         (at_end : Bool) (ended : Ended) → IsWhole ended

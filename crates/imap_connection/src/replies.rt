@@ -1,4 +1,4 @@
-//! What a node's reply says of its input.
+//! What a node's reply says about its input.
 
 ghost use Rattle.std.specs.Prelude.{◌≡◌};
 ghost use Rattle.imap_connection.specs.Replies.{is_out_of_memory};

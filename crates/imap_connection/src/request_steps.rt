@@ -15,7 +15,7 @@ ghost use Rattle.imap_connection.specs.declared.request.Request.TheVariants as r
 
 use crate::answer_writer::print_reply;
 use crate::batch::{Batch, is_brief};
-use crate::end_reason::{Ended, ended_by};
+use crate::end_reason::{Ended, end_reason_of};
 use crate::io_traits::Port;
 use crate::replies::is_out_of_memory;
 use crate::request::{Request, request_of};
@@ -156,7 +156,7 @@ fn take_command<P: Port>(
         Ok(reply) => reply,
         Err(fault) => {
             drop(tag);
-            return Err(ended_by(fault));
+            return Err(end_reason_of(fault));
         }
     };
     let Ok(()) = print_reply(alloc, text, &tag, &reply) else {
@@ -226,7 +226,7 @@ fn take_line<P: Port>(
     *idling = None;
     let reply = match port.done(alloc, line) {
         Ok(reply) => reply,
-        Err(fault) => return Err(ended_by(fault)),
+        Err(fault) => return Err(end_reason_of(fault)),
     };
     if is_out_of_memory(&reply) {
         return Err(Ended::NoMemory);

@@ -6,11 +6,10 @@ ghost use Rattle.std.specs.Option.{option_copied};
 ghost use Rattle.imap_answers.specs.declared.answer.Answer.{Answer};
 ghost use Rattle.imap_lex.specs.Framing.{cut_from};
 ghost use Rattle.imap_lex.specs.declared.fault.FrameFaultKind.{FrameFaultKind};
-ghost use Rattle.imap_node.specs.Nodes.{HasLoggedOut, IsActive};
-ghost use Rattle.imap_node.specs.Sessions.{IsOpen};
+ghost use Rattle.imap_node.specs.Nodes.{HasLoggedOut, Idles, IsActive};
 ghost use Rattle.imap_connection.specs.Conversation.{BreaksOff, Converses, StopsAt, TakesItemAt};
 ghost use Rattle.imap_connection.specs.Conversation.{turns_of_answers, item_at, items_at, turns_of};
-ghost use Rattle.imap_connection.specs.RequestSteps.{Fails, Handles};
+ghost use Rattle.imap_connection.specs.RequestSteps.{AwaitsRequest, Fails, Handles};
 ghost use Rattle.imap_connection.specs.Replies.{idling_at};
 ghost use Rattle.imap_connection.specs.Talks.{BreaksPoll, EndsTalk, IsPoll, EndsWithBye};
 ghost use Rattle.imap_connection.specs.Talks.{EndsAtRefusedLine, Talks, cut_at, bye_of};
@@ -30,12 +29,12 @@ use imap_node::{Node, Reply, SessionNo, State};
 use imap_types::{Moment, Octets};
 use std::alloc::Global;
 
-/// Takes the next octets of a connection, which came at this moment, and returns their turns: the
-/// commands and lines that came, each before the answers to it. Input after a LOGOUT that was
-/// answered OK is dropped, and the session is closed.
+/// Takes the next octets of a connection, which arrived at this moment, and returns their turns:
+/// the commands and lines that they complete, each before the answers to it. Input after a LOGOUT
+/// that was answered OK is dropped, and the session is closed.
 ///
-/// An error closes the session too, and leaves the node as it is after the whole commands so far.
-/// `Framing` says which fault of the framer ends the conversation; the turns before it are
+/// An error closes the session too, and leaves the node as it is after the complete commands so
+/// far. `Framing` says which fault of the framer ends the conversation; the turns before it are
 /// returned, with the BYE after `LineTooLong`, `LiteralTooLong` and `NulByte`. After `Framing` the
 /// framer has failed for good: each later `feed` of it fails. `LineRefused` says that a line of
 /// IDLE was refused because memory ran out; the turns before it are returned, with the line and a
@@ -88,7 +87,7 @@ pub fn poll_turns(
     node: &mut Node,
     session: SessionNo,
 ) -> Result<Vec<Turn>, TalkFault>
-    requires { IsOpen node.old.state.sessions session }
+    requires { Idles node.old.state session }
     ensures ok { IfOk result (λ turns. IsPoll node.old.state session turns.items node.new.state) }
     ensures err { IfErr result (λ fault. (fault.why ≡ kinds.NoMemory)
         × BreaksPoll node.old.state session fault.turns.items node.new.state) }
@@ -188,7 +187,7 @@ fn send_one(alloc: Global, turns: &mut Vec<Turn>, answer: Answer) -> Result<(), 
     }
 }
 
-/// Carries out a request, and adds the answers.
+/// Carries out a request that the session awaits, and adds the answers.
 fn take_request(
     alloc: Global,
     node: &mut Node,
@@ -197,7 +196,8 @@ fn take_request(
     request: Request,
     turns: &mut Vec<Turn>,
 ) -> Result<(), TalkFaultKind>
-    requires { IsActive node.old.state session }
+    requires active { IsActive node.old.state session }
+    requires awaited { AwaitsRequest node.old.state session request }
     ensures ok { OnOk result ((given : List Answer)
         × Handles node.old.state session moment request given node.new.state
         × (turns.new.items ≡ turns.old.items ++ turns_of_answers given)) }
@@ -213,7 +213,7 @@ fn take_request(
     }
 }
 
-/// Carries out a command, and adds the answers.
+/// Carries out a command of a session that doesn't idle, and adds the answers.
 fn take_command(
     alloc: Global,
     node: &mut Node,
@@ -222,7 +222,8 @@ fn take_command(
     tagged: Tagged,
     turns: &mut Vec<Turn>,
 ) -> Result<(), TalkFaultKind>
-    requires { IsActive node.old.state session }
+    requires active { IsActive node.old.state session }
+    requires awake { Idles node.old.state session → ⊥ }
     ensures ok { OnOk result ((given : List Answer)
         × Handles node.old.state session moment (CommandRequest tagged) given node.new.state
         × (turns.new.items ≡ turns.old.items ++ turns_of_answers given)) }
@@ -252,7 +253,8 @@ fn take_line(
     line: IdleLine,
     turns: &mut Vec<Turn>,
 ) -> Result<(), TalkFaultKind>
-    requires { IsActive node.old.state session }
+    requires active { IsActive node.old.state session }
+    requires idles { Idles node.old.state session }
     ensures ok { OnOk result ((given : List Answer)
         × Handles node.old.state session 0 (LineRequest tag line) given node.new.state
         × (turns.new.items ≡ turns.old.items ++ turns_of_answers given)) }

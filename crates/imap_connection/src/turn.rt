@@ -9,8 +9,8 @@ use std::alloc::AllocError;
 /// One turn of a conversation.
 #[derive(Drop)]
 pub enum Turn {
-    /// A whole command or line that came, or the beginning of a command that was refused for its
-    /// literal.
+    /// A complete command or line that arrived, or the beginning of a command that was refused for
+    /// its literal.
     Got(Octets),
     /// One answer that is sent, with its CRLF.
     Sent(Octets),

@@ -15,7 +15,8 @@ use imap_print::print;
 use imap_types::Octets;
 use std::alloc::{AllocError, Global};
 
-/// Adds what an item shows of the client; `Err`, and no change, if memory runs out.
+/// Adds the turns that show what the client sent as an item; `Err`, and no change, if memory runs
+/// out.
 pub fn show(alloc: Global, turns: &mut Vec<Turn>, item: &Item) -> Result<(), AllocError>
     ensures ok { OnOk result (turns.new.items ≡ turns.old.items ++ turns_of_item item.now) }
     ensures err { OnErr result (turns.new.items ≡ turns.old.items) }

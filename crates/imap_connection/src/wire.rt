@@ -6,7 +6,7 @@ ghost use Rattle.std.specs.Io.KnownBytes.{Appends};
 use crate::io_traits::{Sink, Source};
 use std::io::{ErrorKind, Read, Write};
 
-/// The most times that a read is tried while the device says that it was interrupted.
+/// The most tries of a read, if the device reports each time that it was interrupted.
 const MAX_READS: u32 = 1_000_000;
 
 /// A device with the count of its failures. A read or write that was interrupted is tried again,

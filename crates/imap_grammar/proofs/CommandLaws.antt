@@ -1,4 +1,4 @@
--- What follows a command's word is read as its arguments, and only its arguments are.
+-- The octets after a command's word are read as its arguments exactly if they spell arguments.
 use Rattle.std.proofs.Common.{◌≡◌, ℕ, Bool, true, false, cond, codes, eqb, List, [], ◌∷◌, Option, Some, ap, inl, inr, sym, ◌∙◌, refl, subst}
 use Rattle.std.proofs.lemmas.Bool.{eqb-true}
 use Rattle.imap_syntax.specs.Commands.{word_of, arguments, condstore_parameter, first_word, own_word, status_item, modifier, returns, selection}

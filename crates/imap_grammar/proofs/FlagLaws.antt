@@ -1,4 +1,4 @@
--- Flags: what is read is spelled so, and what is spelled so is read.
+-- Flags: the code reads exactly the texts that spell flags.
 use Rattle.std.proofs.Common.{◌≡◌, ℕ, true, false, cond, List, [], ◌∷◌, ◌++◌, Some, ap, ◌∙◌, refl, subst, arith, eqb, inl, inr}
 use Rattle.std.proofs.lemmas.Bool.{and_parts, eqb-true}
 use Rattle.std.proofs.lemmas.Bool.Decides.{nat_tests}

@@ -38,7 +38,7 @@ use Rattle.imap_grammar.proofs.Texts.{text_reads}
 use Rattle.imap_grammar.proofs.WordLaws.{NoItem, ends_item, named_at_complete, named_at_sound, word_first}
 
 -- A key's word is found among those of all keys, has only octets of words, and can't be taken for a
--- set of numbers, nor for what may come before keys.
+-- set of numbers, nor for anything that may precede keys.
 abbrev IsKeyWord : SearchKeyWord → Type 0
 IsKeyWord w =
     (named key_word key_words (key_word w) ≡ Some w)

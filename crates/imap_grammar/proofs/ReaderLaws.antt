@@ -248,7 +248,7 @@ pub optional_ends : {A : Type 0} (form : A → List ℕ → Type 0) (value : Opt
 optional_ends form None octets rest f s = subst IsWordEnd (sym (exactly_is [] octets rest f)) s
 optional_ends form (Some v) octets rest f s = sp_ends (form v) octets rest f
 
--- A key is read first, and says how the rest is read.
+-- The key that is read first determines how the rest is read.
 pub keyed_reads : {A B : Type 0} {read : List ℕ → Option (A × List ℕ)} {form : A → List ℕ → Type 0} {stops : List ℕ → Type 0} → IsReader read form stops
     → (next : A → List ℕ → Option (B × List ℕ)) (key : B → A) (form_next : B → List ℕ → Type 0) (stops_next : List ℕ → Type 0)
     → ((first : A) (octets : List ℕ) (x : B × List ℕ) → next first octets ≡ Some x → (key x.0 ≡ first) × HasPrefix (form_next x.0) octets x.1)

@@ -1,6 +1,6 @@
--- The parser's steps for whole commands, as functions that the code equals. `IsSpelled` of
--- `imap_syntax` says which frame spells which command (RFC 9051, section 9); `parse` is proved to
--- answer that.
+-- The parser's steps for whole commands, as functions with the same results as the code.
+-- `IsSpelled` of `imap_syntax` says which frame spells which command (RFC 9051, section 9); `parse`
+-- is proved to answer that.
 
 use Rattle.std.specs.Prelude.{◌≡◌, ℕ, Bool, true, false, ◌==◌, nat_lt, List, [], ◌∷◌, codes, length}
 use Rattle.std.specs.Prelude.{take, drop, Option, Some, None, Result, Err, if◌then◌else◌}
@@ -75,7 +75,7 @@ subscribe_at = map_read commands.Subscribe (spaced mailbox_at)
 abbrev pub unsubscribe_at : List ℕ → Option (Command × List ℕ)
 unsubscribe_at = map_read commands.Unsubscribe (spaced mailbox_at)
 
--- `SUBSCRIBED)` or `)`, after the opening parenthesis; whether it is SUBSCRIBED.
+-- Whether the octets after the opening parenthesis are `SUBSCRIBED)`; else they are `)`.
 abbrev pub options_inner_at : List ℕ → Option (Bool × List ℕ)
 options_inner_at [] = None
 options_inner_at (octet ∷ octets) =

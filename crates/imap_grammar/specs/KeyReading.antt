@@ -1,5 +1,5 @@
--- The parser's steps for SEARCH, as functions that the code equals. `search_keys` of `imap_syntax`
--- says which text means which keys (RFC 9051, section 6.4.4).
+-- The parser's steps for SEARCH, as functions with the same results as the code. `search_keys` of
+-- `imap_syntax` says which text means which keys (RFC 9051, section 6.4.4).
 
 use Rattle.std.specs.Prelude.{ℕ, zero, suc, Bool, ◌||◌, ◌==◌, List, [], ◌∷◌, ◌++◌, codes, length}
 use Rattle.std.specs.Prelude.{Option, Some, None, if◌then◌else◌}
@@ -22,7 +22,7 @@ use Rattle.imap_syntax.specs.declared.search.SearchStep.TheVariants.{Test, Not, 
 use Rattle.imap_syntax.specs.declared.search.SearchTest.{SearchTest}
 use Rattle.imap_syntax.specs.declared.search.SearchTest.TheVariants as tests
 
--- The test of a key that holds no other key, after its word.
+-- The test of a key that contains no other key, after its word.
 abbrev pub leaf_at : SearchKeyWord → List ℕ → Option (SearchTest × List ℕ)
 leaf_at key.All octets = Some (tests.All, octets)
 leaf_at (key.System flag is_set) octets = Some (tests.System flag is_set, octets)

@@ -1,6 +1,6 @@
--- The parser's steps, production by production, as functions that the code equals (RFC 9051,
--- section 9). Strings, Sets, Dates, MessageFlags and Items of `imap_syntax` say which text means
--- what.
+-- The parser's steps, production by production, as functions with the same results as the code (RFC
+-- 9051, section 9). Strings, Sets, Dates, MessageFlags and Items of `imap_syntax` say which text
+-- means what.
 
 use Rattle.std.specs.Prelude.{◌≡◌, ℕ, zero, suc, Bool, true, false, ◌||◌, ◌==◌, nat_lt, List, []}
 use Rattle.std.specs.Prelude.{◌∷◌, codes, length, take, drop, Option, Some, None, Result}
@@ -97,7 +97,8 @@ abbrev pub run_at : OctetClass → List ℕ → Option (List ℕ × List ℕ)
 run_at class octets =
     if is_nil (span (is_in class) octets).0 then None else Some (span (is_in class) octets)
 
--- The string up to its closing quote, without escapes; the flag says whether a `\` comes before.
+-- The string up to its closing quote, without escapes; the flag says whether a `\` is just before
+-- the octets.
 abbrev pub quoted_at : Bool → List ℕ → Option (List ℕ × List ℕ)
 quoted_at after_escape [] = None
 quoted_at true (octet ∷ octets) =

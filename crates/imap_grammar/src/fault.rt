@@ -8,7 +8,7 @@ pub enum ParseFault {
     /// The frame doesn't begin with a tag and a space.
     #[error("no tag")]
     NoTag,
-    /// The word after the tag is no command's.
+    /// The word after the tag isn't that of a command.
     #[error("unknown command")]
     UnknownCommand,
     /// The command's syntax is wrong.

@@ -240,8 +240,8 @@ fn bracketed_section(
     }
 }
 
-/// The fault if the brackets are missing: only BODY without them is a form of IMAP, which this
-/// server doesn't support.
+/// The fault if the brackets are missing. Without them only BODY is a form of IMAP, and this server
+/// doesn't support it.
 fn no_section(peek: bool) -> ParseFault
     ensures { (result ≡ BadSyntax) ⊎ (result ≡ NotInProfile) }
 {

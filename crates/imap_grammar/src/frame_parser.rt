@@ -70,7 +70,7 @@ fn parse_frame(alloc: Global, frame: &[u8]) -> Result<Tagged, ParseFault>
     Ok(Tagged { tag, command })
 }
 
-/// Splits a frame after its tag and space; `None` if it doesn't begin so.
+/// Splits a frame after its tag and space; `None` if it doesn't begin with a tag and a space.
 fn split_tag(frame: &[u8]) -> Option<(&[u8], &[u8])>
     ensures { option_map (λ x. (x.0.now, x.1.now)) result ≡ tag_at frame.now }
 {

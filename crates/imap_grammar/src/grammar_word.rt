@@ -1,4 +1,4 @@
-//! Words of the grammar, and finding them without regard to ASCII case.
+//! Words of the grammar, and searches for them that ignore ASCII case.
 
 ghost use Rattle.std.specs.Prelude.{◌≡◌};
 ghost use Rattle.imap_grammar.specs.Reading.{IsReading, named, named_at};

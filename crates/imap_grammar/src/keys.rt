@@ -232,7 +232,7 @@ fn spaced_key(
     below(alloc, levels, space(octets)?)
 }
 
-/// Reads the rest of a key that holds no other key.
+/// Reads the rest of a key that contains no other key.
 fn leaf_key(
     alloc: Global,
     word: SearchKeyWord,
@@ -340,7 +340,7 @@ fn keyword(alloc: Global, is_set: bool, octets: &[u8]) -> Result<(SearchTest, &[
     Ok((SearchTest::Keyword { keyword, is_set }, rest))
 }
 
-/// Reads the text that a message's place must hold.
+/// Reads the text that must occur in a place of a message.
 fn text_key(
     alloc: Global,
     place: TextPlace,

@@ -8,7 +8,7 @@
 //! frame ends IDLE. A fault changes nothing.
 //!
 //! A module reads the arguments of one command or one kind of value: each function takes octets,
-//! and gives a value and the rest or a fault. Its contract equals it to a reading function of
+//! and gives a value and the rest or a fault. Its contract equates it with a reading function of
 //! specs/, and proofs/ shows that these functions and the definitions of `imap_syntax` agree both
 //! ways.
 //!

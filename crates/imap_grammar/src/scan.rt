@@ -23,7 +23,7 @@ pub fn span(class: OctetClass, octets: &[u8]) -> (&[u8], &[u8])
     octets.split_at(len)
 }
 
-/// As `span`, but the prefix must not be empty.
+/// Does what `span` does, but the prefix must not be empty.
 pub fn run(class: OctetClass, octets: &[u8]) -> Result<(&[u8], &[u8]), ParseFault>
     ensures { IsReading (λ x. (x.0.now, x.1.now)) result (run_at class octets.now) }
 {

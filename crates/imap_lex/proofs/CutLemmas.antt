@@ -22,7 +22,7 @@ cut_of-append limits state (x ∷ xs) ys =
     ap (with_items n.0) (cut_of-append limits n.1 xs ys)
     ∙ with_items-with_items n.0 (cut_from limits n.1 xs).0 (cut_from limits (cut_from limits n.1 xs).1 ys)
 
--- Nothing comes after a fault.
+-- Nothing follows a fault.
 pub cut_of-fault : (limits : Limits) (why : FrameFaultKind) (xs : List ℕ) → cut_from limits (Err why) xs ≡ ([], Err why)
 cut_of-fault limits why [] = refl
 cut_of-fault limits why (x ∷ xs) = ap (with_items []) (cut_of-fault limits why xs)
@@ -91,7 +91,7 @@ faults_at limits p octet octets why items cut e f =
     in
     fault_by why items cut (octet_fault limits p octet why e) (sym f ∙ ap (with_items items) g ∙ ap (λ all. (all, Err why)) (append-nil items))
 
--- What is left of a piece if its next octet makes a fault.
+-- The rest of a piece if its next octet makes a fault.
 pub stops_at : (limits : Limits) (p : FrameProgress) (i : ℕ) (piece : List ℕ) (why : FrameFaultKind) (items : List Item) (cut : Cut) → i < length piece → (why ≡ NoMemory) ⊎ (after_octet limits p (get_or piece i 0) ≡ Err why) → with_items items (cut_from limits (Ok p) (drop i piece)) ≡ cut → Faults why items cut
 stops_at limits p i piece why items cut h fails e =
     elim fails [

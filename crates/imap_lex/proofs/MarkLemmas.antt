@@ -12,7 +12,7 @@ pub grows : (n : ℕ) (ds : List ℕ) → n ≤ value_of n ds
 grows n [] = omega arith
 grows n (d ∷ ds) = omega (arith, grows (n * 10 + (d - 48)) ds)
 
--- If 64 bits can't hold the number of the first digits, they can't hold that of all.
+-- If the number of the first digits doesn't fit in 64 bits, that of all digits doesn't either.
 pub too_large : (n i v : ℕ) (ds : List ℕ) → i < length ds → (n * 10 + (get_or ds i 0 - 48) < 2 ^ 64 → ⊥) → value_of n (drop i ds) ≡ v → v < 2 ^ 64 → ⊥
 too_large n i v ds h wide e small =
     let step : value_of n (drop i ds) ≡ value_of (n * 10 + (get_or ds i 0 - 48)) (drop (i + 1) ds) = at_drop_more (value_of n) ds i 0 h in
@@ -106,7 +106,7 @@ brace_mark_digits [] n plus h = absurd (h.not_empty refl)
 brace_mark_digits (d ∷ ds) n plus h =
     brace_mark_of (d ∷ ds ++ closing plus) (d ∷ ds) n plus refl (digits_before_closing (d ∷ ds) plus h.are_digits) (ne_eqb (length (d ∷ ds)) 0 (λ e. omega arith)) h.value
 
--- No brace comes after the brace of a mark.
+-- No brace follows the brace of a mark.
 has_brace : List ℕ → Bool
 has_brace [] = false
 has_brace (b ∷ bs) = eqb b 123 || has_brace bs

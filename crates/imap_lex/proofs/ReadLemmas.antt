@@ -38,8 +38,8 @@ pub record HasRead (limits : Limits) (stream : List ℕ) (items : List Item) (p 
 flat_map-push : {X A : Type 0} (f : X → List A) (xs : List X) (x : X) → flat_map f (xs ++ x ∷ []) ++ [] ≡ flat_map f xs ++ f x
 flat_map-push f xs x = append-nil (flat_map f (xs ++ x ∷ [])) ∙ flat_map-append f xs (x ∷ []) ∙ ap (λ t. flat_map f xs ++ t) (append-nil (f x))
 
--- The effect of an octet on a rest: the rest continues, a command or a refused beginning is
--- complete, or there is a fault.
+-- The effect of an octet on a rest: the rest continues, a command or a refused prefix is complete,
+-- or there is a fault.
 pub data Change (limits : Limits) (rest : List ℕ) (items : List Item) (p : FrameProgress) (octet : ℕ) : Type 0 where
   longer : (item : Option Item) (q : FrameProgress) → after_octet limits p octet ≡ Ok (item, q) → HasProgress limits (rest ++ octet ∷ []) (items ++ option_to_list item) q → Change limits rest items p octet
   finished : (item : Item) → after_octet limits p octet ≡ Ok (Some item, start) → IsFrame limits (rest ++ octet ∷ []) (items ++ item ∷ []) ⊎ IsRefusedFront limits (rest ++ octet ∷ []) (items ++ item ∷ []) → Change limits rest items p octet
@@ -80,7 +80,7 @@ taken_part limits parts part h is_part fits nul =
       no_nul = subst HasNoNul text (no_nul_both (octets_of parts ++ part.line) part.literal h.no_nul nul);
     }
 
--- After a line with a mark comes an open literal, or an open line if the literal is complete.
+-- A line with a mark is followed by an open literal, or by an open line if the literal is complete.
 literal_progress : (limits : Limits) (parts : List Part) (line : List ℕ) (n : ℕ) (plus : Bool) (literal rest : List ℕ) (items : List Item) → AreWithinLimits limits parts line → IsLine line → IsMarked n plus line → announced_octets parts + n ≤ limits.literals → length literal ≤ n → HasNoNul literal → rest ≡ octets_of parts ++ (line ++ literal) → items ≡ readies parts ++ ready plus → HasProgress limits rest items (at_literal parts line n literal)
 literal_progress limits parts line n plus literal rest items taken ends mark fits l nul e f =
     elim (cases_lt (length literal) n) [

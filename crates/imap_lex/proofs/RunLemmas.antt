@@ -55,7 +55,7 @@ run_literal limits parts line n literal (b ∷ bs) whole e l nul =
     run_step limits (at_literal parts line n literal) b bs (quietly (at_literal parts line n (literal ++ b ∷ []))) (step_literal limits parts line n literal b nul.0 (omega arith))
     ∙ ap (with_items []) (run_literal limits parts line n (literal ++ b ∷ []) bs whole (e ∙ sym (append_assoc literal (b ∷ []) bs)) l nul.1)
 
--- A line with a mark, and the beginning of its literal.
+-- A line with a mark, and a prefix of its literal.
 pub run_marked : (limits : Limits) (parts : List Part) (line : List ℕ) (n : ℕ) (plus : Bool) (literal : List ℕ) → IsLine line → IsMarked n plus line → HasNoNul line → HasNoNul literal → octets_outside parts + length line ≤ limits.line → announced_octets parts + n ≤ limits.literals → length literal ≤ n → cut_from limits (Ok (at_line parts [])) (line ++ literal) ≡ (ready plus, Ok (at_literal parts line n literal))
 run_marked limits parts line n plus literal h m nul nul' l k short =
     let front : cut_from limits (Ok (at_line parts [])) line ≡ (option_to_list (ready_item plus), Ok (at_literal parts line n [])) =
@@ -84,7 +84,7 @@ run_parts limits done (part ∷ parts) h nul l k =
     ∙ ap (with_items (ready part.plus)) (run_parts limits (done ++ part ∷ []) parts h.1 p.1 (omega arith) (omega arith))
     ∙ ap (λ ps. (readies (part ∷ parts), Ok (at_line ps []))) (append_assoc done (part ∷ []) parts)
 
--- The parts of a command, and what comes after them.
+-- The parts of a command, and the octets after them.
 pub run_front : (limits : Limits) (parts : List Part) (line after : List ℕ) → AreWithinLimits limits parts line → cut_from limits (Ok start) (octets_of parts ++ after) ≡ with_items (readies parts) (cut_from limits (Ok (at_line parts [])) after)
 run_front limits parts line after h =
     let p = no_nul_parts (octets_of parts) line h.no_nul in

@@ -15,8 +15,8 @@ use Rattle.imap_lex.specs.Marks.{crlf, IsMarked, IsUnmarked}
 abbrev pub HasNoCrlf : List ℕ → Type 0
 HasNoCrlf text = (front back : List ℕ) → text ≢ front ++ 13 ∷ 10 ∷ back
 
--- A line: it ends with CRLF, and has no CRLF before its end. So it is the shortest beginning of a
--- text that ends so.
+-- A line: it ends with CRLF, and has no CRLF before its end. It is thus the shortest prefix of a
+-- text that ends with CRLF.
 pub record IsLine (text : List ℕ) : Type 0 where
   pub inside : List ℕ
   pub ends : text ≡ inside ++ crlf
@@ -82,7 +82,7 @@ pub record IsFrame (limits : Limits) (text : List ℕ) (items : List Item) : Typ
   pub text_is : text ≡ octets_of parts ++ line
   pub items_are : items ≡ readies parts ++ Frame text ∷ []
 
--- The beginning of a command, whose last mark `{n}` announces more than the limit leaves.
+-- A refused prefix of a command: its last mark `{n}` announces more than the limit leaves.
 pub record IsRefusedFront (limits : Limits) (text : List ℕ) (items : List Item) : Type 0 where
   pub parts : List Part
   pub line : List ℕ
@@ -119,17 +119,17 @@ pub record IsOpenLiteral (limits : Limits) (text : List ℕ) (items : List Item)
   pub text_is : text ≡ octets_of parts ++ (line ++ literal)
   pub items_are : items ≡ readies parts ++ ready plus
 
--- What a stream has after its last whole command, and the items that this gives so far.
+-- The rest of a stream after its last whole command, and the items that this rest gives so far.
 abbrev pub IsRest : Limits → List ℕ → List Item → Type 0
 IsRest limits text items = IsOpenLine limits text items ⊎ IsOpenLiteral limits text items
 
--- Commands and refused beginnings of commands, each with the items that it gives.
+-- Commands and refused prefixes of commands, each with the items that it gives.
 abbrev pub AreCommands : Limits → List (List ℕ × List Item) → Type 0
 AreCommands limits [] = Unit {0}
 AreCommands limits (c ∷ cs) =
     (IsFrame limits c.0 c.1 ⊎ IsRefusedFront limits c.0 c.1) × AreCommands limits cs
 
--- The stream is made of commands and refused beginnings, one after another, and a rest that is less
+-- The stream is made of commands and refused prefixes, one after another, and a rest that is less
 -- than a command; these are the items that they give.
 pub record AreFrames (limits : Limits) (stream : List ℕ) (items : List Item) (rest : List ℕ) :
     Type 0 where

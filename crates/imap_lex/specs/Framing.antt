@@ -109,7 +109,7 @@ abbrev pub cut_of_stream : Outcome → Cut
 cut_of_stream (Ok both) = (option_to_list both.0, Ok both.1)
 cut_of_stream (Err why) = ([], Err why)
 
--- The cut of one further octet; nothing comes after a fault.
+-- The cut of one further octet; nothing follows a fault.
 abbrev pub after_octet_of : Limits → Result FrameProgress FrameFaultKind → ℕ → Cut
 after_octet_of limits (Ok p) octet = cut_of_stream (after_octet limits p octet)
 after_octet_of limits (Err why) octet = ([], Err why)
@@ -135,7 +135,7 @@ state_of (Some why) p = Err why
 abbrev pub IsPrefix : List Item → List Item → Type 0
 IsPrefix front items = (back : List Item) × (items ≡ front ++ back)
 
--- A fault of this cut comes after these items; if memory runs out, these are the first items of the
+-- A fault of this cut follows these items; if memory runs out, these are the first items of the
 -- cut.
 abbrev pub Faults : FrameFaultKind → List Item → Cut → Type 0
 Faults NoMemory items cut = IsPrefix items cut.0

@@ -26,8 +26,8 @@ mark_of_number n (Some plus) = Some (n, plus)
 abbrev pub digits_at : List ℕ → ℕ
 digits_at text = prefix_len is_ascii_digit text
 
--- The mark whose opening brace comes just before this text: the octets that it announces, and
--- whether it is `{n+}`.
+-- The mark whose opening brace is just before this text: the octets that it announces, and whether
+-- it is `{n+}`.
 abbrev pub brace_mark : List ℕ → Option (ℕ × Bool)
 brace_mark text =
     if digits_at text == 0 then None
@@ -46,18 +46,18 @@ line_mark [] = None
 line_mark (octet ∷ octets) =
     if octet == 123 then or_else (brace_mark octets) (line_mark octets) else line_mark octets
 
--- The mark as the program represents it: a number that 64 bits can't hold is above any limit.
+-- The mark as the program represents it: a number that doesn't fit in 64 bits is above any limit.
 abbrev pub fit_to_limit : Option (ℕ × Bool) → Option Mark
 fit_to_limit None = None
 fit_to_limit (Some mark) =
     Some (record { octets = if nat_lt mark.0 (2 ^ 64) then Some mark.0 else None; plus = mark.1 })
 
--- What the end of a line with this mark means, if literals may have `room` further octets.
+-- The effect of the end of a line with this mark, if literals may have `room` further octets.
 abbrev pub line_effect_by : Option (ℕ × Bool) → ℕ → LineEffect
 line_effect_by None room = Whole
 line_effect_by (Some mark) room =
     if nat_le mark.0 room then Literal mark.0 mark.1 else TooLong mark.1
 
--- What the end of this line means.
+-- The effect of the end of this line, in the same way.
 abbrev pub line_effect_of : List ℕ → ℕ → LineEffect
 line_effect_of line room = line_effect_by (line_mark line) room

@@ -27,7 +27,7 @@ pub enum FrameFaultKind {
     Failed,
 }
 
-/// A fault, and the items that came before it in the same piece of input.
+/// A fault, and the items before it in the same piece of input.
 #[derive(Drop, Debug)]
 pub struct FrameFault {
     /// The items before the fault. With `NoMemory`, the first items that the piece completes,

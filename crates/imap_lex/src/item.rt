@@ -4,7 +4,7 @@ ghost use Rattle.std.specs.Prelude.{◌≡◌};
 
 use std::marker::Model;
 
-/// The octets of a command, or of the refused beginning of one: its lines with their CRLFs, and its
+/// The octets of a command, or of a refused prefix of one: its lines with their CRLFs, and its
 /// literals.
 #[derive(Drop, Debug)]
 pub struct Frame {
@@ -43,14 +43,14 @@ impl Frame {
     }
 }
 
-/// What a stream of commands gives, one after another.
+/// The items that a stream of commands gives, one after another.
 #[derive(Drop, Debug)]
 pub enum Item {
     /// The client waits after a mark `{n}`: `+ ready` is to be sent (RFC 9051, section 4.3).
     Ready,
     /// A whole command.
     Frame(Frame),
-    /// A literal `{n}` would pass the limit: the command up to the mark and its CRLF. It is
-    /// dropped, and the next command begins after it.
+    /// The command up to a mark `{n}` and its CRLF, if the literal would pass the limit. This part
+    /// is dropped, and the next command begins after it.
     Refused(Frame),
 }

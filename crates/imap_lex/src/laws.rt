@@ -1,5 +1,5 @@
-//! What the framer's reading means: laws about `specs/Frames.antt` and `specs/Framing.antt`, each
-//! the contract of an empty function.
+//! Laws about `specs/Frames.antt` and `specs/Framing.antt`: the meaning of the framer's reading.
+//! Each is the contract of an empty function.
 
 ghost use Rattle.std.specs.Prelude.{◌≡◌, ℕ, List, Ok, Err};
 ghost use Rattle.imap_lex.specs.declared.fault.FrameFaultKind.{FrameFaultKind};

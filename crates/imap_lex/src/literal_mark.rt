@@ -7,7 +7,7 @@ ghost use Rattle.imap_lex.specs.Marks.{value_of};
 ghost use Rattle.imap_lex.specs.MarkReading.{closing_at, fit_to_limit, brace_mark, line_mark};
 ghost use Rattle.imap_lex.specs.MarkReading.{line_effect_of};
 
-/// What the end of a line means.
+/// The effect of the end of a line.
 #[derive(Clone, Copy)]
 pub(crate) enum LineEffect {
     /// The line has no mark: the command is complete.
@@ -26,7 +26,7 @@ struct Mark {
     plus: bool,
 }
 
-/// What the end of this line means, if literals may have `room` further octets.
+/// The effect of the end of this line, if literals may have `room` further octets.
 pub(crate) fn read_line_effect(line: &[u8], room: usize) -> LineEffect
     ensures { result ≡ line_effect_of line.now room }
 {
@@ -63,7 +63,7 @@ fn read_mark(line: &[u8]) -> Option<Mark>
     None
 }
 
-/// The mark whose opening brace comes just before this text.
+/// The mark whose opening brace is just before this text.
 fn read_brace_mark(text: &[u8]) -> Option<Mark>
     ensures { result ≡ fit_to_limit (brace_mark text.now) }
 {

@@ -89,8 +89,7 @@ impl FrameProgress {
         limits.line.saturating_sub(self.outside)
     }
 
-    /// Takes octets inside a line, all at once. After an `Err` the progress
-    /// can't be used.
+    /// Takes octets inside a line, all at once. After an `Err` the progress can't be used.
     pub(crate) fn take_inside(&mut self, octets: &[u8]) -> Result<(), FrameFaultKind>
         requires { self.old.outside + length octets.now < 2 ^ 64 }
         ensures ok { OnOk result (self.new ≡ with_octets self.old octets.now) }

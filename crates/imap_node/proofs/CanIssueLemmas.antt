@@ -61,7 +61,7 @@ use Rattle.uid_projection.specs.Applied.{IsApplied}
 use Rattle.uid_projection.specs.Incarnations.{folder_exists, uidvalidity_of}
 use Rattle.uid_projection.specs.Listing.{listing}
 use Rattle.uid_projection.proofs.SortedRowLemmas.{row_in}
-use Rattle.uid_projection.proofs.ListingLaws.{keywords_lawful, names_applied}
+use Rattle.uid_projection.proofs.ListingLemmas.{keywords_lawful, ids_applied}
 use Rattle.uid_projection.proofs.Versions.{version_in}
 use Rattle.crdt_ops.specs.Ops.{id_of}
 
@@ -149,11 +149,11 @@ listed_in ops folder i h =
       | inr t ↦ added_in ops (MessageTag folder i) i (λ op a. sym (adds_own (MessageTag folder i) op a)) t
     ]
 
--- the clock of the operations applied covers what a Delete lists
+-- the clock of the operations applied covers the ids that a Delete lists
 delete_covered : (ops : List Op) (folder : List ℕ) (clock : List (ℕ × ℕ)) → IsClockOf id_of ops clock → AreCovered clock (delete_set_of ops folder)
 delete_covered ops folder clock counts = covered_from clock (delete_set_of ops folder) (λ i h. (counts i).1 (listed_in ops folder i h))
 
--- the clock covers what an Unsubscribe lists, too
+-- the clock covers the ids that an Unsubscribe lists, too
 tag_in : (ops : List Op) (name : List ℕ) (i : OpId) → IsIn i (subscription_tags_of ops name) → HasId id_of ops i
 tag_in ops name i h =
     let l = (in_order_lists {order = id_order} id_order_total id_order_same (filter_map (subscription_id name) (present_tags ops))).1 i in
@@ -190,7 +190,7 @@ ok_is intended given e = cc
 pub not_ok : {X : Type 0} (why : Refusal) (given : List Kind) → ◌≡◌ {A = Result (List Kind) Refusal} (Err why) (Ok given) → X
 not_ok why given e = absurd cc
 
--- a kind that is issued if a test holds
+-- if a kind is issued, the test before it is true
 pub then_ok : (test : Bool) (outcome : Result (List Kind) Refusal) (why : Refusal) (given : List Kind) → (if test then outcome else Err why) ≡ Ok given → (test ≡ true) × (outcome ≡ Ok given)
 then_ok true outcome why given e = (refl, e)
 then_ok false outcome why given e = not_ok why given e
@@ -264,7 +264,7 @@ module _ (start : Counters) (ops : List Op) (a : IsApplied ops) where
 
     ids_of_row : (row : ListedMessage) → IsIn row (rows_for start ops view)
         → ((id : OpId) → IsIn id row.versions → HasId id_of ops id) × HasId id_of ops row.origin × (1 ≤ length row.versions)
-    ids_of_row row i = names_applied start view.name ops row a (view_row view row i)
+    ids_of_row row i = ids_applied start view.name ops row a (view_row view row i)
 
     versions_covered : (clock : List (ℕ × ℕ)) → IsClockOf id_of ops clock → (row : ListedMessage) → IsIn row (rows_for start ops view) → (old_ids : List OpId) → old_ids ≡ row.versions → AreCovered clock old_ids
     versions_covered clock counts row i old_ids e = subst (AreCovered clock) (sym e) (covered_from clock row.versions (λ id h. (counts id).1 ((ids_of_row row i).0 id h)))
@@ -342,7 +342,7 @@ can_issue_none_if : (ops : List Op) (test : Bool) (why : Refusal) (given : List 
 can_issue_none_if ops test why given e = can_issue_none ops given (then_ok test (Ok []) why given e).1
 
 module _ (start : Counters) (ops : List Op) (a : IsApplied ops) (stamp : List ℕ) (state : State) where
-  -- what a command issues may be issued
+  -- the kinds that a command issues may be issued
   pub can_issue_intent : (command : Command) (given : List Kind) → command_intent start ops stamp state command ≡ Ok given → CanIssueAll ops given
   can_issue_intent commands.Capability given e = can_issue_none ops given e
   can_issue_intent commands.Noop given e = can_issue_none ops given e

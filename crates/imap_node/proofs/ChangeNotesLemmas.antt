@@ -94,7 +94,7 @@ names_in start before ops name ahead now uidnext notes a is u n names v uid =
           ]
     ]
 
--- one further UID
+-- after a note of one further new UID, each UID is noted or still to be noted
 pub new_noted : (notes : List Note) (first at uid : ℕ) → (is_noted notes uid ≡ true) ⊎ ((at ≤ uid) × (uid < first)) → (is_noted (notes ++ New at ∷ []) uid ≡ true) ⊎ ((at + 1 ≤ uid) × (uid < first))
 new_noted notes first at uid h =
     elim h [
@@ -144,7 +144,8 @@ all_change_notes start before ops folders a all each name v uid =
       ]) v)))
     ]
 
--- one further operation, whose mailbox is listed
+-- after one further operation, whose mailbox is listed, each operation's mailbox is listed or the
+-- operation is still to be treated
 pub rest_named : (old new : List MailboxNotes) (ops : List Op) (i : ℕ) (o : Op) → i < length ops → o ≡ get_or ops i o → ((n : List ℕ) → is_named old n ≡ true → is_named new n ≡ true) → is_named new (name_of o.kind) ≡ true
     → ((p : Op) → IsIn p ops → (is_named old (name_of p.kind) ≡ true) ⊎ IsIn p (drop i ops)) → (p : Op) → IsIn p ops → (is_named new (name_of p.kind) ≡ true) ⊎ IsIn p (drop (i + 1) ops)
 rest_named old new ops i o l e still_named own rest p q =

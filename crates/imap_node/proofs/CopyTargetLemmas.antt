@@ -51,11 +51,11 @@ abbrev pub appends_to : List ℕ → Kind → Bool
 appends_to folder (kinds.Append name flags date text) = bytes_eq folder name
 appends_to folder _ = false
 
--- these are ids of operations that came earlier
+-- each of the ids is that of an operation in `before`
 abbrev pub HasAll : List Op → List OpId → Type 0
 HasAll before ids = (i : OpId) → IsIn i ids → Has before i
 
--- an operation appends a message, or expunges one that came earlier
+-- an operation appends a message, or expunges versions with ids of operations in `before`
 abbrev pub IsCopying : List Op → Kind → Type 0
 IsCopying before (kinds.Append name flags date text) = Unit {0}
 IsCopying before (kinds.Expunge name old_ids) = HasAll before old_ids
@@ -96,7 +96,7 @@ or_parts : (a b : Bool) → (a || b) ≡ true → (a ≡ true) ⊎ (b ≡ true)
 or_parts true b h = inl refl
 or_parts false b h = inr h
 
--- a message tag that is removed with these bears one of their ids
+-- a message tag that an Expunge of these ids removes has one of them
 removed_in : (folder name : List ℕ) (i : OpId) (old_ids : List OpId) → list_any (same_tag (MessageTag folder i)) (map (MessageTag name) old_ids) ≡ true → IsIn i old_ids
 removed_in folder name i [] h = absurd (false≢true h)
 removed_in folder name i (old ∷ old_ids) h =
@@ -131,7 +131,7 @@ more_counted test (x ∷ xs) ys =
 
 -- ---- ascending lists
 
--- the keys ascend strictly, the first of them from this number on
+-- the keys ascend strictly, and the first is at least `low`
 abbrev Rises : {X : Type 0} → (X → ℕ) → ℕ → List X → Type 0
 Rises key low [] = Unit {0}
 Rises key low (x ∷ xs) = (low ≤ key x) × Rises key (key x + 1) xs
@@ -144,7 +144,7 @@ rises_end : {X : Type 0} (key : X → ℕ) (low : ℕ) (y : X) (xs : List X) →
 rises_end key low y [] l b h = (l, tt)
 rises_end key low y (x ∷ xs) l b h = let k : key x < key y = b x (inl refl) in (h.0, rises_end key (key x + 1) y xs (omega (arith, k)) (λ z i. b z (inr i)) h.1)
 
--- other keys that are the same ascend too
+-- keys that equal ascending ones ascend too
 rises_same : {X : Type 0} (f g : X → ℕ) (low : ℕ) (xs : List X) → ((x : X) → IsIn x xs → f x ≡ g x) → Rises f low xs → Rises g low xs
 rises_same f g low [] e h = tt
 rises_same f g low (x ∷ xs) e h =
@@ -177,7 +177,7 @@ first_same key x y xs ys g h i j =
 in_tail : {X : Type 0} (key : X → ℕ) (x y : X) (ys : List X) → IsIn x (y ∷ ys) → key y < key x → IsIn x ys
 in_tail key x y ys i l = elim i [ inl e ↦ let same : key y ≡ key x = ap key e in absurd (omega (arith, same, l)) | inr t ↦ t ]
 
--- two ascending lists with the same elements are one
+-- two ascending lists with the same elements are equal
 same_rising : {X : Type 0} (key : X → ℕ) (low high : ℕ) (xs ys : List X) → Rises key low xs → Rises key high ys → ((z : X) → IsIn z xs ↔ IsIn z ys) → xs ≡ ys
 same_rising key low high [] [] g h e = refl
 same_rising key low high [] (y ∷ ys) g h e = absurd ((e y).1 (inl refl))
@@ -233,12 +233,12 @@ same_some : (i j : OpId) → ◌≡◌ {A = Option OpId} (Some i) (Some j) → i
 same_some i j h = cc
 
 module _ (start : Counters) (folder : List ℕ) (before : List Op) (first : ℕ) where
-  -- the message of this origin exists, with a UID from `first` on
+  -- the message of this origin exists, with a UID of at least `first`
   abbrev IsAdded : List Op → OpId → Type 0
   IsAdded ops g = (has_version folder g ops ≡ true) × (first ≤ uid_of start folder ops g)
 
-  -- these messages have UIDs from `first` on, in this order, and none of their versions came
-  -- earlier
+  -- these are the messages with UIDs from `first` on, in this order, and none of their versions has
+  -- the id of an operation in `before`
   pub record AreAdded (ops : List Op) (origins : List OpId) : Type 0 where
     rises : Rises (uid_of start folder ops) first origins
     are : (g : OpId) → IsIn g origins ↔ IsAdded ops g
@@ -252,7 +252,7 @@ module _ (start : Counters) (folder : List ℕ) (before : List Op) (first : ℕ)
     fresh : Has ops o.id → ⊥
     fresh = (a.causal ops o [] refl).1
 
-    -- a message none of whose versions is removed stays, with its UID
+    -- a message stays, with its UID, if none of its versions is removed
     remains_added : (g : OpId) → ((i : OpId) → IsVersion ops folder g i → first ≤ uid_of start folder ops g → removes (MessageTag folder i) o ≡ false) → IsAdded ops g → IsAdded (ops ++ o ∷ []) g
     remains_added g stays w =
         let v = (version_in folder ops g).0 w.0 in (
@@ -263,7 +263,7 @@ module _ (start : Counters) (folder : List ℕ) (before : List Op) (first : ℕ)
     added_before : (g : OpId) → has_version folder g ops ≡ true → IsAdded (ops ++ o ∷ []) g → IsAdded ops g
     added_before g b w = (b, subst (λ (k : ℕ). first ≤ k) (uid_stays g b) w.1)
 
-    -- a version after the operation didn't come earlier
+    -- after the operation too, no version of these messages has the id of an operation in `before`
     new_still : ((g i : OpId) → IsVersion ops folder g i → first ≤ uid_of start folder ops g → Has before i → ⊥)
         → (g i : OpId) → IsVersion (ops ++ o ∷ []) folder g i → first ≤ uid_of start folder (ops ++ o ∷ []) g → Has before i → ⊥
     new_still new g i v from had =
@@ -378,7 +378,7 @@ module _ (start : Counters) (folder : List ℕ) (before : List Op) (first : ℕ)
 abbrev uid_in : ListedMessage → ℕ
 uid_in row = row.uid
 
--- the rows beyond a UID ascend
+-- the rows above a UID ascend
 beyond_rises : (low least : ℕ) (rows : List ListedMessage) → AreRisingRows least rows → Rises uid_in least (rows_after_uid low rows)
 beyond_rises low least [] h = tt
 beyond_rises low least (row ∷ rows) h =
@@ -403,7 +403,7 @@ is_over first n l h = elim (cases_Bool (nat_lt (first - 1) n)) [ inl t ↦ t | i
 from_over : (first n : ℕ) → 1 ≤ first → nat_lt (first - 1) n ≡ true → first ≤ n
 from_over first n l h = grind (arith, nat_tests)
 
--- the rows beyond a UID are those of the messages
+-- the rows above a UID are those of the added messages
 added_beyond : (start : Counters) (folder : List ℕ) (before ops : List Op) (first : ℕ) (origins : List OpId) (row : ListedMessage) → 1 ≤ first → ((g : OpId) → IsIn g origins ↔ IsAdded start folder before first ops g)
     → IsIn row (rows_after_uid (first - 1) (listing start folder ops)) ↔ IsIn row (map (listed_message_of start folder ops) origins)
 added_beyond start folder before ops first origins row least are =
@@ -433,7 +433,7 @@ rows_are_added start folder before issued least a r t c =
     same_rising uid_in 1 first (rows_after_uid (first - 1) (listing start folder ops)) (map (listed_message_of start folder ops) origins) (beyond_rises (first - 1) 1 (listing start folder ops) r) (listed_rises start folder ops first origins l.rises)
     (λ row. added_beyond start folder before ops first origins row least l.are)
 
--- so their numbers are equal
+-- so there are as many such rows as Appends
 rows_added : (start : Counters) (folder : List ℕ) (before issued : List Op) → 1 ≤ uidnext_of start folder before → IsApplied (before ++ issued) → AreRisingRows 1 (listing start folder (before ++ issued)) → folder_exists folder before ≡ true
     → ((o : Op) → IsIn o issued → IsCopying before o.kind)
     → length (rows_after_uid (uidnext_of start folder before - 1) (listing start folder (before ++ issued))) ≡ length (filter (λ (o : Op). appends_to folder o.kind) issued)

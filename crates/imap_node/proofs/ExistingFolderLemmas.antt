@@ -61,7 +61,7 @@ pub mapped_in : (ops : List Op) (o : Op) → IsIn o ops → IsIn o.kind (map (λ
 mapped_in [] o i = absurd i
 mapped_in (x ∷ ops) o i = elim i [ inl e ↦ inl (ap (λ (x : Op). x.kind) e) | inr t ↦ inr (mapped_in ops o t) ]
 
--- kinds that delete nothing leave the folder in existence
+-- a folder still exists after operations whose kinds delete nothing
 pub folder_still_exists : (name : List ℕ) (before issued : List Op) (intended : List Kind) → IsApplied (before ++ issued) → map (λ (o : Op). o.kind) issued ≡ intended → ((kind : Kind) → IsIn kind intended → IsNoDelete kind)
     → folder_exists name before ≡ true → folder_exists name (before ++ issued) ≡ true
 folder_still_exists name before issued intended a e k t = exists_append name issued before a (λ o i. k o.kind (subst (IsIn o.kind) e (mapped_in issued o i))) t

@@ -1,5 +1,5 @@
--- What a view shows first of a mailbox is an initial part of its listing, and the whole listing if
--- it has as many messages.
+-- The first messages that a view shows of a mailbox are a prefix of its listing, and the whole
+-- listing if there are as many of them.
 use Rattle.std.specs.List.{list_any}
 use Rattle.std.proofs.Common.{◌≡◌, inr, inl, ℕ, zero, suc, ◌+◌, ◌-◌, ◌<◌, ◌≤◌, Bool, true, false, ◌||◌, List, [], ◌∷◌, ◌++◌, length, take, drop, Some, refl, sym, ap, ◌∙◌, subst, arith}
 use Rattle.std.specs.Prelude.{nat_lt}
@@ -27,7 +27,7 @@ use Rattle.session_view.specs.declared.view_entry.ViewEntry.{ViewEntry}
 use Rattle.uid_projection.specs.declared.first_numbers.Counters.{Counters}
 use Rattle.imap_node.proofs.SessionChangeLemmas.{same_view}
 
--- ---- an initial part of a listing
+-- ---- prefixes of a listing
 
 all_beyond : (uid low : ℕ) (rows : List ListedMessage) → uid < low → AreRisingRows low rows → rows_after_uid uid rows ≡ rows
 all_beyond uid low [] l h = refl
@@ -109,6 +109,6 @@ all_is_shown start ops rows was now read_only front r e n first l = λ view q ui
     let here : flags_at uid now.entries ≡ flags_at uid (entries_of (rows_for start ops now)) = ap (flags_at uid) whole ∙ ap (λ (rs : List ListedMessage). flags_at uid (entries_of rs)) same in
     subst (λ (v : ViewState). flags_at uid v.entries ≡ flags_at uid (entries_of (rows_for start ops v))) (same_view now view q) here
 
--- what it shows needs no notes
+-- a state that shows its whole mailbox needs no notes
 pub shown_noted : (start : Counters) (ops : List Op) (state : State) (all : Bool) (pending : Pending) (view : ViewState) → ShowsAll start ops state all → all ≡ true → view_of state ≡ Some view → IsNotedFor start ops pending view
 shown_noted start ops state all pending view h t q = inr (λ uid. inl (h t view q uid))

@@ -18,7 +18,7 @@ use Rattle.imap_node.proofs.NextLemmas.{can_by, next_applied, next_issued, next_
 use Rattle.uid_projection.specs.Applied.{IsApplied}
 use Rattle.crdt_ops.specs.Ops.{id_of}
 
--- what may be issued and comes next is sound
+-- an operation that may be issued and comes next is sound
 next_sound : (replica : ℕ) (applied front : List Op) (op : Op) (counts : List (ℕ × ℕ)) → IsClockOf id_of applied counts → CanIssue applied op.kind → IsNext replica (applied ++ front) op → IsSound op
 next_sound replica applied front op counts c can n =
     let by : CanIssueBy op.clock op.kind = can_by applied front op.kind counts op.clock can c n.clock in
@@ -31,7 +31,7 @@ next_sound replica applied front op counts c can n =
       count = can.lawful.count;
     }
 
--- the first operation of those that come next has a clock of what was applied
+-- if operations come next, the applied operations have a clock
 clock_exists : (replica : ℕ) (applied : List Op) (kinds : List Kind) (ops : List Op) (op : Op) → AreNext replica applied kinds ops → IsIn op ops → (clock : List (ℕ × ℕ)) × IsClockOf id_of applied clock
 clock_exists replica applied kinds [] op h i = absurd i
 clock_exists replica applied kinds (o ∷ ops) op h i =
@@ -57,7 +57,7 @@ held_still : (ops old new : List Op) → AreHeldAfter ops old new → AreHeldSti
 held_still [] old new h = λ o. (λ i. (subst (IsIn o) h i, λ none. none), λ p. subst (IsIn o) (sym h) p.0)
 held_still (op ∷ ops) old new h = h
 
--- what a reply issued
+-- a node issues the operations of its reply
 pub issues_well : (old new : NodeState) (n : ℕ) (input : Input) (reply : Reply) → IsApplied old.applied → Responds old n input reply new → Issues old (issued_by reply) new
 issues_well old new n input (Done answers silent issued) a (session, at, c) =
     let can = input_can old.start old.applied a c.stamp session.state input c.kinds c.intended in

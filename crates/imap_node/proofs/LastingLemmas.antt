@@ -18,7 +18,7 @@ use Rattle.uid_projection.specs.Bounds.{IsLasting}
 use Rattle.uid_projection.specs.Exhaustion.{Exhausts, IsExhausted}
 use Rattle.crdt_ops.specs.Ops.{clock_of, id_of}
 
--- one further operation that exhausts no counter
+-- no counter is exhausted after one further operation that exhausts none
 lasts_one : (start : Counters) (ops : List Op) (o : Op) → (Exhausts start [] ops → ⊥) → (Exhausts start ops (o ∷ []) → ⊥) → Exhausts start [] (ops ++ o ∷ []) → ⊥
 lasts_one start ops o l n (front, p, back, e, x) =
     elim (last_cut ops front back o p e) [
@@ -28,7 +28,7 @@ lasts_one start ops o l n (front, p, back, e, x) =
       | inr t ↦ l (front, p, t.0, t.1, x)
     ]
 
--- several further operations that exhaust no counter
+-- no counter is exhausted after several further operations that exhaust none
 lasts_more : (start : Counters) (more ops : List Op) → (Exhausts start [] ops → ⊥) → (Exhausts start ops more → ⊥) → Exhausts start [] (ops ++ more) → ⊥
 lasts_more start [] ops l n = subst (λ (xs : List Op). Exhausts start [] xs → ⊥) (sym (append-nil ops)) l
 lasts_more start (o ∷ more) ops l n =

@@ -8,7 +8,7 @@ pub mod ReportLemmas
 pub mod ShownLemmas
 pub mod ExistingFolderLemmas
 pub mod PrintLemmas
-pub mod PrintReplies
+pub mod PrintingLemmas
 pub mod CopyTargetLemmas
 mod PrintExamples
 pub mod SessionLemmas
@@ -25,4 +25,5 @@ pub mod OwnLemmas
 pub mod SessionChangeLemmas
 pub mod FirstLemmas
 pub mod ChangeNotesLemmas
+pub mod DeliveryLemmas
 pub mod ThreadLemmas

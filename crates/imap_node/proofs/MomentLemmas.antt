@@ -92,7 +92,7 @@ older_by_uids start ops view es u g = record {
   below = λ e uid i. g.below e uid (subst (IsIn uid) u i);
 }
 
--- ---- messages that such a view lacks came after its moment
+-- ---- messages that such a view lacks were added after its moment
 
 listed_or_not : (uid : ℕ) (rows : List ListedMessage) → ((a : ListedMessage) × IsIn a rows × (a.uid ≡ uid)) ⊎ ((a : ListedMessage) → IsIn a rows → a.uid ≢ uid)
 listed_or_not uid [] = inr (λ a i. absurd i)
@@ -120,7 +120,7 @@ known start ops view a g e =
     subst (λ (os : List Op). (row : ListedMessage) → IsIn row (listing start view.name os) → IsKnown (uids_of view.entries) row.uid) (sym g.split)
     (known_since start view.name g.front g.back view.uidvalidity (uids_of view.entries) (subst IsApplied g.split a) g.exists (subst (λ (os : List Op). uidvalidity_of start view.name os ≡ Some view.uidvalidity) g.split e) (g.has e) (g.below e))
 
--- UIDNEXT grows
+-- UIDNEXT is no less than at the view's moment
 pub next_grown : (start : Counters) (ops : List Op) (view : ViewState) → IsApplied ops → (g : IsOlderView start ops view) → uidvalidity_of start view.name ops ≡ Some view.uidvalidity → uidnext_of start view.name g.front ≤ uidnext_of start view.name ops
 next_grown start ops view a g e =
     subst (λ (os : List Op). uidnext_of start view.name g.front ≤ uidnext_of start view.name os) (sym g.split)
@@ -141,7 +141,7 @@ is_or_not (Some u) v =
       | inr f ↦ inr (λ e. f.1 (let same : u ≡ v = cc in same))
     ]
 
--- the rows of the view's own incarnation
+-- the rows for a view of the current incarnation are its mailbox's listing
 pub rows_are : (start : Counters) (ops : List Op) (view : ViewState) → uidvalidity_of start view.name ops ≡ Some view.uidvalidity → rows_for start ops view ≡ listing start view.name ops
 rows_are start ops view e =
     ap (λ (now : Option ℕ). rows_under view.uidvalidity now (listing start view.name ops)) e

@@ -34,7 +34,7 @@ next_issued replica applied kinds ops h = λ front o back e.
     let n = h.next front o back e in
     (n.clock, ap (λ (r : ℕ). count_of o.clock r + 1) n.own ∙ sym n.number)
 
--- the list with them is causal
+-- the applied operations, followed by those that come next, are causal
 pub next_causal : (replica : ℕ) (applied : List Op) (kinds : List Kind) (ops : List Op) → IsCausal id_of clock_of applied → AreNext replica applied kinds ops
     → IsCausal id_of clock_of (applied ++ ops)
 next_causal replica applied kinds ops causal h = causal_append id_of clock_of applied ops causal (λ front o back e. next_ripe replica (applied ++ front) o (h.next front o back e))
@@ -43,7 +43,7 @@ in_both : (xs ys : List Op) (o : Op) → IsIn o (xs ++ ys) → IsIn o xs ⊎ IsI
 in_both [] ys o i = inr i
 in_both (x ∷ xs) ys o i = elim i [ inl e ↦ inl (inl e) | inr t ↦ elim (in_both xs ys o t) [ inl u ↦ inl (inr u) | inr u ↦ inr u ] ]
 
--- the list with them is an applied list
+-- the applied operations, followed by those that come next, are an applied list
 pub next_applied : (replica : ℕ) (applied : List Op) (kinds : List Kind) (ops : List Op) → AreSound IsSound applied → IsCausal id_of clock_of applied
     → AreSound IsSound ops → AreNext replica applied kinds ops → IsApplied (applied ++ ops)
 next_applied replica applied kinds ops sound causal more h = record {
@@ -67,7 +67,7 @@ last_cut (y ∷ xs) (z ∷ front) back x o e =
       | inr t ↦ inr (t.0, (λ i. k i ∷ t.1 i))
     ]
 
--- a further operation that comes next after those that do
+-- operations that come next, followed by one that comes next after them
 pub next_more : (replica : ℕ) (applied ops : List Op) (op : Op)
     → ((front : List Op) (o : Op) (back : List Op) → ops ≡ front ++ o ∷ back → IsNext replica (applied ++ front) o)
     → IsNext replica (applied ++ ops) op
@@ -92,7 +92,7 @@ covers_more clock more (Store folder flags old_ids origin) w h = (covered_more c
 covers_more clock more (Subscribe name) w h = tt
 covers_more clock more (Unsubscribe name seen) w h = covered_more clock more seen w h
 
--- what may be issued after a list may be issued after a longer one
+-- an operation that may be issued after a list may be issued after a longer one
 pub can_by : (applied more : List Op) (kind : Kind) (before after : List (ℕ × ℕ)) → CanIssue applied kind → IsClockOf id_of applied before → IsClockOf id_of (applied ++ more) after
     → CanIssueBy after kind
 can_by applied more kind before after can b a = record {

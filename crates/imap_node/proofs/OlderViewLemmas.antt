@@ -61,7 +61,7 @@ use Rattle.imap_node.specs.declared.sessions.Auth.TheVariants.{Preauth, Password
 use Rattle.imap_node.proofs.IssueLemmas.{issues_well}
 use Rattle.imap_node.proofs.MomentLemmas.{older_by_uids, older_with_entries, older_view_append, known, next_grown, row_below, rows_are, validity_is}
 use Rattle.imap_node.proofs.PrintLemmas.{NamesExisting}
-use Rattle.imap_node.proofs.PrintReplies.{names_existing}
+use Rattle.imap_node.proofs.PrintingLemmas.{names_existing}
 use Rattle.imap_node.proofs.QuietLemmas.{notice_quiet, report_quiet}
 use Rattle.imap_node.proofs.ReplayLemmas.{closed_view, closes_alone, left_view, no_view, others_as_before, rows_rising, view_now}
 use Rattle.imap_node.proofs.UidLemmas.{IsKnown, IsQuiet, beyond_first, knows_all, listed_uid, partial_from, partial_has, replayed_uids, uid_listed, under_knows}

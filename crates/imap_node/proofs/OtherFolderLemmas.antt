@@ -54,7 +54,7 @@ entries_of_filter_map f (e ∷ es) = entries_cons (f e) (filter_map f es) (filte
     entries_cons None rows es h = h
     entries_cons (Some row) rows es h = ap (λ (more : List ViewEntry). entry_of row ∷ more) h
 
--- what a view shows of an entry
+-- the view entry of a message, if it exists
 abbrev entry_if_present : Bool → ℕ → Flags → Option ViewEntry
 entry_if_present true uid flags = Some (record { uid = uid; flags = flags })
 entry_if_present false uid flags = None
@@ -116,7 +116,7 @@ module _ (start : Counters) (folder : List ℕ) (ops : List Op) (o : Op) (a : Is
       no_number true = refl
       no_number false = refl
 
--- what a view shows of rows under a UIDVALIDITY
+-- rows that a view shows alike are shown alike under a UIDVALIDITY
 shown_under : (uidvalidity : ℕ) (n m : Option ℕ) (rows others : List ListedMessage) → n ≡ m → entries_of rows ≡ entries_of others → entries_of (rows_under uidvalidity n rows) ≡ entries_of (rows_under uidvalidity m others)
 shown_under uidvalidity n None rows others e h = ap (λ (k : Option ℕ). entries_of (rows_under uidvalidity k rows)) e
 shown_under uidvalidity n (Some m) rows others e h =

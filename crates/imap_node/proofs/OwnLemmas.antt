@@ -12,9 +12,9 @@ use Rattle.session_view.specs.Replay.{after_answer, after_answers, after_silent,
 use Rattle.session_view.specs.declared.view_entry.ViewEntry.{ViewEntry}
 use Rattle.session_view.specs.declared.reply_replay.SilentFlags.{SilentFlags}
 
-silent_append : (view : List ViewEntry) (xs ys : List SilentFlags) → after_silent view (xs ++ ys) ≡ after_silent (after_silent view xs) ys
-silent_append view [] ys = refl
-silent_append view (x ∷ xs) ys = silent_append (with_flags_at view x.number x.flags) xs ys
+after_silent_append : (view : List ViewEntry) (xs ys : List SilentFlags) → after_silent view (xs ++ ys) ≡ after_silent (after_silent view xs) ys
+after_silent_append view [] ys = refl
+after_silent_append view (x ∷ xs) ys = after_silent_append (with_flags_at view x.number x.flags) xs ys
 
 with_fetched_flags_silent : (view : List ViewEntry) (k : ℕ) (flags : Option Flags) → with_fetched_flags view k flags ≡ after_silent view (flags_by k flags)
 with_fetched_flags_silent view k None = refl
@@ -26,17 +26,17 @@ after_answer_silent rows view (Exists n) h = absurd (false≢true (sym h))
 after_answer_silent rows view (Fetch k items) h = with_fetched_flags_silent view k items.flags
 after_answer_silent rows view _ h = refl
 
-neither : (a b : Bool) → (a || b) ≡ false → (a ≡ false) × (b ≡ false)
-neither true b h = absurd (false≢true (sym h))
-neither false b h = (refl, h)
+or_both_false : (a b : Bool) → (a || b) ≡ false → (a ≡ false) × (b ≡ false)
+or_both_false true b h = absurd (false≢true (sym h))
+or_both_false false b h = (refl, h)
 
 after_answers_silent : (rows : List ListedMessage) (view : List ViewEntry) (own : List Answer) → list_any is_shifting own ≡ false → after_answers rows view own ≡ after_silent view (all_fetched_flags own)
 after_answers_silent rows view [] h = refl
 after_answers_silent rows view (answer ∷ own) h =
-    let k = neither (is_shifting answer) (list_any is_shifting own) h in
+    let k = or_both_false (is_shifting answer) (list_any is_shifting own) h in
     ap (λ (es : List ViewEntry). after_answers rows es own) (after_answer_silent rows view answer k.0)
     ∙ after_answers_silent rows (after_silent view (fetched_flags answer)) own k.1
-    ∙ sym (silent_append view (fetched_flags answer) (all_fetched_flags own))
+    ∙ sym (after_silent_append view (fetched_flags answer) (all_fetched_flags own))
 
-pub own_replayed : (rows : List ListedMessage) (view : List ViewEntry) (silent : List SilentFlags) (own : List Answer) → list_any is_shifting own ≡ false → view_after_reply rows view silent own ≡ after_silent view (silent ++ all_fetched_flags own)
-own_replayed rows view silent own h = after_answers_silent rows (after_silent view silent) own h ∙ sym (silent_append view silent (all_fetched_flags own))
+pub view_after_reply_own : (rows : List ListedMessage) (view : List ViewEntry) (silent : List SilentFlags) (own : List Answer) → list_any is_shifting own ≡ false → view_after_reply rows view silent own ≡ after_silent view (silent ++ all_fetched_flags own)
+view_after_reply_own rows view silent own h = after_answers_silent rows (after_silent view silent) own h ∙ sym (after_silent_append view silent (all_fetched_flags own))

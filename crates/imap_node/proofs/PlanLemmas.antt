@@ -1,8 +1,7 @@
-use Rattle.std.proofs.Common.{◌≡◌, ◌⊎◌, inl, inr, ℕ, Bool, true, false, List, [], ◌∷◌, ◌++◌, Option, Some, None, refl, sym, ap, ◌∙◌, append-nil, subst, arith, ◌+◌, IfOk, IfErr}
-use Rattle.std.specs.Prelude.{Result, Ok, Err, MatchResult, OnErr, ◌&&◌, if◌then◌else◌}
+use Rattle.std.proofs.Common.{◌≡◌, ◌⊎◌, inl, inr, ℕ, Bool, true, false, List, [], ◌∷◌, ◌++◌, Option, Some, None, refl, sym, ap, ◌∙◌, append-nil, subst, IfOk, IfErr}
+use Rattle.std.specs.Prelude.{Result, Ok, Err, MatchResult, ◌&&◌, if◌then◌else◌}
 use Rattle.std.specs.Prelude.{length, ◌==◌}
 use Rattle.std.proofs.lemmas.Bool.{false≢true}
-use Rattle.std.proofs.lemmas.List.{length-append}
 use Rattle.causal_inbox.specs.Inbox.{AreIssued, AreHeldStill}
 use Rattle.crdt_ops.specs.declared.kind.Kind.{Kind}
 use Rattle.crdt_ops.specs.declared.op.Op.{Op}
@@ -29,26 +28,18 @@ use Rattle.imap_node.specs.SessionChanges.{CanChangeSession, changed_session}
 use Rattle.imap_node.specs.Plans.{CanStep, IsPreparedReply, IsPlanned, IsPlanOf, IsPreparedInput, plan_of_prepared, step_of_refusal, place_after_step, plan_by, session_after_step}
 use Rattle.imap_node.specs.Responses.{CarriesOut, IsNodeAfter, IsRefused, IsStamp, AreHeldAfter, IsInputEffect, ends_idling, leaves_mailbox, session_after_refusal, session_after, input_intent}
 use Rattle.imap_node.specs.Sessions.{IsOpen, Places, session_at, with_session}
-use Rattle.causal_inbox.specs.Delivery.{Arrives, Refuses}
-use Rattle.causal_inbox.specs.ReceivedSets.{HasGrown}
-use Rattle.causal_inbox.specs.Inbox.{ReceivedOps}
-use Rattle.causal_inbox.specs.declared.delivery.Arrival.{Arrival}
-use Rattle.causal_inbox.specs.declared.delivery.Arrival.TheVariants.{Applied, Held, Repeat}
-use Rattle.causal_inbox.specs.declared.delivery.DeliverFault.{DeliverFault}
-use Rattle.causal_inbox.proofs.Union.{arrival_grows, arrival_start, releases_grow}
-use Rattle.uid_projection.specs.Exhaustion.{Exhausts}
 use Rattle.imap_node.proofs.CanIssueLemmas.{input_can}
 use Rattle.imap_node.proofs.FeedLemmas.{no_change_notes}
 use Rattle.uid_projection.specs.declared.first_numbers.Counters.{Counters}
 use Rattle.uid_projection.specs.Applied.{IsApplied}
 use Rattle.crdt_ops.specs.Ops.{clock_of, id_of}
 
--- what is true of either outcome
+-- weaker statements on both outcomes
 pub match_weaker : {T E : Type 0} (r : Result T E) (P P' : T → Type 0) (Q Q' : E → Type 0) → ((t : T) → P t → P' t) → ((e : E) → Q e → Q' e) → MatchResult r P Q → MatchResult r P' Q'
 match_weaker (Ok t) P P' Q Q' f g h = f t h
 match_weaker (Err e) P P' Q Q' f g h = g e h
 
--- what stays held if something is issued
+-- the operations that are still held after some were issued
 pub held_after_some : (ops old new : List Op) → (ops ≡ [] → ⊥) → AreHeldStill id_of ops old new → AreHeldAfter ops old new
 held_after_some [] old new n h = absurd (n refl)
 held_after_some (op ∷ ops) old new n h = h
@@ -57,23 +48,23 @@ pub held_after_none : (ops old : List Op) → ops ≡ [] → AreHeldAfter ops ol
 held_after_none ops old e = subst (λ (os : List Op). AreHeldAfter os old old) (sym e) refl
 
 module _ (session : Session) where
-  left_command : (b : Bool) → Some (session_after_step session (if b then Leaves else Stays)) ≡ Some (record { state = if b then Authenticated else session.state; condstore = session.condstore; idling = session.idling })
-  left_command true = refl
-  left_command false = refl
+  refusal_command : (b : Bool) → Some (session_after_step session (if b then Leaves else Stays)) ≡ Some (record { state = if b then Authenticated else session.state; condstore = session.condstore; idling = session.idling })
+  refusal_command true = refl
+  refusal_command false = refl
 
-  left_line : (b : Bool) → Some (session_after_step session (if b then Wakes else Stays)) ≡ Some (record { state = session.state; condstore = session.condstore; idling = if b then None else session.idling })
-  left_line true = refl
-  left_line false = refl
+  refusal_line : (b : Bool) → Some (session_after_step session (if b then Wakes else Stays)) ≡ Some (record { state = session.state; condstore = session.condstore; idling = if b then None else session.idling })
+  refusal_line true = refl
+  refusal_line false = refl
 
   -- a refused input leaves the session that its plan gives
-  left_by : (input : Input) (why : Refusal) → place_after_step (Some session) (step_of_refusal session.state input why) ≡ Some (session_after_refusal session input why)
-  left_by (inputs.Command moment tagged) why = left_command (is_selected session.state && is_selecting tagged.command)
-  left_by (inputs.Line line) why = left_line (ends_idling (inputs.Line line) why)
-  left_by inputs.Poll why = refl
+  place_after_refusal : (input : Input) (why : Refusal) → place_after_step (Some session) (step_of_refusal session.state input why) ≡ Some (session_after_refusal session input why)
+  place_after_refusal (inputs.Command moment tagged) why = refusal_command (is_selected session.state && is_selecting tagged.command)
+  place_after_refusal (inputs.Line line) why = refusal_line (ends_idling (inputs.Line line) why)
+  place_after_refusal inputs.Poll why = refl
 
 module _ (old : NodeState) (n : ℕ) (session : Session) (input : Input) (at : session_at old.sessions n ≡ Some session) where
-  left_next : (why : Refusal) → place_after_step (session_at old.sessions n) (step_of_refusal session.state input why) ≡ Some (session_after_refusal session input why)
-  left_next why = ap (λ (s : Option Session). place_after_step s (step_of_refusal session.state input why)) at ∙ left_by session input why
+  next_after_refusal : (why : Refusal) → place_after_step (session_at old.sessions n) (step_of_refusal session.state input why) ≡ Some (session_after_refusal session input why)
+  next_after_refusal why = ap (λ (s : Option Session). place_after_step s (step_of_refusal session.state input why)) at ∙ place_after_refusal session input why
 
   done_responds : (p : PreparedInput) → IsPreparedInput old.start old.applied session input p → IsPlanOf old n input (plan_of_prepared n p)
   done_responds p h = λ new k.
@@ -99,17 +90,17 @@ module _ (old : NodeState) (n : ℕ) (session : Session) (input : Input) (at : s
       )
 
   refused_responds : (why : Refusal) → IsRefused old.start old.applied session.state input why → IsPlanOf old n input (plan_by n session.state input (Err why))
-  refused_responds why h = λ new k. (session, at, (h, refl, subst (λ (s : Option Session). IsNodeAfter old [] (with_session old.sessions n s) new) (left_next why) k))
+  refused_responds why h = λ new k. (session, at, (h, refl, subst (λ (s : Option Session). IsNodeAfter old [] (with_session old.sessions n s) new) (next_after_refusal why) k))
 
   pub plan_responds : (outcome : Result PreparedInput Refusal) → IfOk outcome (λ p. IsPreparedInput old.start old.applied session input p) → IfErr outcome (λ why. IsRefused old.start old.applied session.state input why)
       → IsPlanOf old n input (plan_by n session.state input outcome)
   plan_responds (Ok p) h k = done_responds p h
   plan_responds (Err why) h k = refused_responds why k
 
--- what an input issues may be issued
-pub gives_can : (start : Counters) (ops : List Op) (a : IsApplied ops) (stamp : List ℕ) (state : State) (input : Input) (r : Result Intent Refusal) → EqualsOrLacksMemory (λ intended. intended.kinds.items) r (input_intent start ops stamp state input) → IfOk r (λ intended. CanIssueAll ops intended.kinds.items)
-gives_can start ops a stamp state input (Ok given) g = input_can start ops a stamp state input given.kinds.items g
-gives_can start ops a stamp state input (Err why) g = tt
+-- the kinds that an input issues may be issued
+pub intent_can_issue : (start : Counters) (ops : List Op) (a : IsApplied ops) (stamp : List ℕ) (state : State) (input : Input) (r : Result Intent Refusal) → EqualsOrLacksMemory (λ intended. intended.kinds.items) r (input_intent start ops stamp state input) → IfOk r (λ intended. CanIssueAll ops intended.kinds.items)
+intent_can_issue start ops a stamp state input (Ok given) g = input_can start ops a stamp state input given.kinds.items g
+intent_can_issue start ops a stamp state input (Err why) g = tt
 
 -- the refusal of an input by its intent
 pub refused_by_intent : (start : Counters) (ops : List Op) (stamp : List ℕ) (state : State) (input : Input) (why : Refusal) → IsStamp input stamp
@@ -117,9 +108,9 @@ pub refused_by_intent : (start : Counters) (ops : List Op) (stamp : List ℕ) (s
 refused_by_intent start ops stamp state input why s h = elim h [ inl e ↦ inl e | inr e ↦ inr (stamp, s, inl e) ]
 
 -- the refusal of an input whose operations can't be made ready
-pub refused_by_end : (start : Counters) (ops : List Op) (stamp : List ℕ) (state : State) (input : Input) (given : List Kind) (why : Refusal) → IsStamp input stamp → input_intent start ops stamp state input ≡ Ok given
+pub refused_by_ready : (start : Counters) (ops : List Op) (stamp : List ℕ) (state : State) (input : Input) (given : List Kind) (why : Refusal) → IsStamp input stamp → input_intent start ops stamp state input ≡ Ok given
     → IsReadyRefusal start ops given why → IsRefused start ops state input why
-refused_by_end start ops stamp state input given why s w h = elim h [ inl e ↦ inl e | inr e ↦ inr (stamp, s, inr (e.0, given, w, e.1)) ]
+refused_by_ready start ops stamp state input given why s w h = elim h [ inl e ↦ inl e | inr e ↦ inr (stamp, s, inr (e.0, given, w, e.1)) ]
 
 -- the answers to an input with this effect
 pub answered_by : {E : Type 0} (start : Counters) (before after : List Op) (session : Session) (input : Input) (effect : InputEffect) → IsInputEffect start before after session input effect → (r : Result PreparedReply E)
@@ -129,31 +120,31 @@ answered_by start before after session input effect taken (Ok a) p q s = record 
 answered_by start before after session input effect taken (Err e) p q s = tt
 
 -- the next step of a session whose input was refused
-left_steps : (start : Counters) (ops : List Op) (session : Session) (a b : Bool) → CanStep start ops session (if a then Leaves else (if b then Wakes else Stays))
-left_steps start ops session true b = tt
-left_steps start ops session false true = tt
-left_steps start ops session false false = tt
+refusal_can_step : (start : Counters) (ops : List Op) (session : Session) (a b : Bool) → CanStep start ops session (if a then Leaves else (if b then Wakes else Stays))
+refusal_can_step start ops session true b = tt
+refusal_can_step start ops session false true = tt
+refusal_can_step start ops session false false = tt
 
 -- a plan can be committed
-pub plan_planned : (node : NodeWithRoom) (n : ℕ) (state : State) (input : Input) (outcome : Result PreparedInput Refusal) → IsOpen node.state.sessions n
+pub plan_by_planned : (node : NodeWithRoom) (n : ℕ) (state : State) (input : Input) (outcome : Result PreparedInput Refusal) → IsOpen node.state.sessions n
     → IfOk outcome (λ p. AreIssued id_of clock_of node.state.applied p.ops) → IfOk outcome (λ p. (p.ops ≡ [] → ⊥) → HasRoomFor node.state.applied node.room p.ops)
     → IfOk outcome (λ p. AreChangeNotes node.state.start node.state.applied (node.state.applied ++ p.ops) p.change_notes)
     → ((s : Session) → session_at node.state.sessions n ≡ Some s → IfOk outcome (λ p. CanChangeSession node.state.start (node.state.applied ++ p.ops) s.state p.answered.update.state_change)) → IsPlanned node (plan_by n state input outcome)
-plan_planned node n state input (Ok p) opened i r w c = record { is_open = opened; issued = i; room = r; change_notes = w; can = c }
-plan_planned node n state input (Err why) opened i r w c = record {
+plan_by_planned node n state input (Ok p) opened i r w c = record { is_open = opened; issued = i; room = r; change_notes = w; can = c }
+plan_by_planned node n state input (Err why) opened i r w c = record {
   is_open = opened;
   issued = λ front o back e. absurd (no_cut front o back e);
   room = λ f. absurd (f refl);
   change_notes = subst (λ (list : List Op). AreChangeNotes node.state.start node.state.applied list []) (sym (append-nil node.state.applied)) (no_change_notes node.state.start node.state.applied);
-  can = λ s e. left_steps node.state.start (node.state.applied ++ []) s (leaves_mailbox state input) (ends_idling input why);
+  can = λ s e. refusal_can_step node.state.start (node.state.applied ++ []) s (leaves_mailbox state input) (ends_idling input why);
 }
 
 -- a plan can be committed if the room was made after it
-pub plan_planned_after : (start : Counters) (applied : List Op) (places : Places) (node : NodeWithRoom) (n : ℕ) (state : State) (input : Input) (outcome : Result PreparedInput Refusal) → node.state.start ≡ start → node.state.applied ≡ applied → node.state.sessions ≡ places
+pub plan_by_planned_after : (start : Counters) (applied : List Op) (places : Places) (node : NodeWithRoom) (n : ℕ) (state : State) (input : Input) (outcome : Result PreparedInput Refusal) → node.state.start ≡ start → node.state.applied ≡ applied → node.state.sessions ≡ places
     → IsOpen places n → IfOk outcome (λ p. AreIssued id_of clock_of applied p.ops) → IfOk outcome (λ p. (p.ops ≡ [] → ⊥) → HasRoomFor node.state.applied node.room p.ops) → IfOk outcome (λ p. AreChangeNotes start applied (applied ++ p.ops) p.change_notes)
     → ((s : Session) → session_at places n ≡ Some s → IfOk outcome (λ p. CanChangeSession start (applied ++ p.ops) s.state p.answered.update.state_change)) → IsPlanned node (plan_by n state input outcome)
-plan_planned_after start applied places node n state input outcome e f g opened i r w c =
-    plan_planned node n state input outcome
+plan_by_planned_after start applied places node n state input outcome e f g opened i r w c =
+    plan_by_planned node n state input outcome
     (subst (λ (ps : Places). IsOpen ps n) (sym g) opened)
     (subst (λ (os : List Op). IfOk outcome (λ p. AreIssued id_of clock_of os p.ops)) (sym f) i)
     r
@@ -162,36 +153,6 @@ plan_planned_after start applied places node n state input outcome e f g opened 
     subst (λ (x : Counters). IfOk outcome (λ p. CanChangeSession x (node.state.applied ++ p.ops) s.state p.answered.update.state_change)) (sym e)
     (subst (λ (os : List Op). IfOk outcome (λ p. CanChangeSession start (os ++ p.ops) s.state p.answered.update.state_change)) (sym f) (c s (ap (λ (ps : Places). session_at ps n) (sym g) ∙ at))))
 
--- a delivery that applies operations
-pub deliver_grown : {T : Type 0} (arrival : T → Arrival) (old new : ReceivedOps Counters Op) (op : Op) (r : Result T DeliverFault)
-    → MatchResult r (λ d. Arrives id_of clock_of Exhausts old op (arrival d) new) (λ e. Refuses id_of clock_of Exhausts old op e) → OnErr r (new ≡ old) → HasGrown old.applied new.applied × (new.start ≡ old.start)
-deliver_grown arrival old new op (Ok d) h e = (
-  arrival_grows id_of clock_of Exhausts old new op (arrival d) h,
-  arrival_start id_of clock_of Exhausts old new op (arrival d) h,
-)
-deliver_grown arrival old new op (Err x) h e = (([], ap (λ (s : ReceivedOps Counters Op). s.applied) e ∙ sym (append-nil old.applied)), ap (λ (s : ReceivedOps Counters Op). s.start) e)
-
--- a delivery that applies one operation
-none_more : {X : Type 0} (xs : List X) → length xs ≡ 0 → xs ≡ []
-none_more [] l = refl
-none_more (x ∷ xs) l = absurd (omega (arith, l))
-
-arrive_one : (old new : ReceivedOps Counters Op) (op : Op) (arrived : Arrival) → Arrives id_of clock_of Exhausts old op arrived new → length new.applied ≡ length old.applied + 1 → new.applied ≡ old.applied ++ op ∷ []
-arrive_one old new op Repeat h l = let e = ap (λ (s : ReceivedOps Counters Op). length s.applied) h.1 in absurd (omega (arith, e, l))
-arrive_one old new op Held h l = let e = ap (λ (ops : List Op). length ops) h.3 in absurd (omega (arith, e, l))
-arrive_one old new op (Applied n) h l =
-    let g = releases_grow id_of clock_of Exhausts h.2.0 (record old { applied = old.applied ++ op ∷ [] }) new h.2.2 in
-    let a = ap (λ (ops : List Op). length ops) g.1 in
-    let b = length-append (old.applied ++ op ∷ []) g.0 in
-    let d = length-append old.applied (op ∷ []) in
-    g.1 ∙ ap (λ (more : List Op). (old.applied ++ op ∷ []) ++ more) (none_more g.0 (omega (arith, a, b, d, l))) ∙ append-nil (old.applied ++ op ∷ [])
-
-pub deliver_one : {T : Type 0} (arrival : T → Arrival) (old new : ReceivedOps Counters Op) (op : Op) (r : Result T DeliverFault)
-    → MatchResult r (λ d. Arrives id_of clock_of Exhausts old op (arrival d) new) (λ e. Refuses id_of clock_of Exhausts old op e) → OnErr r (new ≡ old)
-    → length new.applied ≡ length old.applied + 1 → new.applied ≡ old.applied ++ op ∷ []
-deliver_one arrival old new op (Ok d) h e l = arrive_one old new op (arrival d) h l
-deliver_one arrival old new op (Err x) h e l = let k = ap (λ (s : ReceivedOps Counters Op). length s.applied) e in absurd (omega (arith, k, l))
-
--- a list that was found not to be empty
+-- a list whose length isn't 0 isn't empty
 pub not_empty : (ops os : List Op) (b : Bool) → b ≡ false → b ≡ (length os == 0) → os ≡ ops → ops ≡ [] → ⊥
 not_empty ops os b f h e n = absurd (false≢true (sym f ∙ (h ∙ ap (λ (xs : List Op). length xs == 0) (e ∙ n))))

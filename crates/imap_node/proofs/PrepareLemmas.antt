@@ -20,8 +20,8 @@ issued_next replica applied kinds ops h = λ front o back e.
     let n = h.next front o back e in
     (n.clock, ap (λ (r : ℕ). count_of o.clock r + 1) n.own ∙ sym n.number)
 
--- an input can be carried out so, if the replica has the same operations before and when the input
--- is answered
+-- an input can be carried out, and this is its reply, if the replica has the same operations before
+-- it and when it is answered
 pub prepares : (start start' : Counters) (applied applied' : List Op) (session : Session) (input : Input) (stamp : List ℕ) (kinds : List Kind) (ops : List Op) (prepared : PreparedInput) → start' ≡ start → applied' ≡ applied → IsStamp input stamp
     → input_intent start applied stamp session.state input ≡ Ok kinds → AreNext start.replica applied kinds ops → CanFollow start' applied' ops → IsPreparedReply start' applied' (applied' ++ ops) session input prepared.answered
     → prepared.ops ≡ ops → prepared.copies ≡ ops → IsPreparedInput start applied session input prepared

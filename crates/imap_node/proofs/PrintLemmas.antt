@@ -47,12 +47,12 @@ NamesExisting after (commands.Move request) (Selected view read_only) = folder_e
 NamesExisting after _ _ = Unit {0}
 
 -- a copy's destination gets as many messages as are copied
-abbrev pub LandsAll : Counters → List Op → List Op → State → Command → Type 0
-LandsAll start before after (Selected view read_only) (commands.Copy request) =
+abbrev pub HasAllTargetCopies : Counters → List Op → List Op → State → Command → Type 0
+HasAllTargetCopies start before after (Selected view read_only) (commands.Copy request) =
     HasAllCopies (mailbox_in start before view read_only) (record { by_uid = request.by_uid; messages = request.messages; destination = request.name }) (copy_target_in start before after request.name)
-LandsAll start before after (Selected view read_only) (commands.Move request) =
+HasAllTargetCopies start before after (Selected view read_only) (commands.Move request) =
     HasAllCopies (mailbox_in start before view read_only) (record { by_uid = request.by_uid; messages = request.messages; destination = request.name }) (copy_target_in start before after request.name)
-LandsAll start before after _ _ = Unit {0}
+HasAllTargetCopies start before after _ _ = Unit {0}
 
 empty_report_printable : IsPrintableReport empty_report
 empty_report_printable = record { own = tt; code = tt }
@@ -68,7 +68,7 @@ module _ (start : Counters) (before issued : List Op) (p : IsPresentable start (
   before_shown = shown_before start before issued p
 
   pub report_printable : (command : Command) (state : State) (modseq : Bool) (tag : List ℕ) (report : CommandReport) → IsTag tag → IsAnswerable command → HasNumberedView state → NamesExisting (before ++ issued) command state
-      → LandsAll start before (before ++ issued) state command → IsCommandReport start before (before ++ issued) state modseq tag command report → IsPrintableReport report
+      → HasAllTargetCopies start before (before ++ issued) state command → IsCommandReport start before (before ++ issued) state modseq tag command report → IsPrintableReport report
   report_printable commands.Capability state modseq tag report t a v n l h = subst IsPrintableReport (sym h) capability_printable
   report_printable commands.Namespace state modseq tag report t a v n l h = subst IsPrintableReport (sym h) namespace_printable
   report_printable commands.Logout state modseq tag report t a v n l h = subst IsPrintableReport (sym h) logout_printable
@@ -117,7 +117,7 @@ module _ (start : Counters) (before issued : List Op) (p : IsPresentable start (
   report_printable (commands.Search request) LoggedOut modseq tag report t a v n l h = subst IsPrintableReport (sym h) empty_report_printable
   report_printable _ state modseq tag report t a v n l h = subst IsPrintableReport (sym h) empty_report_printable
 
--- ---- what comes before and after it
+-- ---- what is sent before and after a report
 
 highest_printable : (uidvalidity : ℕ) (now : Option ℕ) (highest : ℕ) → IsModSeq highest → Each IsPrintable (highest_answer uidvalidity now highest)
 highest_printable uidvalidity None highest h = tt

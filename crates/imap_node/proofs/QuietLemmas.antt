@@ -113,7 +113,7 @@ module _ (start : Counters) (before after : List Op) where
   report_quiet (commands.Search request) LoggedOut modseq tag report s h = subst (λ (t : CommandReport). Each IsQuiet t.own) (sym h) tt
   report_quiet _ state modseq tag report s h = subst (λ (t : CommandReport). Each IsQuiet t.own) (sym h) tt
 
--- ---- what comes before it
+-- ---- what is sent before a report
 
 highest_quiet : (uidvalidity : ℕ) (now : Option ℕ) (highest : ℕ) → Each IsQuiet (highest_answer uidvalidity now highest)
 highest_quiet uidvalidity None highest = tt

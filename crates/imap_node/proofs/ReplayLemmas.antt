@@ -210,7 +210,7 @@ input_ascends : (start : Counters) (ops : List Op) (o : Option ViewState) (input
 input_ascends start ops o input (Done answers silent issued) l a h = entries_ascend start ops (replay_base_of start ops o input) silent answers l a (based_ascends start ops o input h)
 input_ascends start ops o input (Refused why with_session_closed) l a h = unless_ascends (selects input) o h
 
--- all but one session are as they were
+-- if the other sessions stay, and one session's view ascends, all views ascend
 pub all_ascend : (old new : NodeState) (n : ℕ) → OthersStay old.sessions n new.sessions → ViewsAscend old.sessions → Ascends (view_at new.sessions n) → ViewsAscend new.sessions
 all_ascend old new n others h here = λ m view e.
     elim (eqb_tells m n) [

@@ -11,12 +11,12 @@ use Rattle.imap_node.specs.Mailboxes.{mailbox_in}
 use Rattle.session_view.specs.ViewState.{ViewState}
 use Rattle.uid_projection.specs.declared.first_numbers.Counters.{Counters}
 
--- a value of `Ok` that equals another one
+-- a value in `Ok` that equals `x` equals `y` if `x` does
 pub if_ok_is : {T E : Type 0} (r : Result T E) (x y : T) → x ≡ y → IfOk r (λ t. t ≡ x) → IfOk r (λ t. t ≡ y)
 if_ok_is (Ok t) x y e h = h ∙ e
 if_ok_is (Err why) x y e h = tt
 
--- an empty list
+-- a list of length 0 is empty
 pub empty_by_length : {X : Type 0} (xs : List X) → nat_eq (length xs) 0 ≡ true → xs ≡ []
 empty_by_length [] h = refl
 empty_by_length (x ∷ xs) h = let none : length xs + 1 ≡ 0 = grind (arith, nat_tests) in absurd (omega (arith, none))

@@ -1,11 +1,11 @@
 -- The change of sessions, and what they must still be sent after it.
 use Rattle.std.specs.List.{list_any}
 use Rattle.std.specs.Option.{option_map}
-use Rattle.std.proofs.Common.{◌≡◌, ◌⊎◌, inl, inr, ℕ, zero, suc, ◌<◌, ◌≤◌, ◌+◌, ◌-◌, Bool, false, List, [], ◌∷◌, ◌++◌, length, take, drop, Option, Some, None, refl, sym, ap, ◌∙◌, subst, arith}
+use Rattle.std.proofs.Common.{◌≡◌, ◌⊎◌, inl, inr, ℕ, zero, suc, ◌<◌, ◌≤◌, ◌+◌, ◌-◌, Bool, false, List, [], ◌∷◌, ◌++◌, length, take, Option, Some, None, refl, sym, ap, ◌∙◌, subst, arith}
 use Rattle.std.specs.Prelude.{nat_eq, nat_lt, slice_index_or, slice_set}
 use Rattle.std.proofs.lemmas.Bool.{cases_Bool, false≢true}
 use Rattle.std.proofs.lemmas.Bool.Decides.{nat_tests}
-use Rattle.std.proofs.lemmas.List.{get_or-set_other, get_or-set_same, length-append, length-drop, take-append-drop, take_all, take_at}
+use Rattle.std.proofs.lemmas.List.{get_or-set_other, get_or-set_same, length-append, take_at}
 use Rattle.causal_inbox.specs.ReceivedSets.{HasGrown}
 use Rattle.crdt_ops.specs.declared.op.Op.{Op}
 use Rattle.idle_feed.specs.Feeds.{FeedState, Pending}
@@ -41,7 +41,7 @@ use Rattle.session_view.specs.declared.reply_replay.SilentFlags.{SilentFlags}
 use Rattle.uid_projection.specs.declared.first_numbers.Counters.{Counters}
 use Rattle.idle_feed.specs.NotedFeeds.{CanCommit, IsChangeTo, NotesAllOf, entries_after_change}
 use Rattle.idle_feed.specs.declared.view_change.ViewChange.{ViewChange}
-use Rattle.imap_node.proofs.OwnLemmas.{own_replayed}
+use Rattle.imap_node.proofs.OwnLemmas.{view_after_reply_own}
 
 -- ---- a sync in place
 
@@ -49,7 +49,7 @@ module _ (start : Counters) (after : List Op) (state : State) (view : ViewState)
     (is : state ≡ Selected view read_only) (k : front.sync ≡ Some kind) (stays : list_any is_shifting front.own ≡ false) (r : rows ≡ rows_for start after view)
     (f : after_silent view.entries first ≡ after_silent view.entries (front.silent ++ all_fetched_flags front.own)) where
   view_after_first : after_silent view.entries first ≡ view_after_reply (rows_for start after view) view.entries front.silent front.own
-  view_after_first = f ∙ sym (own_replayed (rows_for start after view) view.entries front.silent front.own stays)
+  view_after_first = f ∙ sym (view_after_reply_own (rows_for start after view) view.entries front.silent front.own stays)
 
   pub answers_in_place : (answers : List Answer) → answers ≡ sync_answers kind front.modseq rows (after_silent view.entries first) → answers ≡ (sync_result_after start after state front).answers
   answers_in_place answers e =
@@ -69,12 +69,12 @@ module _ (start : Counters) (after : List Op) (state : State) (view : ViewState)
   can_in_place change c l =
       subst (λ (s : State). CanChangeSession start after s (Stays (Some change))) (sym is) (record { make = c; leaves = subst (λ (rs : List ListedMessage). IsChangeTo rs view.entries change) r l })
 
--- a listing that was made for a state
+-- a listing made for a state has the rows of its view
 pub made_for : (start : Counters) (ops : List Op) (state : State) (view : ViewState) (read_only : Bool) (made : Option (List ListedMessage)) (rows : List ListedMessage) → state ≡ Selected view read_only → made ≡ Some rows → IsListingFor start ops state made → rows ≡ rows_for start ops view
 made_for start ops state view read_only made rows is e h =
     subst (λ (m : Option (List ListedMessage)). IsListingFor start ops (Selected view read_only) m) e (subst (λ (s : State). IsListingFor start ops s made) is h)
 
--- what the sync of a view requires
+-- the requirements of a view's sync
 pub asked_in_place : (start : Counters) (before after : List Op) (view : ViewState) (pending : Pending) (changes : List MailboxNotes) (rows : List ListedMessage) (notes : List Note) (name : List ℕ) → IsNotedFor start before pending view → AreChangeNotes start before after changes
     → rows ≡ rows_for start after view → name ≡ view.name → notes ≡ notes_in changes name → (listed : List ListedMessage) × NotesAllOf pending listed view.entries × NoteAllChanges notes rows (entries_of listed)
 asked_in_place start before after view pending changes rows notes name noted is r n e = (
@@ -237,23 +237,17 @@ pub awake_view : (place : Option Session) (view : ViewState) → view_in (option
 awake_view None view q = q
 awake_view (Some s) view q = q
 
--- a session whose input is carried out can take its step
+-- a step that carries out an input leaves the session's changes noted
 pub step_leaves : (start : Counters) (ops : List Op) (next : SessionStep) (update : SessionChange) (s : Session) → next ≡ Advances update → CanStep start ops s next → LeavesNoted start ops s.state update.state_change
 step_leaves start ops next update s e h = (subst (CanStep start ops s) e h).leaves
 
--- the same feeds, sessions and operations
+-- notes that are right stay so for equal feeds, sessions and operations
 pub noted_as : (start start' : Counters) (ops ops' : List Op) (places places' : Places) (feeds feeds' : List FeedState) → start' ≡ start → ops' ≡ ops → places' ≡ places → ((n : ℕ) → pending_at feeds' n ≡ pending_at feeds n)
     → AreAllNoted start ops places feeds → AreAllNoted start' ops' places' feeds'
 noted_as start start' ops ops' places places' feeds feeds' s o p f h n view q =
     subst (λ (x : Counters). IsNotedFor x ops' (pending_at feeds' n) view) (sym s)
     (subst (λ (x : List Op). IsNotedFor start x (pending_at feeds' n) view) (sym o)
     (subst (λ (x : Pending). IsNotedFor start ops x view) (sym (f n)) (h n view (ap (λ (x : Places). view_at x n) (sym p) ∙ q))))
-
--- a list is its first part and the rest
-pub cut_whole : (n : ℕ) (ops : List Op) → take n ops ++ take (length ops - n) (drop n ops) ≡ ops
-cut_whole n ops =
-    let l = length-drop n ops in
-    ap (λ (back : List Op). take n ops ++ back) (take_all (length ops - n) (drop n ops) (omega (arith, l))) ∙ take-append-drop n ops
 
 -- the operations that were newly applied
 module _ (old new : List Op) (g : HasGrown old new) where
@@ -280,9 +274,9 @@ settled_shows start before after view unsent noted changes settled =
 module _ (start : Counters) (after : List Op) (view : ViewState) (read_only : Bool) (front : SyncInput) (stays : list_any is_shifting front.own ≡ false)
     (f : view.entries ≡ after_silent view.entries (front.silent ++ all_fetched_flags front.own)) where
   view_unchanged : view.entries ≡ view_after_reply (rows_for start after view) view.entries front.silent front.own
-  view_unchanged = f ∙ sym (own_replayed (rows_for start after view) view.entries front.silent front.own stays)
+  view_unchanged = f ∙ sym (view_after_reply_own (rows_for start after view) view.entries front.silent front.own stays)
 
-  -- there is no sync, or a sync of what the view shows already
+  -- there is no sync, or the view shows its listing already
   pub nothing_by : (sync : Option SyncKind) → (sync ≡ None) ⊎ (AreRising 1 view.entries × NoteAllChanges [] (rows_for start after view) view.entries)
       → ([] ≡ answers_of_sync sync front.modseq (rows_for start after view) view.entries) × (view.entries ≡ entries_after_sync sync (rows_for start after view) view.entries)
   nothing_by None h = (refl, refl)

@@ -34,7 +34,7 @@ none_issued applied = λ front o back e. absurd (no_cut front o back e)
 pub none_new : (start : Counters) (applied : List Op) → AreChangeNotes start applied (applied ++ []) []
 none_new start applied = subst (λ (after : List Op). AreChangeNotes start applied after []) (sym (append-nil applied)) (λ name uidvalidity uid. inl refl)
 
--- what the session is sent, and its state
+-- a session with nothing unsent is sent nothing, and its state stays
 unmoved : (start : Counters) (applied : List Op) (state : State) (pending : Pending) (modseq : Bool) → ((view : ViewState) → view_of state ≡ Some view → IsNotedFor start applied pending view) → HasNothingUnsent state pending
     → ([] ≡ (sync_result_after start (applied ++ []) state (record { silent = []; own = []; sync = Some Full; modseq = modseq })).answers) × (state_with state None ≡ (sync_result_after start (applied ++ []) state (record { silent = []; own = []; sync = Some Full; modseq = modseq })).state)
 unmoved start applied state pending modseq noted settled =
@@ -79,7 +79,7 @@ settled_noop_prepared start applied session pending input tag noted is_rest =
       copies = refl;
     })
 
--- a settled session has nothing to be sent
+-- nothing must be sent to a settled session
 pub nothing_unsent : (state : State) (pending : Pending) (changes : List MailboxNotes) → changes ≡ [] → (Some Full ≡ None) ⊎ ((view : ViewState) → view_of state ≡ Some view → IsSettled (record { pending = pending; change_notes = changes }) view) → HasNothingUnsent state pending
 nothing_unsent state pending changes e (inl n) = absurd cc
 nothing_unsent state pending changes e (inr settled) = λ view is. subst (λ (ns : List MailboxNotes). IsSettled (record { pending = pending; change_notes = ns }) view) e (settled view is)

@@ -112,7 +112,7 @@ highest_nonzero start name ops p =
 pub counters_nonzero : (start : Counters) (name : List ℕ) (ops : List Op) → IsPresentable start ops → folder_exists name ops ≡ true → AreNonzeroCounters (counters_of start name ops)
 counters_nonzero start name ops p t = record { uidnext = next_nonzero start name ops p; uidvalidity = validity_nonzero start name ops p t; highest = highest_nonzero start name ops p }
 
--- ---- what existed before
+-- ---- if operations can be shown, those before them can be shown
 
 pub shown_before : (start : Counters) (ops more : List Op) → IsPresentable start (ops ++ more) → IsPresentable start ops
 shown_before start ops more p =

@@ -1,7 +1,6 @@
 -- A node may be sent to another thread and shared among threads. A balanced tree refers to itself,
--- and the checker can't find these facts for a type that holds one. They are built up here,
--- from the held operations to the node, so that no crate above has to search for them through all
--- parts.
+-- and the checker can't find these facts for a type that contains one. They are built up here, from
+-- the held operations to the node, so that no crate above has to search for them through all parts.
 use denote.RattleType.{RattleType}
 use denote.Param.Send.{IsSend, IsSync, sendable, view_send, view_sync, recorded_send, recorded_sync, struct_send, struct_sync}
 use denote.Struct.Declared.{shape}

@@ -86,7 +86,7 @@ last_below es n l h =
       | inr w ↦ let below = h w.0.uid (uid_here w.0 es w.1) in let q = w.2 in omega (arith, below, q)
     ]
 
--- ---- a listing in which a view lacks only what came after the view's moment
+-- ---- a listing in which a view lacks only messages that were added after the view's moment
 
 -- the view has the UID, or it is above all of the view's
 abbrev pub IsKnown : List ℕ → ℕ → Type 0
@@ -150,7 +150,7 @@ uids_append (x ∷ xs) ys = ap (λ (us : List ℕ). x.uid ∷ us) (uids_append x
 above : (uid : ℕ) (row : ListedMessage) → uid < row.uid → nat_lt uid row.uid ≡ true
 above uid row l = elim (cases_Bool (nat_lt uid row.uid)) [ inl t ↦ t | inr f ↦ absurd (grind (arith, nat_tests)) ]
 
--- each listed message that the view knew, or rightly lacked
+-- after a partial sync, the view has each listed message that it had before or rightly lacked
 pub partial_has : (rows : List ListedMessage) (es : List ViewEntry) (row : ListedMessage) → 0 < row.uid → IsIn row rows → IsKnown (uids_of es) row.uid → IsIn row.uid (uids_of (view_after_sync Partial rows es))
 partial_has rows es row l i k =
     subst (IsIn row.uid) (sym (uids_append (map (refreshed_entry rows) es) (entries_of (rows_after_uid (last_uid es) rows))))
@@ -160,7 +160,7 @@ partial_has rows es row l i k =
           (listed_uid row (rows_after_uid (last_uid es) rows) ((in_filter (λ (r : ListedMessage). nat_lt (last_uid es) r.uid) rows row).1 (i, above (last_uid es) row (last_below es row.uid l over))))
     ])
 
--- only UIDs that the view had and listed ones
+-- after a partial sync, the view has only UIDs that it had before, and listed ones
 pub partial_from : (rows : List ListedMessage) (es : List ViewEntry) (uid : ℕ) → IsIn uid (uids_of (view_after_sync Partial rows es)) → IsIn uid (uids_of es) ⊎ ((row : ListedMessage) × IsIn row rows × (row.uid ≡ uid))
 partial_from rows es uid i =
     elim (in_parts uid (uids_of (map (refreshed_entry rows) es)) (uids_of (entries_of (rows_after_uid (last_uid es) rows))) (subst (IsIn uid) (uids_append (map (refreshed_entry rows) es) (entries_of (rows_after_uid (last_uid es) rows))) i)) [

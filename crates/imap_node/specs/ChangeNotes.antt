@@ -1,5 +1,5 @@
--- How the notes of what operations change in a mailbox are made: from the mailbox before the
--- operations, and its UIDVALIDITY and UIDNEXT after them.
+-- Notes of what operations change in a mailbox, made from the mailbox before the operations, and
+-- its UIDVALIDITY and UIDNEXT after them.
 
 use Rattle.std.specs.Prelude.{◌≡◌, ◌⊎◌, ℕ, ◌≤◌, ◌<◌, true, List, ◌++◌, Option}
 use Rattle.crdt_ops.specs.declared.op.Op.{Op}
@@ -14,15 +14,16 @@ use Rattle.uid_projection.specs.UidsAndModSeqs.{uidnext_of}
 use Rattle.uid_projection.specs.Listing.{listing}
 use Rattle.uid_projection.specs.TouchedMessages.{RowsStayExcept}
 
--- What is looked up of a mailbox before operations.
+-- A mailbox before operations: the values that are looked up in it then.
 pub record MailboxSnapshot : Type 0 where
   pub name : List ℕ
   pub uidvalidity : Option ℕ
   pub uidnext : ℕ
   pub touched : List ℕ
 
--- `ahead` is the mailbox `name` before the operations: its UIDVALIDITY, its UIDNEXT, and UIDs below
--- that; no other rows change, as long as the UIDVALIDITY doesn't.
+-- `ahead` has the values of the mailbox `name` before the operations: its UIDVALIDITY, its UIDNEXT,
+-- and UIDs below that. As long as the UIDVALIDITY stays, the operations change no rows below
+-- UIDNEXT but those with these UIDs.
 pub record IsSnapshotOf (start : Counters) (before ops : List Op) (name : List ℕ)
     (ahead : MailboxSnapshot) : Type 0 where
   pub name_is : ahead.name ≡ name
@@ -47,8 +48,8 @@ AreNamed start before ops folders =
     (folder : MailboxNotes) → IsIn folder folders
     → NotesNameIn start before (before ++ ops) folder.name folder.notes
 
--- The mailbox `name` is among the new ones, the old ones still are, and if the old ones' notes name
--- what the operations change, so do the new ones'.
+-- The mailbox `name` is among the new ones, the old ones still are, and if the notes of the old
+-- ones name what the operations change, the notes of the new ones do too.
 pub record AreNotesSoFar (start : Counters) (before ops : List Op) (name : List ℕ)
     (old new : List MailboxNotes) : Type 0 where
   pub own : is_named new name ≡ true

@@ -56,7 +56,7 @@ abbrev pub is_selected : State → Bool
 is_selected (Selected view read_only) = true
 is_selected _ = false
 
--- A result only in a session that has not logged in.
+-- The result in a session whose user must still log in; otherwise a refusal.
 abbrev pub before_login : {X : Type 0} → State → (Credentials → Result X Refusal) → Result X Refusal
 before_login (NotAuthenticated credentials) outcome = outcome credentials
 before_login _ outcome = Err NotNow
@@ -68,11 +68,11 @@ is_logged_in Authenticated = true
 is_logged_in (Selected view read_only) = true
 is_logged_in LoggedOut = false
 
--- A result only in a session whose user is known.
+-- The result in a session whose user is known; otherwise a refusal.
 abbrev pub if_logged_in : {X : Type 0} → State → Result X Refusal → Result X Refusal
 if_logged_in state outcome = if is_logged_in state then outcome else Err NotNow
 
--- A result only in a session that has selected a mailbox.
+-- The result in a session that has selected a mailbox; otherwise a refusal.
 abbrev pub if_selected : {X : Type 0} → State → (ViewState → Bool → Result X Refusal)
     → Result X Refusal
 if_selected (Selected view read_only) outcome = outcome view read_only
@@ -323,7 +323,7 @@ is_selecting (commands.Select name condstore) = true
 is_selecting (commands.Examine name condstore) = true
 is_selecting _ = false
 
--- IDLE begins; its tagged line comes when it ends (RFC 2177, section 3).
+-- The command begins an IDLE, whose tagged line is sent when it ends (RFC 2177, section 3).
 abbrev pub is_idle : Command → Bool
 is_idle commands.Idle = true
 is_idle _ = false
@@ -376,7 +376,7 @@ abbrev pub enables_condstore : Bool → Command → Bool
 enables_condstore condstore command =
     not condstore && (is_enabling command && not (is_selecting command))
 
--- What such a command sends first while a mailbox is selected.
+-- The answers that such a command sends first while a mailbox is selected.
 abbrev pub condstore_answer : Counters → List Op → State → Bool → Command → List Answer
 condstore_answer start ops state condstore command =
     if enables_condstore condstore command then highest_answer_of start ops state else []

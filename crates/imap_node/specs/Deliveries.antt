@@ -25,16 +25,16 @@ pub record Delivers (old : NodeState) (op : Op) (arrival : Arrival) (new : NodeS
   pub sessions : new.sessions ≡ old.sessions
   pub arrives : Arrives id_of clock_of Exhausts (received_ops old) op arrival (received_ops new)
 
--- A delivered operation is refused.
+-- A node refuses a delivered operation.
 abbrev pub IsRefusedAt : NodeState → Op → DeliverFault → Type 0
 IsRefusedAt node op why = Refuses id_of clock_of Exhausts (received_ops node) op why
 
--- An operation is held although all its causes were applied.
+-- A node holds an operation although all its causes were applied.
 abbrev pub HoldsRipe : NodeState → Type 0
 HoldsRipe node = IsStalled id_of clock_of (received_ops node)
 
--- Why a ripe operation is held, if one is: the next to be released needs a number that a counter
--- lacks, or only memory ran out.
+-- Why a node holds a ripe operation, if it holds one: the next operation to be released needs a
+-- number from a counter that is used up, or only memory ran out.
 abbrev pub StallsAt : NodeState → Option Stall → Type 0
 StallsAt node why = StallsFor id_of clock_of Exhausts (received_ops node) why
 

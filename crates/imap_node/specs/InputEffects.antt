@@ -31,7 +31,7 @@ answers_of_sync (Some kind) modseq rows view = sync_answers kind modseq rows vie
 
 -- The effect of an input that is carried out, apart from its operations: the flags that it sets
 -- silently, its own answers, the sync after them with or without mod-sequences, the state before
--- all these are replayed, and what is sent last.
+-- all these are replayed, and the answers sent last.
 pub record InputEffect : Type 0 where
   pub silent : List SilentFlags
   pub own : List Answer
@@ -63,7 +63,7 @@ effect_from state draft =
       tail = draft.tail;
     }
 
--- What is sent after a command's own answers, and the state then.
+-- The answers sent after a command's own, and the state after them.
 pub record SyncResult : Type 0 where
   pub answers : List Answer
   pub state : State
@@ -88,8 +88,8 @@ abbrev pub answers_of_effect : Counters → List Op → InputEffect → List Ans
 answers_of_effect start ops effect =
     effect.own ++ ((sync_result_of start ops effect).answers ++ effect.tail)
 
--- What comes before a sync, and the kind of the sync: flags that are set silently, and a command's
--- own answers.
+-- The kind of a sync, and what precedes the sync: flags that are set silently, and a command's own
+-- answers.
 pub record SyncInput : Type 0 where
   pub silent : List SilentFlags
   pub own : List Answer
@@ -114,7 +114,8 @@ pub record IsFirstSight (entries : List ViewEntry) (front : SyncInput) : Type 0 
   pub silent : front.silent ≡ []
   pub own : list_any is_altering front.own ≡ false
 
--- The listing made for a state, if one was made, is its mailbox's after these operations.
+-- The listing made for a state, if one was made, is the listing of the state's mailbox after these
+-- operations.
 abbrev pub IsListingFor : Counters → List Op → State → Option (List ListedMessage) → Type 0
 IsListingFor start ops (Selected view read_only) (Some rows) = rows ≡ rows_for start ops view
 IsListingFor start ops state made = Unit {0}

@@ -18,8 +18,8 @@ issued_by (Done answers silent issued) = issued
 issued_by (Refused why closed) = []
 
 -- The node issued exactly these operations: its list grew by them at its end, and a held operation
--- with the id of one of them was dropped. They come next, one after another, and found no counter
--- used up. Each is sound, bears the node's name, and has an id that no operation applied before
+-- with the id of one of them was dropped. They come next, one after another, and exhaust no
+-- counter. Each is sound, bears the node's name, and has an id that no operation applied before
 -- has.
 pub record Issues (old : NodeState) (ops : List Op) (new : NodeState) : Type 0 where
   pub start : new.start ≡ old.start

@@ -1,4 +1,4 @@
--- What contracts see of a node and of its replica, and the states of a session in it.
+-- The states of a node, of its replica and of its sessions, as contracts see them.
 
 use Rattle.std.specs.Prelude.{◌≡◌, ℕ, List, [], Some, None, IsSome}
 use Rattle.causal_inbox.specs.Inbox.{ReceivedOps}
@@ -7,11 +7,13 @@ use Rattle.imap_commands.specs.declared.session.Session.{Session}
 use Rattle.imap_commands.specs.declared.session.State.TheVariants.{LoggedOut}
 use Rattle.imap_node.specs.Operations.{CanFollow}
 use Rattle.imap_node.specs.Rooms.{HasRoomFor, Room}
-use Rattle.imap_node.specs.Sessions.{Places, session_at, with_session}
+use Rattle.imap_node.specs.Sessions.{IsOpen, Places, session_at, with_session}
+use Rattle.imap_node.specs.declared.input.Input.{Input}
+use Rattle.imap_node.specs.declared.input.Input.TheVariants.{Command, Line, Poll}
 use Rattle.uid_projection.specs.declared.first_numbers.Counters.{Counters}
 
 -- A node: its name and the first numbers of its counters, the operations that it applied in their
--- order, those that it holds until their causes come, and its sessions.
+-- order, those that it holds until their causes are applied, and its sessions.
 pub record NodeState : Type 0 where
   pub start : Counters
   pub applied : List Op
@@ -44,17 +46,17 @@ pub record ReplicaWithRoom : Type 0 where
   pub held : List Op
   pub room : Room
 
--- What a node received: the operations applied, and those held.
+-- The operations that a node received: those applied, and those held.
 abbrev pub received_ops : NodeState → ReceivedOps Counters Op
 received_ops node = record { start = node.start; applied = node.applied; held = node.held }
 
--- The replica can issue these operations: they come after those applied and find no counter used
--- up, and there is room for them if there are any.
+-- The replica can issue these operations: they come after those applied and exhaust no counter, and
+-- there is room for them if there are any.
 pub record IsReady (replica : ReplicaWithRoom) (ops : List Op) : Type 0 where
   pub follow : CanFollow replica.start replica.applied ops
   pub room : (ops ≡ [] → ⊥) → HasRoomFor replica.applied replica.room ops
 
--- What a replica received.
+-- The operations that a replica received.
 abbrev pub replica_received : ReplicaWithRoom → ReceivedOps Counters Op
 replica_received replica =
     record { start = replica.start; applied = replica.applied; held = replica.held }
@@ -66,6 +68,13 @@ IsIdling session = IsSome session.idling
 -- The session is open and idles.
 abbrev pub Idles : NodeState → ℕ → Type 0
 Idles node n = (session : Session) × (session_at node.sessions n ≡ Some session) × IsIdling session
+
+-- The session awaits this input: a command if it is open and doesn't idle, a line or a poll if it
+-- idles (RFC 2177, section 3).
+abbrev pub Awaits : NodeState → ℕ → Input → Type 0
+Awaits node n (Command moment tagged) = IsOpen node.sessions n × (Idles node n → ⊥)
+Awaits node n (Line line) = Idles node n
+Awaits node n Poll = Idles node n
 
 -- The session's LOGOUT was answered OK.
 abbrev pub HasLoggedOut : NodeState → ℕ → Type 0

@@ -1,5 +1,5 @@
--- Views that are as old as an earlier moment of their mailbox, and inputs whose replies bring a
--- view up to date (RFC 9051, section 2.3.1.1).
+-- Views that date from an earlier moment of their mailbox, and inputs whose replies bring a view up
+-- to date (RFC 9051, section 2.3.1.1).
 
 use Rattle.std.specs.Prelude.{◌≡◌, ℕ, ◌<◌, Bool, true, false, ◌||◌, List, ◌++◌, Option, Some, None}
 use Rattle.crdt_ops.specs.declared.op.Op.{Op}

@@ -23,8 +23,8 @@ pub record IsNext (replica : ℕ) (applied : List Op) (op : Op) : Type 0 where
   pub clock : IsClockOf id_of applied op.clock
   pub number : op.id.number ≡ count_of op.clock replica + 1
 
--- Operations of these kinds, in their order, each of which comes next after those applied and those
--- before it.
+-- Operations of these kinds, in their order. Each comes next after those applied and those before
+-- it.
 pub record AreNext (replica : ℕ) (applied : List Op) (kinds : List Kind) (ops : List Op) :
     Type 0 where
   pub of_kinds : map (λ (o : Op). o.kind) ops ≡ kinds
@@ -57,12 +57,12 @@ IsReadyRefusal start applied kinds why =
     (why ≡ NoMemory) ⊎ ((why ≡ NumberUsedUp) × ExceedsCounters start applied kinds)
 
 -- The replica may issue an operation of this kind: its name and flags are lawful, it doesn't delete
--- INBOX, and it names only what was applied.
+-- INBOX, and it names only ids of applied operations.
 pub record CanIssue (applied : List Op) (kind : Kind) : Type 0 where
   pub lawful : IsLawfulKind kind
   pub covered : (clock : List (ℕ × ℕ)) → IsClockOf id_of applied clock → CoversReferenced clock kind
 
--- The replica may issue an operation of this kind after what this clock counts.
+-- The replica may issue an operation of this kind after the operations that this clock counts.
 pub record CanIssueBy (clock : List (ℕ × ℕ)) (kind : Kind) : Type 0 where
   pub lawful : IsLawfulKind kind
   pub covered : CoversReferenced clock kind

@@ -1,4 +1,4 @@
--- What `plan` works out, and what `commit` then does: a session's next step, and the node after it.
+-- The results of `plan` and of `commit`: a session's next step, and the node after it.
 
 use Rattle.std.specs.Prelude.{◌≡◌, ℕ, List, [], ◌++◌, Option, Some, None, Result, Ok, Err}
 use Rattle.std.specs.Prelude.{if◌then◌else◌}
@@ -50,7 +50,7 @@ pub record IsPreparedInput (start : Counters) (applied : List Op) (session : Ses
       prepared.answered
   pub copies : prepared.copies ≡ prepared.ops
 
--- A session after a step, and the place that holds it.
+-- A session after a step, and its place after the step.
 abbrev pub session_after_step : Session → SessionStep → Session
 session_after_step session Stays = session
 session_after_step session Leaves = unselected session
@@ -89,7 +89,7 @@ abbrev pub CommitsTo : NodeState → Plan → NodeState → Type 0
 CommitsTo old plan new =
     IsNodeAfter old plan.ops (with_session old.sessions plan.number (planned_session old plan)) new
 
--- The plan's reply is what the node replies, once the plan is committed.
+-- The plan's reply is the node's reply, once the plan is committed.
 abbrev pub IsPlanOf : NodeState → ℕ → Input → Plan → Type 0
 IsPlanOf old n input plan =
     (new : NodeState) → CommitsTo old plan new → Responds old n input plan.reply new

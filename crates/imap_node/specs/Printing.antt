@@ -1,5 +1,5 @@
--- When what a node has applied can be shown, and when a session can be answered, so that all
--- answers can be printed.
+-- When the operations that a node has applied can be shown, and when a session can be answered, so
+-- that all answers can be printed.
 
 use Rattle.std.specs.Prelude.{◌≡◌, ℕ, ◌+◌, List, length, Some}
 use Rattle.crdt_ops.specs.declared.op.Op.{Op}
@@ -13,8 +13,8 @@ use Rattle.uid_projection.specs.declared.first_numbers.Counters.{Counters}
 use Rattle.uid_projection.specs.Bounds.{AreWritable, IsLasting, IsLawfulStart}
 use Rattle.imap_node.specs.Sessions.{Places, with_session}
 
--- What a node has applied can be shown: its first numbers are lawful, no counter was used up, and
--- its operations can be written and counted.
+-- The operations that a node has applied can be shown: its first numbers are lawful, no counter was
+-- used up, and the operations can be written and counted.
 pub record IsPresentable (start : Counters) (ops : List Op) : Type 0 where
   pub lawful : IsLawfulStart start
   pub lasting : IsLasting start ops

@@ -21,7 +21,7 @@ use Rattle.imap_node.specs.declared.reply.Reply.{Reply}
 use Rattle.imap_node.specs.declared.reply.Reply.TheVariants.{Done, Refused}
 use Rattle.uid_projection.specs.declared.first_numbers.Counters.{Counters}
 
--- A session's view in this state, and at a place; none if no mailbox is selected.
+-- The view of a session, given its state or its place; none if no mailbox is selected.
 abbrev pub view_of : State → Option ViewState
 view_of (Selected view read_only) = Some view
 view_of _ = None
@@ -34,9 +34,9 @@ view_in (Some session) = view_of session.state
 abbrev pub view_at : Places → ℕ → Option ViewState
 view_at places n = view_in (session_at places n)
 
--- The view on which the answers of a command that is carried out, or of any input, are replayed: an
--- empty one of a newly selected mailbox; none after CLOSE, UNSELECT and LOGOUT (RFC 9051, sections
--- 6.1.3, 6.3.2, 6.4.1 and 6.4.2); else the view before.
+-- The view on which the answers to a command, or to any input, are replayed if it is carried out:
+-- an empty one of a newly selected mailbox; none after CLOSE, UNSELECT and LOGOUT (RFC 9051,
+-- sections 6.1.3, 6.3.2, 6.4.1 and 6.4.2); else the view before.
 abbrev pub replay_base_of_command : Counters → List Op → Option ViewState → Command
     → Option ViewState
 replay_base_of_command start ops view (commands.Select name condstore) =
@@ -54,7 +54,7 @@ replay_base_of start ops view (inputs.Command moment tagged) =
 replay_base_of start ops view (inputs.Line line) = view
 replay_base_of start ops view inputs.Poll = view
 
--- A view with silent flags and answers replayed, over what its mailbox has now.
+-- A view with silent flags and answers replayed, given the messages that its mailbox has now.
 abbrev pub view_after_replies : Counters → List Op → Option ViewState → List SilentFlags
     → List Answer → Option ViewState
 view_after_replies start ops None silent answers = None

@@ -1,4 +1,4 @@
--- What a reply says of its input.
+-- Whether a node's reply carries out its input.
 
 use Rattle.std.specs.Prelude.{Bool, true, false}
 use Rattle.imap_node.specs.declared.reply.Reply.{Reply}

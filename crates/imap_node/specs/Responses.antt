@@ -84,7 +84,8 @@ abbrev pub tagged_lines_of_idle : Option (List ℕ) → List Answer
 tagged_lines_of_idle None = []
 tagged_lines_of_idle (Some tag) = Completed tag None words.Idle ∷ []
 
--- The effect of a command with this report, whose answers come after the answers `first`.
+-- The effect of a command with this report; the report's answers are sent after the answers
+-- `first`.
 abbrev pub report_effect : List Answer → CommandReport → State → Bool → List ℕ → Command
     → InputEffect
 report_effect first report state modseq tag command =

@@ -51,14 +51,15 @@ abbrev pub CanChangeState : State → StateChange → Type 0
 CanChangeState state (Moves next all) = Unit {0}
 CanChangeState state (Stays change) = CanChangeView state change
 
--- What the change of a view leaves noted names all that is still unsent after these operations, if
+-- The notes that a change of a view leaves name all that is still unsent after these operations, if
 -- the change says so.
 abbrev pub ChangeLeaves : Counters → List Op → State → Option ViewChange → Type 0
 ChangeLeaves start ops (Selected view read_only) (Some change) =
     IsChangeTo (rows_for start ops view) view.entries change
 ChangeLeaves start ops state change = Unit {0}
 
--- If `all` is set, the new state's view shows all that its mailbox has after these operations.
+-- If `all` is set, the new state's view shows all messages that its mailbox has after these
+-- operations.
 abbrev pub ShowsAll : Counters → List Op → State → Bool → Type 0
 ShowsAll start ops state all =
     all ≡ true → (view : ViewState) → view_of state ≡ Some view → IsCurrent start ops view

@@ -2,7 +2,7 @@
 -- operations changed in each mailbox.
 
 use Rattle.std.specs.List.{list_any}
-use Rattle.std.specs.Prelude.{◌≡◌, ℕ, ◌-◌, Bool, false, List, [], ◌∷◌, ◌++◌, slice_index_or}
+use Rattle.std.specs.Prelude.{◌≡◌, ℕ, ◌-◌, Bool, false, List, [], ◌∷◌, slice_index_or}
 use Rattle.std.specs.Prelude.{bytes_eq, Option, Some, if◌then◌else◌}
 use Rattle.crdt_ops.specs.declared.op.Op.{Op}
 use Rattle.idle_feed.specs.Feeds.{FeedState, Pending, missed_pending}
@@ -14,7 +14,6 @@ use Rattle.session_view.specs.NoteChanges.{NoteAllChanges, flags_at}
 use Rattle.session_view.specs.ViewState.{ViewState, rows_under}
 use Rattle.session_view.specs.Views.{AreRising, entries_of}
 use Rattle.session_view.specs.declared.notes.Note.{Note}
-use Rattle.session_view.specs.declared.notes.Note.TheVariants.{Ended}
 use Rattle.uid_projection.specs.declared.first_numbers.Counters.{Counters}
 use Rattle.uid_projection.specs.Incarnations.{uidvalidity_of}
 use Rattle.uid_projection.specs.Listing.{listing}
@@ -48,12 +47,12 @@ IsCurrent start ops view =
 
 -- ---- change notes: what operations changed
 
--- What they changed in one mailbox.
+-- The notes of what operations changed in one mailbox.
 pub record MailboxNotes : Type 0 where
   pub name : List ℕ
   pub notes : List Note
 
--- What they changed in the mailbox `name`; nothing if it isn't listed.
+-- The notes of the mailbox `name`; none if it isn't listed.
 abbrev pub notes_in : List MailboxNotes → List ℕ → List Note
 notes_in [] name = []
 notes_in (folder ∷ folders) name =
@@ -74,8 +73,8 @@ abbrev pub AreChangeNotes : Counters → List Op → List Op → List MailboxNot
 AreChangeNotes start before after changes =
     (name : List ℕ) → NotesNameIn start before after name (notes_in changes name)
 
--- What a session must still be sent, before and after change notes are added: if it named what
--- differed before the operations, it names what differs after them.
+-- A session's notes before and after change notes are added: if the old notes name what differed
+-- before the operations, the new notes name what differs after them.
 pub record IsFeedAfterNotes (changes : List MailboxNotes) (place : Option Session)
     (old new : Pending)
     : Type 0 where
@@ -89,8 +88,8 @@ pub record UnsentChanges : Type 0 where
   pub pending : Pending
   pub change_notes : List MailboxNotes
 
--- A view's mailbox has no notes, neither unsent nor from the operations; the view's
--- UIDs ascend, as any view's do.
+-- A view's mailbox has no notes, neither unsent ones nor any from the operations; the view's UIDs
+-- ascend, as any view's do.
 pub record IsSettled (unsent : UnsentChanges) (view : ViewState) : Type 0 where
   pub rising : AreRising 1 view.entries
   pub none_missed : unsent.pending.missed ≡ false
@@ -100,9 +99,3 @@ pub record IsSettled (unsent : UnsentChanges) (view : ViewState) : Type 0 where
 -- The mailbox `name` is listed.
 abbrev pub is_named : List MailboxNotes → List ℕ → Bool
 is_named folders name = list_any (λ folder. bytes_eq folder.name name) folders
-
--- These mailboxes, with the mailbox `name` added if it isn't listed; everything in it may differ.
-abbrev pub with_all_differing : List MailboxNotes → List ℕ → List MailboxNotes
-with_all_differing folders name =
-    if is_named folders name then folders
-    else folders ++ record { name = name; notes = Ended ∷ [] } ∷ []

@@ -25,7 +25,7 @@ IsOpen places n = IsSome (session_at places n)
 abbrev pub with_session : Places → ℕ → Option Session → Places
 with_session places n place = slice_set places (n - 1) place
 
--- A session without a selected mailbox, and one that doesn't idle.
+-- The session without a selected mailbox, and the session without an IDLE.
 abbrev pub unselected : Session → Session
 unselected session = record session { state = Authenticated }
 
@@ -40,7 +40,7 @@ with_changed places n change = with_session places n (option_map change (session
 abbrev pub OthersStay : Places → ℕ → Places → Type 0
 OthersStay old n new = (m : ℕ) → m ≢ n → session_at new m ≡ session_at old m
 
--- A session at its beginning: the user is known already, or must log in.
+-- A new session: its user is known already, or must log in.
 abbrev pub new_session : Auth → Session
 new_session Preauth = record { state = Authenticated; condstore = false; idling = None }
 new_session (Password credentials) =

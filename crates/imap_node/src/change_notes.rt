@@ -4,7 +4,6 @@ ghost use Rattle.std.specs.Prelude.{◌≡◌, ◌⊎◌, ◌≤◌, ◌<◌, �
 ghost use Rattle.crdt_ops.specs.declared.op.Op.{Op};
 ghost use Rattle.crdt_ops.specs.Tags.{name_of};
 ghost use Rattle.imap_node.specs.SessionFeeds.{AreChangeNotes, NotesNameIn, is_named, notes_in};
-ghost use Rattle.imap_node.specs.SessionFeeds.{with_all_differing};
 ghost use Rattle.imap_node.specs.ChangeNotes.{AreNotesSoFar, IsSnapshotOf, NamesTouched};
 ghost use Rattle.imap_node.specs.Nodes.{IsReady};
 ghost use Rattle.merge_laws.specs.Orders.{IsIn};
@@ -22,7 +21,7 @@ use session_view::Note;
 use std::alloc::{AllocError, Global};
 use std::marker::Model;
 
-/// What operations changed in one mailbox.
+/// The notes of what operations changed in one mailbox.
 #[derive(Drop)]
 pub struct MailboxNotes {
     name: Name,
@@ -37,7 +36,7 @@ impl Model for MailboxNotes {
     ghost view = { λ f. record { name = f.name; notes = f.notes.items } };
 }
 
-/// What operations changed, for each mailbox that they name.
+/// The notes of what operations changed, for each mailbox that they name.
 pub struct ChangeNotes {
     folders: Vec<MailboxNotes>,
 }
@@ -322,8 +321,8 @@ pub fn snapshot_of(
     MailboxSnapshot::before_ops(alloc, replica, kind.name(), ops)
 }
 
-/// What an operation changed that a replica has just applied, given its mailbox before it; `Err` if
-/// memory runs out. Cost: proportional to what it changed.
+/// The changes of an operation that a replica has just applied, given the operation's mailbox
+/// before it; `Err` if memory runs out. Cost: proportional to what it changed.
 pub fn change_notes_of_delivery(
     alloc: Global,
     replica: &ReplicaState,
@@ -342,39 +341,6 @@ pub fn change_notes_of_delivery(
     let mut folders = Vec::with_capacity(alloc, 1)?;
     folders.push_reserved(folder);
     Ok(ChangeNotes { folders })
-}
-
-/// Change notes that say of each mailbox named by `ops` that everything in it may differ; for
-/// operations that were applied without a snapshot. `Err` if memory runs out.
-pub fn coarse_change_notes(alloc: Global, ops: &[SoundOp]) -> Result<ChangeNotes, AllocError>
-    ensures { IfOk result (λ change_notes. (start : Counters) (list : List Op)
-        → IsApplied (list ++ ops.now) → AreChangeNotes start list (list ++ ops.now) change_notes) }
-{
-    let mut folders = Vec::new(alloc);
-    for op in ops {
-        push_folder(alloc, &op.op().kind, &mut folders)?;
-    }
-    Ok(ChangeNotes { folders })
-}
-
-/// Adds the note that everything may differ in the mailbox that an operation names, unless it is
-/// listed already.
-fn push_folder(
-    alloc: Global,
-    kind: &Kind,
-    folders: &mut Vec<MailboxNotes>,
-) -> Result<(), AllocError>
-    ensures { OnOk result
-        (folders.new.items ≡ with_all_differing folders.old.items (name_of kind.now)) }
-{
-    let name = kind.name();
-    if is_named(folders, name) {
-        return Ok(());
-    }
-    let name = name.copy(alloc)?;
-    let notes = all_may_differ(alloc)?;
-    folders.push(MailboxNotes { name, notes })?;
-    Ok(())
 }
 
 /// Whether the mailbox `name` is among these.

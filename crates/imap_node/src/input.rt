@@ -8,7 +8,7 @@ use imap_types::Moment;
 pub enum Input {
     /// A command of a session that doesn't idle.
     Command {
-        /// When it came.
+        /// The moment of its arrival.
         moment: Moment,
         /// The command, with its tag.
         tagged: Tagged,

@@ -42,7 +42,7 @@ pub struct EffectDraft {
     pub modseq: bool,
     /// The state on which all these are replayed; `None` if it is the state before the input.
     pub moved: Option<State>,
-    /// What is sent last.
+    /// The answers that are sent last.
     pub tail: Vec<Answer>,
 }
 
@@ -170,7 +170,8 @@ fn draft_command_effect(
     draft_report_effect(alloc, first, report, moved, modseq, tagged)
 }
 
-/// The effect of a command with this report, whose answers come after the answers `first`.
+/// The effect of a command with this report; the report's answers are sent after the answers
+/// `first`.
 fn draft_report_effect(
     alloc: Global,
     first: Vec<Answer>,

@@ -1,4 +1,4 @@
-//! Laws of whatever a node replies and receives. Each is a contract of a function that does
+//! Laws on all that a node replies and receives. Each is the contract of a function that does
 //! nothing.
 
 ghost use Rattle.std.specs.Prelude.{◌≡◌, ℕ, ◌≤◌, true, List, [], None, Some};
@@ -25,16 +25,17 @@ ghost use Rattle.uid_projection.specs.Applied.{IsApplied};
 ghost use Rattle.uid_projection.specs.Bounds.{IsLasting};
 ghost use Rattle.uid_projection.specs.declared.first_numbers.Counters.{Counters};
 
-/// What a reply issued is sound, bears the node's name, has the next numbers, and has ids that no
-/// applied operation has. The node's list grew at its end by exactly these operations.
+/// The operations that a reply issued are sound, bear the node's name, have the next numbers, and
+/// have ids that no applied operation has. The node's list grew at its end by exactly these
+/// operations.
 pub fn issued_are_sound_and_new()
     ensures { (old new : NodeState) (n : ℕ) (input : Input) (reply : Reply) → IsApplied old.applied
         → Responds old n input reply new
         → Issues old (issued_by reply) new }
 {}
 
-/// A reply's silent flags and answers, replayed on what the session saw before, give what it sees
-/// after: for a command, a line in IDLE and a poll, carried out or refused.
+/// A reply's silent flags and answers, replayed on the session's view before it, give the view
+/// after it: for a command, a line in IDLE and a poll, carried out or refused.
 pub fn replies_replay()
     ensures { (old new : NodeState) (n : ℕ) (input : Input) (reply : Reply)
         → Responds old n input reply new
@@ -74,9 +75,9 @@ pub fn views_ascend()
         → ViewsAscend new.sessions }
 {}
 
-/// Each session's view dates from an earlier moment of its mailbox's incarnation, whatever
-/// happens: messages that it lacks came after that moment. `grows`: the list of applied operations
-/// has grown, in any way.
+/// Each session's view dates from an earlier moment of its mailbox's incarnation, whatever happens:
+/// messages that it lacks were added after that moment. `grows`: the list of applied operations has
+/// grown, in any way.
 pub fn views_are_older()
     ensures begins { (start : Counters) → AreOlderViews start [] [] }
     ensures inputs { (old new : NodeState) (n : ℕ) (input : Input) (reply : Reply)
@@ -106,8 +107,8 @@ pub fn views_are_older()
         → AreOlderViews new.start new.applied new.sessions }
 {}
 
-/// After a full sync, and after a SELECT or an EXAMINE, a session sees exactly what its mailbox
-/// lists, flags included, and nothing if its mailbox's incarnation has ended.
+/// After a full sync, and after a SELECT or an EXAMINE, a session's view is exactly its mailbox's
+/// listing, flags included, and empty if its mailbox's incarnation has ended.
 pub fn full_syncs_show_listing()
     ensures { (old new : NodeState) (n : ℕ) (input : Input) (answers : List Answer)
         (silent : List SilentFlags) (issued : List Op) (view : ViewState) → 1 ≤ old.start.uid

@@ -1,10 +1,12 @@
 //! A replica with its sessions.
 
 ghost use Rattle.std.specs.Prelude.{◌≡◌, ◌≢◌, ◌↔◌, ℕ, ◌<◌, ◌≤◌, ◌++◌, false, List, [], Err, IfOk};
-ghost use Rattle.std.specs.Prelude.{IsNone, IsSome, IsTrue, MatchResult, None, OnErr, Some, length};
-ghost use Rattle.std.specs.Prelude.{take, ◌∷◌, ◌+◌};
+ghost use Rattle.std.specs.Prelude.{IsNone, IsSome, IsTrue, MatchResult, None, Ok, OnErr, Some};
+ghost use Rattle.std.specs.Prelude.{length, take, ◌∷◌, ◌+◌};
 ghost use Rattle.std.specs.Option.{option_copied};
 ghost use Rattle.causal_inbox.specs.Inbox.{AreIssued, IsClockOf, held_limit, uncovered_ops};
+ghost use Rattle.causal_inbox.specs.Releases.{Releases, RefusesRelease};
+ghost use Rattle.causal_inbox.specs.declared.delivery.Arrival.TheVariants.{Applied};
 ghost use Rattle.crdt_ops.specs.Sets.{delete_set_of, folder_tags_of, folders_of, messages_of};
 ghost use Rattle.crdt_ops.specs.Sets.{subscribed_names_of, subscription_tags_of};
 ghost use Rattle.crdt_ops.specs.declared.op.Op.{Op};
@@ -14,6 +16,7 @@ ghost use Rattle.imap_commands.specs.declared.session.Session.{Session};
 ghost use Rattle.crdt_ops.specs.Tags.{name_of};
 ghost use Rattle.imap_node.specs.SessionFeeds.{AreAllNoted, IsCurrent, pending_at};
 ghost use Rattle.imap_node.specs.ChangeNotes.{IsSnapshotOf};
+ghost use Rattle.imap_node.specs.Nodes.{received_ops};
 ghost use Rattle.imap_node.specs.Operations.{clock_of, id_of};
 ghost use Rattle.imap_node.specs.Plans.{CanStep, plan_of_prepared, step_of_refusal};
 ghost use Rattle.imap_node.specs.Plans.{place_after_step, plan_by};
@@ -25,11 +28,10 @@ ghost use Rattle.imap_node.specs.declared.input.Input.TheVariants as inputs;
 ghost use Rattle.session_view.specs.ViewState.{ViewState};
 ghost use Rattle.subs_state.specs.Subscriptions.{IsMadeBy as AreMadeBy};
 ghost use Rattle.subs_state.specs.Table.{subscriptions_of};
+ghost use Rattle.uid_projection.specs.Exhaustion.{Exhausts};
 ghost use Rattle.uid_projection.specs.declared.first_numbers.Counters.{Counters};
 
-use crate::change_notes::{
-    ChangeNotes, MailboxSnapshot, change_notes_of_delivery, coarse_change_notes, snapshot_of,
-};
+use crate::change_notes::{ChangeNotes, MailboxSnapshot, change_notes_of_delivery, snapshot_of};
 use crate::command_tables::{closes, ends_idling, leaves};
 use crate::feeds::{Feeds, may_have_notes};
 use crate::input::Input;
@@ -38,7 +40,7 @@ use crate::ready_ops::ReadyOps;
 use crate::replica::ReplicaState;
 use crate::reply::Reply;
 use crate::sessions::{Auth, OpenFault, SessionNo, Sessions};
-use causal_inbox::{DeliverFault, Delivered, Drained, HeldOps, Stall};
+use causal_inbox::{Arrival, DeliverFault, Delivered, Drained, HeldOps, Stall};
 use crdt_ops::SoundOp;
 use folder_state::Folders;
 use imap_answers::Refusal;
@@ -46,6 +48,7 @@ use imap_commands::{Session, State};
 use imap_syntax::{IdleLine, Tagged};
 use imap_types::{Moment, Name};
 use mailbox_rows::Rows;
+use merge_laws::NotReady;
 use std::alloc::{AllocError, Global};
 use std::marker::Model;
 use std::slice;
@@ -99,7 +102,7 @@ impl Node {
     ghost use Rattle.crdt_ops.specs.Sound.{IsSound};
     ghost use Rattle.imap_node.specs.Deliveries.{Delivers, Drains, HoldsRipe, IsOrderly};
     ghost use Rattle.imap_node.specs.Deliveries.{IsRefusedAt, StallsAt};
-    ghost use Rattle.imap_node.specs.Nodes.{Idles, with_session_closed};
+    ghost use Rattle.imap_node.specs.Nodes.{Awaits, Idles, with_session_closed};
     ghost use Rattle.imap_node.specs.Plans.{CommitsTo, IsPlanned, IsPlanOf};
     ghost use Rattle.imap_node.specs.Responses.{Responds};
     ghost use Rattle.imap_node.specs.Sessions.{IsOpen, Opens, session_at};
@@ -201,21 +204,22 @@ impl Node {
 
     // ---- inputs
 
-    /// Carries out a command of a session that is open and doesn't idle, whole, or refuses it.
-    /// `moment` is when it came.
+    /// Carries out the whole of a command of a session that is open and doesn't idle, or refuses
+    /// it. `moment` is the time of its arrival.
     ///
     /// Cost: finding a mailbox by name is one look-up, however many there are; a subscription is
     /// searched for among all of them. A mailbox's messages are a window on the replica's tables,
     /// which costs nothing to make, and is made for each question. After operations of the
     /// command's own, a window costs as much as they change, and they are copied once. STORE,
     /// FETCH, COPY, MOVE and UID EXPUNGE look up each message that they name a few times. SELECT,
-    /// EXAMINE, SEARCH, STATUS of sizes, EXPUNGE and CLOSE go over all messages of their mailbox.
-    /// With a mailbox selected, the sync after each command or poll looks at what has changed since
-    /// the last one; if the session's feed missed some of that, it goes once over the view and the
-    /// listing. DELETE names all tags of its folder. LIST costs what `list_names` of `imap_query`
-    /// says. SEARCH and FETCH go once over a text for each key or section that asks for it; a whole
-    /// text costs nothing, since the answer shares it with the message. APPEND, COPY and MOVE share
-    /// texts and go over none. LOGIN, ENABLE, NAMESPACE, CAPABILITY and LOGOUT cost what they name.
+    /// EXAMINE, SEARCH, STATUS of sizes, EXPUNGE and CLOSE make a pass over all messages of their
+    /// mailbox. With a mailbox selected, the sync after each command or poll looks at what has
+    /// changed since the last one; if the session's feed missed some of that, it makes one pass
+    /// over the view and the listing. DELETE names all tags of its folder. LIST costs what
+    /// `list_names` of `imap_query` says. SEARCH and FETCH make one pass over a text for each key
+    /// or section that asks for it; a whole text costs nothing, since the answer shares it with the
+    /// message. APPEND, COPY and MOVE share texts and make no pass over them. LOGIN, ENABLE,
+    /// NAMESPACE, CAPABILITY and LOGOUT cost what they name.
     pub fn command(
         &mut self,
         alloc: Global,
@@ -223,7 +227,7 @@ impl Node {
         moment: Moment,
         tagged: Tagged,
     ) -> Reply
-        requires { IsOpen self.old.state.sessions session }
+        requires { Awaits self.old.state session (inputs.Command moment tagged) }
         ensures { Responds self.old.state session (inputs.Command moment tagged) result
             self.new.state }
     {
@@ -233,7 +237,7 @@ impl Node {
 
     /// Takes a line of a session that idles (RFC 2177, section 3).
     pub fn done(&mut self, alloc: Global, session: SessionNo, line: IdleLine) -> Reply
-        requires { IsOpen self.old.state.sessions session }
+        requires { Awaits self.old.state session (inputs.Line line) }
         ensures { Responds self.old.state session (inputs.Line line) result self.new.state }
     {
         let plan = self.plan(alloc, session, Input::Line { line });
@@ -242,17 +246,18 @@ impl Node {
 
     /// Sends a session that idles what has changed (RFC 2177, section 3).
     pub fn poll(&mut self, alloc: Global, session: SessionNo) -> Reply
-        requires { IsOpen self.old.state.sessions session }
+        requires { Awaits self.old.state session inputs.Poll }
         ensures { Responds self.old.state session inputs.Poll result self.new.state }
     {
         let plan = self.plan(alloc, session, Input::Poll);
         self.commit(plan)
     }
 
-    /// Works out what the node will do with an input, and makes the room for it. The node stays as
-    /// it was. The plan's reply is `Done` only if all room was made; every refusal is in it too.
+    /// Works out what the node will do with an input that the session awaits, and makes the room
+    /// for it. The node stays as it was. The plan's reply is `Done` only if all room was made;
+    /// every refusal is in it too.
     pub fn plan(&mut self, alloc: Global, session: SessionNo, input: Input) -> Plan
-        requires { IsOpen self.old.state.sessions session }
+        requires { Awaits self.old.state session input }
         ensures same { self.new.state ≡ self.old.state }
         ensures planned { IsPlanned self.new result }
         ensures responds { IsPlanOf self.old.state session input result }
@@ -264,7 +269,7 @@ impl Node {
 
     /// `plan`, for an input that is borrowed.
     pub fn plan_for(&mut self, alloc: Global, session: SessionNo, input: &Input) -> Plan
-        requires { IsOpen self.old.state.sessions session }
+        requires { Awaits self.old.state session input.now }
         ensures same { self.new.state ≡ self.old.state }
         ensures planned { IsPlanned self.new result }
         ensures responds { IsPlanOf self.old.state session input.now result }
@@ -311,8 +316,8 @@ impl Node {
     /// was: `Conflict` if another operation has its id, `HeldFull` if it is early and 65,536 are
     /// held, `Exhausted` if it exhausts a counter, `NoMemory`.
     ///
-    /// Cost: it looks through the operations received, and once through those held for each
-    /// operation that it applies.
+    /// Cost: a look-up of the operation's id; for each operation that is applied, what it changes,
+    /// and a look-up for each held one that waited for it.
     pub fn deliver(&mut self, alloc: Global, op: SoundOp) -> Result<Delivered, DeliverFault>
         ensures answer { MatchResult result
             (λ d. Delivers self.old.state op d.arrival self.new.state)
@@ -320,9 +325,33 @@ impl Node {
         ensures stalled { IfOk result (λ d. IsTrue d.stalled ↔ HoldsRipe self.new.state) }
         ensures err { OnErr result (self.new.state ≡ self.old.state) }
     {
+        match self.receive(alloc, op)? {
+            Arrival::Applied(_) => {
+                let drained = self.drain(alloc);
+                Ok(Delivered {
+                    arrival: Arrival::Applied(drained.applied + 1),
+                    stalled: drained.stalled,
+                })
+            }
+            arrival => Ok(Delivered {
+                arrival,
+                stalled: self.replica.is_stalled(),
+            }),
+        }
+    }
+
+    /// Receives an operation, and releases no held one: it is applied if it is ripe, and held if it
+    /// is early. What it changes is noted. An error leaves the node as it was.
+    fn receive(&mut self, alloc: Global, op: SoundOp) -> Result<Arrival, DeliverFault>
+        ensures answer { MatchResult result
+            (λ arrival. Delivers self.old.state op arrival self.new.state)
+            (λ e. IsRefusedAt self.old.state op e) }
+        ensures one { (n : ℕ) → result ≡ Ok (Applied n) → n ≡ 1 }
+        ensures err { OnErr result (self.new.state ≡ self.old.state) }
+    {
         let count = self.replica.op_list().len();
         let ahead = snapshot_of(alloc, &self.replica, slice::from_ref(&op));
-        let delivered = self.replica.deliver(alloc, op);
+        let arrival = self.replica.receive(alloc, op);
         note_delivered(
             alloc,
             &self.replica,
@@ -331,7 +360,7 @@ impl Node {
             &self.sessions,
             &mut self.feeds,
         );
-        delivered
+        arrival
     }
 
     /// Applies held operations whose causes were all applied, the least id first, until there is
@@ -341,10 +370,57 @@ impl Node {
         ensures stalled { IsTrue result.stalled ↔ HoldsRipe self.new.state }
         ensures at_most { result.applied ≤ held_limit }
     {
+        let count = self.replica.held().len();
+        for applied in 0..count {
+            match self.release_next(alloc) {
+                Ok(true) => {}
+                Ok(false) => {
+                    return Drained {
+                        applied,
+                        stalled: false,
+                    };
+                }
+                Err(_) => {
+                    return Drained {
+                        applied,
+                        stalled: true,
+                    };
+                }
+            }
+        }
+        Drained {
+            applied: count,
+            stalled: false,
+        }
+    }
+
+    /// Applies the ripe held operation of the least id; `false` if there is none. What it changes
+    /// is noted. `Err` if it is refused; the node is then as it was.
+    fn release_next(&mut self, alloc: Global) -> Result<bool, NotReady>
+        ensures answer { MatchResult result
+            (λ released. Releases id_of clock_of Exhausts (received_ops self.old.state) released
+            (received_ops self.new.state))
+            (λ e. RefusesRelease id_of clock_of Exhausts (received_ops self.old.state) e) }
+        ensures sessions { self.new.state.sessions ≡ self.old.state.sessions }
+        ensures count { IfOk result (λ released. IsTrue released
+            → length self.new.state.held + 1 ≡ length self.old.state.held) }
+        ensures err { OnErr result (self.new.state ≡ self.old.state) }
+    {
+        let Some(next) = self.replica.next_release() else {
+            return Ok(false);
+        };
         let count = self.replica.op_list().len();
-        let drained = self.replica.drain(alloc);
-        note_since(alloc, &self.replica, count, &self.sessions, &mut self.feeds);
-        drained
+        let ahead = snapshot_of(alloc, &self.replica, next);
+        let released = self.replica.release_next(alloc);
+        note_delivered(
+            alloc,
+            &self.replica,
+            count,
+            ahead,
+            &self.sessions,
+            &mut self.feeds,
+        );
+        released
     }
 
     /// Why a ripe operation is held, if one is: `Exhausted` if a drain couldn't continue because a
@@ -366,7 +442,7 @@ impl Node {
         self.replica.op_list()
     }
 
-    /// The operations held until their causes come, by ascending ids. They are sound.
+    /// The operations held until their causes are applied, by ascending ids. They are sound.
     pub fn held(&self) -> HeldOps<'_, SoundOp>
         ensures held { result ≡ self.now.state.held }
         ensures orderly { IsOrderly self.now.state }
@@ -477,8 +553,8 @@ fn set_next(sessions: &mut Sessions, feeds: &mut Feeds, number: SessionNo, next:
     }
 }
 
-/// Notes what a delivered operation changed, given its mailbox before it. Operations that waited
-/// for it are noted as `note_since` says.
+/// Notes the changes of the delivered operation that was applied after the first `count`, if one
+/// was, given its mailbox before it. If memory runs out, each session's feed misses them.
 fn note_delivered(
     alloc: Global,
     replica: &ReplicaState,
@@ -491,44 +567,19 @@ fn note_delivered(
     requires ahead { IfOk ahead (λ a. (op : Op)
         × IsSnapshotOf replica.now.start (take count replica.now.applied) (op ∷ [])
         (name_of op.kind) a
-        × (length replica.now.applied ≡ count + 1
+        × (count < length replica.now.applied
         → replica.now.applied ≡ take count replica.now.applied ++ op ∷ [])) }
     ensures { AreAllNoted replica.now.start (take count replica.now.applied) sessions.now feeds.old
         → AreAllNoted replica.now.start replica.now.applied sessions.now feeds.new }
 {
-    if replica.op_list().len() - count == 1 {
-        if let Ok(ahead) = ahead {
-            match change_notes_of_delivery(alloc, replica, ahead) {
-                Ok(change_notes) => {
-                    feeds.ready(sessions, &change_notes);
-                    feeds.note(sessions, &change_notes);
-                }
-                Err(_) => feeds.miss_all(),
-            }
-            return;
-        }
-    }
-    note_since(alloc, replica, count, sessions, feeds);
-}
-
-/// Notes what was changed by the operations applied after the first `count`.
-fn note_since(
-    alloc: Global,
-    replica: &ReplicaState,
-    count: usize,
-    sessions: &Sessions,
-    feeds: &mut Feeds,
-)
-    requires { count ≤ length replica.now.applied }
-    ensures { (start : Counters)
-        → AreAllNoted start (take count replica.now.applied) sessions.now feeds.old
-        → AreAllNoted start replica.now.applied sessions.now feeds.new }
-{
-    let ops = replica.op_list();
-    if count == ops.len() {
+    if replica.op_list().len() == count {
         return;
     }
-    match coarse_change_notes(alloc, &ops[count..]) {
+    let Ok(ahead) = ahead else {
+        feeds.miss_all();
+        return;
+    };
+    match change_notes_of_delivery(alloc, replica, ahead) {
         Ok(change_notes) => {
             feeds.ready(sessions, &change_notes);
             feeds.note(sessions, &change_notes);

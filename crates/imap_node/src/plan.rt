@@ -29,7 +29,7 @@ use crate::input_effect::{
 use crate::intents::input_intent;
 use crate::ready_ops::{ReadyOps, ready_next_ops};
 use crate::replica::ReplicaState;
-use crate::reply::{Answers, Issued, Reply, Silents, copied_ops};
+use crate::reply::{Answers, Issued, Reply, Silents, copy_ops};
 use crate::reports::rows_after;
 use crate::session_change::{SessionChange, StateChange};
 use crate::sessions::{SessionNo, Sessions};
@@ -57,11 +57,11 @@ pub enum SessionStep {
     Leaves,
     /// It no longer idles.
     Wakes,
-    /// Its input is carried out, which changes it so.
+    /// Its input is carried out, and this is its change.
     Advances { update: SessionChange },
 }
 
-/// What a node will do with an input, with all the memory that this takes.
+/// A node's plan for an input, with all the memory that it takes.
 #[derive(Drop)]
 pub struct Plan {
     pub(crate) number: SessionNo,
@@ -72,7 +72,7 @@ pub struct Plan {
 }
 
 impl Plan {
-    /// What the node will reply.
+    /// The node's reply.
     pub fn reply(&self) -> &Reply
         ensures { result.now ≡ self.now.reply }
     {
@@ -98,8 +98,8 @@ pub struct PreparedInput {
 }
 
 /// Makes the room for an input of an open session, and works out the reply to it. An error is the
-/// reason to refuse the input, and leaves what was received as it was. The sessions stay in any
-/// case.
+/// reason to refuse the input, and leaves the received operations as they were. The sessions stay
+/// in any case.
 pub fn prepare_for(
     alloc: Global,
     replica: &mut ReplicaState,
@@ -321,7 +321,7 @@ fn stamp_of(input: &Input) -> DateTime
     }
 }
 
-/// The date-time recorded by a command that came at this moment: only APPEND records one.
+/// The date-time recorded by a command that arrived at this moment: only APPEND records one.
 fn stamp_for(command: &Command, moment: Moment) -> DateTime
     ensures { IsStampFor command.now moment result }
 {
@@ -406,7 +406,7 @@ fn prepared_reply(
 fn shared_copies(alloc: Global, ops: &[SoundOp]) -> Result<Issued, AllocError>
     ensures { IfOk result (λ copies. copies ≡ ops.now) }
 {
-    let copies = copied_ops(alloc, ops)?;
+    let copies = copy_ops(alloc, ops)?;
     Issued::new(copies)
 }
 
@@ -584,7 +584,7 @@ fn all_sent(own: Vec<Answer>, synced: Vec<Answer>, tail: Vec<Answer>) -> Result<
     Answers::new(append_answers(own, append_answers(synced, tail)?)?)
 }
 
-/// The answers of a sync, and the change of the state, which begins with `moved`, if the input
+/// The answers of a sync, and the change of the state. The change begins with `moved` if the input
 /// changed the state.
 fn sync_and_change(
     alloc: Global,

@@ -1,4 +1,4 @@
-//! Laws: what a node answers can be printed.
+//! Laws: a node's answers can be printed.
 
 ghost use Rattle.std.specs.Prelude.{ℕ, List, [], ◌∷◌, length};
 ghost use Rattle.crdt_ops.specs.declared.op.Op.{Op};
@@ -23,7 +23,7 @@ ghost use Rattle.session_view.specs.ViewState.{ViewState};
 ghost use Rattle.uid_projection.specs.Listing.{listing};
 ghost use Rattle.uid_projection.specs.declared.first_numbers.Counters.{Counters};
 
-/// What a node lists can be shown, and so can what a view's mailbox has now.
+/// A node's listings can be shown, and so can the messages that a view's mailbox has now.
 pub fn listings_are_showable()
     ensures listed { (start : Counters) (name : List ℕ) (ops : List Op) → IsPresentable start ops
         → AreShowable (listing start name ops) }
@@ -31,11 +31,11 @@ pub fn listings_are_showable()
         → AreShowable (rows_for start ops view) }
 {}
 
-/// Whatever a session sends, its answers can be printed, so that the reader of answers reads them
-/// back: the answers to a command that a frame spells, to a line while it idles, and to a poll, as
-/// long as what the node has applied by then can be shown and the session can be answered. The
-/// session afterwards can be answered again, even by a refusal. If a command is refused, its tagged
-/// line can be printed, and CLOSED before it.
+/// The answers that a session is sent can be printed, so that the reader of answers reads them
+/// back: the answers to a command that a frame spells, to a line while it idles, and to a poll.
+/// This requires that the operations that the node has applied by then can be shown, and that the
+/// session can be answered. The session afterwards can be answered again, even by a refusal. If a
+/// command is refused, its tagged line can be printed, and CLOSED before it.
 pub fn answers_are_printable()
     ensures commands { (old new : NodeState) (n : ℕ) (session : Session) (answers : List Answer)
         (silent : List SilentFlags) (issued : List Op) → IsAnswerableIn session

@@ -68,8 +68,8 @@ impl ReadyOps {
 }
 
 /// The replica's next operations, of these kinds, with the room to issue them if there are any. An
-/// error leaves what was received as it was: `NumberUsedUp` if one of them exhausts a counter,
-/// `NoMemory`.
+/// error leaves the received operations as they were: `NumberUsedUp` if one of the next ones
+/// exhausts a counter, `NoMemory`.
 pub fn ready_next_ops(
     alloc: Global,
     replica: &mut ReplicaState,

@@ -1,16 +1,19 @@
 //! A replica without its sessions: the operations that it received, and the tables that result from
 //! them.
 
-ghost use Rattle.std.specs.Prelude.{◌≡◌, ◌↔◌, ◌≤◌, ◌++◌, [], IfOk, OnOk, OnErr, IsTrue, Err};
-ghost use Rattle.std.specs.Prelude.{MatchResult};
+ghost use Rattle.std.specs.Prelude.{◌≡◌, ◌↔◌, ℕ, ◌+◌, ◌≤◌, ◌++◌, ◌∷◌, [], length, IfOk, OnOk};
+ghost use Rattle.std.specs.Prelude.{IsTrue, MatchOption, MatchResult, Ok, Err, OnErr};
 ghost use Rattle.causal_inbox.specs.Delivery.{Arrives, Refuses};
-ghost use Rattle.causal_inbox.specs.Inbox.{AreIssued, AreHeldStill, AreReleasedInTurn, IsClockOf};
-ghost use Rattle.causal_inbox.specs.Inbox.{IsLawfulInbox, IsStalled, held_limit, uncovered_ops};
+ghost use Rattle.causal_inbox.specs.Inbox.{AreIssued, AreHeldStill, IsClockOf, IsLawfulInbox};
+ghost use Rattle.causal_inbox.specs.Inbox.{IsNextReleased, IsStalled, uncovered_ops};
+ghost use Rattle.causal_inbox.specs.Releases.{Releases, RefusesRelease};
 ghost use Rattle.causal_inbox.specs.Stalls.{StallsFor};
+ghost use Rattle.causal_inbox.specs.declared.delivery.Arrival.TheVariants.{Applied};
 ghost use Rattle.causal_inbox.specs.declared.delivery.IssueFault.TheVariants.{Exhausted as UsedUp};
 ghost use Rattle.crdt_ops.specs.Sets.{delete_set_of, folder_tags_of, folders_of, messages_of};
 ghost use Rattle.crdt_ops.specs.Sets.{subscribed_names_of, subscription_tags_of};
 ghost use Rattle.crdt_ops.specs.Sound.{IsSound};
+ghost use Rattle.crdt_ops.specs.declared.op.Op.{Op};
 ghost use Rattle.folder_state.specs.Contents.{IsMadeBy};
 ghost use Rattle.folder_state.specs.Tables.{contents_of};
 ghost use Rattle.imap_node.specs.Nodes.{IsReady, replica_received};
@@ -27,12 +30,12 @@ ghost use Rattle.uid_projection.specs.Incarnations.{folder_exists, uidvalidity_o
 ghost use Rattle.uid_projection.specs.UidsAndModSeqs.{highest_modseq_of, uidnext_of};
 ghost use Rattle.uid_projection.specs.Listing.{listing};
 
-use causal_inbox::{DeliverFault, Delivered, Drained, HeldOps, Inbox, IssueFault, Stall};
+use causal_inbox::{Arrival, DeliverFault, HeldOps, Inbox, IssueFault, Stall};
 use crdt_ops::{Ids, Message, SoundOp};
 use folder_state::Folders;
 use imap_types::Name;
 use mailbox_rows::Rows;
-use merge_laws::{FirstFollower, Pair};
+use merge_laws::{FirstFollower, NotReady, Pair};
 use std::alloc::{AllocError, Global};
 use std::marker::Model;
 use subs_state::Subs;
@@ -130,8 +133,8 @@ impl ReplicaState {
         self.inbox.ops_since(alloc, clock)
     }
 
-    /// Makes room to issue these operations, which come next. An error leaves what was received as
-    /// it was: `Exhausted` exactly if one of them exhausts a counter.
+    /// Makes room to issue these operations, which come next. An error leaves the received
+    /// operations as they were: `Exhausted` exactly if one of these exhausts a counter.
     pub fn ready(&mut self, alloc: Global, ops: &[SoundOp]) -> Result<(), IssueFault>
         ensures start { self.new.start ≡ self.old.start }
         ensures applied { self.new.applied ≡ self.old.applied }
@@ -154,33 +157,52 @@ impl ReplicaState {
         self.inbox.issue(ops);
     }
 
-    /// Receives an operation: applies it and those that waited for it, or holds it if it is early.
-    /// An error leaves the replica as it was.
-    pub fn deliver(&mut self, alloc: Global, op: SoundOp) -> Result<Delivered, DeliverFault>
+    /// Receives an operation, and releases no held one: applies it, or holds it if it is early. An
+    /// error leaves the replica as it was.
+    pub fn receive(&mut self, alloc: Global, op: SoundOp) -> Result<Arrival, DeliverFault>
         ensures answer { MatchResult result
-            (λ d. Arrives id_of clock_of Exhausts (replica_received self.old) op d.arrival
+            (λ arrival. Arrives id_of clock_of Exhausts (replica_received self.old) op arrival
             (replica_received self.new))
             (λ e. Refuses id_of clock_of Exhausts (replica_received self.old) op e) }
-        ensures stalled { IfOk result
-            (λ d. IsTrue d.stalled ↔ IsStalled id_of clock_of (replica_received self.new)) }
+        ensures one { (n : ℕ) → result ≡ Ok (Applied n) → n ≡ 1 }
         ensures err { OnErr result (replica_received self.new ≡ replica_received self.old) }
     {
-        self.inbox.deliver(alloc, op)
+        self.inbox.receive(alloc, op)
     }
 
-    /// Applies held operations whose causes were all applied, the least id first, until there is
-    /// none or one is refused.
-    pub fn drain(&mut self, alloc: Global) -> Drained
-        ensures released { AreReleasedInTurn id_of clock_of Exhausts result.applied
-            (replica_received self.old) (replica_received self.new) }
-        ensures stalled { IsTrue result.stalled
-            ↔ IsStalled id_of clock_of (replica_received self.new) }
-        ensures at_most { result.applied ≤ held_limit }
+    /// The ripe held operation of the least id, which is released next, as a slice of one; `None`
+    /// if there is none.
+    pub fn next_release(&self) -> Option<&[SoundOp]>
+        ensures { MatchOption result (¬ IsStalled id_of clock_of (replica_received self.now))
+            (λ ops. (op : Op)
+            × (ops.now ≡ op ∷ [])
+            × IsNextReleased id_of clock_of (replica_received self.now) op) }
     {
-        self.inbox.drain(alloc)
+        self.inbox.next_release()
     }
 
-    /// Why a ripe operation is held, if one is. What was received stays as it was.
+    /// Applies the ripe held operation of the least id; `false` if there is none. `Err` if it is
+    /// refused; the replica is then as it was.
+    pub fn release_next(&mut self, alloc: Global) -> Result<bool, NotReady>
+        ensures answer { MatchResult result
+            (λ released. Releases id_of clock_of Exhausts (replica_received self.old) released
+            (replica_received self.new))
+            (λ e. RefusesRelease id_of clock_of Exhausts (replica_received self.old) e) }
+        ensures count { IfOk result (λ released. IsTrue released
+            → length self.new.held + 1 ≡ length self.old.held) }
+        ensures err { OnErr result (replica_received self.new ≡ replica_received self.old) }
+    {
+        self.inbox.release_next(alloc)
+    }
+
+    /// Whether a held operation is ripe.
+    pub fn is_stalled(&self) -> bool
+        ensures { IsTrue result ↔ IsStalled id_of clock_of (replica_received self.now) }
+    {
+        self.inbox.is_stalled()
+    }
+
+    /// Why a ripe operation is held, if one is. The received operations stay as they were.
     pub fn stall(&mut self, alloc: Global) -> Option<Stall>
         ensures same { replica_received self.new ≡ replica_received self.old }
         ensures stalls { StallsFor id_of clock_of Exhausts (replica_received self.old) result }

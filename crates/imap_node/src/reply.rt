@@ -205,7 +205,7 @@ impl Reply {
 }
 
 /// Copies of the operations, in their order.
-pub fn copied_ops(alloc: Global, ops: &[SoundOp]) -> Result<Vec<SoundOp>, AllocError>
+pub fn copy_ops(alloc: Global, ops: &[SoundOp]) -> Result<Vec<SoundOp>, AllocError>
     ensures { IfOk result (λ copies. copies.items ≡ ops.now) }
 {
     let mut copies = Vec::with_capacity(alloc, ops.len())?;

@@ -7,9 +7,9 @@ use imap_types::Octets;
 /// The change of a session's state.
 #[derive(Drop)]
 pub enum StateChange {
-    /// It becomes `state`. If `shows_all`, the state's view shows all that its mailbox has.
+    /// The new state is `state`. If `shows_all`, its view shows all messages that its mailbox has.
     Moves { state: State, shows_all: bool },
-    /// It stays, and if a mailbox is selected, its view is changed so.
+    /// The state stays, except for this change of its view if a mailbox is selected.
     Stays { change: Option<ViewChange> },
 }
 

@@ -175,7 +175,7 @@ impl Sessions {
     }
 }
 
-/// A session at its beginning.
+/// A new session.
 fn new_session(auth: Auth) -> Session
     ensures { result ≡ new_session auth }
 {
@@ -251,7 +251,7 @@ fn vacant_place(places: &[Option<Session>]) -> usize
     places.len()
 }
 
-/// Opens the session of a vacant place, which may be the place after the last.
+/// Opens a session at a vacant place, which may be the place after the last.
 fn open_in(
     places: &mut Vec<Option<Session>>,
     vacant: usize,

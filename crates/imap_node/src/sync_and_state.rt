@@ -88,7 +88,7 @@ fn selected_state(
     }))
 }
 
-/// What comes before a sync, and the kind of the sync.
+/// The kind of a sync, and what precedes the sync.
 #[derive(Drop)]
 pub struct SyncInput<'a> {
     /// Flags that are set silently.
@@ -143,14 +143,14 @@ pub struct ReplicaAfter<'a> {
     pub ops: &'a [SoundOp],
 }
 
-/// The answers of a sync, and the state after it, which is a new one.
+/// The answers of a sync, and the state after it, as a new one.
 #[derive(Drop)]
 pub struct RebuiltState {
-    /// What the sync sends.
+    /// The answers that the sync sends.
     pub answers: Vec<Answer>,
     /// The state afterwards.
     pub state: State,
-    /// Whether the state surely shows all that its mailbox has, as after SELECT.
+    /// Whether the state is known to show all messages that its mailbox has, as after SELECT.
     pub shows_all: bool,
 }
 

@@ -31,12 +31,12 @@ use Rattle.imap_answers.specs.declared.fixed_words.CompletedWord.TheVariants as 
 use Rattle.imap_print.specs.Appending.{spaced}
 use Rattle.imap_answers.specs.Printable.{AreFetchItems, AreFlags, AreResults, AreStatusItems, IsCode, IsFolded, IsNotice, IsPrintable, IsSet, IsSmall, IsTag, IfPresent}
 use Rattle.imap_answers.specs.AnswerText.{line_of_answer, code_prefix, code_text, fetch_texts, notice_text, permanent_text, text_of_answer, results_text, sets_text, status_texts, uid_label}
-use Rattle.imap_print.specs.Reading.{◌>>=◌, after, followed, is_in, number_from, set_at, small, span, within, word_at}
+use Rattle.imap_print.specs.Reading.{◌>>=◌, after, value_with_rest, is_in, number_from, set_at, capped_at_32_bits, span, map_value, word_at}
 use Rattle.imap_print.specs.ReadingAnswers.{answer_at, appended_at, read_or, code_at, code_before_at, code_or, coded_at, completed_at, copied_at, done_at, fetch_at, fixed_at, last_set_at, line_at, list_at, modified_at, notice_at, numbered_at, permanent_at, permanent_notice_at, search_at, search_from, sets_at, star_at, status_at, status_items_at, status_list_at, tagged_at, untagged_ok_at, untagged_at, worded_at}
 use Rattle.imap_answers.specs.Strings.{crlf, name_text, separated_by, set_text}
 use Rattle.imap_print.specs.Tables.{commands}
 use Rattle.imap_answers.specs.Words.{attributes_text, bye_text, command_text, continuation_text, enabled_text, greeting_text, refusal_text}
-use Rattle.imap_print.proofs.RoundTrips.{name-round_trip, number-round_trip, set-round_trip, small-round_trip, span-round_trip, word_parts}
+use Rattle.imap_print.proofs.RoundTrips.{name-round_trip, number-round_trip, set-round_trip, capped_at_32_bits-round_trip, span-round_trip, word_parts}
 use Rattle.imap_print.proofs.ListRoundTrips.{flags-round_trip, permanent-round_trip}
 use Rattle.imap_print.proofs.ItemRoundTrips.{bracket_ends, fetch-items-round_trip, not_by_uid, results-round_trip, space_ends, status-items-round_trip}
 
@@ -49,7 +49,7 @@ coded-round_trip n rest h =
 -- two sets
 last-set-round_trip : (c rest : List ℕ) → IsSet c → last_set_at (32 ∷ (set_text c ++ (93 ∷ rest))) ≡ Some (c, rest)
 unfolding last_set_at
-last-set-round_trip c rest h = ap (λ o. o >>= λ copies. followed copies.0 (after (codes "]") copies.1)) (set-round_trip c (93 ∷ rest) h (bracket_ends rest))
+last-set-round_trip c rest h = ap (λ o. o >>= λ copies. value_with_rest copies.0 (after (codes "]") copies.1)) (set-round_trip c (93 ∷ rest) h (bracket_ends rest))
 
 sets-round_trip : (s c rest : List ℕ) → IsSet s → IsSet c → sets_at (set_text s ++ (32 ∷ (set_text c ++ (93 ∷ rest)))) ≡ Some ((s, c), rest)
 unfolding sets_at
@@ -69,14 +69,14 @@ copied-round_trip u s c rest h i j =
     ∙ append_assoc (decimal u) (32 ∷ []) (sets_text s c ++ (93 ∷ rest))
     ∙ ap (λ (x : List ℕ). decimal u ++ (32 ∷ x)) inner in
     let widen : u < 2 ^ 64 = omega arith in
-    ap (λ (x : ℕ × List ℕ). after (codes " ") x.1 >>= λ beyond. (sets_at beyond >>= λ sets. Some ((small x.0, sets.0.0, sets.0.1), sets.1))) (ap (number_from 0) whole ∙ number-round_trip u (32 ∷ more) widen)
-    ∙ ap (λ o. o >>= λ sets. Some ((small u, sets.0.0, sets.0.1), sets.1)) (sets-round_trip s c rest i j)
-    ∙ ap (λ k. Some ((k, s, c), rest)) (small-round_trip u h)
+    ap (λ (x : ℕ × List ℕ). after (codes " ") x.1 >>= λ beyond. (sets_at beyond >>= λ sets. Some ((capped_at_32_bits x.0, sets.0.0, sets.0.1), sets.1))) (ap (number_from 0) whole ∙ number-round_trip u (32 ∷ more) widen)
+    ∙ ap (λ o. o >>= λ sets. Some ((capped_at_32_bits u, sets.0.0, sets.0.1), sets.1)) (sets-round_trip s c rest i j)
+    ∙ ap (λ k. Some ((k, s, c), rest)) (capped_at_32_bits-round_trip u h)
 
 -- the flags that can be changed permanently
 permanent-notice-round_trip : (flags : Option Flags) (rest : List ℕ) → IfPresent AreFlags flags → permanent_notice_at (permanent_text flags ++ (93 ∷ rest)) ≡ Some (notice.PermanentFlags flags, rest)
 unfolding permanent_notice_at
-permanent-notice-round_trip flags rest h = ap (λ o. o >>= λ flags. followed (notice.PermanentFlags flags.0) (after (codes "]") flags.1)) (permanent-round_trip flags (93 ∷ rest) h)
+permanent-notice-round_trip flags rest h = ap (λ o. o >>= λ flags. value_with_rest (notice.PermanentFlags flags.0) (after (codes "]") flags.1)) (permanent-round_trip flags (93 ∷ rest) h)
 
 -- the code of an untagged OK
 notice-round_trip : (n : Notice) (rest : List ℕ) → IsNotice n → notice_at (notice_text n ++ rest) ≡ Some (n, rest)
@@ -84,14 +84,14 @@ unfolding notice_at
 notice-round_trip notice.Closed rest h = refl
 notice-round_trip (notice.UidValidity v) rest h =
     let widen : v < 2 ^ 64 = omega (arith, h.1) in
-    ap (within (λ n. notice.UidValidity (small n))) (coded-round_trip v rest widen) ∙ ap (λ k. Some (notice.UidValidity k, rest)) (small-round_trip v h.1)
+    ap (map_value (λ n. notice.UidValidity (capped_at_32_bits n))) (coded-round_trip v rest widen) ∙ ap (λ k. Some (notice.UidValidity k, rest)) (capped_at_32_bits-round_trip v h.1)
 notice-round_trip (notice.UidNext v) rest h =
     let widen : v < 2 ^ 64 = omega (arith, h.1) in
-    ap (within (λ n. notice.UidNext (small n))) (coded-round_trip v rest widen) ∙ ap (λ k. Some (notice.UidNext k, rest)) (small-round_trip v h.1)
+    ap (map_value (λ n. notice.UidNext (capped_at_32_bits n))) (coded-round_trip v rest widen) ∙ ap (λ k. Some (notice.UidNext k, rest)) (capped_at_32_bits-round_trip v h.1)
 notice-round_trip (notice.PermanentFlags flags) rest h =
     ap permanent_notice_at (append_assoc (permanent_text flags) (93 ∷ []) rest) ∙ permanent-notice-round_trip flags rest h
-notice-round_trip (notice.HighestModSeq m) rest h = ap (within (λ n. notice.HighestModSeq n)) (coded-round_trip m rest h.1)
-notice-round_trip (notice.CopyUid u s c) rest h = ap (within (λ x. notice.CopyUid x.0 x.1 x.2)) (copied-round_trip u s c rest h.validity.1 h.sources h.copied)
+notice-round_trip (notice.HighestModSeq m) rest h = ap (map_value (λ n. notice.HighestModSeq n)) (coded-round_trip m rest h.1)
+notice-round_trip (notice.CopyUid u s c) rest h = ap (map_value (λ x. notice.CopyUid x.0 x.1 x.2)) (copied-round_trip u s c rest h.validity.1 h.sources h.copied)
 
 -- the code of a tagged OK
 appended-round_trip : (u n : ℕ) (rest : List ℕ) → IsSmall u → IsSmall n → appended_at ((decimal u ++ (32 ∷ []) ++ decimal n ++ (93 ∷ [])) ++ rest) ≡ Some ((u, n), rest)
@@ -101,20 +101,20 @@ appended-round_trip u n rest h i =
     let whole : (decimal u ++ (32 ∷ []) ++ decimal n ++ (93 ∷ [])) ++ rest ≡ decimal u ++ (32 ∷ more) = simp append_assoc in
     let widen : u < 2 ^ 64 = omega arith in
     let widen' : n < 2 ^ 64 = omega arith in
-    ap (λ (x : ℕ × List ℕ). after (codes " ") x.1 >>= λ between. (coded_at between >>= λ uid. Some ((small x.0, small uid.0), uid.1))) (ap (number_from 0) whole ∙ number-round_trip u (32 ∷ more) widen)
-    ∙ ap (λ o. o >>= λ uid. Some ((small u, small uid.0), uid.1)) (coded-round_trip n rest widen')
-    ∙ (λ k. Some ((small-round_trip u h k, small-round_trip n i k), rest))
+    ap (λ (x : ℕ × List ℕ). after (codes " ") x.1 >>= λ between. (coded_at between >>= λ uid. Some ((capped_at_32_bits x.0, capped_at_32_bits uid.0), uid.1))) (ap (number_from 0) whole ∙ number-round_trip u (32 ∷ more) widen)
+    ∙ ap (λ o. o >>= λ uid. Some ((capped_at_32_bits u, capped_at_32_bits uid.0), uid.1)) (coded-round_trip n rest widen')
+    ∙ (λ k. Some ((capped_at_32_bits-round_trip u h k, capped_at_32_bits-round_trip n i k), rest))
 
 modified-round_trip : (refused rest : List ℕ) → IsSet refused → modified_at (set_text refused ++ (93 ∷ rest)) ≡ Some (code.Modified refused, rest)
 unfolding modified_at
-modified-round_trip refused rest h = ap (λ o. o >>= λ set. followed (code.Modified set.0) (after (codes "]") set.1)) (set-round_trip refused (93 ∷ rest) h (bracket_ends rest))
+modified-round_trip refused rest h = ap (λ o. o >>= λ set. value_with_rest (code.Modified set.0) (after (codes "]") set.1)) (set-round_trip refused (93 ∷ rest) h (bracket_ends rest))
 
 code-round_trip : (c : Code) (rest : List ℕ) → IsCode c → code_at (code_text c ++ rest) ≡ Some (c, rest)
 unfolding code_at
 code-round_trip code.ReadWrite rest h = refl
 code-round_trip code.ReadOnly rest h = refl
-code-round_trip (code.AppendUid u n) rest h = ap (within (λ a. code.AppendUid a.0 a.1)) (appended-round_trip u n rest h.0.1 h.1.1)
-code-round_trip (code.CopyUid u s c) rest h = ap (within (λ x. code.CopyUid x.0 x.1 x.2)) (copied-round_trip u s c rest h.validity.1 h.sources h.copied)
+code-round_trip (code.AppendUid u n) rest h = ap (map_value (λ a. code.AppendUid a.0 a.1)) (appended-round_trip u n rest h.0.1 h.1.1)
+code-round_trip (code.CopyUid u s c) rest h = ap (map_value (λ x. code.CopyUid x.0 x.1 x.2)) (copied-round_trip u s c rest h.validity.1 h.sources h.copied)
 code-round_trip (code.Modified refused) rest h =
     ap modified_at (append_assoc (set_text refused) (93 ∷ []) rest) ∙ modified-round_trip refused rest h
 code-round_trip code.ExpungeIssued rest h = refl
@@ -134,7 +134,7 @@ code-before-round_trip (Some c) rest h n =
     let whole : (code_text c ++ (32 ∷ [])) ++ rest ≡ code_text c ++ (32 ∷ rest) = append_assoc (code_text c) (32 ∷ []) rest in
     ap (λ (x : List ℕ). code_or (after (codes "[") x) x) whole
     ∙ ap (λ o. code_or o (code_text c ++ (32 ∷ rest))) opened.1
-    ∙ ap (λ o. o >>= λ code. followed (Some code.0) (after (codes " ") code.1)) (code-round_trip c (32 ∷ rest) h)
+    ∙ ap (λ o. o >>= λ code. value_with_rest (Some code.0) (after (codes " ") code.1)) (code-round_trip c (32 ∷ rest) h)
 
 -- the words of commands
 word-round_trip : (w : CompletedWord) (rest : List ℕ) → word_at command_text commands (command_text w ++ rest) ≡ Some (w, rest)
@@ -226,7 +226,7 @@ refused-round_trip tag refusal.DoneExpected rest = refl
 
 command-done-round_trip : (w : CompletedWord) (rest : List ℕ) → done_at (command_text w ++ (codes " completed" ++ rest)) ≡ Some (w, rest)
 unfolding done_at
-command-done-round_trip w rest = ap (λ o. o >>= λ command. followed command.0 (after (codes " completed") command.1)) (word-round_trip w (codes " completed" ++ rest))
+command-done-round_trip w rest = ap (λ o. o >>= λ command. value_with_rest command.0 (after (codes " completed") command.1)) (word-round_trip w (codes " completed" ++ rest))
 
 completed-round_trip : (tag : List ℕ) (c : Option Code) (w : CompletedWord) (rest : List ℕ) → IfPresent IsCode c → completed_at tag (code_prefix c ++ (command_text w ++ (codes " completed" ++ rest))) ≡ Some (answer.Completed tag c w, rest)
 unfolding completed_at
@@ -302,7 +302,7 @@ exists-round_trip n rest h =
     let read : number_from 0 (decimal n ++ (codes " EXISTS" ++ rest)) ≡ (n, codes " EXISTS" ++ rest) = number-round_trip n (codes " EXISTS" ++ rest) widen in
     numbered-round_trip n (codes " EXISTS" ++ rest) widen
     ∙ ap (λ (x : ℕ × List ℕ). numbered_at x.0 x.1 (decimal n ++ (codes " EXISTS" ++ rest))) read
-    ∙ ap (λ k. Some (answer.Exists k, rest)) (small-round_trip n h)
+    ∙ ap (λ k. Some (answer.Exists k, rest)) (capped_at_32_bits-round_trip n h)
 
 expunge-round_trip : (n : ℕ) (rest : List ℕ) → IsSmall n → answer_at (42 ∷ 32 ∷ (decimal n ++ (codes " EXPUNGE" ++ rest))) ≡ Some (answer.Expunge n, rest)
 unfolding untagged_at
@@ -311,7 +311,7 @@ expunge-round_trip n rest h =
     let read : number_from 0 (decimal n ++ (codes " EXPUNGE" ++ rest)) ≡ (n, codes " EXPUNGE" ++ rest) = number-round_trip n (codes " EXPUNGE" ++ rest) widen in
     numbered-round_trip n (codes " EXPUNGE" ++ rest) widen
     ∙ ap (λ (x : ℕ × List ℕ). numbered_at x.0 x.1 (decimal n ++ (codes " EXPUNGE" ++ rest))) read
-    ∙ ap (λ k. Some (answer.Expunge k, rest)) (small-round_trip n h)
+    ∙ ap (λ k. Some (answer.Expunge k, rest)) (capped_at_32_bits-round_trip n h)
 
 fetch-round_trip : (n : ℕ) (items : FetchItems) (rest : List ℕ) → IsSmall n → AreFetchItems items → answer_at (42 ∷ 32 ∷ (decimal n ++ (codes " FETCH (" ++ (spaced true (fetch_texts items) ++ (41 ∷ rest))))) ≡ Some (answer.Fetch n items, rest)
 unfolding untagged_at fetch_at
@@ -321,12 +321,12 @@ fetch-round_trip n items rest h i =
     let read : number_from 0 (decimal n ++ (codes " FETCH (" ++ inner)) ≡ (n, codes " FETCH (" ++ inner) = number-round_trip n (codes " FETCH (" ++ inner) widen in
     numbered-round_trip n (codes " FETCH (" ++ inner) widen
     ∙ ap (λ (x : ℕ × List ℕ). numbered_at x.0 x.1 (decimal n ++ (codes " FETCH (" ++ inner))) read
-    ∙ ap (λ o. o >>= λ items. followed (answer.Fetch (small n) items.0) (after (codes ")") items.1)) (fetch-items-round_trip items rest i)
-    ∙ ap (λ k. Some (answer.Fetch k items, rest)) (small-round_trip n h)
+    ∙ ap (λ o. o >>= λ items. value_with_rest (answer.Fetch (capped_at_32_bits n) items.0) (after (codes ")") items.1)) (fetch-items-round_trip items rest i)
+    ∙ ap (λ k. Some (answer.Fetch k items, rest)) (capped_at_32_bits-round_trip n h)
 
 untagged_ok-round_trip : (n : Notice) (rest : List ℕ) → IsNotice n → untagged_ok_at (notice_text n ++ (codes " ok" ++ rest)) ≡ Some (answer.UntaggedOk n, rest)
 unfolding untagged_ok_at
-untagged_ok-round_trip n rest h = ap (λ o. o >>= λ notice. followed (answer.UntaggedOk notice.0) (after (codes " ok") notice.1)) (notice-round_trip n (codes " ok" ++ rest) h)
+untagged_ok-round_trip n rest h = ap (λ o. o >>= λ notice. value_with_rest (answer.UntaggedOk notice.0) (after (codes " ok") notice.1)) (notice-round_trip n (codes " ok" ++ rest) h)
 
 ok_answer : (n : Notice) (rest : List ℕ) → answer_at (codes "* OK " ++ (notice_text n ++ rest)) ≡ untagged_ok_at (notice_text n ++ rest)
 unfolding answer_at star_at untagged_at worded_at
@@ -348,7 +348,7 @@ list-round_trip name state.NonExistent true rest h = ap (λ o. o >>= λ name. So
 
 status-list-round_trip : (items : StatusItems) (rest : List ℕ) → AreStatusItems items → status_list_at (codes " (" ++ (spaced true (status_texts items) ++ (41 ∷ rest))) ≡ Some (items, rest)
 unfolding status_list_at
-status-list-round_trip items rest h = ap (λ (x : StatusItems × List ℕ). followed x.0 (after (codes ")") x.1)) (status-items-round_trip items rest h)
+status-list-round_trip items rest h = ap (λ (x : StatusItems × List ℕ). value_with_rest x.0 (after (codes ")") x.1)) (status-items-round_trip items rest h)
 
 status-round_trip : (name : List ℕ) (items : StatusItems) (rest : List ℕ) → IsFolded name → AreStatusItems items → status_at (name_text name ++ (codes " (" ++ (spaced true (status_texts items) ++ (41 ∷ rest)))) ≡ Some (answer.Status name items, rest)
 unfolding status_at
@@ -358,10 +358,10 @@ status-round_trip name items rest h i =
     ∙ ap (λ o. o >>= λ items. Some (answer.Status name items.0, items.1)) (status-list-round_trip items rest i)
 
 search-by : (tag : List ℕ) (by_uid : Bool) (results : SearchResults) (rest : List ℕ) → AreResults results → read_or (after (codes "\") UID") (uid_label by_uid ++ (results_text results ++ (13 ∷ rest)))) (λ rest. search_from tag true rest) (after (codes "\")") (uid_label by_uid ++ (results_text results ++ (13 ∷ rest))) >>= λ rest. search_from tag false rest) ≡ Some (answer.Search tag by_uid results, 13 ∷ rest)
-search-by tag true results rest h = ap (within (λ r. answer.Search tag true r)) (results-round_trip results rest h)
+search-by tag true results rest h = ap (map_value (λ r. answer.Search tag true r)) (results-round_trip results rest h)
 search-by tag false results rest h =
     ap (λ o. read_or o (λ rest. search_from tag true rest) (search_from tag false (results_text results ++ (13 ∷ rest)))) (not_by_uid results rest)
-    ∙ ap (within (λ r. answer.Search tag false r)) (results-round_trip results rest h)
+    ∙ ap (map_value (λ r. answer.Search tag false r)) (results-round_trip results rest h)
 
 quote_ends : (by_uid : Bool) (more : List ℕ) → span (is_in Tag) (uid_label by_uid ++ more) ≡ ([], uid_label by_uid ++ more)
 quote_ends true more = refl
@@ -389,7 +389,7 @@ answer-round_trip (answer.Continue awaited) rest h = continuation-round_trip awa
 answer-round_trip answer.Capability rest h = refl
 answer-round_trip (answer.Enabled extensions) rest h = enabled-round_trip extensions rest
 answer-round_trip answer.Namespace rest h = refl
-answer-round_trip (answer.Flags flags) rest h = ap (within (λ f. answer.Flags f)) (flags-round_trip flags (13 ∷ 10 ∷ rest) h)
+answer-round_trip (answer.Flags flags) rest h = ap (map_value (λ f. answer.Flags f)) (flags-round_trip flags (13 ∷ 10 ∷ rest) h)
 answer-round_trip (answer.Exists count) rest h =
     ap (λ (x : List ℕ). answer_at (42 ∷ 32 ∷ x)) (append_assoc (decimal count) (codes " EXISTS") (13 ∷ 10 ∷ rest)) ∙ exists-round_trip count (13 ∷ 10 ∷ rest) h
 answer-round_trip (answer.Expunge number) rest h =
@@ -436,4 +436,4 @@ pub line-round_trip : (a : Answer) (rest : List ℕ) → IsPrintable a → line_
 unfolding line_at
 line-round_trip a rest h =
     ap line_at (append_assoc (line_of_answer a) crlf rest)
-    ∙ ap (λ o. o >>= λ parsed. followed parsed.0 (after crlf parsed.1)) (answer-round_trip a rest h)
+    ∙ ap (λ o. o >>= λ parsed. value_with_rest parsed.0 (after crlf parsed.1)) (answer-round_trip a rest h)

@@ -5,7 +5,7 @@ use Rattle.std.proofs.lemmas.Grind.{flat_map-append}
 use Rattle.imap_types.specs.Numbers.{AreRisingFrom, greatest, numbers_in, numbers_of}
 use Rattle.imap_types.specs.declared.number_set.Run.{Run}
 
--- the greatest of ascending numbers from low is at least low and their count, less 1
+-- the greatest of ascending numbers from low is at least low plus their count, less 1
 rising_from : (low n : ℕ) (ns : List ℕ) → AreRisingFrom low (n ∷ ns) → length (n ∷ ns) + low ≤ greatest (n ∷ ns) + 1
 rising_from low n [] h = omega (arith, h.0)
 rising_from low n (m ∷ ms) h = omega (arith, h.0, rising_from (n + 1) m ms h.1)

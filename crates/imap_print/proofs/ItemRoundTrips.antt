@@ -14,7 +14,7 @@ use Rattle.imap_types.proofs.DateTimeLemmas.{test_from_date_time}
 use Rattle.imap_print.specs.Appending.{has_none, spaced}
 use Rattle.imap_answers.specs.Printable.{AreFetchItems, AreFlags, AreHits, AreResults, AreStatusItems, Each, IsModSeq, IsNonzero, IsPart, IsSection, IsSmall, IsWide, IfPresent}
 use Rattle.imap_answers.specs.AnswerText.{all_text, body_text, date_item, fetch_texts, flags_item, flags_text, modseq_item, origin_text, results_text, section_text, status_texts}
-use Rattle.imap_print.specs.Reading.{◌>>=◌, Listed, after, counted, field_at, is_in, item_at, lead, literal_at, number_from, small, span, with_prefix, within}
+use Rattle.imap_print.specs.Reading.{◌>>=◌, ListReading, after, octets_at, field_at, is_in, item_at, lead, literal_at, number_from, capped_at_32_bits, span, with_prefix, map_value}
 use Rattle.imap_print.specs.ReadingAnswers.{all_or, bodies_at, bodies_on, body_at, data_at, date_at, date_or, fetch_items_at, fields_at, fields_on, flags_or, modseq_or, origin_or, results_at, section_at, small_option, status_items_at}
 use Rattle.imap_answers.specs.Strings.{field_text, item, labelled_number, literal_text, separated_by, set_text}
 use Rattle.imap_answers.specs.declared.fetch_items.FetchItems.{FetchItems}
@@ -22,7 +22,7 @@ use Rattle.imap_answers.specs.declared.fetch_items.SectionData.{SectionData}
 use Rattle.imap_answers.specs.declared.mailbox.SearchResults.{SearchResults}
 use Rattle.imap_answers.specs.declared.mailbox.StatusItems.{StatusItems}
 use Rattle.imap_print.specs.declared.scanner.ScanClass.TheVariants.{Astring}
-use Rattle.imap_print.proofs.RoundTrips.{EndsSet, after-apart, apart, apart-more, counted-round_trip, field-round_trip, field-filled, field_apart, literal-round_trip, none_after_lead, number-round_trip, set-round_trip, small-round_trip, spaced-front}
+use Rattle.imap_print.proofs.RoundTrips.{EndsSet, after-apart, apart, apart-more, octets_at-round_trip, field-round_trip, field-filled, field_apart, literal-round_trip, none_after_lead, number-round_trip, set-round_trip, capped_at_32_bits-round_trip, spaced-front}
 use Rattle.imap_print.proofs.ListRoundTrips.{flags-round_trip, item-round_trip, lead-round_trip, lead-open, lead-parts, not_first, still_first}
 
 append_none : {X : Type 0} (xs : List X) → xs ++ [] ≡ xs
@@ -43,7 +43,7 @@ modseq_wide (Some n) h = h.1
 
 small_same : (n : Option ℕ) → IfPresent IsSmall n → small_option n ≡ n
 small_same None h = refl
-small_same (Some n) h = ap (λ k. Some k) (small-round_trip n h)
+small_same (Some n) h = ap (λ k. Some k) (capped_at_32_bits-round_trip n h)
 
 apart_item : (l label : List ℕ) (n : Option ℕ) (ts : List (List ℕ)) → apart l label ≡ true → list_all (apart l) ts ≡ true → list_all (apart l) (item label n ++ ts) ≡ true
 apart_item l label None ts h a = a
@@ -89,14 +89,14 @@ status-items-round_trip items rest h =
     let l5 : list_all (apart (codes "DELETED ")) r5 ≡ true = apart_item (codes "DELETED ") (codes "SIZE ") items.size r6 refl (apart_item (codes "DELETED ") (codes "HIGHESTMODSEQ ") items.highest_modseq [] refl refl) in
     let l6 : list_all (apart (codes "SIZE ")) r6 ≡ true = apart_item (codes "SIZE ") (codes "HIGHESTMODSEQ ") items.highest_modseq [] refl refl in
     let p1 = ap (λ (ts : List (List ℕ)). item_at true (codes "MESSAGES ") (spaced true ts ++ end)) nested ∙ item-round_trip true (codes "MESSAGES ") items.messages r1 end (widened items.messages h.messages) l1 (closes true 77 (codes "ESSAGES ") rest refl) (λ n. refl) in
-    let p2 = ap (λ (x : Listed (Option ℕ)). item_at x.1 (codes "UIDNEXT ") x.2) p1 ∙ item-round_trip f1 (codes "UIDNEXT ") items.uidnext r2 end (widened items.uidnext (unzeroed items.uidnext h.uidnext)) l2 (closes f1 85 (codes "IDNEXT ") rest refl) (λ n. refl) in
-    let p3 = ap (λ (x : Listed (Option ℕ)). item_at x.1 (codes "UIDVALIDITY ") x.2) p2 ∙ item-round_trip f2 (codes "UIDVALIDITY ") items.uidvalidity r3 end (widened items.uidvalidity (unzeroed items.uidvalidity h.uidvalidity)) l3 (closes f2 85 (codes "IDVALIDITY ") rest refl) (λ n. refl) in
-    let p4 = ap (λ (x : Listed (Option ℕ)). item_at x.1 (codes "UNSEEN ") x.2) p3 ∙ item-round_trip f3 (codes "UNSEEN ") items.unseen r4 end (widened items.unseen h.unseen) l4 (closes f3 85 (codes "NSEEN ") rest refl) (λ n. refl) in
-    let p5 = ap (λ (x : Listed (Option ℕ)). item_at x.1 (codes "DELETED ") x.2) p4 ∙ item-round_trip f4 (codes "DELETED ") items.deleted r5 end (widened items.deleted h.deleted) l5 (closes f4 68 (codes "ELETED ") rest refl) (λ n. refl) in
-    let p6 = ap (λ (x : Listed (Option ℕ)). item_at x.1 (codes "SIZE ") x.2) p5 ∙ item-round_trip f5 (codes "SIZE ") items.size r6 end h.size l6 (closes f5 83 (codes "IZE ") rest refl) (λ n. refl) in
-    let p7 = ap (λ (x : Listed (Option ℕ)). item_at x.1 (codes "HIGHESTMODSEQ ") x.2) p6 ∙ item-round_trip f6 (codes "HIGHESTMODSEQ ") items.highest_modseq [] end (modseq_wide items.highest_modseq h.highest_modseq) refl (closes f6 72 (codes "IGHESTMODSEQ ") rest refl) (λ n. refl) in
+    let p2 = ap (λ (x : ListReading (Option ℕ)). item_at x.1 (codes "UIDNEXT ") x.2) p1 ∙ item-round_trip f1 (codes "UIDNEXT ") items.uidnext r2 end (widened items.uidnext (unzeroed items.uidnext h.uidnext)) l2 (closes f1 85 (codes "IDNEXT ") rest refl) (λ n. refl) in
+    let p3 = ap (λ (x : ListReading (Option ℕ)). item_at x.1 (codes "UIDVALIDITY ") x.2) p2 ∙ item-round_trip f2 (codes "UIDVALIDITY ") items.uidvalidity r3 end (widened items.uidvalidity (unzeroed items.uidvalidity h.uidvalidity)) l3 (closes f2 85 (codes "IDVALIDITY ") rest refl) (λ n. refl) in
+    let p4 = ap (λ (x : ListReading (Option ℕ)). item_at x.1 (codes "UNSEEN ") x.2) p3 ∙ item-round_trip f3 (codes "UNSEEN ") items.unseen r4 end (widened items.unseen h.unseen) l4 (closes f3 85 (codes "NSEEN ") rest refl) (λ n. refl) in
+    let p5 = ap (λ (x : ListReading (Option ℕ)). item_at x.1 (codes "DELETED ") x.2) p4 ∙ item-round_trip f4 (codes "DELETED ") items.deleted r5 end (widened items.deleted h.deleted) l5 (closes f4 68 (codes "ELETED ") rest refl) (λ n. refl) in
+    let p6 = ap (λ (x : ListReading (Option ℕ)). item_at x.1 (codes "SIZE ") x.2) p5 ∙ item-round_trip f5 (codes "SIZE ") items.size r6 end h.size l6 (closes f5 83 (codes "IZE ") rest refl) (λ n. refl) in
+    let p7 = ap (λ (x : ListReading (Option ℕ)). item_at x.1 (codes "HIGHESTMODSEQ ") x.2) p6 ∙ item-round_trip f6 (codes "HIGHESTMODSEQ ") items.highest_modseq [] end (modseq_wide items.highest_modseq h.highest_modseq) refl (closes f6 72 (codes "IGHESTMODSEQ ") rest refl) (λ n. refl) in
     let done : (g : Bool) → spaced g [] ++ end ≡ end = λ g. spaced_none g end in
-    (λ k. (record { messages = (ap (λ (x : Listed (Option ℕ)). small_option x.0) p1 ∙ small_same items.messages h.messages) k; uidnext = (ap (λ (x : Listed (Option ℕ)). small_option x.0) p2 ∙ small_same items.uidnext (unzeroed items.uidnext h.uidnext)) k; uidvalidity = (ap (λ (x : Listed (Option ℕ)). small_option x.0) p3 ∙ small_same items.uidvalidity (unzeroed items.uidvalidity h.uidvalidity)) k; unseen = (ap (λ (x : Listed (Option ℕ)). small_option x.0) p4 ∙ small_same items.unseen h.unseen) k; deleted = (ap (λ (x : Listed (Option ℕ)). small_option x.0) p5 ∙ small_same items.deleted h.deleted) k; size = (p6 k).0; highest_modseq = (p7 k).0 }, (ap (λ (x : Listed (Option ℕ)). x.2) p7 ∙ done (f6 && has_none a7)) k))
+    (λ k. (record { messages = (ap (λ (x : ListReading (Option ℕ)). small_option x.0) p1 ∙ small_same items.messages h.messages) k; uidnext = (ap (λ (x : ListReading (Option ℕ)). small_option x.0) p2 ∙ small_same items.uidnext (unzeroed items.uidnext h.uidnext)) k; uidvalidity = (ap (λ (x : ListReading (Option ℕ)). small_option x.0) p3 ∙ small_same items.uidvalidity (unzeroed items.uidvalidity h.uidvalidity)) k; unseen = (ap (λ (x : ListReading (Option ℕ)). small_option x.0) p4 ∙ small_same items.unseen h.unseen) k; deleted = (ap (λ (x : ListReading (Option ℕ)). small_option x.0) p5 ∙ small_same items.deleted h.deleted) k; size = (p6 k).0; highest_modseq = (p7 k).0 }, (ap (λ (x : ListReading (Option ℕ)). x.2) p7 ∙ done (f6 && has_none a7)) k))
 
 -- n nonempty texts of a list have at least n octets
 lead_fits : (f : Bool) (t rest : List ℕ) → 0 < length t → suc (length rest) ≤ length (lead f t ++ rest)
@@ -147,18 +147,18 @@ unfolding section_at
 section-round_trip section.Whole rest h = refl
 section-round_trip section.Header rest h = refl
 section-round_trip section.Text rest h = refl
-section-round_trip (section.Fields names) rest h = ap (within (λ n. section.Fields n)) (fields_listed names (93 ∷ rest) h.1)
-section-round_trip (section.FieldsNot names) rest h = ap (within (λ n. section.FieldsNot n)) (fields_listed names (93 ∷ rest) h.1)
+section-round_trip (section.Fields names) rest h = ap (map_value (λ n. section.Fields n)) (fields_listed names (93 ∷ rest) h.1)
+section-round_trip (section.FieldsNot names) rest h = ap (map_value (λ n. section.FieldsNot n)) (fields_listed names (93 ∷ rest) h.1)
 
--- where a partial begins
+-- the octet at which a partial begins
 origin-round_trip : (origin : Option ℕ) (rest : List ℕ) → IfPresent IsSmall origin → origin_or (after (codes "<") (origin_text origin ++ (32 ∷ rest))) (origin_text origin ++ (32 ∷ rest)) ≡ Some (origin, 32 ∷ rest)
 origin-round_trip None rest h = refl
 origin-round_trip (Some n) rest h =
     let whole : (decimal n ++ (62 ∷ [])) ++ (32 ∷ rest) ≡ decimal n ++ (62 ∷ 32 ∷ rest) = append_assoc (decimal n) (62 ∷ []) (32 ∷ rest) in
     let widen : n < 2 ^ 64 = omega arith in
     let read : number_from 0 ((decimal n ++ (62 ∷ [])) ++ (32 ∷ rest)) ≡ (n, 62 ∷ 32 ∷ rest) = ap (number_from 0) whole ∙ number-round_trip n (62 ∷ 32 ∷ rest) widen in
-    ap (λ (x : ℕ × List ℕ). after (codes ">") x.1 >>= λ rest. Some (Some (small x.0), rest)) read
-    ∙ ap (λ k. Some (Some k, 32 ∷ rest)) (small-round_trip n h)
+    ap (λ (x : ℕ × List ℕ). after (codes ">") x.1 >>= λ rest. Some (Some (capped_at_32_bits x.0), rest)) read
+    ∙ ap (λ k. Some (Some k, 32 ∷ rest)) (capped_at_32_bits-round_trip n h)
 
 -- what follows the name of a section
 data-round_trip : (origin : Option ℕ) (octets rest : List ℕ) → IfPresent IsSmall origin → IsWide (length octets) → data_at (93 ∷ (origin_text origin ++ (32 ∷ (literal_text octets ++ rest)))) ≡ Some ((origin, octets), rest)
@@ -199,7 +199,7 @@ pub bodies_filled : (parts : List SectionData) → Each (λ (t : List ℕ). 0 < 
 bodies_filled [] = tt
 bodies_filled (part ∷ parts) = (omega arith, bodies_filled parts)
 
--- a label differs from the beginnings of the texts of FETCH
+-- a label and each text of FETCH differ before either ends
 pub apart_flags : (l : List ℕ) (flags : Option Flags) (ts : List (List ℕ)) → ((x : List ℕ) → apart l (codes "FLAGS " ++ x) ≡ true) → list_all (apart l) ts ≡ true → list_all (apart l) (flags_item flags ++ ts) ≡ true
 apart_flags l None ts h a = a
 apart_flags l (Some flags) ts h a = and_from _ (list_all (apart l) ts) (h _) a
@@ -234,8 +234,8 @@ date-round_trip : (date rest : List ℕ) → IsDateTime date → date_at (date +
 unfolding date_at
 date-round_trip date rest h =
     let size : length date ≡ 28 = h.form.0 in
-    ap (λ n. counted n (date ++ rest) >>= λ d. cond (is_date_time d.0) (Some d) None) (sym size)
-    ∙ ap (λ o. o >>= λ d. cond (is_date_time d.0) (Some d) None) (counted-round_trip date rest)
+    ap (λ n. octets_at n (date ++ rest) >>= λ d. cond (is_date_time d.0) (Some d) None) (sym size)
+    ∙ ap (λ o. o >>= λ d. cond (is_date_time d.0) (Some d) None) (octets_at-round_trip date rest)
     ∙ ap (λ b. cond b (Some (date, rest)) None) (test_from_date_time date h)
 
 pub date-item-round_trip : (f : Bool) (date : Option DateTime) (ts : List (List ℕ)) (end : List ℕ) → IfPresent IsDateTime date → list_all (apart (codes "INTERNALDATE ")) ts ≡ true → after (lead f (codes "INTERNALDATE ")) end ≡ None → date_or f (after (lead f (codes "INTERNALDATE ")) (spaced f (date_item date ++ ts) ++ end)) (spaced f (date_item date ++ ts) ++ end) ≡ Some (date, f && has_none (date_item date), spaced (f && has_none (date_item date)) ts ++ end)
@@ -298,11 +298,11 @@ fetch-items-round_trip items rest h =
     let bytes5 = spaced f5 a6 ++ end in
     let fits : length items.sections < length bytes5 + 1 = omega (arith, texts_fit f5 a6 end (bodies_filled items.sections), length-map items.sections body_text) in
     let p6 = bodies-round_trip (length bytes5 + 1) f5 items.sections rest h.sections fits in
-    let from_size : Listed (Option ℕ) → Option (FetchItems × List ℕ) = λ size.
+    let from_size : ListReading (Option ℕ) → Option (FetchItems × List ℕ) = λ size.
     (modseq_or size.1 (after (lead size.1 (codes "MODSEQ (")) size.2) size.2 >>= λ modseq.
     bodies_at (length modseq.2 + 1) modseq.1 modseq.2 >>= λ parts.
     Some (record { uid = small_option items.uid; flags = items.flags; date = items.date; size = size.0; modseq = modseq.0; sections = parts.0 }, parts.1)) in
-    ap (λ (uid : Listed (Option ℕ)).
+    ap (λ (uid : ListReading (Option ℕ)).
     flags_or uid.1 (after (lead uid.1 (codes "FLAGS ")) uid.2) uid.2 >>= λ flags.
     date_or flags.1 (after (lead flags.1 (codes "INTERNALDATE ")) flags.2) flags.2 >>= λ date.
     (modseq_or (item_at date.1 (codes "RFC822.SIZE ") date.2).1 (after (lead (item_at date.1 (codes "RFC822.SIZE ") date.2).1 (codes "MODSEQ (")) (item_at date.1 (codes "RFC822.SIZE ") date.2).2) (item_at date.1 (codes "RFC822.SIZE ") date.2).2 >>= λ modseq.
@@ -422,12 +422,12 @@ results-round_trip results rest h =
     let l3 : list_all (apart (codes "ALL ")) r3 ≡ true = apart_item (codes "ALL ") (codes "COUNT ") results.count r4 refl (apart_item (codes "ALL ") (codes "MODSEQ ") results.modseq [] refl refl) in
     let l4 : list_all (apart (codes "COUNT ")) r4 ≡ true = apart_item (codes "COUNT ") (codes "MODSEQ ") results.modseq [] refl refl in
     let p1 = ap (λ (x : List ℕ). item_at false (codes "MIN ") (x ++ end)) (results_listed results) ∙ item-round_trip false (codes "MIN ") results.min r1 end (widened results.min (unzeroed results.min h.min)) l1 refl (λ n. refl) in
-    let p2 = ap (λ (x : Listed (Option ℕ)). item_at false (codes "MAX ") x.2) p1 ∙ item-round_trip false (codes "MAX ") results.max r2 end (widened results.max (unzeroed results.max h.max)) l2 refl (λ n. refl) in
+    let p2 = ap (λ (x : ListReading (Option ℕ)). item_at false (codes "MAX ") x.2) p1 ∙ item-round_trip false (codes "MAX ") results.max r2 end (widened results.max (unzeroed results.max h.max)) l2 refl (λ n. refl) in
     let p3 = all-round_trip results.all r3 rest h.all l3 in
     let p4 = item-round_trip false (codes "COUNT ") results.count r4 end (widened results.count h.count) l4 refl (λ n. refl) in
-    let p5 = ap (λ (x : Listed (Option ℕ)). item_at false (codes "MODSEQ ") x.2) p4 ∙ item-round_trip false (codes "MODSEQ ") results.modseq [] end (modseq_wide results.modseq h.modseq) refl refl (λ n. refl) in
+    let p5 = ap (λ (x : ListReading (Option ℕ)). item_at false (codes "MODSEQ ") x.2) p4 ∙ item-round_trip false (codes "MODSEQ ") results.modseq [] end (modseq_wide results.modseq h.modseq) refl refl (λ n. refl) in
     (λ k. all_or (after (codes " ALL ") (p2 k).2) (p2 k).2 >>= λ all.
     Some (record { min = small_option (p1 k).0; max = small_option (p2 k).0; all = all.0; count = small_option (item_at false (codes "COUNT ") all.1).0; modseq = (item_at false (codes "MODSEQ ") (item_at false (codes "COUNT ") all.1).2).0 }, (item_at false (codes "MODSEQ ") (item_at false (codes "COUNT ") all.1).2).2))
     ∙ ap (λ o. o >>= λ all.
     Some (record { min = small_option results.min; max = small_option results.max; all = all.0; count = small_option (item_at false (codes "COUNT ") all.1).0; modseq = (item_at false (codes "MODSEQ ") (item_at false (codes "COUNT ") all.1).2).0 }, (item_at false (codes "MODSEQ ") (item_at false (codes "COUNT ") all.1).2).2)) p3
-    ∙ (λ k. Some (record { min = small_same results.min (unzeroed results.min h.min) k; max = small_same results.max (unzeroed results.max h.max) k; all = results.all; count = (ap (λ (x : Listed (Option ℕ)). small_option x.0) p4 ∙ small_same results.count h.count) k; modseq = (p5 k).0 }, (p5 k).2))
+    ∙ (λ k. Some (record { min = small_same results.min (unzeroed results.min h.min) k; max = small_same results.max (unzeroed results.max h.max) k; all = results.all; count = (ap (λ (x : ListReading (Option ℕ)). small_option x.0) p4 ∙ small_same results.count h.count) k; modseq = (p5 k).0 }, (p5 k).2))

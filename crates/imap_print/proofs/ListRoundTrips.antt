@@ -10,7 +10,7 @@ use Rattle.imap_types.proofs.KeywordLemmas.{test_from_keywords}
 use Rattle.imap_print.specs.Appending.{has_none, spaced}
 use Rattle.imap_answers.specs.Printable.{AreFlags, Each, IsAtom, IsWide, IfPresent}
 use Rattle.imap_answers.specs.AnswerText.{flags_text, permanent_text}
-use Rattle.imap_print.specs.Reading.{◌>>=◌, Listed, after, flag_at, flag_or, followed, is_in, item_at, item_or, lead, number_from, span, with_prefix, words_at, words_on}
+use Rattle.imap_print.specs.Reading.{◌>>=◌, ListReading, after, flag_at, flag_after, value_with_rest, is_in, item_at, item_after, lead, number_from, span, with_prefix, words_at, words_after}
 use Rattle.imap_print.specs.ReadingAnswers.{flags_at, flags_from, permanent_at, permanent_from, permanent_or}
 use Rattle.imap_answers.specs.Strings.{item, separated_by}
 use Rattle.imap_print.specs.declared.scanner.ScanClass.TheVariants.{Atom}
@@ -37,10 +37,10 @@ still_first false = refl
 pub flag-round_trip : (f b : Bool) (text : List ℕ) (ts : List (List ℕ)) (end : List ℕ) → list_all (apart text) ts ≡ true → after (lead f text) end ≡ None → flag_at f text (spaced f (text_if_set b text ++ ts) ++ end) ≡ (b, f && has_none (text_if_set b text), spaced (f && has_none (text_if_set b text)) ts ++ end)
 flag-round_trip f true text ts end a n =
     ap (λ (x : List ℕ). flag_at f text x) (spaced-front f text ts end)
-    ∙ ap (λ o. flag_or f o (lead f text ++ (spaced false ts ++ end))) (lead-round_trip f text (spaced false ts ++ end))
+    ∙ ap (λ o. flag_after f o (lead f text ++ (spaced false ts ++ end))) (lead-round_trip f text (spaced false ts ++ end))
     ∙ (λ k. (true, sym (not_first f) k, spaced (sym (not_first f) k) ts ++ end))
 flag-round_trip f false text ts end a n =
-    ap (λ o. flag_or f o (spaced f ts ++ end)) (none_after_lead f text ts end a n)
+    ap (λ o. flag_after f o (spaced f ts ++ end)) (none_after_lead f text ts end a n)
     ∙ (λ k. (false, sym (still_first f) k, spaced (sym (still_first f) k) ts ++ end))
 
 -- a number ends at the end of a list or at its next text
@@ -56,18 +56,18 @@ next_ends (t ∷ ts) end h = λ n. refl
 pub item-round_trip : (f : Bool) (label : List ℕ) (number : Option ℕ) (ts : List (List ℕ)) (end : List ℕ) → IfPresent IsWide number → list_all (apart label) ts ≡ true → after (lead f label) end ≡ None → ((n : ℕ) → number_from n end ≡ (n, end)) → item_at f label (spaced f (item label number ++ ts) ++ end) ≡ (number, f && has_none (item label number), spaced (f && has_none (item label number)) ts ++ end)
 unfolding EndsNumber
 item-round_trip f label None ts end w a n e =
-    ap (λ o. item_or f o (spaced f ts ++ end)) (none_after_lead f label ts end a n)
+    ap (λ o. item_after f o (spaced f ts ++ end)) (none_after_lead f label ts end a n)
     ∙ (λ k. (None, sym (still_first f) k, spaced (sym (still_first f) k) ts ++ end))
 item-round_trip f label (Some number) ts end w a n e =
     let rest = spaced false ts ++ end in
     let front : spaced f ((label ++ decimal number) ∷ ts) ++ end ≡ lead f label ++ (decimal number ++ rest) =
     spaced-front f (label ++ decimal number) ts end ∙ lead-parts f label (decimal number) rest in
     ap (λ (x : List ℕ). item_at f label x) front
-    ∙ ap (λ o. item_or f o (lead f label ++ (decimal number ++ rest))) (lead-round_trip f label (decimal number ++ rest))
+    ∙ ap (λ o. item_after f o (lead f label ++ (decimal number ++ rest))) (lead-round_trip f label (decimal number ++ rest))
     ∙ ap (λ (x : ℕ × List ℕ). (Some x.0, false, x.1)) (number-round_trip number rest w ∙ next_ends ts end e number)
     ∙ (λ k. (Some number, sym (not_first f) k, spaced (sym (not_first f) k) ts ++ end))
 
--- words on a list, up to what isn't one
+-- words on a list, up to octets that aren't a word
 abbrev pub WordsReader : Type 0
 WordsReader = List ℕ → Option (List (List ℕ) × List ℕ)
 
@@ -83,7 +83,7 @@ filled_length : (word : List ℕ) → IsAtom word → eqb (length word) 0 ≡ fa
 filled_length [] h = cc
 filled_length (c ∷ cs) h = ne_eqb (suc (length cs)) 0 (λ e. absurd (omega arith))
 
-pub words-round_trip : (fuel : ℕ) (f : Bool) (ks : List (List ℕ)) (end : List ℕ) → Each IsAtom ks → length ks < fuel → span (is_in Atom) end ≡ ([], end) → ((reader : WordsReader) → words_on (after (lead (f && has_none ks) []) end) end reader ≡ Some ([], end)) → words_at fuel f (spaced f ks ++ end) ≡ Some (ks, end)
+pub words-round_trip : (fuel : ℕ) (f : Bool) (ks : List (List ℕ)) (end : List ℕ) → Each IsAtom ks → length ks < fuel → span (is_in Atom) end ≡ ([], end) → ((reader : WordsReader) → words_after (after (lead (f && has_none ks) []) end) end reader ≡ Some ([], end)) → words_at fuel f (spaced f ks ++ end) ≡ Some (ks, end)
 words-round_trip zero f ks end w l s stop = absurd (omega arith)
 words-round_trip (suc fuel) true [] end w l s stop = stop (words_at fuel false)
 words-round_trip (suc fuel) false [] end w l s stop = stop (words_at fuel false)
@@ -91,10 +91,10 @@ words-round_trip (suc fuel) f (k ∷ ks) end w l s stop =
     let rest = spaced false ks ++ end in
     let parts = word_parts is_atom_octet k w.0 in
     let read : span (is_in Atom) (k ++ rest) ≡ (k, rest) = span-round_trip Atom k rest parts.4 (next_stops ks end s) in
-    let stop' : (reader : WordsReader) → words_on (after (lead false []) end) end reader ≡ Some ([], end) =
-    λ reader. subst (λ (b : Bool). words_on (after (lead b []) end) end reader ≡ Some ([], end)) (not_first f) (stop reader) in
+    let stop' : (reader : WordsReader) → words_after (after (lead false []) end) end reader ≡ Some ([], end) =
+    λ reader. subst (λ (b : Bool). words_after (after (lead b []) end) end reader ≡ Some ([], end)) (not_first f) (stop reader) in
     ap (words_at (suc fuel) f) (spaced-front f k ks end)
-    ∙ ap (λ o. words_on o (lead f k ++ rest) (words_at fuel false)) (lead-open f k rest)
+    ∙ ap (λ o. words_after o (lead f k ++ rest) (words_at fuel false)) (lead-open f k rest)
     ∙ ap (λ (x : List ℕ × List ℕ). cond (eqb (length x.0) 0) (Some ([], lead f k ++ rest)) (with_prefix (x.0 ∷ []) (words_at fuel false x.1))) read
     ∙ ap (λ b. cond b (Some ([], lead f k ++ rest)) (with_prefix (k ∷ []) (words_at fuel false rest))) (filled_length k w.0)
     ∙ ap (with_prefix (k ∷ [])) (words-round_trip fuel false ks end w.1 (omega arith) s stop')
@@ -110,7 +110,7 @@ words_fit f (k ∷ ks) end w =
     let front : length (spaced f (k ∷ ks) ++ end) ≡ length (lead f k ++ (spaced false ks ++ end)) = ap length (spaced-front f k ks end) in
     omega (arith, front, lead_filled f k (spaced false ks ++ end) w.0, words_fit false ks end w.1)
 
--- texts that differ from their beginning on
+-- texts that differ from a label before either ends
 apart_if_set : (l : List ℕ) (b : Bool) (t : List ℕ) (ts : List (List ℕ)) → apart l t ≡ true → list_all (apart l) ts ≡ true → list_all (apart l) (text_if_set b t ++ ts) ≡ true
 apart_if_set l true t ts h a = and_from (apart l t) (list_all (apart l) ts) h a
 apart_if_set l false t ts h a = a
@@ -130,7 +130,7 @@ pub apart_atoms : (k : ℕ) (l : List ℕ) (ks : List (List ℕ)) → is_atom_oc
 apart_atoms k l [] f w = refl
 apart_atoms k l (word ∷ ks) f w = and_from (apart (k ∷ l) word) (list_all (apart (k ∷ l)) ks) (apart_atom k l word f w.0) (apart_atoms k l ks f w.1)
 
--- What ends a list of flags.
+-- These octets end a list of flags.
 pub record EndsFlags (g : Bool) (end : List ℕ) : Type 0 where
   pub answered : (f : Bool) → after (lead f (codes "\\Answered")) end ≡ None
   pub flagged : (f : Bool) → after (lead f (codes "\\Flagged")) end ≡ None
@@ -138,7 +138,7 @@ pub record EndsFlags (g : Bool) (end : List ℕ) : Type 0 where
   pub seen : (f : Bool) → after (lead f (codes "\\Seen")) end ≡ None
   pub draft : (f : Bool) → after (lead f (codes "\\Draft")) end ≡ None
   pub atoms : span (is_in Atom) end ≡ ([], end)
-  pub stop : (reader : List ℕ → Option (List (List ℕ) × List ℕ)) → words_on (after (lead g []) end) end reader ≡ Some ([], end)
+  pub stop : (reader : List ℕ → Option (List (List ℕ) × List ℕ)) → words_after (after (lead g []) end) end reader ≡ Some ([], end)
 
 length_none : (ks : List (List ℕ)) → eqb (length ks) 0 ≡ has_none ks
 length_none [] = refl
@@ -150,10 +150,10 @@ still_of flags =
     ((((((true && has_none (text_if_set flags.answered (codes "\\Answered"))) && has_none (text_if_set flags.flagged (codes "\\Flagged"))) && has_none (text_if_set flags.deleted (codes "\\Deleted"))) && has_none (text_if_set flags.seen (codes "\\Seen"))) && has_none (text_if_set flags.draft (codes "\\Draft"))) && has_none flags.keywords)
 
 -- The flags that these readings give.
-abbrev finished : Listed Bool → Listed Bool → Listed Bool → Listed Bool → Listed Bool → Option (List (List ℕ) × List ℕ) → Option (Listed Flags)
+abbrev finished : ListReading Bool → ListReading Bool → ListReading Bool → ListReading Bool → ListReading Bool → Option (List (List ℕ) × List ℕ) → Option (ListReading Flags)
 finished a b c d e o =
     o >>= λ words.
-    (cond {A = Option (Listed Flags)} (are_keywords words.0) (Some (record { answered = a.0; flagged = b.0; deleted = c.0; seen = d.0; draft = e.0; keywords = words.0 }, e.1 && eqb (length words.0) 0, words.1)) None)
+    (cond {A = Option (ListReading Flags)} (are_keywords words.0) (Some (record { answered = a.0; flagged = b.0; deleted = c.0; seen = d.0; draft = e.0; keywords = words.0 }, e.1 && eqb (length words.0) 0, words.1)) None)
 
 pub flags-from-round_trip : (flags : Flags) (end : List ℕ) → AreFlags flags → EndsFlags (still_of flags) end → flags_from (spaced true (flag_texts flags) ++ end) ≡ Some (flags, still_of flags, end)
 unfolding flags_from still_of
@@ -177,15 +177,15 @@ flags-from-round_trip flags end h e =
     let a4 : list_all (apart (codes "\\Seen")) (w5 ++ ks) ≡ true = apart_if_set (codes "\\Seen") flags.draft _ _ refl (apart_atoms 92 (codes "Seen") ks refl h.1) in
     let a5 : list_all (apart (codes "\\Draft")) ks ≡ true = apart_atoms 92 (codes "Draft") ks refl h.1 in
     let p1 = ap (λ (ts : List (List ℕ)). flag_at true (codes "\\Answered") (spaced true ts ++ end)) nested ∙ flag-round_trip true flags.answered (codes "\\Answered") (w2 ++ (w3 ++ (w4 ++ (w5 ++ ks)))) end a1 (e.answered true) in
-    let p2 = ap (λ (x : Listed Bool). flag_at x.1 (codes "\\Flagged") x.2) p1 ∙ flag-round_trip f1 flags.flagged (codes "\\Flagged") (w3 ++ (w4 ++ (w5 ++ ks))) end a2 (e.flagged f1) in
-    let p3 = ap (λ (x : Listed Bool). flag_at x.1 (codes "\\Deleted") x.2) p2 ∙ flag-round_trip f2 flags.deleted (codes "\\Deleted") (w4 ++ (w5 ++ ks)) end a3 (e.deleted f2) in
-    let p4 = ap (λ (x : Listed Bool). flag_at x.1 (codes "\\Seen") x.2) p3 ∙ flag-round_trip f3 flags.seen (codes "\\Seen") (w5 ++ ks) end a4 (e.seen f3) in
-    let p5 = ap (λ (x : Listed Bool). flag_at x.1 (codes "\\Draft") x.2) p4 ∙ flag-round_trip f4 flags.draft (codes "\\Draft") ks end a5 (e.draft f4) in
+    let p2 = ap (λ (x : ListReading Bool). flag_at x.1 (codes "\\Flagged") x.2) p1 ∙ flag-round_trip f1 flags.flagged (codes "\\Flagged") (w3 ++ (w4 ++ (w5 ++ ks))) end a2 (e.flagged f1) in
+    let p3 = ap (λ (x : ListReading Bool). flag_at x.1 (codes "\\Deleted") x.2) p2 ∙ flag-round_trip f2 flags.deleted (codes "\\Deleted") (w4 ++ (w5 ++ ks)) end a3 (e.deleted f2) in
+    let p4 = ap (λ (x : ListReading Bool). flag_at x.1 (codes "\\Seen") x.2) p3 ∙ flag-round_trip f3 flags.seen (codes "\\Seen") (w5 ++ ks) end a4 (e.seen f3) in
+    let p5 = ap (λ (x : ListReading Bool). flag_at x.1 (codes "\\Draft") x.2) p4 ∙ flag-round_trip f4 flags.draft (codes "\\Draft") ks end a5 (e.draft f4) in
     let texts : bytes ≡ spaced true (w1 ++ w2 ++ w3 ++ w4 ++ w5) ++ (spaced (true && has_none (w1 ++ w2 ++ w3 ++ w4 ++ w5)) ks ++ end) = ap (λ (x : List ℕ). x ++ end) (spaced-append true (w1 ++ w2 ++ w3 ++ w4 ++ w5) ks) ∙ append_assoc (spaced true (w1 ++ w2 ++ w3 ++ w4 ++ w5)) _ end in
     let fits : length ks < length bytes + 1 = omega (arith, ap length texts, length-append (spaced true (w1 ++ w2 ++ w3 ++ w4 ++ w5)) (spaced (true && has_none (w1 ++ w2 ++ w3 ++ w4 ++ w5)) ks ++ end), words_fit (true && has_none (w1 ++ w2 ++ w3 ++ w4 ++ w5)) ks end h.1) in
-    let q = ap (λ (x : Listed Bool). words_at (length bytes + 1) x.1 x.2) p5 ∙ words-round_trip (length bytes + 1) f5 ks end h.1 fits e.atoms e.stop in
+    let q = ap (λ (x : ListReading Bool). words_at (length bytes + 1) x.1 x.2) p5 ∙ words-round_trip (length bytes + 1) f5 ks end h.1 fits e.atoms e.stop in
     (λ k. finished (p1 k) (p2 k) (p3 k) (p4 k) (p5 k) (q k))
-    ∙ ap (λ b. cond {A = Option (Listed Flags)} b (Some (flags, f5 && eqb (length ks) 0, end)) None) (test_from_keywords ks h.0)
+    ∙ ap (λ b. cond {A = Option (ListReading Flags)} b (Some (flags, f5 && eqb (length ks) 0, end)) None) (test_from_keywords ks h.0)
     ∙ ap (λ b. Some (flags, f5 && b, end)) (length_none ks)
 
 none_yet_is : (flags : Flags) → (true && has_none (flag_texts flags)) ≡ still_of flags
@@ -206,7 +206,7 @@ no_flag : (f : Bool) (c : ℕ) (text rest : List ℕ) → eqb c 92 ≡ false →
 no_flag true c text rest h k = ap (λ b. cond b (after text rest) None) h
 no_flag false c text rest h k = ap (λ b. cond b (after (92 ∷ text) rest) None) k
 
-closed_stop : (g : Bool) (rest : List ℕ) (reader : WordsReader) → words_on (after (lead g []) (41 ∷ rest)) (41 ∷ rest) reader ≡ Some ([], 41 ∷ rest)
+closed_stop : (g : Bool) (rest : List ℕ) (reader : WordsReader) → words_after (after (lead g []) (41 ∷ rest)) (41 ∷ rest) reader ≡ Some ([], 41 ∷ rest)
 closed_stop true rest reader = refl
 closed_stop false rest reader = refl
 
@@ -228,7 +228,7 @@ any_flag true false c text rest h = refl
 any_flag false true c text rest h = refl
 any_flag false false c text rest h = ap (λ b. cond b (after text rest) None) h
 
-any_stop : (g : Bool) (rest : List ℕ) (reader : WordsReader) → words_on (after (lead g []) (lead g (codes "\\*") ++ rest)) (lead g (codes "\\*") ++ rest) reader ≡ Some ([], lead g (codes "\\*") ++ rest)
+any_stop : (g : Bool) (rest : List ℕ) (reader : WordsReader) → words_after (after (lead g []) (lead g (codes "\\*") ++ rest)) (lead g (codes "\\*") ++ rest) reader ≡ Some ([], lead g (codes "\\*") ++ rest)
 any_stop true rest reader = refl
 any_stop false rest reader = refl
 
@@ -253,8 +253,8 @@ pub flags-round_trip : (flags : Flags) (rest : List ℕ) → AreFlags flags → 
 unfolding flags_at
 flags-round_trip flags rest h =
     let whole : (separated_by 32 (flag_texts flags) ++ (41 ∷ [])) ++ rest ≡ spaced true (flag_texts flags) ++ (41 ∷ rest) = append_assoc (separated_by 32 (flag_texts flags)) (41 ∷ []) rest in
-    ap (λ (x : List ℕ). flags_from x >>= λ flags. followed flags.0 (after (codes ")") flags.2)) whole
-    ∙ ap (λ o. o >>= λ flags. followed flags.0 (after (codes ")") flags.2)) (flags-from-round_trip flags (41 ∷ rest) h (closes (still_of flags) rest))
+    ap (λ (x : List ℕ). flags_from x >>= λ flags. value_with_rest flags.0 (after (codes ")") flags.2)) whole
+    ∙ ap (λ o. o >>= λ flags. value_with_rest flags.0 (after (codes ")") flags.2)) (flags-from-round_trip flags (41 ∷ rest) h (closes (still_of flags) rest))
 
 not_closed : (flags : Flags) → AreFlags flags → list_all (apart (41 ∷ [])) (flag_texts flags) ≡ true
 not_closed flags h =
@@ -290,5 +290,5 @@ permanent-round_trip (Some flags) rest h =
     let filled : after (41 ∷ []) (spaced true ts ++ end) ≡ None = none_after_lead true (41 ∷ []) ts end apart_all (any_apart g (41 ∷ rest)) in
     ap (λ (x : List ℕ). permanent_or (after (41 ∷ []) x) (40 ∷ x)) whole
     ∙ ap (λ o. permanent_or o (40 ∷ (spaced true ts ++ end))) filled
-    ∙ ap (λ o. o >>= λ flags. (after (lead flags.1 (codes "\\*")) flags.2 >>= λ any. followed (Some flags.0) (after (codes ")") any))) (flags-from-round_trip flags end h (any_ends g (41 ∷ rest)))
-    ∙ ap (λ o. o >>= λ any. followed (Some flags) (after (codes ")") any)) (lead-round_trip g (codes "\\*") (41 ∷ rest))
+    ∙ ap (λ o. o >>= λ flags. (after (lead flags.1 (codes "\\*")) flags.2 >>= λ any. value_with_rest (Some flags.0) (after (codes ")") any))) (flags-from-round_trip flags end h (any_ends g (41 ∷ rest)))
+    ∙ ap (λ o. o >>= λ any. value_with_rest (Some flags) (after (codes ")") any)) (lead-round_trip g (codes "\\*") (41 ∷ rest))

@@ -7,7 +7,7 @@ use Rattle.imap_print.specs.declared.fault.ReadFault.{ReadFault}
 use Rattle.imap_print.specs.declared.fault.ReadFault.TheVariants.{NoMemory, NotPrinted}
 use Rattle.imap_answers.specs.declared.fetch_items.SectionData.{SectionData}
 use Rattle.imap_print.specs.ReadingAnswers.{bodies_at, bodies_on, body_at, fields_at, fields_on, next_field_at}
-use Rattle.imap_print.specs.Reading.{◌>>=◌, Fails, after, counted, is_in, lead, run_at, runs_at, runs_on, span, with_prefix, words_at, words_on}
+use Rattle.imap_print.specs.Reading.{◌>>=◌, Fails, after, octets_at, is_in, lead, run_at, runs_at, runs_after, span, with_prefix, words_at, words_after}
 
 -- octets that end within a prefix don't begin with it
 pub after-missing : (i : ℕ) (ps bs : List ℕ) → i < length ps → length bs < 1 → after (drop i ps) bs ≡ None
@@ -29,14 +29,14 @@ pub runs-end : (i n : ℕ) (parsed : List Run) (rest : List ℕ) → i < n → a
 runs-end i n parsed rest l h =
     let e : n - i ≡ suc (n - (i + 1)) = omega arith in
     ap (λ k. with_prefix parsed (runs_at k rest)) e
-    ∙ ap (λ o. with_prefix parsed (runs_on (run_at rest).0 o (run_at rest).1 (runs_at (n - (i + 1))))) h
+    ∙ ap (λ o. with_prefix parsed (runs_after (run_at rest).0 o (run_at rest).1 (runs_at (n - (i + 1))))) h
 
 -- a run with further runs after it
 pub runs-more : (i n : ℕ) (parsed : List Run) (rest more : List ℕ) → i < n → after (codes ",") (run_at rest).1 ≡ Some more → with_prefix parsed (runs_at (n - i) rest) ≡ with_prefix (parsed ++ (run_at rest).0 ∷ []) (runs_at (n - (i + 1)) more)
 runs-more i n parsed rest more l h =
     let e : n - i ≡ suc (n - (i + 1)) = omega arith in
     ap (λ k. with_prefix parsed (runs_at k rest)) e
-    ∙ ap (λ o. with_prefix parsed (runs_on (run_at rest).0 o (run_at rest).1 (runs_at (n - (i + 1))))) h
+    ∙ ap (λ o. with_prefix parsed (runs_after (run_at rest).0 o (run_at rest).1 (runs_at (n - (i + 1))))) h
     ∙ with_prefix-twice parsed (run_at rest).0 (runs_at (n - (i + 1)) more)
 
 -- a word with further words after it
@@ -45,11 +45,11 @@ words-more i n none_yet parsed rest unread l h f =
     let e : n - i ≡ suc (n - (i + 1)) = omega arith in
     let w = span (is_in Atom) unread in
     ap (λ k. with_prefix parsed (words_at k none_yet rest)) e
-    ∙ ap (λ o. with_prefix parsed (words_on o rest (words_at (n - (i + 1)) false))) h
+    ∙ ap (λ o. with_prefix parsed (words_after o rest (words_at (n - (i + 1)) false))) h
     ∙ ap (λ b. with_prefix parsed (cond b (Some ([], rest)) (with_prefix (w.0 ∷ []) (words_at (n - (i + 1)) false w.1)))) f
     ∙ with_prefix-twice parsed w.0 (words_at (n - (i + 1)) false w.1)
 
--- names of header fields: the last, a fault, and a further one
+-- the loop over names of header fields: its end, a fault, and a further name
 pub fields-end : (i n : ℕ) (none_yet : Bool) (parsed : List (List ℕ)) (rest unread : List ℕ) (out : Option (List (List ℕ) × List ℕ)) → i < n → after (codes ")") rest ≡ Some unread → with_prefix parsed (fields_at (n - i) none_yet rest) ≡ out → out ≡ Some (parsed, unread)
 fields-end i n none_yet parsed rest unread out l h inv =
     let e : n - i ≡ suc (n - (i + 1)) = omega arith in
@@ -75,7 +75,7 @@ fields-more i n none_yet parsed rest out name tail l h inv f =
     ∙ ap (λ o. with_prefix parsed (o >>= λ name. with_prefix (name.0 ∷ []) (fields_at (n - (i + 1)) false name.1))) f
     ∙ with_prefix-twice parsed name (fields_at (n - (i + 1)) false tail))
 
--- sections of a message: the last, a fault, and a further one
+-- the loop over sections of a message: its end, a fault, and a further section
 pub bodies-end : (i n : ℕ) (none_yet : Bool) (parsed : List SectionData) (rest : List ℕ) (out : Option (List SectionData × List ℕ)) → i < n → after (lead none_yet (codes "BODY[")) rest ≡ None → with_prefix parsed (bodies_at (n - i) none_yet rest) ≡ out → out ≡ Some (parsed, rest)
 bodies-end i n none_yet parsed rest out l h inv =
     let e : n - i ≡ suc (n - (i + 1)) = omega arith in
@@ -109,8 +109,8 @@ counted_by true bytes front rest n e h =
     ap (λ (x : List ℕ × List ℕ). length x.0) (sym same) ∙ length-take-le n bytes l
 
 -- the first n octets are n octets
-pub counted-length : (n : ℕ) (bytes front rest : List ℕ) → counted n bytes ≡ Some (front, rest) → length front ≡ n
-counted-length n bytes front rest h = counted_by (leb n (length bytes)) bytes front rest n refl h
+pub octets_at-length : (n : ℕ) (bytes front rest : List ℕ) → octets_at n bytes ≡ Some (front, rest) → length front ≡ n
+octets_at-length n bytes front rest h = counted_by (leb n (length bytes)) bytes front rest n refl h
 
 pub none_some : {X : Type 0} (x : X) → None ≡ Some x → ⊥
 none_some x h = cc

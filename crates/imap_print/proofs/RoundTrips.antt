@@ -9,7 +9,7 @@ use Rattle.std.specs.List.{list_all}
 use Rattle.imap_types.specs.DateTimes.{is_digit}
 use Rattle.imap_types.specs.Keywords.{is_astring_octet}
 use Rattle.imap_print.specs.Appending.{spaced}
-use Rattle.imap_print.specs.Reading.{◌>>=◌, after, counted, field_at, is_in, lead, literal_at, number_from, numbers_if, or_else, quoted_from, run_at, run_or, runs_at, runs_on, set_at, small, span, string_at, string_or, with_prefix, with_octet}
+use Rattle.imap_print.specs.Reading.{◌>>=◌, after, octets_at, field_at, is_in, lead, literal_at, number_from, numbers_of_set, or_else, quoted_from, run_at, run_after_first, runs_at, runs_after, set_at, capped_at_32_bits, span, string_at, string_after_quote, with_prefix, with_octet}
 use Rattle.imap_answers.specs.Strings.{escaped_octet, field_text, has_line_octet, is_plain, literal_text, name_text, quoted_string, run_text, separated_by, set_text}
 use Rattle.imap_answers.specs.Printable.{IsSet}
 use Rattle.imap_types.proofs.NumbersLemmas.{greatest-runs, numbers_in-runs_of, runs_of-are_runs, test_from_runs}
@@ -24,7 +24,7 @@ pub after-round_trip : (ps rest : List ℕ) → after ps (ps ++ rest) ≡ Some r
 after-round_trip [] rest = refl
 after-round_trip (p ∷ ps) rest = rw (eq-eqb p p refl) (after-round_trip ps rest)
 
--- what is skipped is the prefix
+-- the skipped octets are the prefix
 pub after-takes : (ps bs rest : List ℕ) → after ps bs ≡ Some rest → bs ≡ ps ++ rest
 after-takes [] bs rest h = cc
 after-takes (p ∷ ps) [] rest h = cc
@@ -58,7 +58,7 @@ apart-more (l ∷ ls) (m ∷ ms) rest h =
       | inr f ↦ rw f refl
     ]
 
--- the octets of a class, up to one that isn't
+-- the octets of a class, up to one outside it
 pub span-round_trip : (class : ScanClass) (front rest : List ℕ) → list_all (is_in class) front ≡ true → span (is_in class) rest ≡ ([], rest) → span (is_in class) (front ++ rest) ≡ (front, rest)
 span-round_trip class [] rest a h = h
 span-round_trip class (b ∷ front) rest a h =
@@ -91,8 +91,8 @@ pub number-round_trip : (n : ℕ) (rest : List ℕ) → n < 2 ^ 64 → number_fr
 unfolding NumberRead
 number-round_trip n rest h = decimal_by_steps NumberRead number_one number_more n h h rest
 
-pub small-round_trip : (n : ℕ) → n < 2 ^ 32 → small n ≡ n
-small-round_trip n h = omega arith
+pub capped_at_32_bits-round_trip : (n : ℕ) → n < 2 ^ 32 → capped_at_32_bits n ≡ n
+capped_at_32_bits-round_trip n h = omega arith
 
 -- the first text of a list, and the others
 pub spaced-front : (f : Bool) (t : List ℕ) (ts : List (List ℕ)) (end : List ℕ) → spaced f (t ∷ ts) ++ end ≡ lead f t ++ (spaced false ts ++ end)
@@ -125,7 +125,7 @@ quoted-round_trip (b ∷ bs) rest =
       ]
     ]
 
--- an octet of a string without quotes differs from an octet outside that class
+-- an octet of the class `Astring` differs from an octet outside the class
 not_octet : (k c : ℕ) → is_astring_octet k ≡ false → is_astring_octet c ≡ true → eqb c k ≡ false
 not_octet k c f t = elim (cases_Bool (eqb c k)) [
   | inl e ↦ absurd (false≢true (sym f ∙ ap is_astring_octet (sym (eqb-true c k e)) ∙ t))
@@ -143,7 +143,7 @@ plain_parts string h = word_parts is_astring_octet string (and_parts _ _ h).0
 
 unquoted : (c : ℕ) (cs rest : List ℕ) → is_astring_octet c ≡ true → list_all is_astring_octet (c ∷ cs) ≡ true → span (is_in Astring) rest ≡ ([], rest) → string_at ((c ∷ cs) ++ rest) ≡ Some (c ∷ cs, rest)
 unquoted c cs rest o a h =
-    ap (λ b. string_or (cond b (Some (cs ++ rest)) None) (c ∷ (cs ++ rest))) (not_octet 34 c refl o)
+    ap (λ b. string_after_quote (cond b (Some (cs ++ rest)) None) (c ∷ (cs ++ rest))) (not_octet 34 c refl o)
     ∙ ap (λ x. Some x) (span-round_trip Astring (c ∷ cs) rest a h)
 
 plain-round_trip : (string rest : List ℕ) → is_plain string ≡ true → span (is_in Astring) rest ≡ ([], rest) → string_at (string ++ rest) ≡ Some (string, rest)
@@ -167,8 +167,8 @@ pub name-round_trip : (name rest : List ℕ) → fold_inbox name ≡ name → sp
 name-round_trip name rest f s = name_by (is_inbox name) name rest refl f s
 
 -- a literal
-pub counted-round_trip : (string rest : List ℕ) → counted (length string) (string ++ rest) ≡ Some (string, rest)
-counted-round_trip string rest =
+pub octets_at-round_trip : (string rest : List ℕ) → octets_at (length string) (string ++ rest) ≡ Some (string, rest)
+octets_at-round_trip string rest =
     let l : length string ≤ length (string ++ rest) = omega (arith, length-append string rest) in
     ap (λ b. cond b (Some (take (length string) (string ++ rest), drop (length string) (string ++ rest))) None) (le-leb _ _ l)
     ∙ (λ k. Some (take-append_seam string rest k, drop-append_seam string rest k))
@@ -177,9 +177,9 @@ pub literal-round_trip : (string rest : List ℕ) → length string < 2 ^ 64 →
 unfolding literal_at
 literal-round_trip string rest l =
     let whole : (decimal (length string) ++ (125 ∷ 13 ∷ 10 ∷ [])) ++ string ++ rest ≡ decimal (length string) ++ (125 ∷ 13 ∷ 10 ∷ (string ++ rest)) = simp append_assoc in
-    ap (λ (d : List ℕ). after (codes "}\r\n") (number_from 0 d).1 >>= counted (number_from 0 d).0) whole
-    ∙ ap (λ (x : ℕ × List ℕ). after (codes "}\r\n") x.1 >>= counted x.0) (number-round_trip (length string) (125 ∷ 13 ∷ 10 ∷ (string ++ rest)) l)
-    ∙ counted-round_trip string rest
+    ap (λ (d : List ℕ). after (codes "}\r\n") (number_from 0 d).1 >>= octets_at (number_from 0 d).0) whole
+    ∙ ap (λ (x : ℕ × List ℕ). after (codes "}\r\n") x.1 >>= octets_at x.0) (number-round_trip (length string) (125 ∷ 13 ∷ 10 ∷ (string ++ rest)) l)
+    ∙ octets_at-round_trip string rest
 
 -- the name of a header field
 field_or : (b d : Bool) (name rest : List ℕ) → is_plain name ≡ b → length name < 2 ^ 64 → span (is_in Astring) rest ≡ ([], rest) → field_at (cond b name (cond d (literal_text name) (quoted_string name)) ++ rest) ≡ Some (name, rest)
@@ -187,7 +187,7 @@ unfolding field_at literal_at
 field_or true d name rest e l s =
     let p = plain_parts name e in
     let no : after (codes "{") (p.0 ∷ (p.1 ++ rest)) ≡ None = ap (λ b. cond b (Some (p.1 ++ rest)) None) (not_octet 123 p.0 refl p.3) in
-    let none : literal_at (name ++ rest) ≡ None = ap (λ (x : List ℕ). literal_at (x ++ rest)) p.2 ∙ ap (λ o. o >>= λ digits. after (codes "}\r\n") (number_from 0 digits).1 >>= counted (number_from 0 digits).0) no in
+    let none : literal_at (name ++ rest) ≡ None = ap (λ (x : List ℕ). literal_at (x ++ rest)) p.2 ∙ ap (λ o. o >>= λ digits. after (codes "}\r\n") (number_from 0 digits).1 >>= octets_at (number_from 0 digits).0) no in
     ap (λ o. or_else o (string_at (name ++ rest))) none ∙ plain-round_trip name rest e s
 field_or false true name rest e l s = ap (λ o. or_else o (string_at (literal_text name ++ rest))) (literal-round_trip name rest l)
 field_or false false name rest e l s = quotes-round_trip name rest
@@ -204,9 +204,9 @@ pub record EndsSet (rest : List ℕ) : Type 0 where
 run_one : (r : Run) (rest : List ℕ) → r.first ≡ r.last → r.last < 2 ^ 32 → ((n : ℕ) → number_from n rest ≡ (n, rest)) → after (codes ":") rest ≡ None → run_at (decimal r.first ++ rest) ≡ (r, rest)
 run_one r rest e l n c =
     let read : number_from 0 (decimal r.first ++ rest) ≡ (r.first, rest) = number-round_trip r.first rest (omega arith) ∙ n r.first in
-    let value : small r.first ≡ r.first = omega arith in
-    ap (λ (x : ℕ × List ℕ). run_or x.0 (after (codes ":") x.1) x.1) read
-    ∙ ap (λ o. run_or r.first o rest) c
+    let value : capped_at_32_bits r.first ≡ r.first = omega arith in
+    ap (λ (x : ℕ × List ℕ). run_after_first x.0 (after (codes ":") x.1) x.1) read
+    ∙ ap (λ o. run_after_first r.first o rest) c
     ∙ (λ k. (record { first = value k; last = (value ∙ e) k }, rest))
 
 run_two : (r : Run) (rest : List ℕ) → r.first ≤ r.last → r.last < 2 ^ 32 → ((n : ℕ) → number_from n rest ≡ (n, rest)) → run_at ((decimal r.first ++ codes ":" ++ decimal r.last) ++ rest) ≡ (r, rest)
@@ -214,11 +214,11 @@ run_two r rest o l n =
     let whole : (decimal r.first ++ codes ":" ++ decimal r.last) ++ rest ≡ decimal r.first ++ (58 ∷ (decimal r.last ++ rest)) = simp append_assoc in
     let read : number_from 0 (decimal r.first ++ (58 ∷ (decimal r.last ++ rest))) ≡ (r.first, 58 ∷ (decimal r.last ++ rest)) = number-round_trip r.first _ (omega arith) in
     let round_trip : number_from 0 (decimal r.last ++ rest) ≡ (r.last, rest) = number-round_trip r.last rest (omega arith) ∙ n r.last in
-    let first : small r.first ≡ r.first = omega arith in
-    let last : small r.last ≡ r.last = omega arith in
+    let first : capped_at_32_bits r.first ≡ r.first = omega arith in
+    let last : capped_at_32_bits r.last ≡ r.last = omega arith in
     ap run_at whole
-    ∙ ap (λ (x : ℕ × List ℕ). run_or x.0 (after (codes ":") x.1) x.1) read
-    ∙ (λ k. (record { first = first k; last = small (round_trip k).0 }, (round_trip k).1))
+    ∙ ap (λ (x : ℕ × List ℕ). run_after_first x.0 (after (codes ":") x.1) x.1) read
+    ∙ (λ k. (record { first = first k; last = capped_at_32_bits (round_trip k).0 }, (round_trip k).1))
     ∙ (λ k. (record { first = r.first; last = last k }, rest))
 
 run_by : (b : Bool) (r : Run) (rest : List ℕ) → eqb r.first r.last ≡ b → r.first ≤ r.last → r.last < 2 ^ 32 → ((n : ℕ) → number_from n rest ≡ (n, rest)) → after (codes ":") rest ≡ None → run_at (cond b (decimal r.first) (decimal r.first ++ codes ":" ++ decimal r.last) ++ rest) ≡ (r, rest)
@@ -239,13 +239,13 @@ runs-round_trip zero r rs rest l a e = absurd (omega arith)
 runs-round_trip (suc fuel) r [] rest l a e =
     let whole : (run_text r ++ []) ++ rest ≡ run_text r ++ rest = simp append_assoc in
     let read : run_at ((run_text r ++ []) ++ rest) ≡ (r, rest) = ap run_at whole ∙ run-round_trip r rest a.0 a.1 e.number e.colon in
-    ap (λ (x : Run × List ℕ). runs_on x.0 (after (codes ",") x.1) x.1 (runs_at fuel)) read
-    ∙ ap (λ o. runs_on r o rest (runs_at fuel)) e.comma
+    ap (λ (x : Run × List ℕ). runs_after x.0 (after (codes ",") x.1) x.1 (runs_at fuel)) read
+    ∙ ap (λ o. runs_after r o rest (runs_at fuel)) e.comma
 runs-round_trip (suc fuel) r (s ∷ rs) rest l a e =
     let more = separated_by 44 (map run_text (s ∷ rs)) ++ rest in
     let whole : (run_text r ++ (44 ∷ separated_by 44 (map run_text (s ∷ rs)))) ++ rest ≡ run_text r ++ (44 ∷ more) = append_assoc (run_text r) (44 ∷ separated_by 44 (map run_text (s ∷ rs))) rest in
     let read : run_at ((run_text r ++ (44 ∷ separated_by 44 (map run_text (s ∷ rs)))) ++ rest) ≡ (r, 44 ∷ more) = ap run_at whole ∙ run-round_trip r (44 ∷ more) a.0 a.1 (λ n. refl) refl in
-    ap (λ (x : Run × List ℕ). runs_on x.0 (after (codes ",") x.1) x.1 (runs_at fuel)) read
+    ap (λ (x : Run × List ℕ). runs_after x.0 (after (codes ",") x.1) x.1 (runs_at fuel)) read
     ∙ ap (with_prefix (r ∷ [])) (runs-round_trip fuel s rs rest (omega arith) a.2 e)
 
 run_filled : (r : Run) → r.first < 2 ^ 32 → 0 < length (run_text r)
@@ -273,8 +273,8 @@ set_by numbers [] rest a n f g e = absurd (omega (arith, ap length n))
 set_by numbers (r ∷ rs) rest a n f g e =
     let fits : AreSmallRuns (r ∷ rs) = small_runs 1 (r ∷ rs) a (subst (λ (x : List ℕ). greatest x < 2 ^ 32) (sym n) g) in
     let bytes = separated_by 44 (map run_text (r ∷ rs)) ++ rest in
-    ap (λ o. o >>= λ runs. numbers_if (are_runs_from 1 runs.0) runs.0 runs.1) (runs-round_trip (length bytes) r rs rest (runs_fit r rs rest fits) fits e)
-    ∙ ap (λ b. numbers_if b (r ∷ rs) rest) (test_from_runs 1 (r ∷ rs) a)
+    ap (λ o. o >>= λ runs. numbers_of_set (are_runs_from 1 runs.0) runs.0 runs.1) (runs-round_trip (length bytes) r rs rest (runs_fit r rs rest fits) fits e)
+    ∙ ap (λ b. numbers_of_set b (r ∷ rs) rest) (test_from_runs 1 (r ∷ rs) a)
     ∙ ap (λ (x : List ℕ). Some (x, rest)) n
 
 -- a set of numbers, up to what ends it

@@ -1,4 +1,4 @@
--- What printing does to the octets before it: a text is appended, or joins a list of texts
+-- The effect of printing on the octets before it: a text is appended, or joins a list of texts
 -- separated by spaces (RFC 9051, section 9).
 
 use Rattle.std.specs.Prelude.{◌≡◌, ℕ, Bool, true, false, ◌&&◌, List, [], ◌∷◌, ◌++◌, flat_map}
@@ -18,7 +18,7 @@ abbrev pub has_none : List (List ℕ) → Bool
 has_none [] = true
 has_none (text ∷ texts) = false
 
--- Texts of a list, each after a space (32) but the first of the list.
+-- Texts of a list, each after a space (32) unless it is the first of the list.
 abbrev pub spaced : Bool → List (List ℕ) → List ℕ
 spaced true texts = separated_by 32 texts
 spaced false texts = flat_map (λ next. 32 ∷ next) texts

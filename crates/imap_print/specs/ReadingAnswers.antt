@@ -1,4 +1,4 @@
--- The reader's steps for answers, as functions that the code equals. `text_of_answer` of
+-- The reader's steps for answers, as functions that the code computes. `text_of_answer` of
 -- `imap_answers` says what an answer's text is (RFC 9051, section 7); `read` is proved to invert
 -- it.
 
@@ -21,9 +21,10 @@ use Rattle.imap_answers.specs.declared.fetch_items.SectionData.{SectionData}
 use Rattle.imap_answers.specs.declared.mailbox.SearchResults.{SearchResults}
 use Rattle.imap_answers.specs.declared.mailbox.StatusItems.{StatusItems}
 use Rattle.imap_print.specs.declared.scanner.ScanClass.TheVariants.{Tag}
-use Rattle.imap_print.specs.Reading.{◌>>=◌, Listed, after, counted, field_at, flag_at, followed}
+use Rattle.imap_print.specs.Reading.{◌>>=◌, ListReading, after, octets_at, field_at, flag_at}
 use Rattle.imap_print.specs.Reading.{is_in, item_at, lead, literal_at, number_from, or_else, set_at}
-use Rattle.imap_print.specs.Reading.{small, span, string_at, with_prefix, within, word_at, words_at}
+use Rattle.imap_print.specs.Reading.{capped_at_32_bits, map_value, span, string_at, value_with_rest}
+use Rattle.imap_print.specs.Reading.{with_prefix, word_at, words_at}
 use Rattle.imap_answers.specs.Strings.{crlf}
 use Rattle.imap_print.specs.Tables.{all_attributes, bye_reasons, commands, continuations}
 use Rattle.imap_print.specs.Tables.{enabled_words, logins, refusals}
@@ -31,7 +32,7 @@ use Rattle.imap_answers.specs.Words.{attributes_text, bye_text, command_text, co
 use Rattle.imap_answers.specs.Words.{enabled_text, greeting_text, refusal_text}
 
 -- Flags of a list, and whether there are none.
-unfoldable pub flags_from : List ℕ → Option (Listed Flags)
+unfoldable pub flags_from : List ℕ → Option (ListReading Flags)
 flags_from bytes =
     let answered = flag_at true (codes "\\Answered") bytes in
     let flagged = flag_at answered.1 (codes "\\Flagged") answered.2 in
@@ -59,14 +60,14 @@ unfoldable pub flags_at : List ℕ → Option (Flags × List ℕ)
 flags_at bytes = do
   opened ← after (codes "(") bytes
   flags ← flags_from opened
-  followed flags.0 (after (codes ")") flags.2)
+  value_with_rest flags.0 (after (codes ")") flags.2)
 
 -- The flags that can be changed permanently, after the opening parenthesis.
 unfoldable pub permanent_from : List ℕ → Option (Option Flags × List ℕ)
 permanent_from bytes = do
   flags ← flags_from bytes
   any ← after (lead flags.1 (codes "\\*")) flags.2
-  followed (Some flags.0) (after (codes ")") any)
+  value_with_rest (Some flags.0) (after (codes ")") any)
 
 -- No flags if `()` was skipped, else the flags that can be changed permanently.
 abbrev pub permanent_or : Option (List ℕ) → List ℕ → Option (Option Flags × List ℕ)
@@ -82,7 +83,7 @@ unfoldable pub last_set_at : List ℕ → Option (List ℕ × List ℕ)
 last_set_at bytes = do
   between ← after (codes " ") bytes
   copies ← set_at between
-  followed copies.0 (after (codes "]") copies.1)
+  value_with_rest copies.0 (after (codes "]") copies.1)
 
 -- The two sets of COPYUID.
 unfoldable pub sets_at : List ℕ → Option ((List ℕ × List ℕ) × List ℕ)
@@ -96,7 +97,7 @@ unfoldable pub copied_at : List ℕ → Option ((ℕ × List ℕ × List ℕ) ×
 copied_at bytes = do
   beyond ← after (codes " ") (number_from 0 bytes).1
   sets ← sets_at beyond
-  Some ((small (number_from 0 bytes).0, sets.0.0, sets.0.1), sets.1)
+  Some ((capped_at_32_bits (number_from 0 bytes).0, sets.0.0, sets.0.1), sets.1)
 
 -- A number and the bracket that ends its code.
 unfoldable pub coded_at : List ℕ → Option (ℕ × List ℕ)
@@ -113,34 +114,34 @@ read_or (Some rest) read other = read rest
 unfoldable pub permanent_notice_at : List ℕ → Option (Notice × List ℕ)
 permanent_notice_at bytes = do
   flags ← permanent_at bytes
-  followed (notice.PermanentFlags flags.0) (after (codes "]") flags.1)
+  value_with_rest (notice.PermanentFlags flags.0) (after (codes "]") flags.1)
 
 -- The code of an untagged OK.
 unfoldable pub notice_at : List ℕ → Option (Notice × List ℕ)
 notice_at bytes =
     read_or (after (codes "[CLOSED]") bytes) (λ rest. Some (notice.Closed, rest))
     (read_or (after (codes "[UIDVALIDITY ") bytes)
-    (λ rest. within (λ n. notice.UidValidity (small n)) (coded_at rest))
+    (λ rest. map_value (λ n. notice.UidValidity (capped_at_32_bits n)) (coded_at rest))
     (read_or (after (codes "[UIDNEXT ") bytes)
-    (λ rest. within (λ n. notice.UidNext (small n)) (coded_at rest))
+    (λ rest. map_value (λ n. notice.UidNext (capped_at_32_bits n)) (coded_at rest))
     (read_or (after (codes "[HIGHESTMODSEQ ") bytes)
-    (λ rest. within (λ n. notice.HighestModSeq n) (coded_at rest))
+    (λ rest. map_value (λ n. notice.HighestModSeq n) (coded_at rest))
     (read_or (after (codes "[PERMANENTFLAGS ") bytes) (λ rest. permanent_notice_at rest)
     (read_or (after (codes "[COPYUID ") bytes)
-    (λ rest. within (λ c. notice.CopyUid c.0 c.1 c.2) (copied_at rest)) None)))))
+    (λ rest. map_value (λ c. notice.CopyUid c.0 c.1 c.2) (copied_at rest)) None)))))
 
 -- The UIDVALIDITY and the UID of APPENDUID.
 unfoldable pub appended_at : List ℕ → Option ((ℕ × ℕ) × List ℕ)
 appended_at bytes = do
   between ← after (codes " ") (number_from 0 bytes).1
   uid ← coded_at between
-  Some ((small (number_from 0 bytes).0, small uid.0), uid.1)
+  Some ((capped_at_32_bits (number_from 0 bytes).0, capped_at_32_bits uid.0), uid.1)
 
 -- The set of MODIFIED, and the bracket that ends the code.
 unfoldable pub modified_at : List ℕ → Option (Code × List ℕ)
 modified_at bytes = do
   refused ← set_at bytes
-  followed (code.Modified refused.0) (after (codes "]") refused.1)
+  value_with_rest (code.Modified refused.0) (after (codes "]") refused.1)
 
 -- The code of a tagged OK.
 unfoldable pub code_at : List ℕ → Option (Code × List ℕ)
@@ -149,15 +150,16 @@ code_at bytes =
     (read_or (after (codes "[READ-ONLY]") bytes) (λ rest. Some (code.ReadOnly, rest))
     (read_or (after (codes "[EXPUNGEISSUED]") bytes) (λ rest. Some (code.ExpungeIssued, rest))
     (read_or (after (codes "[APPENDUID ") bytes)
-    (λ rest. within (λ a. code.AppendUid a.0 a.1) (appended_at rest))
+    (λ rest. map_value (λ a. code.AppendUid a.0 a.1) (appended_at rest))
     (read_or (after (codes "[COPYUID ") bytes)
-    (λ rest. within (λ c. code.CopyUid c.0 c.1 c.2) (copied_at rest))
+    (λ rest. map_value (λ c. code.CopyUid c.0 c.1 c.2) (copied_at rest))
     (read_or (after (codes "[MODIFIED ") bytes) (λ rest. modified_at rest) None)))))
 
 -- A code and a space if a bracket comes next, else none.
 abbrev pub code_or : Option (List ℕ) → List ℕ → Option (Option Code × List ℕ)
 code_or None bytes = Some (None, bytes)
-code_or (Some _) bytes = code_at bytes >>= λ code. followed (Some code.0) (after (codes " ") code.1)
+code_or (Some _) bytes =
+    code_at bytes >>= λ code. value_with_rest (Some code.0) (after (codes " ") code.1)
 
 -- The code of a tagged OK and a space, if there is a code.
 abbrev pub code_before_at : List ℕ → Option (Option Code × List ℕ)
@@ -166,7 +168,7 @@ code_before_at bytes = code_or (after (codes "[") bytes) bytes
 -- The number as 32 bits, if any.
 abbrev pub small_option : Option ℕ → Option ℕ
 small_option None = None
-small_option (Some n) = Some (small n)
+small_option (Some n) = Some (capped_at_32_bits n)
 
 -- The items of STATUS.
 unfoldable pub status_items_at : List ℕ → StatusItems × List ℕ
@@ -235,9 +237,9 @@ fields_at (suc fuel) is_first bytes =
 unfoldable pub section_at : List ℕ → Option (Section × List ℕ)
 section_at bytes =
     read_or (after (codes "HEADER.FIELDS (") bytes)
-    (λ rest. within (λ names. section.Fields names) (fields_at (length rest + 1) true rest))
+    (λ rest. map_value (λ names. section.Fields names) (fields_at (length rest + 1) true rest))
     (read_or (after (codes "HEADER.FIELDS.NOT (") bytes)
-    (λ rest. within (λ names. section.FieldsNot names) (fields_at (length rest + 1) true rest))
+    (λ rest. map_value (λ names. section.FieldsNot names) (fields_at (length rest + 1) true rest))
     (read_or (after (codes "HEADER") bytes) (λ rest. Some (section.Header, rest))
     (read_or (after (codes "TEXT") bytes) (λ rest. Some (section.Text, rest))
     (Some (section.Whole, bytes)))))
@@ -247,7 +249,7 @@ abbrev pub origin_or : Option (List ℕ) → List ℕ → Option (Option ℕ × 
 origin_or None bytes = Some (None, bytes)
 origin_or (Some digits) bytes =
     after (codes ">") (number_from 0 digits).1
-    >>= λ rest. Some (Some (small (number_from 0 digits).0), rest)
+    >>= λ rest. Some (Some (capped_at_32_bits (number_from 0 digits).0), rest)
 
 -- What follows the name of a section: an offset, if any, and the octets.
 unfoldable pub data_at : List ℕ → Option ((Option ℕ × List ℕ) × List ℕ)
@@ -279,23 +281,23 @@ bodies_at (suc fuel) is_first bytes =
     bodies_on (after (lead is_first (codes "BODY[")) bytes) bytes (bodies_at fuel false)
 
 -- The flags of a message, if their label was skipped.
-abbrev pub flags_or : Bool → Option (List ℕ) → List ℕ → Option (Listed (Option Flags))
+abbrev pub flags_or : Bool → Option (List ℕ) → List ℕ → Option (ListReading (Option Flags))
 flags_or is_first None bytes = Some (None, is_first, bytes)
 flags_or is_first (Some rest) bytes = flags_at rest >>= λ flags. Some (Some flags.0, false, flags.1)
 
 -- A date-time.
 unfoldable pub date_at : List ℕ → Option (List ℕ × List ℕ)
 date_at bytes = do
-  date ← counted 28 bytes
+  date ← octets_at 28 bytes
   if is_date_time date.0 then Some date else None
 
 -- The internal date of a message, if its label was skipped.
-abbrev pub date_or : Bool → Option (List ℕ) → List ℕ → Option (Listed (Option (List ℕ)))
+abbrev pub date_or : Bool → Option (List ℕ) → List ℕ → Option (ListReading (Option (List ℕ)))
 date_or is_first None bytes = Some (None, is_first, bytes)
 date_or is_first (Some rest) bytes = date_at rest >>= λ date. Some (Some date.0, false, date.1)
 
 -- The mod-sequence of a message, if its label was skipped.
-abbrev pub modseq_or : Bool → Option (List ℕ) → List ℕ → Option (Listed (Option ℕ))
+abbrev pub modseq_or : Bool → Option (List ℕ) → List ℕ → Option (ListReading (Option ℕ))
 modseq_or is_first None bytes = Some (None, is_first, bytes)
 modseq_or is_first (Some digits) bytes =
     after (codes ")") (number_from 0 digits).1
@@ -334,7 +336,7 @@ list_at bytes = do
 unfoldable pub status_list_at : List ℕ → Option (StatusItems × List ℕ)
 status_list_at bytes = do
   opened ← after (codes " (") bytes
-  followed (status_items_at opened).0 (after (codes ")") (status_items_at opened).1)
+  value_with_rest (status_items_at opened).0 (after (codes ")") (status_items_at opened).1)
 
 -- A mailbox in STATUS.
 unfoldable pub status_at : List ℕ → Option (Answer × List ℕ)
@@ -346,7 +348,7 @@ status_at bytes = do
 -- The results of the search with this tag, after the tag.
 abbrev pub search_from : List ℕ → Bool → List ℕ → Option (Answer × List ℕ)
 search_from tag by_uid bytes =
-    within (λ results. answer.Search tag by_uid results) (results_at bytes)
+    map_value (λ results. answer.Search tag by_uid results) (results_at bytes)
 
 -- The results of a search, from its tag on.
 unfoldable pub search_at : List ℕ → Option (Answer × List ℕ)
@@ -362,13 +364,13 @@ search_at bytes =
 unfoldable pub fetch_at : ℕ → List ℕ → Option (Answer × List ℕ)
 fetch_at number bytes = do
   items ← fetch_items_at bytes
-  followed (answer.Fetch number items.0) (after (codes ")") items.1)
+  value_with_rest (answer.Fetch number items.0) (after (codes ")") items.1)
 
 -- The code of an untagged OK, after the OK.
 unfoldable pub untagged_ok_at : List ℕ → Option (Answer × List ℕ)
 untagged_ok_at bytes = do
   notice ← notice_at bytes
-  followed (answer.UntaggedOk notice.0) (after (codes " ok") notice.1)
+  value_with_rest (answer.UntaggedOk notice.0) (after (codes " ok") notice.1)
 
 -- An untagged answer that is one fixed text.
 unfoldable pub fixed_at : List ℕ → Option (Answer × List ℕ)
@@ -378,14 +380,14 @@ fixed_at bytes =
     (read_or (after (codes "NAMESPACE ((\"\" \"/\")) NIL NIL") bytes)
     (λ rest. Some (answer.Namespace, rest))
     (read_or (after (codes "BAD no tag") bytes) (λ rest. Some (answer.NoTag, rest))
-    (followed answer.LiteralTooLong (after (codes "NO [LIMIT] literal too long") bytes))))
+    (value_with_rest answer.LiteralTooLong (after (codes "NO [LIMIT] literal too long") bytes))))
 
 -- An untagged answer that begins with a word.
 unfoldable pub worded_at : List ℕ → Option (Answer × List ℕ)
 worded_at bytes =
     read_or (after (codes "OK ") bytes) (λ rest. untagged_ok_at rest)
     (read_or (after (codes "FLAGS ") bytes)
-    (λ rest. within (λ flags. answer.Flags flags) (flags_at rest))
+    (λ rest. map_value (λ flags. answer.Flags flags) (flags_at rest))
     (read_or (after (codes "LIST ") bytes) (λ rest. list_at rest)
     (read_or (after (codes "STATUS ") bytes) (λ rest. status_at rest)
     (read_or (after (codes "ESEARCH (TAG \"") bytes) (λ rest. search_at rest)
@@ -394,10 +396,11 @@ worded_at bytes =
 -- An untagged answer that begins with a number, else one that begins with a word.
 abbrev pub numbered_at : ℕ → List ℕ → List ℕ → Option (Answer × List ℕ)
 numbered_at number rest bytes =
-    read_or (after (codes " EXISTS") rest) (λ closed. Some (answer.Exists (small number), closed))
+    read_or (after (codes " EXISTS") rest)
+    (λ closed. Some (answer.Exists (capped_at_32_bits number), closed))
     (read_or (after (codes " EXPUNGE") rest)
-    (λ closed. Some (answer.Expunge (small number), closed))
-    (read_or (after (codes " FETCH (") rest) (λ items. fetch_at (small number) items)
+    (λ closed. Some (answer.Expunge (capped_at_32_bits number), closed))
+    (read_or (after (codes " FETCH (") rest) (λ items. fetch_at (capped_at_32_bits number) items)
     (worded_at bytes)))
 
 -- An untagged answer, after its `* `.
@@ -407,19 +410,19 @@ untagged_at bytes = numbered_at (number_from 0 bytes).0 (number_from 0 bytes).1 
 -- An answer without a tag.
 unfoldable pub star_at : List ℕ → Option (Answer × List ℕ)
 star_at bytes =
-    or_else (within (λ login. answer.Greeting login) (word_at greeting_text logins bytes))
+    or_else (map_value (λ login. answer.Greeting login) (word_at greeting_text logins bytes))
     (or_else
-    (within (λ awaited. answer.Continue awaited) (word_at continuation_text continuations bytes))
+    (map_value (λ awaited. answer.Continue awaited) (word_at continuation_text continuations bytes))
     (or_else
-    (within (λ extensions. answer.Enabled extensions) (word_at enabled_text enabled_words bytes))
-    (or_else (within (λ reason. answer.Bye reason) (word_at bye_text bye_reasons bytes))
+    (map_value (λ extensions. answer.Enabled extensions) (word_at enabled_text enabled_words bytes))
+    (or_else (map_value (λ reason. answer.Bye reason) (word_at bye_text bye_reasons bytes))
     (after (codes "* ") bytes >>= untagged_at))))
 
 -- The name of a completed command, and `completed`.
 unfoldable pub done_at : List ℕ → Option (CompletedWord × List ℕ)
 done_at bytes = do
   command ← word_at command_text commands bytes
-  followed command.0 (after (codes " completed") command.1)
+  value_with_rest command.0 (after (codes " completed") command.1)
 
 -- The name of a completed command, with its tag.
 abbrev pub tagged_done_at : List ℕ → List ℕ → Option ((List ℕ × CompletedWord) × List ℕ)
@@ -437,7 +440,7 @@ unfoldable pub tagged_at : List ℕ → List ℕ → Option (Answer × List ℕ)
 tagged_at tag bytes = do
   rest ← after (codes " ") bytes
   read_or (after (codes "OK ") rest) (λ more. completed_at tag more)
-      (within (λ reason. answer.Refused tag reason) (word_at refusal_text refusals rest))
+      (map_value (λ reason. answer.Refused tag reason) (word_at refusal_text refusals rest))
 
 -- An answer without its line end.
 unfoldable pub answer_at : List ℕ → Option (Answer × List ℕ)
@@ -449,4 +452,4 @@ answer_at bytes =
 unfoldable pub line_at : List ℕ → Option (Answer × List ℕ)
 line_at bytes = do
   parsed ← answer_at bytes
-  followed parsed.0 (after crlf parsed.1)
+  value_with_rest parsed.0 (after crlf parsed.1)

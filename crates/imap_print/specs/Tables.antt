@@ -1,5 +1,5 @@
--- The fixed texts of answers that a reader tries, in order: of two texts that begin alike, the
--- longer comes first (RFC 9051, section 7).
+-- The fixed texts of answers that a reader tries, in order: if one text is a prefix of another, the
+-- longer one is tried first (RFC 9051, section 7).
 
 use Rattle.std.specs.Prelude.{true, false, List, [], ◌∷◌}
 use Rattle.imap_answers.specs.declared.fixed_words.Login.{Login}

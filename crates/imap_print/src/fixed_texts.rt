@@ -34,7 +34,8 @@ fn first_word<'a, W: FixedText>(candidates: &[W], bytes: &'a [u8]) -> Option<(W,
     None
 }
 
-/// The attributes of a name in LIST, as a pair of what the name is and whether it is subscribed.
+/// The attributes of a name in LIST, as a pair: the mailbox's state, and whether the name is
+/// subscribed.
 #[derive(Clone, Copy)]
 pub struct Attributes {
     pub state: MailboxState,

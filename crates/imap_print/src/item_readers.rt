@@ -1,5 +1,6 @@
 //! Reading of lists in answers. `is_first` says whether the next text is the first of its list. A
-//! reader gives what it read, whether the text after that is still the first, and the rest.
+//! reader returns the value that it read, whether the text after it is still the first, and the
+//! rest.
 
 ghost use Rattle.std.specs.Prelude.{◌≡◌, true, codes, option_map};
 ghost use Rattle.imap_print.specs.Reading.{IsReading, after, flag_at, item_at, lead};
@@ -11,7 +12,8 @@ ghost use Rattle.imap_print.specs.ReadingAnswers.{small_option, status_items_at}
 
 use crate::fault::ReadFault;
 use crate::scanner::{
-    counted_octets, expect, field, lead, literal, number, skip, small, value_before_text, words,
+    capped_at_32_bits, counted_octets, expect, field, lead, literal, number, skip,
+    value_before_text, words,
 };
 use imap_answers::{FetchItems, SectionData, Sections, StatusItems};
 use imap_types::{DateTime, FieldNames, Flags, Keywords, Octets, Section, Text};
@@ -63,7 +65,7 @@ pub fn narrow(number: Option<u64>) -> Option<u32>
 {
     match number {
         None => None,
-        Some(number) => Some(small(number)),
+        Some(number) => Some(capped_at_32_bits(number)),
     }
 }
 
@@ -218,7 +220,7 @@ fn origin(bytes: &[u8]) -> Result<(Option<u32>, &[u8]), ReadFault>
         Some(digits) => {
             let (parsed, rest) = number(digits);
             let rest = expect(rest, b">")?;
-            Ok((Some(small(parsed)), rest))
+            Ok((Some(capped_at_32_bits(parsed)), rest))
         }
     }
 }

@@ -1,8 +1,8 @@
-//! Reading of answers, part by part (RFC 9051, section 7). Each reader gives what it read and the
-//! octets after it.
+//! Reading of answers, part by part (RFC 9051, section 7). Each reader returns the value that it
+//! read and the octets after it.
 
 ghost use Rattle.std.specs.Prelude.{codes};
-ghost use Rattle.imap_print.specs.Reading.{IsReading, after, within};
+ghost use Rattle.imap_print.specs.Reading.{IsReading, after, map_value};
 ghost use Rattle.imap_print.specs.ReadingAnswers.{all_or, answer_at, appended_at, code_at};
 ghost use Rattle.imap_print.specs.ReadingAnswers.{code_before_at, coded_at, completed_at};
 ghost use Rattle.imap_print.specs.ReadingAnswers.{copied_at, done_at, fetch_at, fixed_at, flags_at};
@@ -23,7 +23,7 @@ use crate::fixed_texts::{
 };
 use crate::item_readers::{fetch_items, flags, item, narrow, permanent_flags, status_items};
 use crate::scanner::{
-    ScanClass, expect, number, set, skip, small, span, string, value_before_text,
+    ScanClass, capped_at_32_bits, expect, number, set, skip, span, string, value_before_text,
 };
 use imap_answers::{Answer, Code, CompletedWord, Notice, SearchResults, StatusItems};
 use imap_types::{Name, NumberSet, Octets};
@@ -81,7 +81,7 @@ fn untagged(alloc: Global, bytes: &[u8]) -> Result<(Answer, &[u8]), ReadFault>
     if let Some(rest) = skip(rest, b" EXISTS") {
         return Ok((
             Answer::Exists {
-                count: small(parsed),
+                count: capped_at_32_bits(parsed),
             },
             rest,
         ));
@@ -89,13 +89,13 @@ fn untagged(alloc: Global, bytes: &[u8]) -> Result<(Answer, &[u8]), ReadFault>
     if let Some(rest) = skip(rest, b" EXPUNGE") {
         return Ok((
             Answer::Expunge {
-                number: small(parsed),
+                number: capped_at_32_bits(parsed),
             },
             rest,
         ));
     }
     match skip(rest, b" FETCH (") {
-        Some(rest) => fetch(alloc, small(parsed), rest),
+        Some(rest) => fetch(alloc, capped_at_32_bits(parsed), rest),
         None => answer_of_word(alloc, bytes),
     }
 }
@@ -147,7 +147,7 @@ fn fixed_answer(bytes: &[u8]) -> Result<(Answer, &[u8]), ReadFault>
 /// Reads the flags of a mailbox.
 fn mailbox_flags(alloc: Global, bytes: &[u8]) -> Result<(Answer, &[u8]), ReadFault>
     ensures { IsReading (λ x. (x.0, x.1.now)) result
-        (within (λ flags. Flags flags) (flags_at bytes.now)) }
+        (map_value (λ flags. Flags flags) (flags_at bytes.now)) }
 {
     let (flags, rest) = flags(alloc, bytes)?;
     Ok((Answer::Flags { flags }, rest))
@@ -371,7 +371,7 @@ fn copyuid_code(
     let (uidvalidity, rest) = number(bytes);
     let rest = expect(rest, b" ")?;
     let ((source, copies), rest) = sets(alloc, rest)?;
-    Ok(((small(uidvalidity), source, copies), rest))
+    Ok(((capped_at_32_bits(uidvalidity), source, copies), rest))
 }
 
 /// Reads two sets and the bracket that ends their code.
@@ -411,14 +411,19 @@ fn notice(alloc: Global, bytes: &[u8]) -> Result<(Notice, &[u8]), ReadFault>
         let (parsed, rest) = number_in_code(rest)?;
         return Ok((
             Notice::UidValidity {
-                value: small(parsed),
+                value: capped_at_32_bits(parsed),
             },
             rest,
         ));
     }
     if let Some(rest) = skip(bytes, b"[UIDNEXT ") {
         let (parsed, rest) = number_in_code(rest)?;
-        return Ok((Notice::UidNext { uid: small(parsed) }, rest));
+        return Ok((
+            Notice::UidNext {
+                uid: capped_at_32_bits(parsed),
+            },
+            rest,
+        ));
     }
     if let Some(rest) = skip(bytes, b"[HIGHESTMODSEQ ") {
         let (modseq, rest) = number_in_code(rest)?;
@@ -445,7 +450,7 @@ fn permanent_notice(alloc: Global, bytes: &[u8]) -> Result<(Notice, &[u8]), Read
 /// Reads the UIDs of COPYUID in an untagged OK.
 fn copied_notice(alloc: Global, bytes: &[u8]) -> Result<(Notice, &[u8]), ReadFault>
     ensures { IsReading (λ x. (x.0, x.1.now)) result
-        (within (λ c. notice.CopyUid c.0 c.1 c.2) (copied_at bytes.now)) }
+        (map_value (λ c. notice.CopyUid c.0 c.1 c.2) (copied_at bytes.now)) }
 {
     let ((uidvalidity, source, copies), rest) = copyuid_code(alloc, bytes)?;
     let notice = Notice::CopyUid {
@@ -464,7 +469,10 @@ fn appenduid_code(bytes: &[u8]) -> Result<((u32, u32), &[u8]), ReadFault>
     let (uidvalidity, rest) = number(bytes);
     let rest = expect(rest, b" ")?;
     let (uid, rest) = number_in_code(rest)?;
-    Ok(((small(uidvalidity), small(uid)), rest))
+    Ok((
+        (capped_at_32_bits(uidvalidity), capped_at_32_bits(uid)),
+        rest,
+    ))
 }
 
 /// Reads the code of a tagged OK.
@@ -497,7 +505,7 @@ fn code(alloc: Global, bytes: &[u8]) -> Result<(Code, &[u8]), ReadFault>
 /// Reads the UIDs of COPYUID in a tagged OK.
 fn copied_code(alloc: Global, bytes: &[u8]) -> Result<(Code, &[u8]), ReadFault>
     ensures { IsReading (λ x. (x.0, x.1.now)) result
-        (within (λ c. code.CopyUid c.0 c.1 c.2) (copied_at bytes.now)) }
+        (map_value (λ c. code.CopyUid c.0 c.1 c.2) (copied_at bytes.now)) }
 {
     let ((uidvalidity, source, copies), rest) = copyuid_code(alloc, bytes)?;
     let code = Code::CopyUid {

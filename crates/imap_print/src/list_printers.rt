@@ -1,6 +1,6 @@
-//! Printing of lists in answers, with a space between each two texts. `is_first` says whether the
-//! texts are the first of their list; the result says whether the next ones still are. An `Err`, if
-//! memory runs out, may leave part of a text.
+//! Printing of lists in answers, with a space between texts. `is_first` says whether the texts are
+//! the first of their list; the result says whether the next ones still are. An `Err`, if memory
+//! runs out, may leave part of a text.
 
 ghost use Rattle.std.specs.Prelude.{◌≡◌, ◌++◌, [], ◌∷◌, codes, map, true, if◌then◌else◌, IfOk};
 ghost use Rattle.std.specs.Prelude.{OnOk};

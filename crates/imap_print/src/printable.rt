@@ -1,6 +1,6 @@
 //! The test whether an answer may be sent (RFC 9051, section 9). Types ensure most of its
-//! conditions; tested are tags, keywords, names, numbers from 1 on, and what must not be empty. The
-//! functions without a result (`.._fits`) state what every value of a type satisfies.
+//! conditions; the functions test tags, keywords, names, numbers from 1 on, and lists that must not
+//! be empty. The functions without a result (`.._fits`) state what every value of a type satisfies.
 
 ghost use Rattle.std.specs.Prelude.{◌≡◌, ◌↔◌, ◌+◌, ◌-◌, ◌^◌, min, not, ◌&&◌, ◌==◌, length, map};
 ghost use Rattle.std.specs.Prelude.{suc, sum, IsTrue};
@@ -85,7 +85,7 @@ fn is_code(code: &Code) -> bool
     }
 }
 
-/// Whether the UIDVALIDITY is from 1 on, and the sets have the same size and aren't empty.
+/// Whether the UIDVALIDITY is at least 1, and the sets have the same size and aren't empty.
 fn is_copied(uidvalidity: u32, source: &NumberSet, copies: &NumberSet) -> bool
     ensures { IsTrue result ↔ IsCopied uidvalidity source.now copies.now }
 {
@@ -366,14 +366,14 @@ fn text_fits(text: &Text)
     let _count = text.as_bytes().len();
 }
 
-/// Whether a number is from 1 on.
+/// Whether a number is at least 1.
 fn is_nonzero(number: u32) -> bool
     ensures { IsTrue result ↔ IsNonzero number }
 {
     number != 0
 }
 
-/// Whether a number is from 1 on, or there is none.
+/// Whether a number is at least 1, or there is none.
 fn is_nonzero_if_any(number: Option<u32>) -> bool
     ensures { IsTrue result ↔ IfPresent IsNonzero number }
 {
@@ -383,14 +383,14 @@ fn is_nonzero_if_any(number: Option<u32>) -> bool
     }
 }
 
-/// Whether a mod-sequence is from 1 on.
+/// Whether a mod-sequence is at least 1.
 fn is_modseq(modseq: u64) -> bool
     ensures { IsTrue result ↔ IsModSeq modseq }
 {
     modseq != 0
 }
 
-/// Whether a mod-sequence is from 1 on, or there is none.
+/// Whether a mod-sequence is at least 1, or there is none.
 fn is_modseq_if_any(modseq: Option<u64>) -> bool
     ensures { IsTrue result ↔ IfPresent IsModSeq modseq }
 {

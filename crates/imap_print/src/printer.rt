@@ -67,7 +67,8 @@ fn push_line(answer: &Answer, out: &mut Vec<u8>) -> Result<(), AllocError>
     }
 }
 
-/// The text after the number, if FETCH sends only flags, and those that most messages have.
+/// The text after the number, if FETCH sends only flags, and these are a set that most messages
+/// have.
 fn usual_end(items: &FetchItems) -> Option<&'static [u8]>
     ensures { IfSome result (λ end. EndsFlags items.now end.now) }
 {

@@ -2,10 +2,10 @@
 
 ghost use Rattle.std.specs.Prelude.{◌≡◌, false, [], option_map};
 ghost use Rattle.imap_types.specs.DateTimes.{is_digit};
-ghost use Rattle.imap_print.specs.Reading.{IsReading, after, counted, field_at, followed, is_in};
-ghost use Rattle.imap_print.specs.Reading.{lead};
-ghost use Rattle.imap_print.specs.Reading.{literal_at, number_from, quoted_from, run_at, runs_at};
-ghost use Rattle.imap_print.specs.Reading.{set_at, small, span, string_at, words_at};
+ghost use Rattle.imap_print.specs.Reading.{IsReading, after, capped_at_32_bits, field_at, is_in};
+ghost use Rattle.imap_print.specs.Reading.{lead, literal_at, number_from, octets_at, quoted_from};
+ghost use Rattle.imap_print.specs.Reading.{run_at, runs_at, set_at, span, string_at};
+ghost use Rattle.imap_print.specs.Reading.{value_with_rest, words_at};
 
 use crate::fault::ReadFault;
 use imap_types::{NumberSet, Octets, Run, is_astring_octet, is_atom_octet};
@@ -46,7 +46,8 @@ pub fn value_before_text<'a, T: Drop>(
     bytes: &'a [u8],
     text: &[u8],
 ) -> Result<(T, &'a [u8]), ReadFault>
-    ensures { IsReading (λ x. (x.0, x.1.now)) result (followed parsed (after text.now bytes.now)) }
+    ensures { IsReading (λ x. (x.0, x.1.now)) result
+        (value_with_rest parsed (after text.now bytes.now)) }
 {
     match skip(bytes, text) {
         None => Err(ReadFault::NotPrinted),
@@ -82,8 +83,8 @@ fn is_digit(octet: u8) -> bool
 }
 
 /// The number as 32 bits; greater numbers become 4,294,967,295.
-pub fn small(number: u64) -> u32
-    ensures { result ≡ small number }
+pub fn capped_at_32_bits(number: u64) -> u32
+    ensures { result ≡ capped_at_32_bits number }
 {
     number.min(4_294_967_295) as u32
 }
@@ -177,7 +178,7 @@ pub fn literal(alloc: Global, bytes: &[u8]) -> Result<(Octets, &[u8]), ReadFault
 
 /// Splits the octets after the first `count`.
 pub fn counted_octets(count: u64, bytes: &[u8]) -> Result<(&[u8], &[u8]), ReadFault>
-    ensures { IsReading (λ x. (x.0.now, x.1.now)) result (counted count bytes.now) }
+    ensures { IsReading (λ x. (x.0.now, x.1.now)) result (octets_at count bytes.now) }
 {
     if count > bytes.len() as u64 {
         return Err(ReadFault::NotPrinted);
@@ -206,16 +207,16 @@ fn run(bytes: &[u8]) -> (Run, &[u8])
     match skip(rest, b":") {
         None => {
             let run = Run {
-                first: small(first),
-                last: small(first),
+                first: capped_at_32_bits(first),
+                last: capped_at_32_bits(first),
             };
             (run, rest)
         }
         Some(more) => {
             let (last, rest) = number(more);
             let run = Run {
-                first: small(first),
-                last: small(last),
+                first: capped_at_32_bits(first),
+                last: capped_at_32_bits(last),
             };
             (run, rest)
         }
@@ -279,7 +280,7 @@ pub fn words(
     Err(ReadFault::NotPrinted)
 }
 
-/// What comes before a text of a list: a space, unless it is the first.
+/// The text before a text of a list: a space, or none if the text is the first.
 pub fn lead(is_first: bool) -> &'static [u8]
     ensures { result.now ≡ lead is_first [] }
 {

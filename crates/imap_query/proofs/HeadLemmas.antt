@@ -16,7 +16,7 @@ use Rattle.mailbox_rows.specs.RowViews.{head_of, row_of}
 use Rattle.imap_answers.specs.declared.answer.Answer.{Answer}
 use Rattle.imap_answers.specs.declared.answer.Answer.TheVariants.{Fetch}
 use Rattle.imap_query.specs.FetchCommand.{answer_of, asks_part, fetch_answers, is_above_changed_since, is_seen_set, items_of, parts_of, sets_seen, reports_flags, reports_modseq, if_reported}
-use Rattle.imap_query.specs.Heads.{heads_suffice, flag_key, head_answer, head_hit, head_items, is_head_above_changed_since}
+use Rattle.imap_query.specs.Heads.{are_answerable_by_heads, flag_key, head_answer, head_hit, head_items, is_head_above_changed_since}
 use Rattle.imap_query.specs.Search.{hit_of}
 use Rattle.imap_query.specs.declared.fetch_command.FetchMode.{FetchMode}
 use Rattle.imap_query.specs.declared.fetch_command.Part.TheVariants as part
@@ -45,7 +45,7 @@ head_above_same (Some modseq) row = refl
 flags_alike : (items : List FetchItem) (mode : FetchMode) (row : ListedMessage) → list_any sets_seen items ≡ false → asks_part part.Flags items ≡ reports_flags items mode row
 flags_alike items mode row n = sym (ap (λ b. asks_part part.Flags items || b) (none_marked mode.writable row.flags.seen (list_any sets_seen items) n) ∙ or_none (asks_part part.Flags items))
 
-items_alike : (items : List FetchItem) (mode : FetchMode) (row : ListedMessage) → heads_suffice (parts_of items) ≡ true → head_items items mode (head_of row) ≡ items_of items mode row row
+items_alike : (items : List FetchItem) (mode : FetchMode) (row : ListedMessage) → are_answerable_by_heads (parts_of items) ≡ true → head_items items mode (head_of row) ≡ items_of items mode row row
 items_alike items mode row h =
     let date = and_parts (not (asks_part part.Date items)) _ h in
     let size = and_parts (not (asks_part part.Size items)) _ date.1 in
@@ -63,13 +63,13 @@ items_alike items mode row h =
       sections = none i;
     }
 
-answer_alike : (items : List FetchItem) (mode : FetchMode) (shown : ViewedMessage) (o : Option ListedMessage) → heads_suffice (parts_of items) ≡ true → head_answer items mode shown (option_map head_of o) ≡ answer_of items mode shown o o
+answer_alike : (items : List FetchItem) (mode : FetchMode) (shown : ViewedMessage) (o : Option ListedMessage) → are_answerable_by_heads (parts_of items) ≡ true → head_answer items mode shown (option_map head_of o) ≡ answer_of items mode shown o o
 answer_alike items mode shown None h = refl
 answer_alike items mode shown (Some row) h =
     λ i. if head_above_same mode.changed_since row i then Fetch shown.number (items_alike items mode row h i) ∷ [] else []
 
 -- FETCH of one further message.
-pub answers_more : (items : List FetchItem) (mode : FetchMode) (rows : List ListedMessage) (named : List ViewedMessage) (k : ℕ) (d : ViewedMessage) (result new total : List Answer) → heads_suffice (parts_of items) ≡ true → k < length named
+pub answers_more : (items : List FetchItem) (mode : FetchMode) (rows : List ListedMessage) (named : List ViewedMessage) (k : ℕ) (d : ViewedMessage) (result new total : List Answer) → are_answerable_by_heads (parts_of items) ≡ true → k < length named
     → new ≡ result ++ head_answer items mode (get_or named k d) (option_map head_of (row_of (get_or named k d).uid rows))
     → result ++ fetch_answers items mode rows rows (drop k named) ≡ total → new ++ fetch_answers items mode rows rows (drop (k + 1) named) ≡ total
 answers_more items mode rows named k d result new total h l n i =
@@ -80,7 +80,7 @@ answers_more items mode rows named k d result new total h l n i =
     ∙ ap (λ xs. result ++ fetch_answers items mode rows rows xs) (sym (drop_at named k d l))
     ∙ i
 
--- A hit by the head of a row is one by the row.
+-- A hit by the head of a row is a hit by the row.
 pub hit_alike : (by_uid : Bool) (test : FlagTest) (last shown : ViewedMessage) (o : Option ListedMessage) → head_hit by_uid test shown (option_map head_of o) ≡ hit_of by_uid (flag_key test) last shown o
 hit_alike by_uid test last shown None = refl
 hit_alike by_uid test last shown (Some row) = refl

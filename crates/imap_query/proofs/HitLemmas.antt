@@ -15,7 +15,7 @@ use Rattle.imap_query.specs.declared.search_command.Hit.{Hit}
 abbrev numbers_of_hits : List Hit → List ℕ
 numbers_of_hits hits = map (λ (hit : Hit). hit.number) hits
 
--- rising numbers, from a lower number on or without one of them
+-- rising numbers also rise from a lower number on, and without one of them
 rising_lower : (low high : ℕ) (numbers : List ℕ) → low ≤ high → AreRisingFrom high numbers → AreRisingFrom low numbers
 rising_lower low high [] l h = h
 rising_lower low high (n ∷ numbers) l h = (omega (arith, h.0), h.1)

@@ -10,7 +10,7 @@ use Rattle.imap_query.specs.Runs.{run, key_stack}
 three : (these those : List SearchStep) (last : SearchStep) (rest : List SearchStep) → (these ++ those ++ last ∷ []) ++ rest ≡ these ++ (those ++ (last ∷ rest))
 three these those last rest = append_assoc (these ++ those) (last ∷ []) rest ∙ append_assoc these those (last ∷ rest)
 
--- the steps of a key push whether it matches
+-- the steps of a key push whether the key matches
 pub run-key : (holds : SearchTest → Bool) (key : Key) (rest : List SearchStep) (results : List Bool) → run holds (steps_of key ++ rest) results ≡ run holds rest (hits holds key ∷ results)
 run-key holds (Asks test) rest results = refl
 run-key holds (Lacks key) rest results =
@@ -31,7 +31,7 @@ append_nil (x ∷ xs) = ap (λ ys. x ∷ ys) (append_nil xs)
 pub run-all : (holds : SearchTest → Bool) (key : Key) → run holds (steps_of key) [] ≡ hits holds key ∷ []
 run-all holds key = ap (λ xs. run holds xs []) (sym (append_nil (steps_of key))) ∙ run-key holds key [] []
 
--- and the key itself, if keys are pushed
+-- if keys are pushed, the steps of a key push the key itself
 pub key_stack-key : (key : Key) (rest : List SearchStep) (keys : List Key) → key_stack (steps_of key ++ rest) keys ≡ key_stack rest (key ∷ keys)
 key_stack-key (Asks test) rest keys = refl
 key_stack-key (Lacks key) rest keys =
@@ -49,7 +49,7 @@ first_or : Key → List Key → Key
 first_or other [] = other
 first_or other (key ∷ keys) = key
 
--- so two keys with the same steps are equal
+-- two keys with the same steps are equal
 pub one_key : (a b : Key) → steps_of a ≡ steps_of b → a ≡ b
 unfolding first_or
 one_key a b e =

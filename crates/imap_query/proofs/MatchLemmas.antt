@@ -26,7 +26,7 @@ pub joined : (a b : Bool) → a ≡ true → b ≡ true → (a && b) ≡ true
 joined true b h k = k
 joined false b h k = cc
 
--- which octet a wildcard is
+-- a wildcard is one of two octets
 pub which : (octet : ℕ) → is_wildcard octet ≡ true → (octet ≡ 42) ⊎ (octet ≡ 37)
 which octet w = elim (or_cases (octet == 42) (octet == 37) w) [ inl a ↦ inl ((Decides-eqb octet 42).0 a) | inr b ↦ inr ((Decides-eqb octet 37).0 b) ]
 

@@ -27,7 +27,7 @@ not_before_itself a h = let e : octet_order a a ≡ Equal = tied_itself nat_list
 before_before : (a b c : List ℕ) → IsBefore a b → IsBefore b c → IsBefore a c
 before_before a b c h k = nat_list_cmp_total.trans a b c h k
 
--- inserting an entry keeps the names in order
+-- inserting an entry leaves the names in order
 after_by : (order : Ordering) (first entry next : ListEntry) (others tail : List ListEntry) → IsBefore first.name entry.name → IsBefore first.name next.name → AreAscending (names_of (insert_by order entry next others tail)) → AreAscending (names_of (first ∷ insert_by order entry next others tail))
 after_by Less first entry next others tail lt below k = (lt, k)
 after_by Equal first entry next others tail lt below k = (below, k)

@@ -1,5 +1,5 @@
--- FETCH and SEARCH as the code computes them from heads of rows; proofs/HeadLemmas ties them to
--- Fetching and Search.
+-- FETCH and SEARCH as the code computes them from heads of rows; proofs/HeadLemmas proves them
+-- equal to FetchCommand and Search.
 
 use Rattle.std.specs.Prelude.{ℕ, Bool, true, not, ◌&&◌, ◌||◌, nat_lt, List, [], ◌∷◌, Option, Some}
 use Rattle.std.specs.Prelude.{None, if◌then◌else◌}
@@ -21,8 +21,9 @@ use Rattle.imap_query.specs.declared.search_command.Hit.{Hit}
 use Rattle.imap_query.specs.declared.viewed_message.ViewedMessage.{ViewedMessage}
 
 -- Whether no date, no size and no section is asked for.
-abbrev pub heads_suffice : FetchParts → Bool
-heads_suffice parts = not parts.date && (not parts.size && (not parts.sections && not parts.seen))
+abbrev pub are_answerable_by_heads : FetchParts → Bool
+are_answerable_by_heads parts =
+    not parts.date && (not parts.size && (not parts.sections && not parts.seen))
 
 -- Whether a message's mod-sequence is above that of CHANGEDSINCE, if one is given.
 abbrev pub is_head_above_changed_since : Option ℕ → ListedHead → Bool

@@ -40,8 +40,8 @@ abbrev pub is_shown : List ℕ → List ℕ → Bool
 is_shown pattern name = is_match (pattern_for name pattern) (fold_inbox name)
 
 -- Whether the pattern read so far with one more octet matches a prefix of the name with one more
--- octet, from the answers without both (`before`), without the name's (`made`) and without the
--- pattern's (`here`).
+-- octet, from the answers without both added octets (`before`), without the name's (`made`) and
+-- without the pattern's (`here`).
 abbrev pub cell : ℕ → ℕ → Bool → Bool → Bool → Bool
 cell octet letter before made here =
     if is_wildcard octet then here || (made && may_hold octet letter)

@@ -123,8 +123,8 @@ modseq_of_result options hits =
     ∷ modseq_in (if_requested (asks_option Max options) (last_hit hits)) ∷ [])
     else greatest (map (λ hit. hit.modseq) hits)
 
--- The results of SEARCH for its hits, which ascend; without hits at most their number (RFC 9051,
--- section 6.4.4; RFC 7162, section 3.1.5).
+-- The results of SEARCH for its hits, which ascend; if there are none, at most their number (RFC
+-- 9051, section 6.4.4; RFC 7162, section 3.1.5).
 abbrev pub results_of : List SearchOption → Bool → List Hit → SearchResults
 results_of options with_modseq hits = record {
   min = if_requested (asks_option Min options) (number_in (first_hit hits));

@@ -28,7 +28,7 @@ holds_in places.To word text = any_field_holds (codes "To") word text
 holds_in places.Body word text = occurs_in word (body_of text)
 holds_in places.Text word text = occurs_in word text
 
--- A number for a day that rises with the calendar.
+-- A day's number, which rises with the calendar.
 abbrev pub rank : Day → ℕ
 rank day = (day.year * 100 + day.month) * 100 + day.day
 

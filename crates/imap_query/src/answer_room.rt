@@ -5,7 +5,7 @@ ghost use Rattle.std.specs.Prelude.{◌≡◌, ◌<◌, vec_capacity, vec_len, O
 use std::alloc::AllocError;
 
 /// Makes room for one more item after those in the list, which stay; `Err` if memory runs out. If
-/// there is room already, nothing is called.
+/// there is room already, the allocator isn't called.
 #[inline(always)]
 pub fn make_room<T>(items: &mut Vec<T>) -> Result<(), AllocError>
     ensures items { items.new.items ≡ items.old.items }

@@ -70,10 +70,10 @@ enum Part {
     Section,
 }
 
-/// The answers to FETCH for the named messages, in their order, if the listings before and after
-/// the command both have them: the messages as they are after it (RFC 9051, section 6.4.5;
-/// RFC 7162, section 3.1.4). A section costs one reading of the text up to the section's end, and a
-/// copy of the octets returned. `Err` if memory runs out.
+/// The answers to FETCH, in order, for those named messages that the listings before and after the
+/// command both have, with the messages as they are after it (RFC 9051, section 6.4.5; RFC 7162,
+/// section 3.1.4). A section costs one reading of the text up to the section's end, and a copy of
+/// the octets returned. `Err` if memory runs out.
 pub fn fetch(
     alloc: Global,
     named: &[ViewedMessage],

@@ -4,7 +4,7 @@ ghost use Rattle.std.specs.Prelude.{◌≡◌, ◌++◌, ◌∷◌, [], map, tru
 ghost use Rattle.imap_types.specs.Numbers.{AreRisingFrom};
 ghost use Rattle.imap_types.specs.Unions.{united_flags};
 ghost use Rattle.imap_query.specs.FetchCommand.{fetch_answers, parts_of, if_reported};
-ghost use Rattle.imap_query.specs.Heads.{heads_suffice, flag_key, head_answer, head_hit};
+ghost use Rattle.imap_query.specs.Heads.{are_answerable_by_heads, flag_key, head_answer, head_hit};
 ghost use Rattle.imap_query.specs.Heads.{head_items};
 ghost use Rattle.imap_query.specs.Heads.{is_head_above_changed_since};
 ghost use Rattle.imap_query.specs.Hits.{MayAdd};
@@ -24,15 +24,15 @@ use imap_types::{Flags, Keywords, Version, Versions};
 use mailbox_rows::{RowHead, Rows};
 use std::alloc::{AllocError, Global};
 
-/// Whether the heads of rows hold all that these parts ask for.
+/// Whether the heads of rows contain all that these parts ask for.
 pub(crate) fn are_answerable_by_heads(parts: FetchParts) -> bool
-    ensures { result ≡ heads_suffice parts }
+    ensures { result ≡ are_answerable_by_heads parts }
 {
     !parts.date && !parts.size && !parts.sections && !parts.seen
 }
 
-/// The answers to FETCH for the named messages, from the heads of one listing's rows, which hold
-/// all that is asked for.
+/// The answers to FETCH for the named messages, from the heads of one listing's rows. The heads
+/// contain all that is asked for.
 pub(crate) fn fetch_heads(
     alloc: Global,
     named: &[ViewedMessage],
@@ -40,7 +40,7 @@ pub(crate) fn fetch_heads(
     asked: FetchSpec<'_>,
 ) -> Result<Vec<Answer>, AllocError>
     requires parts { asked.parts ≡ parts_of asked.items.now }
-    requires heads { heads_suffice asked.parts ≡ true }
+    requires heads { are_answerable_by_heads asked.parts ≡ true }
     ensures { IfOk result (λ answers. answers.items
         ≡ fetch_answers asked.entry.items.now asked.entry.mode rows.now rows.now named.now) }
 {
@@ -69,10 +69,10 @@ fn push_answer(
     match rows.head_near(shown.place(), shown.uid) {
         None => Ok(()),
         Some(head) => {
-            if !head_has_changed_since(asked.mode.changed_since, &head) {
+            if !is_head_above_changed_since(asked.mode.changed_since, &head) {
                 return Ok(());
             }
-            let reported = items_of(alloc, asked, &head)?;
+            let reported = head_items(alloc, asked, &head)?;
             push_fetch(answers, shown.number, reported)
         }
     }
@@ -81,7 +81,7 @@ fn push_answer(
 /// Whether a message's mod-sequence is above that of CHANGEDSINCE, if one is given (RFC 7162,
 /// section 3.1.4.1).
 #[inline(always)]
-fn head_has_changed_since(changed_since: Option<u64>, head: &RowHead<'_>) -> bool
+fn is_head_above_changed_since(changed_since: Option<u64>, head: &RowHead<'_>) -> bool
     ensures { result ≡ is_head_above_changed_since changed_since (listed_head head.now) }
 {
     match changed_since {
@@ -90,9 +90,9 @@ fn head_has_changed_since(changed_since: Option<u64>, head: &RowHead<'_>) -> boo
     }
 }
 
-/// The items of a message that FETCH asks for.
+/// The items that FETCH asks for, of one message.
 #[inline(always)]
-fn items_of(
+fn head_items(
     alloc: Global,
     asked: FetchSpec<'_>,
     head: &RowHead<'_>,

@@ -213,7 +213,7 @@ fn is_date_related(order: DateRelation, day: Day, date: &DateTime) -> bool
     }
 }
 
-/// A number for a day that rises with the calendar.
+/// A day's number, which rises with the calendar.
 fn rank(day: Day) -> u32
     ensures { result ≡ rank day }
 {

@@ -12,8 +12,8 @@
 //!
 //! - `list` returns entries, and `list_names` the answers to LIST: scripts of cases compare
 //!   entries.
-//! - `status` and `search` return what their answers say, without the mailbox's name and the tag,
-//!   which the command adds.
+//! - `status` and `search` return the contents of their answers, without the mailbox's name and the
+//!   tag, which the command adds.
 #![tactic(auto)]
 
 mod answer_room;

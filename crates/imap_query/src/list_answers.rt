@@ -10,7 +10,7 @@ ghost use Rattle.imap_query.specs.ListNames.{subscribed_answer, subscribed_state
 ghost use Rattle.imap_query.specs.Patterns.{is_among};
 ghost use Rattle.imap_query.specs.Placing.{insert_all, shown_mailboxes};
 
-use crate::list_entries::{ListEntry, is_among, list, place_mailboxes};
+use crate::list_entries::{ListEntry, insert_mailboxes, is_among, list};
 use crate::pattern::Pattern;
 use imap_answers::{Answer, MailboxState};
 use imap_types::Name;
@@ -26,7 +26,7 @@ pub struct ListMode {
 }
 
 /// The answers to LIST, by ascending names (RFC 9051, section 6.3.9). An empty pattern gives the
-/// root line, whatever the options. It costs what [`list`] costs, and each name shown is compared
+/// root line, whatever the options. It costs as much as [`list`], and each name shown is compared
 /// with the folders or the subscriptions. `Err` if memory runs out.
 pub fn list_names(
     alloc: Global,
@@ -145,7 +145,7 @@ fn matching_names(
 {
     let pattern = &Pattern::new(alloc, pattern)?;
     let mut entries = Vec::new(alloc);
-    place_mailboxes(alloc, pattern, names, &mut entries)?;
+    insert_mailboxes(alloc, pattern, names, &mut entries)?;
     Ok(entries)
 }
 

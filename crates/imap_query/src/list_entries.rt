@@ -19,7 +19,7 @@ use std::cmp::Ordering;
 /// `\Noselect`.
 #[derive(Drop)]
 pub struct ListEntry {
-    /// The name, with INBOX in capitals if the folders spell it so.
+    /// The name, with INBOX in capitals if the folders spell it in capitals.
     pub name: Name,
     /// Whether it is a mailbox.
     pub is_mailbox: bool,
@@ -82,8 +82,8 @@ fn listed_entries(
 {
     let pattern = &Pattern::new(alloc, pattern)?;
     let mut entries = Vec::new(alloc);
-    place_mailboxes(alloc, pattern, folders, &mut entries)?;
-    place_levels(alloc, pattern, folders, &mut entries)?;
+    insert_mailboxes(alloc, pattern, folders, &mut entries)?;
+    insert_levels(alloc, pattern, folders, &mut entries)?;
     Ok(entries)
 }
 
@@ -97,7 +97,7 @@ fn ends_in_percent(pattern: &[u8]) -> bool
 }
 
 /// Inserts the entries of the folders that match the pattern.
-pub(crate) fn place_mailboxes(
+pub(crate) fn insert_mailboxes(
     alloc: Global,
     pattern: &Pattern,
     folders: &[Name],
@@ -109,7 +109,7 @@ pub(crate) fn place_mailboxes(
     for folder in folders {
         if is_shown(alloc, pattern, folder)? {
             let name = folder.copy(alloc)?;
-            place(
+            insert_entry(
                 entries,
                 ListEntry {
                     name,
@@ -122,7 +122,7 @@ pub(crate) fn place_mailboxes(
 }
 
 /// Inserts the entries of the folders' superior levels, if the pattern ends in `%`.
-fn place_levels(
+fn insert_levels(
     alloc: Global,
     pattern: &Pattern,
     folders: &[Name],
@@ -136,13 +136,13 @@ fn place_levels(
         return Ok(());
     }
     for folder in folders {
-        place_levels_of(alloc, pattern, folders, folder.as_bytes(), entries)?;
+        insert_levels_of(alloc, pattern, folders, folder.as_bytes(), entries)?;
     }
     Ok(())
 }
 
 /// Inserts the entries of one folder's superior levels.
-fn place_levels_of(
+fn insert_levels_of(
     alloc: Global,
     pattern: &Pattern,
     folders: &[Name],
@@ -155,14 +155,14 @@ fn place_levels_of(
 {
     for at in 0..folder.len() {
         if folder[at] == b'/' {
-            place_level(alloc, pattern, folders, &folder[..at], entries)?;
+            insert_level(alloc, pattern, folders, &folder[..at], entries)?;
         }
     }
     Ok(())
 }
 
 /// Inserts the entry of one superior level, if it matches the pattern and is no folder.
-fn place_level(
+fn insert_level(
     alloc: Global,
     pattern: &Pattern,
     folders: &[Name],
@@ -177,7 +177,7 @@ fn place_level(
         return Ok(());
     }
     if is_shown(alloc, pattern, &name)? {
-        place(
+        insert_entry(
             entries,
             ListEntry {
                 name,
@@ -200,7 +200,7 @@ pub(crate) fn is_among(folders: &[Name], name: &[u8]) -> bool
 }
 
 /// Inserts the entry at its place, unless one with its name exists.
-fn place(entries: &mut Vec<ListEntry>, entry: ListEntry) -> Result<(), AllocError>
+fn insert_entry(entries: &mut Vec<ListEntry>, entry: ListEntry) -> Result<(), AllocError>
     ensures { OnOk result (entries.new.items ≡ insert_entry entry entries.old.items) }
 {
     match place_of(entries, &entry) {

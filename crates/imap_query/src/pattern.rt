@@ -182,7 +182,8 @@ fn advance(octet: u8, first: bool, row: &mut [bool], name: &[u8])
 }
 
 /// Whether the pattern with one more octet matches the name with one more octet: `before` is the
-/// answer without both, `made` without the name's, `here` without the pattern's.
+/// answer without both added octets, `made` the one without the name's, `here` the one without the
+/// pattern's.
 fn cell(octet: u8, letter: u8, before: bool, made: bool, here: bool) -> bool
     ensures { result ≡ cell octet letter before made here }
 {

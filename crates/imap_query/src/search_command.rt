@@ -43,8 +43,8 @@ struct SearchSpec<'a> {
 
 /// The results of SEARCH among the messages that a view shows and the listing has, by UIDs or by
 /// message numbers (RFC 9051, section 6.4.4; RFC 7162, section 3.1.5). The steps are those of a
-/// key; sets in it name messages of the view. Each key costs one test of each message; for a key on
-/// texts that takes time linear in the text. `Err` if memory runs out.
+/// key; sets in it name messages of the view. Each key costs one test of each message; the test of
+/// a key on texts takes time linear in the text. `Err` if memory runs out.
 pub fn search(
     alloc: Global,
     view: &[ViewedMessage],

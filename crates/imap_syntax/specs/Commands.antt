@@ -23,7 +23,7 @@ abbrev pub first_word : Bool → CommandWord → CommandWord
 first_word true own = words.Uid
 first_word false own = own
 
--- After UID, the command's own word.
+-- If the first word is UID, a space and the command's own word; else nothing.
 abbrev pub own_word : Bool → CommandWord → List ℕ → Type 0
 own_word true own = sp ⌢ word (command_word own)
 own_word false own = nothing

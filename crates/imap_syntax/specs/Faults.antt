@@ -1,5 +1,5 @@
--- When a frame has a tag, and when it names a command: what the faults of frames depend on (RFC
--- 9051, section 9, command).
+-- The conditions on which a frame's fault depends: whether it has a tag, and whether it names a
+-- command (RFC 9051, section 9, command).
 
 use Rattle.std.specs.Prelude.{◌≡◌, ℕ, Bool, false, List, [], ◌∷◌, ◌++◌, IsTrue}
 use Rattle.std.specs.List.{list_all}

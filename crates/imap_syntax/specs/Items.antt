@@ -47,7 +47,7 @@ item_word items.Uid = words.Uid
 item_word items.ModSeq = words.ModSeq
 item_word (items.Body peek this_section this_partial) = body_word peek
 
--- What follows the word of each item.
+-- The text after the word of each item.
 abbrev pub item_tail : FetchItem → List ℕ → Type 0
 item_tail items.Flags = nothing
 item_tail items.InternalDate = nothing

@@ -33,7 +33,8 @@ test (tests.ModSeq value) = word (key_word key.ModSeq) ⌢ sp ⌢ number_to grea
 test (tests.Uids uids) = word (key_word key.Uid) ⌢ sp ⌢ sequence_set uids
 test (tests.Numbers numbers) = sequence_set numbers
 
--- Of keys in a row all must match: the steps of all, with an And after each but the first.
+-- The steps of several keys, which must all match: those of each key, with an And after each but
+-- the first.
 abbrev pub and_all : List SearchStep → List (List SearchStep) → List SearchStep
 and_all steps [] = steps
 and_all steps (key ∷ keys) = and_all (steps ++ key ++ And ∷ []) keys
@@ -55,7 +56,7 @@ key_over inner steps text =
     ⊎ ((keys : List (List SearchStep)) × in_parens (listed sp inner keys) text
     × (all_of keys ≡ steps))))
 
--- A key with at most this many levels of NOT, OR and parentheses.
+-- A key with at most `levels` levels of NOT, OR and parentheses.
 unfoldable pub key_within : ℕ → List SearchStep → List ℕ → Type 0
 key_within zero = key_over (λ steps. never)
 key_within (suc levels) = key_over (key_within levels)

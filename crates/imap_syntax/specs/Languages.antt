@@ -4,7 +4,7 @@ use Rattle.std.specs.Prelude.{codes, ◌≡◌, ℕ, List, [], ◌∷◌, ◌++�
 use Rattle.imap_types.specs.Keywords.{to_lower_case}
 
 infixr 7 ◌⌢◌
--- A language is a fact about texts. A text of `P ⌢ Q` is a text of P and, after it, a text of Q.
+-- A language is a fact about texts. A text of `P ⌢ Q` is a text of P followed by a text of Q.
 abbrev pub ◌⌢◌ : (List ℕ → Type 0) → (List ℕ → Type 0) → List ℕ → Type 0
 (P ⌢ Q) text = (front back : List ℕ) × P front × Q back × (text ≡ front ++ back)
 

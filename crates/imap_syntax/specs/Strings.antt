@@ -65,7 +65,7 @@ literal value =
     exactly (codes "{") ⌢ number (length value) ⌢ optional_plus ⌢ exactly (codes "}\r\n") ⌢ exactly
     value
 
--- Octets of a class for themselves, or a string in either form.
+-- Octets of a class, which stand for themselves, or a string in either form.
 abbrev pub text_of : OctetClass → List ℕ → List ℕ → Type 0
 text_of class value text = run class value text ⊎ (quoted value text ⊎ literal value text)
 

@@ -33,7 +33,7 @@ impl Drop for ListNames {
 pub struct Append {
     pub name: Name,
     pub flags: Flags,
-    /// The message's internal date; if it is missing, the moment of the command.
+    /// The message's internal date; if it is missing, the message gets the moment of the command.
     pub date: Option<DateTime>,
     pub text: Text,
 }
@@ -56,7 +56,7 @@ pub struct Search {
     pub by_uid: bool,
     /// The return options, as they were written.
     pub options: WrittenValues<SearchOption>,
-    /// The steps of the key in postfix order: each comes after the steps of its operands.
+    /// The steps of the key in postfix order: each follows the steps of its operands.
     pub steps: SearchSteps,
 }
 

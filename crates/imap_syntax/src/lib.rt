@@ -1,8 +1,8 @@
 //! The commands of IMAP4rev2 (RFC 9051) that this server accepts, as values, and the definition of
 //! which frame spells which command.
 //!
-//! A `Command` is the command's word with its arguments; a `Tagged` adds the tag. The types carry
-//! what a command promises: sets name numbers from 1, a search's steps are those of one key
+//! A `Command` is the command's word with its arguments; a `Tagged` adds the tag. The types ensure
+//! the properties of a command: sets name numbers from 1, a search's steps are those of one key
 //! (`IsKey` of `specs/SearchKeys.antt`), flags are a set.
 //!
 //! `specs/Commands.antt` says which frame spells which command (`IsSpelled`), production by
@@ -16,7 +16,7 @@
 //!   definitions. Lists of items (ENABLE, STATUS, FETCH, RETURN) are stored as written; FAST is
 //!   replaced by its three items. `1` and `1:1` are one range. CHARSET isn't stored.
 //! - SEARCH is stored as steps in postfix order, so that a stack evaluates it without recursion.
-//!   Their type, `SearchSteps`, holds the steps of one key and nothing else.
+//!   Their type, `SearchSteps`, contains the steps of one key and nothing else.
 #![tactic(auto)]
 
 mod arguments;

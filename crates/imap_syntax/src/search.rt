@@ -16,7 +16,7 @@ pub enum SearchOption {
     Count,
 }
 
-/// Where SEARCH looks for a text.
+/// The part of a message in which SEARCH looks for a text.
 #[derive(Clone, Copy, Debug, PartialEq, Eq)]
 pub enum TextPlace {
     Bcc,
@@ -30,8 +30,8 @@ pub enum TextPlace {
     Text,
 }
 
-/// How the day of a message's internal date, as it is written in its own zone, relates to the day
-/// that a key names.
+/// The relation of the day of a message's internal date, as it is written in its own zone, to the
+/// day that a key names.
 #[derive(Clone, Copy, Debug, PartialEq, Eq)]
 pub enum DateRelation {
     /// Earlier than the named day.
@@ -88,14 +88,14 @@ impl Drop for SearchTest {
     }
 }
 
-/// A step of a search; it comes after the steps of its operands.
+/// A step of a search; it follows the steps of its operands.
 pub enum SearchStep {
     Test(SearchTest),
     /// Negates the last result.
     Not,
-    /// Whether either of the last two results holds.
+    /// Whether either of the last two results is true.
     Or,
-    /// Whether both of the last two results hold.
+    /// Whether both of the last two results are true.
     And,
 }
 

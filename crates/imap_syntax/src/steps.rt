@@ -5,7 +5,7 @@ ghost use Rattle.std.specs.Prelude.{◌≡◌};
 use crate::search::SearchStep;
 use std::marker::Model;
 
-/// The steps of one key in postfix order: each comes after the steps of its operands.
+/// The steps of one key in postfix order: each follows the steps of its operands.
 pub struct SearchSteps {
     steps: Vec<SearchStep>,
 }

@@ -1,7 +1,7 @@
 //! Words of commands.
 
-/// The word of a command (RFC 9051, section 6; RFC 2177, section 3): those of this grammar, and
-/// those that it leaves out.
+/// The word of a command (RFC 9051, section 6; RFC 2177, section 3), in this grammar or left out of
+/// it.
 #[derive(Clone, Copy, Debug, PartialEq, Eq)]
 pub enum CommandWord {
     Capability,

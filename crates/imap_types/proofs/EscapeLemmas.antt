@@ -67,7 +67,7 @@ escape_spells e a b c h =
       escaped_other e (hex_octet b c) m ∙ (λ i. sym k i ∷ (ap hex_digit d.0 ∙ b'.0) i ∷ (ap hex_digit d.1 ∙ c'.0) i ∷ []),
     )
 
--- and the spelling of an octet that doesn't stand for itself is accepted
+-- the test accepts the spelling of an octet that doesn't stand for itself
 spells_escape : (e : Escape) (octet : ℕ) → octet < 256 → is_plain e octet ≡ false → (is_escape e 126 (hex_digit (octet / 16)) (hex_digit (octet % 16)) ≡ true) × (hex_octet (hex_digit (octet / 16)) (hex_digit (octet % 16)) ≡ octet)
 spells_escape e octet h p =
     let b = digit_on (octet / 16) (omega arith) in

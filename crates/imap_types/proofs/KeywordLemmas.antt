@@ -67,7 +67,7 @@ hit k w ws i b l e t h inv =
     let g : has_keyword k (w ∷ drop (i + 1) ws) ≡ true = ap (λ c. c || has_keyword k (drop (i + 1) ws)) f in
     sym (sym inv ∙ ap (has_keyword k) (dropped ws i w l e) ∙ g)
 
--- and one that isn't
+-- a word that isn't the keyword
 pub miss : (k w : List ℕ) (ws : List (List ℕ)) (i : ℕ) (b : Bool) → i < length ws → w ≡ get_or ws i w → IsTrue b ↔ (to_lower_case w ≡ to_lower_case k) → b ≡ false → has_keyword k (drop i ws) ≡ has_keyword k ws → has_keyword k (drop (i + 1) ws) ≡ has_keyword k ws
 miss k w ws i b l e t h inv =
     let f : bytes_eq (to_lower_case w) (to_lower_case k) ≡ false = same_from_decides _ _ (bytes_eq-Decides (to_lower_case w) (to_lower_case k)) t ∙ h in

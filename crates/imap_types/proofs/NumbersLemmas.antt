@@ -18,7 +18,7 @@ greatest-append : (xs ys : List ℕ) → greatest (xs ++ ys) ≡ max (greatest x
 greatest-append [] ys = omega arith
 greatest-append (x ∷ xs) ys = omega (arith, greatest-append xs ys)
 
--- two ranges that touch are one
+-- two ranges that touch are one range
 range-append : (a k m b : ℕ) → b ≡ a + k → range_with_len a k ++ range_with_len b m ≡ range_with_len a (k + m)
 range-append a zero m b e =
     let f : b ≡ a = omega arith in
@@ -28,7 +28,7 @@ range-append a (suc k) m b e =
     let g : suc (k + m) ≡ suc k + m = omega arith in
     ap (λ xs. a ∷ xs) (range-append (a + 1) k m b (omega arith)) ∙ ap (range_with_len a) g
 
--- two runs without a gap are one
+-- the numbers of two runs without a gap are those of one run
 numbers_of-joined : (a b : Run) → a.first ≤ a.last → a.last + 1 ≡ b.first → b.first ≤ b.last → range_with_len a.first (suc (b.last - a.first)) ≡ numbers_of a ++ numbers_of b
 numbers_of-joined a b h e k =
     let g : suc (b.last - a.first) ≡ suc (a.last - a.first) + suc (b.last - b.first) = omega arith in

@@ -2,7 +2,7 @@ use Rattle.std.proofs.Common.{◌≡◌, ℕ, zero, suc, ◌<◌, Bool, true, fa
 use Rattle.std.proofs.lemmas.Bool.{and_parts}
 use Rattle.imap_types.specs.DateTimes.{fits_symbol, HasPicture}
 
--- the picture as one test
+-- whether a text has the form of a picture, as one test
 abbrev pub has_picture : List ℕ → List ℕ → Bool
 has_picture [] [] = true
 has_picture [] (octet ∷ octets) = false

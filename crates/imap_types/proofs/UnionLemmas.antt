@@ -96,7 +96,7 @@ same_from_tests vs words a h k =
     (λ z i. within_each vs words z h (sym (any_united (bytes_eq z) vs) ∙ i))
     (λ z i. any_united (bytes_eq z) vs ∙ all_held (one_holds vs) words z k i)
 
--- and both pass for the keywords of the union
+-- both tests pass for the keywords of the union
 pub tests_from_same : (vs : List Version) (words : List (List ℕ)) → (united_flags vs).keywords ≡ words → (all_within vs words ≡ true) × (list_all (one_holds vs) words ≡ true)
 tests_from_same vs words e = (
   each_within vs words (λ z i. sym (ap (λ ws. holds ws z) e) ∙ any_united (bytes_eq z) vs ∙ i),

@@ -42,12 +42,14 @@ any_step p w v vs rest Less e h = refl
 any_step p w v vs rest Equal e h = sym (ap (λ (u : List ℕ). p u || (p v || list_any p vs)) (same_word w v e) ∙ or-twice (p v) (list_any p vs))
 any_step p w v vs rest Greater e h = ap (λ (b : Bool). p v || b) h ∙ or-turned (p w) (p v) (list_any p vs)
 
--- with one word inserted, it holds of that word or of another
+-- a test holds of some word of a list with one inserted exactly if it holds of that word or of
+-- another
 any_with : (p : List ℕ → Bool) (w : List ℕ) (vs : List (List ℕ)) → list_any p (with_word w vs) ≡ (p w || list_any p vs)
 any_with p w [] = refl
 any_with p w (v ∷ vs) = any_step p w v vs (with_word w vs) (octet_order w v) refl (any_with p w vs)
 
--- and so with many words inserted
+-- a test holds of some word of a list with many inserted exactly if it holds of an inserted word or
+-- of another
 pub any_folded : (p : List ℕ → Bool) (start words : List (List ℕ)) → list_any p (fold (λ done word. with_word word done) start words) ≡ (list_any p start || list_any p words)
 any_folded p start [] = sym (or-none (list_any p start))
 any_folded p start (w ∷ ws) = any_folded p (with_word w start) ws ∙ ap (λ (b : Bool). b || list_any p ws) (any_with p w start) ∙ or-moved (p w) (list_any p start) (list_any p ws)
@@ -147,7 +149,7 @@ all_held p (x ∷ xs) z h i =
       | inr t ↦ all_held p xs z both.1 t
     ]
 
--- and what holds of each holds of all
+-- what holds of each word holds of all
 pub all_by : (p : List ℕ → Bool) (xs : List (List ℕ)) → ((z : List ℕ) → holds xs z ≡ true → p z ≡ true) → list_all p xs ≡ true
 all_by p [] f = refl
 all_by p (x ∷ xs) f = and_from (p x) (list_all p xs) (f x (holds_first x xs)) (all_by p xs (λ z i. f z (holds_rest z x xs i)))

@@ -6,8 +6,8 @@ use Rattle.std.specs.Ordering.{nat_cmp}
 use Rattle.std.specs.declared.cmp.Ordering.{Ordering}
 use Rattle.std.specs.declared.cmp.Ordering.TheVariants.{Less}
 
--- The order of two octet strings: by the first octet that differs, and a string before those that
--- it begins.
+-- The order of two octet strings: by the first octet that differs; a proper prefix is before the
+-- whole.
 abbrev pub octet_order : List ℕ → List ℕ → Ordering
 octet_order a b = slice_cmp nat_cmp a b
 

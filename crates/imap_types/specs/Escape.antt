@@ -51,7 +51,7 @@ abbrev pub is_escape : Escape → ℕ → ℕ → ℕ → Bool
 is_escape escape tilde high low =
     (tilde == 126) && (is_hex high && (is_hex low && not (is_plain escape (hex_octet high low))))
 
--- `front` before the octets that were read, if any.
+-- The octets that were read, with `front` before them; `None` if nothing could be read.
 abbrev pub with_octets_before : List ℕ → Option (List ℕ) → Option (List ℕ)
 with_octets_before front None = None
 with_octets_before front (Some octets) = Some (front ++ octets)
@@ -68,7 +68,7 @@ unescape escape (a ∷ b ∷ c ∷ rest) =
     then with_octets_before (hex_octet b c ∷ []) (unescape escape rest)
     else None)
 
--- A fault other than that of memory means that nothing can be read.
+-- Any fault but that of memory means that nothing can be read.
 abbrev pub FailsToRead : {Y : Type 0} → EscapeFault → Option Y → Type 0
 FailsToRead NoMemory read = Unit {0}
 FailsToRead NotEscaped read = read ≡ None

@@ -32,7 +32,7 @@ are_ascending (a ∷ b ∷ rest) = is_lt (octet_order a b) && are_ascending (b �
 abbrev pub are_keywords : List (List ℕ) → Bool
 are_keywords texts = list_all is_lower_case texts && are_ascending texts
 
--- An ascending list with the text inserted, if it wasn't there already.
+-- An ascending list with the text inserted, unless the list has it already.
 abbrev pub with_word : List ℕ → List (List ℕ) → List (List ℕ)
 with_word text [] = text ∷ []
 with_word text (next ∷ texts) =

@@ -23,8 +23,8 @@ numbers_of run = range_with_len run.first (suc (run.last - run.first))
 abbrev pub numbers_in : List Run → List ℕ
 numbers_in runs = flat_map numbers_of runs
 
--- The runs of a number and of runs above it: the number extends the first run if that begins just
--- above.
+-- The runs of a number and of the runs above it: the number extends the first run if that begins
+-- just above it.
 abbrev pub with_number : ℕ → List Run → List Run
 with_number n [] = record { first = n; last = n } ∷ []
 with_number n (run ∷ runs) =
@@ -42,7 +42,7 @@ AreRunsFrom low [] = Unit {0}
 AreRunsFrom low (run ∷ runs) =
     (low ≤ run.first) × (run.first ≤ run.last) × AreRunsFrom (run.last + 2) runs
 
--- Whether runs are such.
+-- Whether runs are runs from `low`, each with a gap before the next.
 abbrev pub are_runs_from : ℕ → List Run → Bool
 are_runs_from low [] = true
 are_runs_from low (run ∷ runs) =

@@ -5,7 +5,7 @@ use Rattle.std.specs.Prelude.{◌≡◌, ℕ, ◌==◌, List, [], ◌∷◌, ◌
 use Rattle.std.specs.Prelude.{Err, if◌then◌else◌}
 
 infixl 10 ◌>>=◌
--- What the next reader gives of the value that was read and of what follows it, if both can be
+-- The result of the next reader on the value that was read and the rest of the text, if both can be
 -- read.
 abbrev pub ◌>>=◌ : {A B : Type 0} → Option A → (A → Option B) → Option B
 None >>= f = None
@@ -19,13 +19,13 @@ abbrev pub IsReadingBy : {X Y F : Type 0} → (F → Option Y → Type 0) → (X
 IsReadingBy Fails view (Ok x) read = read ≡ Some (view x)
 IsReadingBy Fails view (Err fault) read = Fails fault read
 
--- The octets that follow the given ones at the beginning of a text, if it begins with them.
+-- The rest of a text after the given octets, if they are its prefix.
 abbrev pub after : List ℕ → List ℕ → Option (List ℕ)
 after [] octets = Some octets
 after (expected ∷ more) [] = None
 after (expected ∷ more) (octet ∷ octets) = if octet == expected then after more octets else None
 
--- The list of a reading with `front` before it, if it could be read.
+-- The list that was read, with `front` before it, if it could be read.
 abbrev pub with_prefix : {X Y : Type 0} → List X → Option (List X × Y) → Option (List X × Y)
 with_prefix front None = None
 with_prefix front (Some x) = Some (front ++ x.0, x.1)

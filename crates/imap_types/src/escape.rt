@@ -132,7 +132,7 @@ fn unescape(alloc: Global, escape: Escape, text: &[u8]) -> Result<Octets, Escape
     Ok(Octets::new(octets))
 }
 
-/// The first octet that the text stands for, and what follows its spelling.
+/// The first octet that the text stands for, and the text after its spelling.
 fn first_octet(escape: Escape, first: u8, tail: &[u8]) -> Result<(u8, &[u8]), EscapeFault>
     ensures spelling { IfOk result (λ read. (unescape escape (first ∷ tail.now)
         ≡ with_octets_before (read.0 ∷ []) (unescape escape read.1.now))

@@ -16,7 +16,7 @@ use std::marker::Model;
 /// The longest keyword that a message may have, in octets.
 pub const MAX_KEYWORD_OCTETS: usize = 64;
 
-/// The number of keywords that the set holds in itself; most messages have none or one.
+/// The number of keywords that are stored in the set itself; most messages have none or one.
 const INLINE: usize = 1;
 
 /// A set of keywords: each in lower case, distinct, ascending by octets (RFC 9051, section 2.3.2).

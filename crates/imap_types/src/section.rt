@@ -11,7 +11,7 @@ pub enum Section {
     Whole,
     /// The header, including the empty line that ends it.
     Header,
-    /// What follows the header.
+    /// The text after the header.
     Text,
     /// The header fields with these names.
     Fields { names: FieldNames },

@@ -25,7 +25,7 @@ impl Step {
     }
 }
 
-/// A counter by which threads show one another how far they are, 0 at first.
+/// A counter by which threads show one another their progress; 0 at first.
 #[derive(Clone, Copy)]
 pub enum Sign {
     /// The number of threads that have begun, or that have finished their commands.
@@ -58,16 +58,17 @@ pub enum Action {
     /// It holds the replica's lock for this number of turns, or until the scene is over, and
     /// reports whether it was.
     Holds(u64),
-    /// It waits until the journal's length differs from this one, and reports it.
+    /// It waits until the journal's length differs from this number, and reports the new length.
     AwaitsChange(u64),
     /// It checks many times whether the clock of the replica is this one.
     AwaitsClock(&'static str),
-    /// It cuts off a pass and drops it. If this is true, it first opens a session with it.
+    /// It cuts off a pass and drops it. If the value is true, it first opens a session with the
+    /// pass.
     LosesPass(bool),
     /// It asks the other replica for all operations that this one lacks.
     Asks,
-    /// Steps of the link to its replica are taken, and then it receives what was delivered, message
-    /// by message.
+    /// It takes steps of the link to its replica, and then receives the delivered messages, one
+    /// after another.
     Takes(&'static [Step]),
     /// It receives messages until it is stopped, and asks the other replica each time that this
     /// number of milliseconds has passed.
@@ -94,10 +95,12 @@ pub enum FinalReport {
     /// Whether their clocks agree, and the outcomes of deliveries at the second replica;
     /// only the first ones are compared.
     FirstAnswers,
-    /// The number of operations that the first applied, and how many of these the second applied.
+    /// The number of operations that the first replica applied, and how many of these the second
+    /// applied.
     Common,
-    /// Of the first replica: the number of entries of its journal, how many of the seen outcomes
-    /// are at their places, and how many entries are commands of the callers that saw them there.
+    /// The number of entries of the first replica's journal, how many of the outcomes that callers
+    /// noted are at their places, and how many entries are commands of the callers that noted them
+    /// there.
     History,
     /// The number of entries of each replica's journal, or why it isn't returned.
     Entries,

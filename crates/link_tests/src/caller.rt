@@ -20,7 +20,7 @@ use std::time::Duration;
 /// How many times a caller checks whether a replica applied what it should.
 const TURNS: u32 = 1_000_000;
 
-/// A replica as its callers see it.
+/// A replica as its callers use it.
 #[derive(Drop)]
 pub struct Replica<'a, L: Ledger, R: Wait> {
     /// The replica.
@@ -29,11 +29,11 @@ pub struct Replica<'a, L: Ledger, R: Wait> {
     pub channels: Channels<'a, R>,
 }
 
-/// The outcomes that a caller saw.
+/// The outcomes that a caller noted.
 pub struct SeenOutcomes {
     /// Its number.
     pub number: usize,
-    /// Each place that it saw, with the outcome of its call.
+    /// Each place that it noted, with the outcome of its call.
     pub places: Vec<(u64, Outcome)>,
 }
 
@@ -115,7 +115,7 @@ impl<L: Ledger> Caller<L> {
         }
     }
 
-    /// Appends its passes to others, and returns what it saw.
+    /// Appends its passes to others, and returns what it noted.
     pub fn into_outcomes(self, passes: &mut Vec<Pass<L>>) -> SeenOutcomes {
         let Self {
             pass,
@@ -333,7 +333,8 @@ impl<L: Ledger> Caller<L> {
         }
     }
 
-    /// Takes steps of the link to its replica, and then receives only what these deliver.
+    /// Takes steps of the link to its replica, and then receives only the messages that these
+    /// deliver.
     fn take<R: Wait + Clock>(
         &mut self,
         replica: &Replica<'_, L, R>,

@@ -195,8 +195,8 @@ impl<'a, R: Wait> Channels<'a, R> {
         }
     }
 
-    /// Takes steps of the link to this replica, one after another, and sends what is delivered into
-    /// a channel; other messages stay on the link. False if a step names no message.
+    /// Takes steps of the link to this replica, one after another, and sends the delivered messages
+    /// into a channel; other messages stay on the link. False if a step names no message.
     pub fn sift(&self, steps: &[Step], to: &Sender<PeerMsg>) -> Result<bool, AllocError> {
         let mut messages = Vec::new(self.alloc);
         for _ in 0..self.messages().len() {

@@ -8,11 +8,12 @@ use merge_laws::Caused;
 use replica_lock::{Book, BookEvent, EntryRef, FinishFault, Outcome};
 use std::alloc::{AllocError, Global};
 
-/// A replica after a scene: its book, or why it isn't returned, and what its callers saw.
+/// A replica after a scene: its book, or why it isn't returned, and the outcomes that its callers
+/// noted.
 pub struct Ended {
     /// The book that was returned, or why there is none.
     pub book: Result<Book, FinishFault>,
-    /// What its callers saw.
+    /// The outcomes that its callers noted.
     pub outcomes: Vec<SeenOutcomes>,
 }
 
@@ -143,8 +144,8 @@ fn common(ops: &[SoundOp], others: &[SoundOp]) -> usize {
     common
 }
 
-/// Appends the number of entries of a journal, how many of the seen outcomes are at their places,
-/// and how many entries are commands of the callers that saw them there.
+/// Appends the number of entries of a journal, how many of the outcomes that callers noted are at
+/// their places, and how many entries are commands of the callers that noted them there.
 fn write_history(
     alloc: Global,
     text: &mut String,
@@ -164,7 +165,7 @@ fn write_history(
     )
 }
 
-/// The number of outcomes that are at the places where they were seen.
+/// The number of outcomes that are at their noted places.
 fn count_in_place(book: &Book, places: &[(u64, Outcome)]) -> usize {
     let mut in_place = 0usize;
     for (place, outcome) in places {
@@ -177,7 +178,7 @@ fn count_in_place(book: &Book, places: &[(u64, Outcome)]) -> usize {
     in_place
 }
 
-/// The number of a caller's own commands among the entries that it saw after its first, each in
+/// The number of a caller's own commands among the entries that it noted after its first, each in
 /// its order and above the entry before it.
 fn own_commands(alloc: Global, book: &Book, outcomes: &SeenOutcomes) -> Result<usize, AllocError> {
     let client = outcomes.number;

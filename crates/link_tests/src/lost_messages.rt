@@ -4,7 +4,8 @@ use crate::actions::{Action, FinalReport, Scene, Step};
 use crate::scene::wrong_scene;
 use std::test::*;
 
-/// Two messages, the last first, each of them twice; below, three, four and five.
+/// Two messages, the last first, each of them twice. The next constants do it with three, four and
+/// five.
 const TWO: &[Step] = &[Step::Twice(1), Step::Twice(0)];
 
 const THREE: &[Step] = &[Step::Twice(2), Step::Twice(1), Step::Twice(0)];

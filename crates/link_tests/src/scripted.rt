@@ -25,7 +25,7 @@ const TURNS: u32 = 1_000_000;
 enum Content {
     /// These operations.
     Ops(&'static [&'static str]),
-    /// The clock of this operation's causes, as a request for what it lacks.
+    /// A request for the operations that the clock of this operation's causes doesn't cover.
     Have(&'static str),
     /// There are no further messages.
     Stop,
@@ -55,14 +55,15 @@ struct Case {
     takes: u64,
     /// The messages received, with the places of their senders.
     messages: &'static [(usize, Content)],
-    /// The number of calls after which one more message stops the worker; 0 for no such message.
+    /// The number of calls after which a further message stops the worker; 0 if there is none.
     stops: usize,
     /// The text of the calls begins with the first of these parts, has the others after it in their
     /// order, and ends with the last.
     expected: &'static [&'static str],
 }
 
-/// A scripted replica that notes each call; also a gate and the links to the others that do so.
+/// A scripted replica that notes each call. It is also a gate and the links to the other replicas,
+/// and notes their calls too.
 #[derive(Drop)]
 struct Scripted<'a, R: Wait + rt::Clock> {
     rt: &'a R,
@@ -321,10 +322,10 @@ const ONE: &[&str] = &["1:1 - create a"];
 
 const THREE: &[&str] = &["1:1 - create a", "1:2 1=1 create b", "2:1 - create c"];
 
-/// The calls by which each of the others is asked.
+/// The calls by which each of the other replicas is asked once.
 const ROUND: &str = "clock\nask 3 9=7\nclock\nask 1 9=7\nclock\nask 2 9=7\n";
 
-/// The calls by which each of the others is asked twice.
+/// The calls by which each of the other replicas is asked twice.
 const ROUNDS: &str =
     "clock\nask 3 9=7\nclock\nask 1 9=7\nclock\nask 2 9=7\nclock\nask 3 9=7\nclock\nask 1 9=7\nclock\nask 2 9=7\n";
 

@@ -4,14 +4,14 @@ use crate::actions::{Action, FinalReport, HOUR, Scene, Sign};
 use crate::scene::wrong_scene;
 use std::test::*;
 
-/// It opens a session once another caller has begun, and counts up `Over` when this was answered.
+/// A caller that opens a session once another has begun, and adds 1 to `Over` when it is answered.
 const OPENS: &[Action] = &[
     Action::Awaits(Sign::Started, 1),
     Action::Opens,
     Action::Raises(Sign::Over),
 ];
 
-/// A session of a hundred NOOPs.
+/// A caller that gives a hundred NOOPs in one session.
 const NOOPS: &[Action] = &[Action::Opens, Action::Noops, Action::Closes];
 
 const SCENES: &[Scene] = &[

@@ -31,13 +31,13 @@ clock_of op = op.clock
 
 -- ---- ascending operations
 
--- one more after the last
+-- ascending operations still ascend with one more that is above the last
 pub ordered_more : (ops : List Op) (op : Op) → IsAboveLast ops op.id → AreOrdered ops → AreOrdered (ops ++ op ∷ [])
 ordered_more [] op s a = (tt, tt)
 ordered_more (x ∷ []) op s a = (s, (tt, tt))
 ordered_more (x ∷ y ∷ ops) op s a = (a.0, ordered_more (y ∷ ops) op s a.1)
 
--- what comes after the last
+-- an id is above that of the last operation exactly if `IsAboveLast` says so
 pub above_last : (ops : List Op) (id : OpId) (op : Op) (n : ℕ) → length ops ≡ n + 1 → op ≡ get_or ops n op → (id_order op.id id ≡ Less) ↔ IsAboveLast ops id
 above_last [] id op n l e = absurd (omega (arith, l))
 above_last (x ∷ []) id op zero l e = (λ t. subst (λ (o : Op). id_order o.id id ≡ Less) e t, λ t. subst (λ (o : Op). id_order o.id id ≡ Less) (sym e) t)
@@ -45,7 +45,7 @@ above_last (x ∷ []) id op (suc n) l e = absurd (omega (arith, l))
 above_last (x ∷ y ∷ ops) id op zero l e = absurd (omega (arith, l))
 above_last (x ∷ y ∷ ops) id op (suc n) l e = above_last (y ∷ ops) id op n (omega (arith, l)) e
 
--- the first is below all others
+-- the first operation is below all others
 first_before : (x o : Op) (ops : List Op) → AreOrdered (x ∷ ops) → IsIn o ops → id_order x.id o.id ≡ Less
 first_before x o [] a h = absurd h
 first_before x o (y ∷ ops) a h =
@@ -88,7 +88,7 @@ in_at [] i x l e = absurd (omega (arith, l))
 in_at (y ∷ xs) zero x l e = inl (sym e)
 in_at (y ∷ xs) (suc i) x l e = inr (in_at xs i x (omega (arith, l)) e)
 
--- an inbox that has only such operations has only such after receiving one of them
+-- an inbox that has received only these operations still has after receiving one of them
 pub holds_more : {S : Type 0} (ops : List Op) (old new : ReceivedOps S Op) (op : Op) (i : ℕ) → i < length ops → op ≡ get_or ops i op → HasReceivedOnly ops old → ((o : Op) → IsReceived new o → IsReceived old o ⊎ (o ≡ op)) → HasReceivedOnly ops new
 holds_more ops old new op i l is h grown o r =
     elim (grown o r) [
@@ -96,7 +96,7 @@ holds_more ops old new op i l is h grown o r =
       | inr e ↦ subst (λ (p : Op). IsIn p ops) (sym e) (in_at ops i op l is)
     ]
 
--- what the applied operations made
+-- the contents and the subscriptions after the applied operations
 pub made_both : (contents : Contents) (subscriptions : Subscriptions) (applied : List Op) → ◌≡◌ {A = Contents × Subscriptions} (contents, subscriptions) (fold_of {V = Contents × Subscriptions} (λ v o. (effect_of v.0 o, subscribed_by v.1 o)) (no_contents, no_subscriptions) applied) → AreSound IsSound applied → IsCausal id_of clock_of applied → IsMadeBy contents applied × AreMadeBy subscriptions applied
 made_both contents subscriptions applied e sound causal =
     let both = e ∙ fold_pair effect_of subscribed_by no_contents no_subscriptions applied in (
@@ -104,7 +104,7 @@ made_both contents subscriptions applied e sound causal =
       record { sound = sound; causal = causal; made = ap (λ (v : Contents × Subscriptions). v.1) both },
     )
 
--- ---- what a set means
+-- ---- the meaning of a set
 
 same_state : (xs ys : List Op) → MeansTheSame xs ys → state_text xs ≡ state_text ys
 same_state xs ys m = λ i.
@@ -129,7 +129,7 @@ has_causes ops applied same causal op h cause c =
     let element = element_of_id id_of cause applied has_id in
     subst (HasId id_of ops) element.2 (id_of_element id_of element.0 ops ((same element.0).1 element.1))
 
--- if all were applied, what follows is what the set defines
+-- if all were applied, the lines that must follow are those that the set defines
 pub expected_of : {S : Type 0} (one_set : (xs ys : List Op) → HaveSameElements xs ys → IdsDetermine id_of xs → MeansTheSame xs ys) {E : Type 0} (ops : List Op) (received : ReceivedOps S Op) (clock : List (ℕ × ℕ)) (result : Result Expected E) → AreOrdered ops → HasReceivedOnly ops received → IsClockOf id_of received.applied clock → ((o : Op) → IsIn o ops → IsCause clock o.id) → IfOk result (IsExpectedOf received.applied) → IfOk result (IsExpected ops)
 expected_of one_set ops received clock (Err e) a only counts all h = tt
 expected_of one_set ops received clock (Ok (WrongOp place)) a only counts all h = absurd h

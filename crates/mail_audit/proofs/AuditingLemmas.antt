@@ -9,16 +9,16 @@ use Rattle.mail_audit.specs.AuditProgress.{Advances, EndsAt, EndsWithin, HasTake
 use Rattle.mail_audit.specs.declared.line_audit.Audit.{Audit}
 use Rattle.mail_audit.specs.declared.verdict.AuditEnd.{AuditEnd}
 
--- ---- what is written
+-- ---- output
 
--- two additions are one
+-- two additions, one after the other, are one addition
 pub appends_both : (a b c : Option (List ℕ)) (xs ys : List ℕ) → Appends a b xs → Appends b c ys → Appends a c (xs ++ ys)
 appends_both None b c xs ys h k = tt
 appends_both (Some as') None c xs ys h k = absurd h
 appends_both (Some as') (Some bs) None xs ys h k = absurd k
 appends_both (Some as') (Some bs) (Some cs) xs ys h k = k ∙ ap (λ zs. zs ++ ys) h ∙ append_assoc as' xs ys
 
--- unchanged contents have nothing added
+-- nothing was added to unchanged contents
 pub keeps_appends : (a b : Option (List ℕ)) → Keeps a b → Appends a b []
 keeps_appends None b h = tt
 keeps_appends (Some xs) None h = absurd h
@@ -33,7 +33,7 @@ appends_keeps a b c xs h k = subst (λ (zs : List ℕ). Appends a c zs) (append-
 
 -- ---- lines of a text
 
--- a line that is cut off, its end and the rest are the whole
+-- a line that is cut off, its end and the rest have the length of the whole text
 pub cut_parts : (text line rest : List ℕ) → cut_at 10 text ≡ Some (line, rest) → length text ≡ length line + 1 + length rest
 cut_parts text line rest e =
     let n : length text ≡ length line + length (10 ∷ rest) = ap length (cut_takes 10 text (line, rest) e) ∙ length-append line (10 ∷ rest) in
@@ -81,8 +81,8 @@ module _ (front : List (List ℕ)) (old : Audit) (text : List ℕ) (mid : Audit)
 
 -- ---- a reader's octets
 
--- The progress of an audit: the whole lines of what was read were taken, and the beginning of a
--- line is left.
+-- The progress of an audit: the complete lines of what was read were taken, and the first octets of
+-- the next line are left.
 pub record HasRead (start left : Option (List ℕ)) (audit : Audit) (text : List ℕ) : Type 0 where
   pub read : List ℕ
   pub front : List (List ℕ)
@@ -130,7 +130,7 @@ module _ (start left : Option (List ℕ)) (audit : Audit) (text : List ℕ) (has
       let i : input ≡ (has_read.read ++ bs) ++ p.0 = q.1 ∙ ap (λ (zs : List ℕ). has_read.read ++ zs) p.2 ∙ sym (append_assoc has_read.read bs p.0) in
       (p.0, p.1, i, ap lines_of i ∙ joined bs p.0)
 
-  -- the lines of a piece that was read are taken
+  -- the lines that a piece completes are taken
   pub read_on : (bs : List ℕ) (left' : Option (List ℕ)) (audit' : Audit) (text' : List ℕ) → Consumes left left' bs → Advances has_read.front audit (text ++ bs) audit' text' → HasRead start left' audit' text'
   read_on bs left' audit' text' k a = record {
     read = has_read.read ++ bs;

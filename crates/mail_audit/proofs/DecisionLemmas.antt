@@ -6,7 +6,7 @@ use Rattle.mail_audit.specs.Explanations.{AreFitting, AreUidsAbove, IsExplained,
 use Rattle.mail_audit.specs.EventPasses.{HasRoomAbove, PassesFrom, numbers_upward}
 use Rattle.mail_audit.proofs.RoomLemmas.{Agree, agree_before, agree_front, agree_length, agree_more, agree_known, arrived, room_from, uids_at, uids_from}
 
--- all places are below
+-- all places are below a bound
 abbrev pub Below : ℕ → List ℕ → Type 0
 Below n [] = Unit {0}
 Below n (at ∷ places) = (at < n) × Below n places

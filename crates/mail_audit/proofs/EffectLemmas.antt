@@ -41,7 +41,7 @@ module _ (one_command : (this that : Tagged) (frame : List ℕ) → IsSpelled th
       let r = one_events k.0 sent h.2 k.2 (subst (λ (a : List RunningCommand). AreEvents a sent h.2) o.0 h.5) k.5 in
       h.4 ∙ (λ i. o.1 i ∷ r i) ∙ sym k.4
 
--- the events of the first part of what was sent are the first part of the events
+-- the events of a prefix of the octets sent are a prefix of the events
 events_front : (running : List RunningCommand) (front back : List SentOctets) (events : List SlotEvent) → AreEvents running (front ++ back) events → (first : List SlotEvent) × (rest : List SlotEvent) × AreEvents running front first × (events ≡ first ++ rest)
 events_front running [] back events h = ([], events, refl, refl)
 events_front running (s ∷ front) back events h =

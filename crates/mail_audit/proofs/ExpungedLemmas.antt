@@ -12,7 +12,7 @@ pub gone_low : (from : ℕ) (expunged : List ℕ) (total : ℕ) → AreExpunged 
 gone_low from [] total a = let e : from ≤ total = a in omega (arith, e)
 gone_low from (g ∷ expunged) total a = let r = gone_low (g + 1) expunged total a.1 in let l : from ≤ g = a.0 in omega (arith, r, l)
 
--- the existing messages and the expunged ones are all messages
+-- the numbers of existing messages and of expunged ones add up to that of all messages
 pub length_places : (from : ℕ) (expunged : List ℕ) (total : ℕ) → AreExpunged from expunged total → length (places_from from expunged total) + length expunged ≡ total - from
 length_places from [] total a = let l = length_upward from (total - from) in omega (arith, l)
 length_places from (g ∷ expunged) total a =
@@ -45,7 +45,7 @@ AreBefore from k at expunged =
     ((i : ℕ) → i < at → get_or expunged i 0 ≤ from + k + i)
     × ((i : ℕ) → at ≤ i → i < length expunged → from + k + i < get_or expunged i 0)
 
--- the same after the first expunged one
+-- this is true of the places after the first expunged one
 before_rest : (from k at g : ℕ) (expunged : List ℕ) → from ≤ g → AreBefore from k (suc at) (g ∷ expunged) → AreBefore (g + 1) (k - (g - from)) at expunged
 before_rest from k at g expunged f h =
     let z : g ≤ from + k + 0 = h.0 0 (omega arith) in (
@@ -78,7 +78,7 @@ place_after from k (suc at) (g ∷ expunged) total a b h l =
     let d : g + 1 + (k - (g - from)) + at ≡ from + k + suc at = omega (arith, z, f) in
     one ∙ ap (λ (i : ℕ). get_or (places_from (g + 1) expunged total) i 0) e ∙ r ∙ d
 
--- the places without that one
+-- the places of existing messages without that one
 pub places_without : (from n at place : ℕ) (expunged : List ℕ) (total : ℕ) → place ≡ from + (n - 1) + at → 0 < n → AreExpunged from expunged total → at ≤ length expunged → AreBefore from (n - 1) at expunged → n ≤ length (places_from from expunged total) → places_from from (insert expunged at place) total ≡ without n (places_from from expunged total)
 places_without from n zero place [] total w p a b h l =
     let u = length_upward from (total - from) in
@@ -144,7 +144,7 @@ place_below_total from k (suc at) (g ∷ expunged) total a b h l =
     let r = place_below_total (g + 1) (k - (g - from)) at expunged total a.1 (omega (arith, b)) (before_rest from k at g expunged f h) (omega (arith, l, u, s, z, f)) in
     omega (arith, r, z, f)
 
--- further messages
+-- the places of further messages
 upward_more : (from n m : ℕ) → numbers_upward from n ++ numbers_upward (from + n) m ≡ numbers_upward from (n + m)
 upward_more from zero m = let e : from + zero ≡ from = omega arith in let f : m ≡ zero + m = omega arith in λ i. numbers_upward (e i) (f i)
 upward_more from (suc n) m =
@@ -166,7 +166,7 @@ expunged_more from (g ∷ expunged) total m a = (a.0, expunged_more (g + 1) expu
 
 -- ---- a search
 
--- the expunged messages before an existing one come first
+-- the expunged messages before an existing one are the first of all expunged ones
 pub first_in_front : (expunged : List ℕ) (total skipped : ℕ) → AreExpunged 0 expunged total → (i j d : ℕ) → i ≤ j → j < length expunged → leb (get_or expunged j d) (skipped + j) ≡ true → leb (get_or expunged i d) (skipped + i) ≡ true
 first_in_front expunged total skipped a i j d order inside front =
     let later : get_or expunged j 0 ≤ skipped + j = grind (arith, nat_tests, get_or_default_zero expunged j d inside) in
@@ -175,7 +175,7 @@ first_in_front expunged total skipped a i j d order inside front =
     let within : i < length expunged = omega (arith, order, inside) in
     grind (arith, nat_tests, get_or_default_zero expunged i d within)
 
--- a test's answer
+-- a test's result is that of `leb`
 pub is_leb : (b : Bool) (n m : ℕ) → (IsTrue b ↔ (n ≤ m)) → b ≡ leb n m
 is_leb true n m e = let l : n ≤ m = e.0 (search rules) in grind (arith, nat_tests)
 is_leb false n m e = let l : n ≤ m → ⊥ = λ k. (let f : IsTrue false = e.1 k in search rules) in let g : m < n = omega (arith, l) in grind (arith, nat_tests)

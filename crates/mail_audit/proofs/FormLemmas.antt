@@ -125,7 +125,7 @@ message_fields fields origin after versions rest c d v l = (
   cut_takes 32 fields (origin, after) (sym c) ∙ (λ j. l.8 j ++ 32 ∷ (cut_takes 32 after (versions, rest) (sym d) ∙ (λ k. v.2 k ++ 32 ∷ l.9 k)) j),
 )
 
--- ---- if such fields were read
+-- ---- the results of reading such fields
 
 pub if_delete : {E : Type 0} (result : Result Bool E) (fields : List ℕ) → IfOk result (λ spelled. IsTrue spelled → (op : Op) × IsSpelled op (codes "1:1 - delete " ++ fields)) → IfOk result (λ are. IsTrue are → AreTagFields fields)
 if_delete (Ok spelled) fields h = λ t. let s = h t in delete_fields s.0 fields s.1

@@ -35,11 +35,11 @@ pub each_last : {X : Type 0} (P : X → Type 0) (xs : List X) (x : X) → Each P
 each_last P [] x e p = (p, tt)
 each_last P (y ∷ xs) x e p = (e.0, each_last P xs x e.1 p)
 
--- lines of parts with one more line
+-- the text of lines, and of their parts, with one more line
 pub whole_last : (lines : List (List ℕ)) (line : List ℕ) (parts : List Part) (part : Part) → text_of lines ≡ flat_map part_text parts → ended_line line ≡ part_text part → text_of (lines ++ line ∷ []) ≡ flat_map part_text (parts ++ part ∷ [])
 whole_last lines line parts part h e = flat_map_last ended_line lines line ∙ (λ i. h i ++ e i) ∙ sym (flat_map_last part_text parts part)
 
--- ---- what was sent
+-- ---- octets that were sent
 
 sent_last : (session other : List ℕ) (speaker : Speaker) (text : List ℕ) (parts : List Part) → bytes_eq session other ≡ true → sent_in session (parts ++ Spoken other speaker text ∷ []) ≡ sent_in session parts ++ sent_by speaker text ∷ []
 sent_last session other speaker text [] e = rw e refl
@@ -81,7 +81,7 @@ sent_after_dump session text (Spoken third s t ∷ parts) =
 sent_after_dump session text (Result l ∷ parts) = sent_after_dump session text parts
 sent_after_dump session text (Dumped t ∷ parts) = sent_after_dump session text parts
 
--- ---- what was taken
+-- ---- octets that were taken
 
 takes_all_last : (old : SessionKnowledge) (sent : List SentOctets) (mid new : SessionKnowledge) (s : SentOctets) → TakesAllSent old sent mid → TakesSent mid s new → TakesAllSent old (sent ++ s ∷ []) new
 takes_all_last old [] mid new s a h = (new, subst (λ (m : SessionKnowledge). TakesSent m s new) a h, refl)
@@ -97,7 +97,7 @@ takes_all_events old (s ∷ sent) new a =
 takes_all_explained : (sent : List SentOctets) (new : SessionKnowledge) → TakesAllSent nothing_known sent new → IsExplainedTranscript sent
 takes_all_explained sent new a = let r = takes_all_events nothing_known sent new a in (r.0, r.1, (explained r.0).1 r.2)
 
--- an audit that took such lines may answer yes
+-- an audit that has taken these lines may answer yes
 pub audited_right : (lines : List (List ℕ)) (parts : List Part) (sessions : List Session) → AreAudited lines parts sessions → AreRight lines parts
 audited_right lines parts sessions h = record {
   whole = h.whole;
@@ -106,7 +106,7 @@ audited_right lines parts sessions h = record {
 }
 
 module _ (same_name : (xs ys : List ℕ) → bytes_eq xs ys ≡ true → xs ≡ ys) where
-  -- one more line was sent that can follow
+  -- one more line of a transcript, whose octets can follow
   pub audited_more : (lines : List (List ℕ)) (parts : List Part) (old new : List Session) (session : List ℕ) (speaker : Speaker) (text : List ℕ) → AreAudited lines parts old → IsTrue (is_session_name session) → AreOctets text → TakesSent (known_for session old) (sent_by speaker text) (known_for session new) → ((other : List ℕ) → bytes_eq other session ≡ false → known_for other new ≡ known_for other old) → AreAudited (lines ++ spoken_line session speaker text ∷ []) (parts ++ Spoken session speaker text ∷ []) new
   audited_more lines parts old new session speaker text h named octets takes others = record {
     whole = whole_last lines (spoken_line session speaker text) parts (Spoken session speaker text) h.whole refl;
@@ -123,7 +123,7 @@ module _ (same_name : (xs ys : List ℕ) → bytes_eq xs ys ≡ true → xs ≡ 
     ];
   }
 
--- one further result
+-- one further line that reports a result
 pub audited_result : (lines : List (List ℕ)) (parts : List Part) (sessions : List Session) (line : List ℕ) → AreAudited lines parts sessions → IsResult line → AreAudited (lines ++ line ∷ []) (parts ++ Result line ∷ []) sessions
 audited_result lines parts sessions line h r = record {
   whole = whole_last lines line parts (Result line) h.whole refl;
@@ -134,7 +134,7 @@ audited_result lines parts sessions line h r = record {
 pub sent_of_dump : (session text : List ℕ) (parts : List Part) (sessions : List Session) → TakesAllSent nothing_known (sent_in session parts) (known_for session sessions) → TakesAllSent nothing_known (sent_in session (parts ++ Dumped text ∷ [])) (known_for session sessions)
 sent_of_dump session text parts sessions h = subst (λ (ss : List SentOctets). TakesAllSent nothing_known ss (known_for session sessions)) (sym (sent_after_dump session text parts)) h
 
--- ---- what can't be taken
+-- ---- octets that can't be taken
 
 module _ (one_command : (this that : Tagged) (frame : List ℕ) → IsSpelled this frame → IsSpelled that frame → this ≡ that) (one_answer : (one other : Answer) (rest more : List ℕ) → IsPrintable one → IsPrintable other → text_of_answer one ++ rest ≡ text_of_answer other ++ more → (one ≡ other) × (rest ≡ more)) where
   rejected_at : (old new : SessionKnowledge) (sent : List SentOctets) (s : SentOctets) (events : List SlotEvent) → TakesAllSent old sent new → RejectsSent new s → AreEvents old.running (sent ++ s ∷ []) events → PassesFrom old.known.live old.known.slots events → ⊥
@@ -151,7 +151,7 @@ module _ (one_command : (this that : Tagged) (frame : List ℕ) → IsSpelled th
   rejected : (sent : List SentOctets) (new : SessionKnowledge) (s : SentOctets) → TakesAllSent nothing_known sent new → RejectsSent new s → ¬ IsExplainedTranscript (sent ++ s ∷ [])
   rejected sent new s a r x = rejected_at nothing_known new sent s x.0 a r x.1 ((explained x.0).0 x.2)
 
-  -- one more line was sent that can't follow
+  -- one more line of a transcript, whose octets can't follow
   pub audited_not : (same : (xs : List ℕ) → bytes_eq xs xs ≡ true) (lines more : List (List ℕ)) (parts : List Part) (old : List Session) (session : List ℕ) (speaker : Speaker) (text : List ℕ) (number : ℕ) → AreAudited lines parts old → IsTrue (is_session_name session) → AreOctets text → RejectsSent (known_for session old) (sent_by speaker text) → number ≡ length lines + 1 → IsNo (lines ++ spoken_line session speaker text ∷ more) number
   audited_not same lines more parts old session speaker text number h named octets r n = inl (record {
     front = lines;

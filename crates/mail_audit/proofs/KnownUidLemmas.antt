@@ -52,7 +52,7 @@ gaps_for low from (t ∷ entries) total other h =
     let r = gaps_for t.uid (t.place + 1) entries total other h.2 in
     (λ g. r.0 g.2, λ g. (h.0, h.1, r.1 g))
 
--- the last known UID decides
+-- the last known UID decides whether UIDs are left
 pub room_after_last : (low from : ℕ) (entries : List KnownUid) (total : ℕ) (t : KnownUid) → Some t ≡ slice_get entries (length entries - 1) → HasRoomFor low from entries total ≡ (t.uid + (total - (t.place + 1)) ≤ 4294967295)
 room_after_last low from [] total t e = cc
 room_after_last low from (x ∷ []) total t e = let k : t ≡ x = cc in ap (λ (y : KnownUid). y.uid + (total - (y.place + 1)) ≤ 4294967295) (sym k)
@@ -60,7 +60,7 @@ room_after_last low from (x ∷ y ∷ entries) total t e =
     let k : suc (suc (length entries)) - 1 ≡ suc (suc (length entries) - 1) = omega arith in
     room_after_last x.uid (x.place + 1) (y ∷ entries) total t (rw k at e)
 
--- ---- one that is reported
+-- ---- a UID that is reported
 
 slot_before : (n k : ℕ) (slot : Option ℕ) (slots : List (Option ℕ)) → k < n → get_or (replicate n None ++ slot ∷ slots) k None ≡ None
 slot_before zero k slot slots l = absurd (omega (arith, l))

@@ -27,7 +27,7 @@ dump_of line digits (Some replica) l e = let t = replica_takes digits replica (s
 pub spoken_of : (line name sent audited session octets : List ℕ) (speaker : Speaker) → Some (name, sent) ≡ cut_at 32 line → session ≡ name → 32 ∷ sent ≡ mark_of speaker ++ audited → audited ≡ escape_text Text octets → line ≡ spoken_line session speaker octets
 spoken_of line name sent audited session octets speaker c n m e = cut_takes 32 line (name, sent) (sym c) ∙ (λ i. sym n i ++ (m ∙ ap (λ (t : List ℕ). mark_of speaker ++ t) e) i)
 
--- it is cut after its session's name
+-- a line of a transcript is cut after its session's name
 cut_spoken : (session : List ℕ) (speaker : Speaker) (text : List ℕ) → IsTrue (is_session_name session) → (sent : List ℕ) × (cut_at 32 (spoken_line session speaker text) ≡ Some (session, sent)) × (32 ∷ sent ≡ mark_of speaker ++ escape_text Text text)
 cut_spoken session Client text n = let sent = codes "C: " ++ escape_text Text text in (sent, cut_again 32 session sent (session_no_space session n), refl)
 cut_spoken session Server text n = let sent = codes "S: " ++ escape_text Text text in (sent, cut_again 32 session sent (session_no_space session n), refl)
@@ -53,14 +53,14 @@ module _ (line name sent : List ℕ) (cut : Some (name, sent) ≡ cut_at 32 line
       let both : ◌≡◌ {A = List ℕ × List ℕ} (name, sent) (s.0, c.0) = cc in
       (ap (λ (p : List ℕ × List ℕ). p.0) both, ap (λ (p : List ℕ × List ℕ). 32 ∷ p.1) both ∙ c.2)
 
-  -- there is no speaker's mark
+  -- the line belongs to no transcript, since it has no speaker's mark
   pub no_speech : ((speaker : Speaker) (text : List ℕ) → 32 ∷ sent ≡ mark_of speaker ++ text → ⊥) → IsSpokenLine line → ⊥
   no_speech n s = n s.1 (escape_text Text s.2) (parts_of s).1
 
-  -- the text isn't properly escaped
+  -- the line belongs to no transcript, since its text isn't properly escaped
   pub no_text : (speaker : Speaker) (audited : List ℕ) → 32 ∷ sent ≡ mark_of speaker ++ audited → ((octets : List ℕ) → AreOctets octets → audited ≡ escape_text Text octets → ⊥) → IsSpokenLine line → ⊥
   no_text speaker audited m n s = n s.2 s.4 (same_text speaker s.1 audited (escape_text Text s.2) (sym m ∙ (parts_of s).1))
 
-  -- no session has the name
+  -- the line belongs to no transcript, since no session can have its name
   pub no_name : (IsTrue (is_session_name name) → ⊥) → IsSpokenLine line → ⊥
   no_name n s = n (subst (λ (xs : List ℕ). IsTrue (is_session_name xs)) (sym (parts_of s).0) s.3)

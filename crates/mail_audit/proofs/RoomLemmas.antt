@@ -4,13 +4,13 @@ use Rattle.std.proofs.lemmas.List.{length-append, length-replicate, map-append, 
 use Rattle.mail_audit.specs.Explanations.{AreUidsAbove}
 use Rattle.mail_audit.specs.EventPasses.{HasRoomAbove, MayBeUid, numbers_upward}
 
--- the UIDs agree with those that are known of the first slots
+-- the UIDs agree with the known UIDs of the first slots
 abbrev pub Agree : List (Option ℕ) → List ℕ → Type 0
 Agree [] uids = Unit {0}
 Agree (slot ∷ slots) [] = ⊥
 Agree (slot ∷ slots) (uid ∷ uids) = MayBeUid slot uid × Agree slots uids
 
--- if UIDs can be assigned, there are enough
+-- if UIDs can be assigned to the slots, enough UIDs are left
 pub room_from : (low least : ℕ) (slots : List (Option ℕ)) (uids : List ℕ) → least ≤ low → AreUidsAbove low uids → Agree slots uids → HasRoomAbove least slots
 room_from low least [] uids l a g = tt
 room_from low least (slot ∷ slots) [] l a g = absurd g
@@ -19,7 +19,7 @@ room_from low least (Some known ∷ slots) (uid ∷ uids) l a g =
     let e : uid ≡ known = g.0 in
     (omega (arith, l, a.0, e), omega (arith, a.1, e), room_from uid known slots uids (omega (arith, e)) a.2 g.1)
 
--- if there are enough UIDs, they can be assigned
+-- if enough UIDs are left, they can be assigned to the slots
 pub uids_from : (low : ℕ) (slots : List (Option ℕ)) → HasRoomAbove low slots → (uids : List ℕ) × AreUidsAbove low uids × Agree slots uids
 uids_from low [] h = ([], tt, tt)
 uids_from low (None ∷ slots) h =

@@ -34,7 +34,7 @@ get_after n [] ys l = ap (λ (i : ℕ). get_or ys i 0) (let e : n ≡ n - zero =
 get_after zero (x ∷ xs) ys l = absurd (omega (arith, l))
 get_after (suc n) (x ∷ xs) ys l = get_after n xs ys (omega (arith, l)) ∙ ap (λ (i : ℕ). get_or ys i 0) (let e : n - length xs ≡ suc n - suc (length xs) = omega arith in e)
 
--- without an element after the first part
+-- removing an element after the first part
 pub without_after : (k : ℕ) (xs ys : List ℕ) → length xs < k → without k (xs ++ ys) ≡ xs ++ without (k - length xs) ys
 without_after k xs ys l =
     let n = k - length xs in

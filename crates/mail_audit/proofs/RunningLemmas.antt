@@ -16,7 +16,7 @@ use Rattle.mail_audit.specs.Transcripts.{without_ended}
 use Rattle.mail_audit.specs.declared.in_progress.RunningCommand.{RunningCommand}
 use Rattle.mail_audit.proofs.SessionLemmas.{same_name}
 
--- some are so exactly if their count isn't 0
+-- some commands pass a test exactly if the count of these commands isn't 0
 pub any_counted : (p : RunningCommand → Bool) (rs : List RunningCommand) → ltb 0 (count_of p rs) ≡ list_any p rs
 any_counted p [] = refl
 any_counted p (r ∷ rs) =
@@ -94,7 +94,7 @@ numbers_more tag (e ∷ es) n r =
       | inr f ↦ rw f m
     ]
 
--- it can be removed from there again
+-- removing that command gives the earlier commands
 pub taken_back : (low high : ℕ) (es : List Numbered) (r : RunningCommand) → AreRising low high es → remove_entry (is_at (nat_cmp high)) (es ++ (high, r) ∷ []) ≡ es
 taken_back low high [] r a =
     let t : is_at (nat_cmp high) high ≡ true = grind (arith, nat_tests) in
@@ -104,7 +104,7 @@ taken_back low high (e ∷ es) r a =
     let f : is_at (nat_cmp high) e.0 ≡ false = grind (arith, nat_tests, m) in
     rw f (ap (λ (xs : List Numbered). e ∷ xs) (taken_back (1 + e.0) high es r a.1))
 
--- ---- the first with a tag
+-- ---- the first command with a tag
 
 first_bounds : (low high : ℕ) (tag : List ℕ) (es : List Numbered) (n : ℕ) (ns : List ℕ) → AreRising low high es → numbers_of tag es ≡ n ∷ ns → low ≤ n
 first_bounds low high tag [] n ns a e = absurd (cc e)
@@ -120,7 +120,7 @@ own_number x n q = grind (arith, nat_tests, q)
 other_number : (x n : ℕ) → 1 + x ≤ n → is_at (nat_cmp n) x ≡ false
 other_number x n l = grind (arith, nat_tests, l)
 
--- the first with a tag is the one that ends
+-- the first command with a tag is the one that ends
 pub first_ended : (low high : ℕ) (tag : List ℕ) (es : List Numbered) (n : ℕ) (ns : List ℕ) → AreRising low high es → numbers_of tag es ≡ n ∷ ns
     → without_ended tag (values_of es) ≡ values_of (remove_entry (is_at (nat_cmp n)) es)
 first_ended low high tag [] n ns a e = absurd (cc e)
@@ -187,7 +187,7 @@ none_ended tag (x ∷ es) e =
       | inr f ↦ let k = rw f at e in rw f (ap (λ (rs : List RunningCommand). x.1 ∷ rs) (none_ended tag es k))
     ]
 
--- without one of them the numbers still ascend
+-- without one of the commands, the numbers still ascend
 pub rising_less : (low high : ℕ) (test : ℕ → Bool) (es : List Numbered) → AreRising low high es → AreRising low high (remove_entry test es)
 rising_less low high test [] a = a
 rising_less low high test (e ∷ es) a =
@@ -262,8 +262,8 @@ stored_more tag old new n keeps e other =
       | inr f ↦ rw f (stored_elsewhere tag old new keeps other f ∙ sym (append-nil (stored_for other old)))
     ]
 
--- after the first number stored for a tag is taken out, the rest are those of the commands without
--- the first with this tag
+-- after the first number stored for a tag is taken out, the remaining numbers are those of the
+-- commands without the first command with this tag
 pub first_taken : (low high : ℕ) (tag : List ℕ) (es : List Numbered) (n : ℕ) (old new : List Stored) → AreRising low high es → ((other : List ℕ) → numbers_of other es ≡ stored_for other old)
     → stored_for tag old ≡ n ∷ stored_for tag new → ((other : List ℕ) → bytes_eq other tag ≡ false → stored_for other new ≡ stored_for other old)
     → (other : List ℕ) → numbers_of other (remove_entry (is_at (nat_cmp n)) es) ≡ stored_for other new

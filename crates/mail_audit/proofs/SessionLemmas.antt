@@ -110,7 +110,7 @@ place_most name (x ∷ ss) =
       | inr f ↦ rw f (omega (arith, m))
     ]
 
--- its place is in the list, and it is the first with its name
+-- the new session's place is in the list, and the session is the first with its name
 pub placed_last : (name : List ℕ) (ss new : List Session) (s : Session) (place : ℕ) → new ≡ ss ++ s ∷ [] → name ≡ s.name → place ≡ place_or_end name ss → length ss ≤ place → (place < length new) × (place ≡ place_or_end name new)
 placed_last name ss new s place i q p l =
     let m = place_most name ss in
@@ -120,7 +120,7 @@ placed_last name ss new s place i q p l =
     let one : length (s ∷ []) ≡ 1 = refl in
     (omega (arith, p, e, n, k, one), p ∙ e ∙ placed_new name ss s q e ∙ ap (place_or_end name) (sym i))
 
--- after it is added, its place is that of its name
+-- after a session is added, its place is that of its name
 pub placed_stored : (name : Vec ℕ) (stored new : List Stored) (h : SessionKnowledge) (place : ℕ) → length stored ≤ place_or_end name.items (sessions_of stored)
     → new ≡ insert_entry (λ (a b : Vec ℕ). bytes_eq a.items b.items) stored name h → place ≡ position_or_len (λ (k : Vec ℕ). bytes_eq name.items k.items) (keys_of stored)
     → (place < length (sessions_of new)) × (place ≡ place_or_end name.items (sessions_of new))
@@ -170,7 +170,7 @@ knowledge_set name (s ∷ ss) (suc p) d new e l q =
       | inr f ↦ let k = rw f at e in rw f (knowledge_set name ss p d new (omega (arith, k)) (omega (arith, l)) q)
     ]
 
--- and leaves what is known of the others unchanged
+-- and what is known of the other sessions stays unchanged
 pub knowledge_elsewhere : (name other : List ℕ) (ss : List Session) (p : ℕ) (d new : Session) → p ≡ place_or_end name ss → p < length ss → new.name ≡ (get_or ss p d).name → bytes_eq other name ≡ false → known_for other (set ss p new) ≡ known_for other ss
 knowledge_elsewhere name other [] p d new e l q o = absurd (omega (arith, l))
 knowledge_elsewhere name other (s ∷ ss) zero d new e l q o =

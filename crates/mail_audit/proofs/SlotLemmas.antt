@@ -12,11 +12,11 @@ use Rattle.mail_audit.proofs.ExpungedLemmas.{AreBefore, expunged_more, expunged_
 use Rattle.mail_audit.proofs.SlotStepLemmas.{room_in_gaps}
 use Rattle.mail_audit.proofs.KnownUidLemmas.{gaps_for, gaps_low, gaps_with, length_slots, places_more, places_with, set_known, set_unknown, slot_known, slot_unknown, slots_more}
 
--- what is known, from what is stored
+-- the knowledge that the stored places and UIDs represent
 abbrev pub known_by : List ℕ → List KnownUid → ℕ → SlotKnowledge
 known_by expunged entries total = record { live = places_from 0 expunged total; slots = slots_from 0 entries total }
 
--- a test's answer, by what it tests
+-- an equal test decides an equivalent proposition
 pub iff_at : (b d : Bool) {P Q : Type 0} → b ≡ d → (IsTrue b ↔ P) → (P ↔ Q) → IsTrue d ↔ Q
 iff_at b d {P} {Q} e h k = subst (λ (x : Bool). IsTrue x ↔ Q) e (λ t. k.0 (h.0 t), λ q. h.1 (k.1 q))
 

@@ -8,7 +8,7 @@ use Rattle.mail_audit.specs.SlotSteps.{EventFits, SlotKnowledge, after_events, a
 use Rattle.mail_audit.specs.declared.slots.KnownUid.{KnownUid}
 use Rattle.mail_audit.proofs.DecisionLemmas.{explained}
 
--- the first part of explained events is explained
+-- a prefix of explained events is explained
 fitting_front : (live later : List ℕ) (front back : List SlotEvent) → AreFitting live later (front ++ back) → AreFitting live later front
 fitting_front live later [] back f = tt
 fitting_front live later (Selects ∷ front) back f = (f.0, f.1, fitting_front [] f.0 front back f.2)

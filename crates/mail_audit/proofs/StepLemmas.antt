@@ -24,7 +24,7 @@ use Rattle.mail_audit.specs.declared.open_dump.DumpStep.{DumpStep}
 use Rattle.mail_audit.specs.declared.open_dump.DumpStep.TheVariants.{Continues, Ends, Wrong, Unreadable}
 use Rattle.mail_audit.specs.declared.op_lines.OpLines.{OpLines}
 
--- lines with one more line
+-- the text of lines with one more line
 text_more : (inside : List (List ℕ)) (line : List ℕ) → text_of (inside ++ line ∷ []) ≡ text_of inside ++ (line ++ 10 ∷ [])
 text_more inside line = flat_map-append ended_line inside (line ∷ []) ∙ ap (λ (xs : List ℕ). text_of inside ++ xs) (append-nil (line ++ 10 ∷ []))
 
@@ -68,7 +68,7 @@ longer_ops inside line spelled old new op s e p g =
 
 -- ---- the lines after the op lines
 
--- if a line is the next expected one, what is left after it
+-- the expected lines that are left after the next expected line
 pub taken : (lines line rest : List ℕ) (pos next : ℕ) → pos ≤ length lines → drop pos lines ≡ line ++ 10 ∷ rest → next ≡ pos + (length line + 1) → (next ≤ length lines) × (drop pos lines ≡ line ++ 10 ∷ drop next lines)
 taken lines line rest pos next within is e =
     let size : length (drop pos lines) ≡ length line + (length rest + 1) = ap length is ∙ length-append line (10 ∷ rest) ∙ ap (λ (n : ℕ). length line + n) (omega arith) in
@@ -80,7 +80,7 @@ taken lines line rest pos next within is e =
     ∙ drop-append_seam (line ++ 10 ∷ []) rest in
     (omega arith, is ∙ ap (λ (xs : List ℕ). line ++ 10 ∷ xs) (sym left))
 
--- the lines so far, with the expected line that came next
+-- the lines so far, with the next expected line
 moved : (inside : List (List ℕ)) (line whole left more : List ℕ) → text_of inside ++ left ≡ whole → left ≡ line ++ 10 ∷ more → text_of (inside ++ line ∷ []) ++ more ≡ whole
 moved inside line whole left more e n =
     ap (λ (xs : List ℕ). xs ++ more) (text_more inside line)
@@ -106,7 +106,7 @@ compared_step first inside line number old new Ends s n c =
 compared_step first inside line number old new (Wrong named) s n c = (omega (arith, n, c), omega (arith, n, c))
 compared_step first inside line number old new Unreadable s n c = tt
 
--- the effect of a line that can't be read while op lines may still come
+-- the effect of a line that can't be read while op lines may still follow
 pub early_step : (first : ℕ) (inside : List (List ℕ)) (line : List ℕ) (lines : OpLines) (phase : DumpPhase) (step : DumpStep) → AreOps inside lines → IsEarly first lines step → IsStep first inside line phase step
 early_step first inside line lines phase Continues s e = absurd e
 early_step first inside line lines phase Ends s e = absurd e
@@ -131,7 +131,7 @@ within_lines inside lines named place s e w f =
           omega (arith, k, m)
     ]
 
--- what follows good op lines
+-- the lines that must follow good op lines
 pub closed_of : {E : Type 0} (inside : List (List ℕ)) (lines : OpLines) (result : Result Expected E) → AreOps inside lines → lines.is_bad ≡ false → IfOk result (IsExpected lines.ops.items) → IfOk result (IsClosed inside)
 closed_of inside lines (Err e) s b h = tt
 closed_of inside lines (Ok (WrongOp place)) s b h = omega (arith, s.0, h)
@@ -142,7 +142,7 @@ closed_of inside lines (Ok (Lines expected)) s b h =
       λ i. good.0 i ++ h.2 i,
     )
 
--- ---- the beginning
+-- ---- the start of a dump
 
 -- no lines yet
 pub no_ops : (lines : OpLines) → lines.ops.items ≡ [] → lines.is_bad ≡ false → AreOps [] lines

@@ -15,7 +15,7 @@ use Rattle.mail_audit.specs.declared.open_dump.OpenDump.{OpenDump}
 use Rattle.mail_audit.specs.Sessions.{Session}
 use Rattle.mail_audit.specs.declared.verdict.AuditEnd.{AuditEnd}
 
--- The lines are the text of these parts, and this is what they say of the sessions.
+-- The lines are the text of these parts, which give this knowledge of the sessions.
 pub record AreAudited (lines : List (List ℕ)) (parts : List Part) (sessions : List Session) :
     Type 0 where
   pub whole : text_of lines ≡ flat_map part_text parts
@@ -23,7 +23,7 @@ pub record AreAudited (lines : List (List ℕ)) (parts : List Part) (sessions : 
   pub audited : (session : List ℕ)
       → TakesAllSent nothing_known (sent_in session parts) (known_for session sessions)
 
--- After lines that make whole parts, a dump has begun and not ended.
+-- After the lines of whole parts, a dump has begun and not ended.
 pub record IsOpen (lines : List (List ℕ)) (sessions : List Session) (dump : OpenDump) : Type 0 where
   pub front : List (List ℕ)
   pub inside : List (List ℕ)
@@ -51,7 +51,7 @@ EndsAt lines line end = (more : List (List ℕ)) → Audits (lines ++ line ∷ m
 abbrev pub EndsWithin : List (List ℕ) → List ℕ → AuditEnd → Type 0
 EndsWithin front text end = (more : List ℕ) → Audits (front ++ lines_of (text ++ more)) end
 
--- After the first lines, the lines that a text completes were taken, and this rest of the text is
+-- After these first lines, all lines that a text completes were taken, and this rest of the text is
 -- left.
 pub record Advances (front : List (List ℕ)) (old : Audit) (text : List ℕ) (new : Audit)
     (left : List ℕ) : Type 0 where

@@ -1,5 +1,5 @@
--- The meaning of an audit's verdicts: what a `yes`, a `no` and an unreadable line say of the lines
--- of the input.
+-- The meaning of an audit's verdicts: what a `yes`, a `no` and an unreadable line say about the
+-- lines of the input.
 
 use Rattle.std.specs.Prelude.{◌≡◌, ◌⊎◌, ℕ, ◌+◌, ◌<◌, ◌≤◌, List, [], ◌∷◌, ◌++◌, length, codes}
 use Rattle.std.specs.Prelude.{IsTrue, if◌then◌else◌}
@@ -69,7 +69,7 @@ IsRightPart (Dumped text) = IsRightDump text
 abbrev pub sent_by : Speaker → List ℕ → SentOctets
 sent_by speaker text = record { speaker = speaker; octets = text ++ 13 ∷ 10 ∷ [] }
 
--- What was sent in a session, in order.
+-- The octets that were sent in a session, in order.
 abbrev pub sent_in : List ℕ → List Part → List SentOctets
 sent_in session [] = []
 sent_in session (Spoken other speaker text ∷ parts) =

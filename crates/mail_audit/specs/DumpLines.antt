@@ -52,12 +52,12 @@ IsAboveLast [] id = Unit {0}
 IsAboveLast (op ∷ []) id = id_order op.id id ≡ Less
 IsAboveLast (op ∷ next ∷ ops) id = IsAboveLast (next ∷ ops) id
 
--- The inbox has received none but these operations.
+-- The inbox has received no other operations than these.
 abbrev pub HasReceivedOnly : {S : Type 0} → List Op → ReceivedOps S Op → Type 0
 HasReceivedOnly ops received = (o : Op) → IsReceived received o → IsIn o ops
 
--- What must follow op lines: the lines of what the set of them defines, if their causes are among
--- them.
+-- The lines that must follow these op lines: those of the state that the set of their operations
+-- defines, if the causes are among them.
 abbrev pub IsExpected : List Op → Expected → Type 0
 IsExpected ops (Lines lines) =
     HasCauses ops
@@ -65,7 +65,7 @@ IsExpected ops (Lines lines) =
     × (lines.items ≡ state_text ops ++ (codes "end" ++ 10 ∷ []))
 IsExpected ops (WrongOp place) = place < length ops
 
--- What must follow these applied operations.
+-- The lines that must follow these applied operations.
 abbrev pub IsExpectedOf : List Op → Expected → Type 0
 IsExpectedOf applied (Lines lines) =
     AreSound IsSound applied × IsCausal id_of clock_of applied
@@ -87,7 +87,7 @@ IsPhase inside (State comparison) =
     (ops : List Op) × AreDumped ops × (comparison.pos ≤ length comparison.lines.items)
     × (text_of inside ++ drop comparison.pos comparison.lines.items ≡ inside_text ops)
 
--- What must follow the op lines, or the place where they are wrong.
+-- The lines that must follow the op lines, or the place at which the op lines are wrong.
 abbrev pub IsClosed : List (List ℕ) → Expected → Type 0
 IsClosed inside (Lines lines) =
     (ops : List Op) × AreDumped ops × (text_of inside ++ lines.items ≡ inside_text ops)

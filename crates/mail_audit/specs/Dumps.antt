@@ -34,7 +34,8 @@ pub record AreDumped (ops : List Op) : Type 0 where
   pub ascending : AreOrdered ops
   pub causes : HasCauses ops
 
--- The lines of a dump after its first: its op lines, and what the set of them defines.
+-- The lines of a dump after its first: its op lines, and the lines of the state that the set of
+-- them defines.
 abbrev pub inside_text : List Op → List ℕ
 inside_text ops = flat_map op_line ops ++ (state_text ops ++ (codes "end" ++ 10 ∷ []))
 

@@ -24,8 +24,8 @@ abbrev pub numbers_upward : ℕ → ℕ → List ℕ
 numbers_upward from zero = []
 numbers_upward from (suc count) = from ∷ numbers_upward (suc from) count
 
--- The events fit the slots so far (those at the places `live` exist), and leave UIDs
--- for all.
+-- The events fit the slots so far, of which those at the places `live` exist, and leave UIDs for
+-- all slots.
 abbrev pub PassesFrom : List ℕ → List (Option ℕ) → List SlotEvent → Type 0
 PassesFrom live slots [] = Unit {0}
 PassesFrom live slots (Selects ∷ events) = PassesFrom [] [] events

@@ -1,5 +1,5 @@
--- How the auditor stores what it knows of a session's messages: their total, the places of
--- expunged ones, and the places and UIDs of those with reported UIDs.
+-- How the auditor stores its knowledge of a session's messages: their total, the places of expunged
+-- ones, and the places and UIDs of those with reported UIDs.
 
 use Rattle.std.specs.Prelude.{ℕ, ◌+◌, ◌-◌, ◌<◌, ◌≤◌, List, [], ◌∷◌, ◌++◌, Option, Some, None}
 use Rattle.std.specs.Prelude.{replicate}
@@ -28,7 +28,7 @@ abbrev pub ArePlaces : ℕ → List KnownUid → ℕ → Type 0
 ArePlaces from [] total = from ≤ total
 ArePlaces from (entry ∷ rest) total = (from ≤ entry.place) × ArePlaces (entry.place + 1) rest total
 
--- Between known UIDs there is a free one for each slot between them.
+-- Between neighbouring known UIDs, a UID is left for each slot between their places.
 abbrev pub HaveGaps : ℕ → ℕ → List KnownUid → ℕ → Type 0
 HaveGaps low from [] total = low + (total - from) ≤ 4294967295
 HaveGaps low from (entry ∷ rest) total =
@@ -36,7 +36,7 @@ HaveGaps low from (entry ∷ rest) total =
     × (entry.uid ≤ 4294967295)
     × HaveGaps entry.uid (entry.place + 1) rest total
 
--- What holds of the stored places and UIDs.
+-- The invariant of the stored places and UIDs.
 pub record AreKnownUids (expunged : List ℕ) (entries : List KnownUid) (total : ℕ) : Type 0 where
   pub expunged_ascend : AreExpunged 0 expunged total
   pub places_ascend : ArePlaces 0 entries total

@@ -5,7 +5,7 @@ use Rattle.std.specs.Str.{bytes_eq}
 use Rattle.std.specs.Global.{Vec}
 use Rattle.mail_audit.specs.KnownSessions.{SessionKnowledge, nothing_known}
 
--- A session's name, and what is known of it.
+-- A session's name, and the knowledge of the session.
 pub record Session : Type 0 where
   pub name : List ℕ
   pub transcript : SessionKnowledge
@@ -15,7 +15,7 @@ abbrev pub sessions_of : List (Vec ℕ × SessionKnowledge) → List Session
 sessions_of [] = []
 sessions_of (pair ∷ rest) = record { name = pair.0.items; transcript = pair.1 } ∷ sessions_of rest
 
--- What is known of the session with this name.
+-- The knowledge of the session with this name.
 abbrev pub known_for : List ℕ → List Session → SessionKnowledge
 known_for name [] = nothing_known
 known_for name (session ∷ sessions) =

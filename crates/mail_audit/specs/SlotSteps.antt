@@ -8,7 +8,8 @@ use Rattle.mail_audit.specs.declared.event.SlotEvent.TheVariants.{ReportsUid, Pa
 use Rattle.mail_audit.specs.Explanations.{IsNumberOf, without}
 use Rattle.mail_audit.specs.EventPasses.{HasRoomAbove, MayBeUid, numbers_upward}
 
--- What is known: the places of the existing messages, and for each place its reported UID, if any.
+-- The knowledge of a session's messages: the places of the existing ones, and for each place its
+-- reported UID, if any.
 pub record SlotKnowledge : Type 0 where
   pub live : List ℕ
   pub slots : List (Option ℕ)
@@ -28,7 +29,7 @@ place_at known k = get_or known.live (k - 1) 0
 abbrev pub with_uid : SlotKnowledge → ℕ → ℕ → SlotKnowledge
 with_uid known k uid = record known { slots = set known.slots (place_at known k) (Some uid) }
 
--- What is known after an event.
+-- The knowledge after an event.
 abbrev pub after_event : SlotKnowledge → SlotEvent → SlotKnowledge
 after_event known Selects = record { live = []; slots = [] }
 after_event known (Exists n) = with_more known (n - length known.live)
@@ -37,7 +38,7 @@ after_event known (Names k) = known
 after_event known (ReportsUid k uid) = with_uid known k uid
 after_event known Passes = known
 
--- The event fits what is known.
+-- The event fits the knowledge.
 abbrev pub EventFits : SlotKnowledge → SlotEvent → Type 0
 EventFits known Selects = Unit {0}
 EventFits known (Exists n) =
@@ -50,7 +51,7 @@ EventFits known (ReportsUid k uid) =
     × HasRoomAbove 0 (with_uid known k uid).slots
 EventFits known Passes = Unit {0}
 
--- What is known after events.
+-- The knowledge after events.
 abbrev pub after_events : SlotKnowledge → List SlotEvent → SlotKnowledge
 after_events known [] = known
 after_events known (event ∷ events) = after_events (after_event known event) events

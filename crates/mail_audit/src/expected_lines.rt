@@ -75,7 +75,7 @@ fn apply_all(
     Ok(())
 }
 
-/// Passes over the operations once, and applies those that are ripe; says whether any was.
+/// Passes over the operations once, and applies those that are ripe; returns whether any was.
 fn apply_ripe(
     alloc: Global,
     ops: &[SoundOp],

@@ -14,7 +14,7 @@ use crdt_ops::{Op, OpFault, read_op};
 use std::alloc::{AllocError, Global};
 use text_fields::split;
 
-/// The kinds of line that a dump can hold.
+/// The kinds of line that a dump can contain.
 #[derive(Drop)]
 pub enum DumpLine {
     /// An op line.

@@ -64,8 +64,8 @@ fn speech(sent: &[u8]) -> Option<(Speaker, &[u8])>
     }
 }
 
-/// Undoes the escape that keeps spaces; `None` if the text isn't so escaped, and `Err` if memory
-/// runs out.
+/// Undoes the escape that preserves spaces; `None` if the text isn't escaped in this way, and `Err`
+/// if memory runs out.
 fn unescape_or_none(alloc: Global, text: &[u8]) -> Result<Option<Octets>, AllocError>
     ensures { IfOk result (λ parsed. MatchOption parsed
         ((octets : List ℕ) → AreOctets octets → text.now ≡ escape_text TextEscape octets → ⊥)

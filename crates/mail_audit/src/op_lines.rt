@@ -12,8 +12,8 @@ use std::alloc::{AllocError, Global};
 use tags_clocks::{Clock, OpId, ReplicaId};
 
 /// The op lines of a dump. A line is bad if its operation isn't sound, or if its id isn't above
-/// that of the line before it. The operations of the lines before the first bad one are stored, and
-/// of the later lines only the ids.
+/// that of the line before it. The operations of the lines before the first bad one are stored, but
+/// only the ids of the later lines.
 #[derive(Drop)]
 pub struct OpLines {
     pub ops: Vec<SoundOp>,
@@ -62,8 +62,8 @@ impl OpLines {
     }
 
     /// The place of the first op line that makes the dump wrong, if any: it is bad, or has a cause
-    /// that no op line has. If op lines may still come, a cause whose id is above that of the last
-    /// line may come with them, and isn't missed. `Err` if memory runs out.
+    /// that no op line has. If op lines may still follow, a cause whose id is above that of the
+    /// last line may be among them, and doesn't count as missing. `Err` if memory runs out.
     pub fn first_wrong(&self, alloc: Global, may_follow: bool) -> Result<Option<usize>, AllocError>
         ensures within { IfOk result
             (λ wrong. IfSome wrong (λ place. place ≤ length self.now.ops.items)) }
@@ -124,8 +124,8 @@ fn is_below(op: &SoundOp, id: &OpId) -> bool
     op.id() < *id
 }
 
-/// The place of the first operation with a cause that isn't counted. If op lines may still come
-/// after the id `last`, only causes whose ids aren't above it are missed.
+/// The place of the first operation with a cause that isn't counted. If op lines may still follow
+/// after the id `last`, only causes whose ids aren't above it count as missing.
 fn first_lacking(ops: &[SoundOp], live: &Clock, last: &Option<OpId>) -> Option<usize>
     ensures { IfSome result (λ place. place < length ops.now) }
 {
@@ -137,8 +137,8 @@ fn first_lacking(ops: &[SoundOp], live: &Clock, last: &Option<OpId>) -> Option<u
     None
 }
 
-/// Whether a cause isn't counted. If op lines may still come after the id `last`, only causes whose
-/// ids aren't above it are missed.
+/// Whether a cause isn't counted. If op lines may still follow after the id `last`, only causes
+/// whose ids aren't above it count as missing.
 fn lacks(clock: &Clock, live: &Clock, last: &Option<OpId>) -> bool {
     for (replica, count) in clock.entries() {
         let counted = live.get(*replica);
@@ -149,8 +149,8 @@ fn lacks(clock: &Clock, live: &Clock, last: &Option<OpId>) -> bool {
     false
 }
 
-/// Whether the replica's operation after the first `counted` is missed. If op lines may still come
-/// after the id `last`, it is missed only if its id isn't above that one.
+/// Whether the replica's operation after the first `counted` is missing. If op lines may still
+/// follow after the id `last`, it counts as missing only if its id isn't above that one.
 fn is_missed(replica: ReplicaId, counted: u32, last: &Option<OpId>) -> bool {
     let Some(last) = last else {
         return true;

@@ -125,8 +125,8 @@ impl OpenDump {
     }
 }
 
-/// The lines that must follow these op lines once they end, or the place where the op
-/// lines are wrong.
+/// The lines that must follow these op lines once they end, or the place at which the op lines are
+/// wrong.
 fn lines_after_ops(alloc: Global, lines: &OpLines) -> Result<Expected, AllocError>
     requires { AreOrdered lines.now.ops.items }
     ensures { (inside : List (List ℕ)) → AreOps inside lines.now → IfOk result (IsClosed inside) }
@@ -137,7 +137,7 @@ fn lines_after_ops(alloc: Global, lines: &OpLines) -> Result<Expected, AllocErro
     }
 }
 
-/// The effect of a line that can't be read while op lines may still come.
+/// The effect of a line that can't be read while op lines may still follow.
 fn step_if_unreadable(alloc: Global, first: u64, lines: &OpLines) -> Result<DumpStep, AllocError>
     requires { first + 1 + length lines.now.ops.items < 2 ^ 64 }
     ensures { IfOk result (IsEarly first lines.now) }

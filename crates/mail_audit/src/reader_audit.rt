@@ -26,9 +26,9 @@ pub const PIECE_OCTETS: usize = 65_536;
 /// Audits the output of scripts, and writes the verdict as one line.
 ///
 /// The result is `Yes` if every transcript is explained and every dump is right. `No` names the
-/// first line up to which that fails, `Unreadable` the first line that no script prints;
-/// `ReadFailed` says that the reader failed, or that 16,777,216 reads didn't reach the end of the
-/// input; `WriteFailed` that the writer failed; `NoMemory` that memory ran out.
+/// first line that can't follow the lines before it, `Unreadable` the first line that no script
+/// prints; `ReadFailed` says that the reader failed, or that 16,777,216 reads didn't reach the end
+/// of the input; `WriteFailed` that the writer failed; `NoMemory` that memory ran out.
 pub fn audit<R: Read, W: Write>(alloc: Global, reader: &mut R, writer: &mut W) -> AuditEnd
     ensures audits { (input : List ℕ)
         → R.remaining reader.old ≡ Some input

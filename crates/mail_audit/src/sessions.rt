@@ -11,7 +11,7 @@ use mail_script::{SessionName, Speaker};
 use std::alloc::{AllocError, Global};
 use std::marker::Model;
 
-/// The sessions by name, in the order of their first lines, with what is known of each.
+/// The sessions by name, in the order of their first lines, with the knowledge of each.
 #[derive(Drop)]
 pub struct AuditSessions {
     audited: IndexMap<Vec<u8>, Transcript>,

@@ -1,4 +1,4 @@
-//! What is known of a session's messages.
+//! The knowledge of a session's messages.
 
 ghost use Rattle.std.specs.Prelude.{◌≡◌, ◌↔◌, ◌<◌, ◌≤◌, IfOk, IsTrue, MatchOption, None as Unknown};
 ghost use Rattle.std.specs.Prelude.{Some as Known, get_or, length, set};
@@ -24,8 +24,8 @@ pub struct KnownUid {
     pub uid: u32,
 }
 
-/// What is known of a session's messages: their total, the places of expunged ones, and those
-/// with reported UIDs, both by ascending place.
+/// The knowledge of a session's messages: their total, the places of expunged ones, and those with
+/// reported UIDs, both by ascending place.
 #[derive(Drop)]
 pub struct Slots {
     total: u32,

@@ -23,7 +23,7 @@ use mail_script::Speaker;
 use std::alloc::{AllocError, Global};
 use std::marker::Model;
 
-/// What is known of a session from the octets sent in it.
+/// The knowledge of a session from the octets sent in it.
 #[derive(Drop)]
 pub struct Transcript {
     running: InProgress,
@@ -150,7 +150,7 @@ impl Transcript {
     }
 }
 
-/// Passes over a frame that spells no command; `Err` if memory ran out before that was known.
+/// Passes over a frame that spells no command; `Err` if memory ran out before this was known.
 fn pass_over(fault: ParseFault) -> Result<(), AllocError>
     ensures { OnOk result (fault ≢ NoMemoryToParse) }
 {

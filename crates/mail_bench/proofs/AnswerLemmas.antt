@@ -5,7 +5,7 @@ use Rattle.std.proofs.lemmas.List.{get_or-drop}
 use Rattle.std.proofs.lemmas.Slice.Eq.{bytes_eq-Decides}
 use Rattle.mail_bench.specs.Answers.{front_of, number_from}
 
--- digits make a number no smaller
+-- further digits make a number no smaller
 pub number_grows : (number : ℕ) (digits : List ℕ) → number ≤ number_from number digits
 number_grows number [] = omega arith
 number_grows number (digit ∷ digits) = let h = number_grows (number * 10 + (digit - 48)) digits in omega arith
@@ -23,7 +23,7 @@ number_next number digits i l =
     let k : suc i ≡ i + 1 = omega arith in
     subst (λ (m : ℕ). number_from number (drop i digits) ≡ number_from (number * 10 + (get_or digits i 0 - 48)) (drop m digits)) k (number_suc number digits i l)
 
--- ---- the end of an answer that reports how many messages there are
+-- ---- the end of an answer that reports the number of messages
 
 ends : (text : List ℕ) → bytes_eq (drop (length text - 9) text) (codes " EXISTS\r\n") ≡ true → (9 ≤ length text) × (get_or text (length text - 9 + 6) 0 ≡ 83)
 ends text e =
@@ -38,7 +38,7 @@ no_exists_end text other =
       | inr f ↦ rw f refl
     ]
 
--- it has an S (83) before its line end
+-- an answer without an S (83) before its line end doesn't report it
 pub no_exists : (text : List ℕ) (place : ℕ) → place + 3 ≡ length text → get_or text place 0 ≢ 83 → front_of (codes " EXISTS\r\n") text ≡ None
 no_exists text place at other =
     no_exists_end text (λ e. let so = ends text e in let same : length text - 9 + 6 ≡ place = omega arith in other (ap (λ (n : ℕ). get_or text n 0) (sym same) ∙ so.1))

@@ -13,7 +13,7 @@ use Rattle.mail_bench.specs.declared.answers.Answer.TheVariants.{Other, Unreadab
 use Rattle.mail_bench.specs.declared.answers.Status.{Status}
 use Rattle.mail_bench.specs.declared.answers.Status.TheVariants.{Bad, Done, No}
 
--- The part of a text after a beginning, and the part before an end, if the text has them.
+-- The part of a text after a prefix, and the part before a suffix, if the text has them.
 abbrev pub tail_of : List ℕ → List ℕ → Option (List ℕ)
 tail_of front text =
     if bytes_eq (take (length front) text) front then Some (drop (length front) text) else None
@@ -40,7 +40,7 @@ status_in number line = do
   rest ← tail_of (codes " ") rest
   status_of rest
 
--- The number that digits spell after this one.
+-- The number that digits spell after the digits of this number.
 abbrev pub number_from : ℕ → List ℕ → ℕ
 number_from number [] = number
 number_from number (digit ∷ digits) = number_from (number * 10 + (digit - 48)) digits

@@ -13,14 +13,14 @@ use Rattle.mail_bench.specs.declared.settings.Settings.{Settings}
 -- ---- the words that the program knows
 
 -- A word with a value; a required word; a word whose value is a number from 1.
-abbrev pub named_word : List ℕ → Rule
-named_word name = record (new_rule name) { long = Some name; action = Some Set }
+abbrev pub word_with_value : List ℕ → Rule
+word_with_value name = record (new_rule name) { long = Some name; action = Some Set }
 
 abbrev pub required_word : List ℕ → Rule
-required_word name = record (named_word name) { required = true }
+required_word name = record (word_with_value name) { required = true }
 
 abbrev pub counted_word : List ℕ → ℕ → Rule
-counted_word name most = record (named_word name) { parser = Some (Unsigned 1 most) }
+counted_word name most = record (word_with_value name) { parser = Some (Unsigned 1 most) }
 
 -- The words that name the server and the workload.
 abbrev pub with_server : App → App
@@ -28,7 +28,7 @@ with_server app =
     with_rule (with_rule (with_rule
     (with_rule (with_rule app (required_word (codes "address"))) (required_word (codes "user")))
     (required_word (codes "pass")))
-    (required_word (codes "workload"))) (named_word (codes "second"))
+    (required_word (codes "workload"))) (word_with_value (codes "second"))
 
 -- The words that say how much is done, and where.
 abbrev pub with_amounts : App → App
@@ -36,7 +36,7 @@ with_amounts app =
     with_rule (with_rule
     (with_rule (with_rule app (counted_word (codes "messages") 1000000))
     (counted_word (codes "connections") 1000)) (counted_word (codes "seconds") 3600))
-    (named_word (codes "mailbox"))
+    (word_with_value (codes "mailbox"))
 
 -- All words.
 abbrev pub bench_words : App

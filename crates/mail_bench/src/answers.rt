@@ -100,8 +100,8 @@ fn exists_in(line: &[u8]) -> Option<u32>
     number_of(digits)
 }
 
-/// The part of an answer before ` EXISTS` and its line end, if it ends so. Most answers have
-/// another octet in place of the S.
+/// The part of an answer before ` EXISTS` and its line end, if it ends with these. Most answers
+/// have another octet in place of the S.
 #[tactic(auto, using(crate::proofs::AnswerLemmas::no_exists, crate::proofs::AnswerLemmas::too_short))]
 fn front_of_exists(text: &[u8]) -> Option<&[u8]>
     ensures { option_map (λ rest. rest.now) result ≡ front_of (codes " EXISTS\r\n") text.now }
@@ -112,14 +112,14 @@ fn front_of_exists(text: &[u8]) -> Option<&[u8]>
     }
 }
 
-/// The part after this beginning, if the text begins so.
+/// The part after this prefix, if the text begins with it.
 fn tail_of<'a>(front: &[u8], text: &'a [u8]) -> Option<&'a [u8]>
     ensures { option_map (λ rest. rest.now) result ≡ tail_of front.now text.now }
 {
     text.strip_prefix(front)
 }
 
-/// The part before this end, if the text ends so.
+/// The part before this suffix, if the text ends with it.
 fn front_part<'a>(end: &[u8], text: &'a [u8]) -> Option<&'a [u8]>
     ensures { option_map (λ rest. rest.now) result ≡ front_of end.now text.now }
 {

@@ -36,7 +36,7 @@ fn explain<R: Print + Eprint>(rt: &R, why: SettingsFault<'_>) -> u8 {
     }
 }
 
-/// Prints what can't be used, and returns the program's status.
+/// Prints which value can't be used, and returns the program's status.
 fn print_usage<R: Eprint>(rt: &R, why: UsageFault<'_>) -> u8 {
     let printed = match why {
         UsageFault::BadWorkload(word) => eprintln!(rt; "usage: no workload {word}"),

@@ -187,7 +187,7 @@ impl Client {
         self.finish(b"DONE", number)
     }
 
-    /// Sends the beginning of a command, waits until the server asks for more, and returns the
+    /// Sends the first part of a command, waits until the server asks for more, and returns the
     /// command's number.
     fn announce(&mut self, command: Command<'_>) -> Result<u64, BenchFault> {
         let number = self.ask(command)?;

@@ -6,7 +6,7 @@ use std::alloc::{AllocError, AllocFailed};
 use std::io::ErrorKind;
 use std::{fmt, io};
 
-/// Why a run ended early; its text is what the program prints.
+/// Why a run ended early; the program prints its text.
 #[derive(Clone, Copy)]
 pub enum BenchFault {
     /// No connection could be made.

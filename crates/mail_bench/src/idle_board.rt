@@ -15,8 +15,8 @@ const PATIENCE: u64 = 60;
 /// The shared state.
 #[derive(Drop)]
 struct BoardState {
-    /// The moments at which idling connections received the last message, as far as they did;
-    /// before the first message, one moment for each that idles.
+    /// The moments at which idling connections received the last message, of those that did so far;
+    /// before the first message, one moment for each connection that idles.
     received: Vec<Instant>,
     /// Whether the message that is being sent is the last.
     is_last: bool,

@@ -8,8 +8,9 @@
 //!
 //! The contracts promise that answers are read, commands spelled, and times ranked as specs/
 //! defines them: whatever octets a literal has, none is read as part of an answer's line
-//! (`literals_are_passed`), so no message can be taken for an answer. The command line means what
-//! clap's matches hold. Connections, threads and the output are safe, and were tested by hand.
+//! (`literals_are_passed`), so no message can be taken for an answer. The meaning of the command
+//! line is that of clap's matches. Connections, threads and the output are safe, and were tested by
+//! hand.
 #![tactic(auto)]
 
 mod answers;

@@ -21,7 +21,7 @@ pub const LARGE: usize = 65_536;
 /// The number of times that a second server is asked whether it has the messages of the first.
 const MAX_LOOKS: u32 = 600;
 
-/// The pause between two of these looks, in milliseconds.
+/// The pause between two of these requests, in milliseconds.
 const PAUSE: u64 = 100;
 
 /// A connection to this address that is logged in.

@@ -8,7 +8,7 @@ use crate::times::{MAX_TIMES, Summary, summarize};
 use std::alloc::Global;
 use std::time::Duration;
 
-/// What one connection did.
+/// The tally of one connection.
 #[derive(Drop)]
 pub struct Tally {
     /// The number of commands that were answered.
@@ -34,7 +34,7 @@ impl Tally {
         Ok(())
     }
 
-    /// Adds what another connection did.
+    /// Adds the tally of another connection.
     pub fn add(&mut self, mut other: Tally) -> Result<(), BenchFault> {
         self.commands = self.commands.saturating_add(other.commands);
         self.times.append(&mut other.times)?;

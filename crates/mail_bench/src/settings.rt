@@ -5,7 +5,7 @@ ghost use Rattle.std.specs.Option.{option_map};
 ghost use Rattle.clap.specs.Words.{first_of, found_of, matches_of, rows_of};
 ghost use Rattle.clap_laws.specs.Words.{Add, IsWord};
 ghost use Rattle.mail_bench.specs.Options.{Asks, IsAmount, IsPlainText, bench_words, counted_word};
-ghost use Rattle.mail_bench.specs.Options.{named_word, required_word, text_in, with_amounts};
+ghost use Rattle.mail_bench.specs.Options.{word_with_value, required_word, text_in, with_amounts};
 ghost use Rattle.mail_bench.specs.Options.{with_server};
 
 use crate::workload::Workload;
@@ -24,7 +24,7 @@ pub const MAX_CONNECTIONS: u32 = 1_000;
 /// The longest time for a workload, in seconds.
 pub const MAX_SECONDS: u32 = 3_600;
 
-/// What the command line asks for.
+/// The settings that a command line asks for.
 #[derive(Clone, Copy)]
 pub struct Settings<'a> {
     /// The address of the server, as it was passed.
@@ -37,7 +37,7 @@ pub struct Settings<'a> {
     pub pass: &'a str,
     /// The mailbox in which everything is done, in printable ASCII.
     pub mailbox: &'a str,
-    /// What is measured.
+    /// The workload that is measured.
     pub workload: Workload,
     /// The least number of messages that the mailbox must have, from 1 to `MAX_MESSAGES`.
     pub messages: u32,
@@ -66,7 +66,7 @@ pub enum UsageFault<'a> {
 }
 
 /// Reads the words of a command line, which begin with the program's name. The server, the mailbox
-/// and the workload are what clap's matches hold; the mailbox defaults to `bench`, and the numbers
+/// and the workload are those of clap's matches; the mailbox defaults to `bench`, and the numbers
 /// to 1,000 messages, 4 connections and 2 seconds.
 pub fn read_settings<'a>(
     alloc: Global,
@@ -86,7 +86,7 @@ pub fn read_settings<'a>(
     }
 }
 
-/// The settings that the matches hold, if their texts are plain.
+/// The settings that the matches contain, if their texts are plain.
 fn plain_settings_in<'a>(matches: &ArgMatches<'a>) -> Result<Settings<'a>, UsageFault<'a>>
     ensures asked { IfOk result (λ settings. Asks (rows_of (found_of matches.now)) settings) }
     ensures plain { IfOk result (λ settings. IsPlainText settings.user.now
@@ -116,7 +116,7 @@ fn bad_text(user: &str, pass: &str, mailbox: &str) -> Option<&'static str>
     None
 }
 
-/// Whether all octets are of printable ASCII, so that a quoted string may hold them (RFC 9051,
+/// Whether all octets are of printable ASCII, so that a quoted string may contain them (RFC 9051,
 /// section 9).
 fn is_plain(text: &str) -> bool
     ensures { result ≡ true → IsPlainText text.now }
@@ -125,7 +125,7 @@ fn is_plain(text: &str) -> bool
         .all(|octet| octet.is_ascii_graphic() || octet == b' ')
 }
 
-/// The settings that the matches hold.
+/// The settings that the matches contain.
 fn settings_in<'a>(matches: &ArgMatches<'a>) -> Result<Settings<'a>, UsageFault<'a>>
     ensures { IfOk result (λ settings. Asks (rows_of (found_of matches.now)) settings) }
 {
@@ -146,7 +146,7 @@ fn settings_in<'a>(matches: &ArgMatches<'a>) -> Result<Settings<'a>, UsageFault<
     })
 }
 
-/// The text that the matches hold under this word, or the default.
+/// The text that the matches contain under this word, or the default.
 fn text_in<'a>(matches: &ArgMatches<'a>, word: &str, usual: &'a str) -> &'a str
     ensures { result.now ≡ text_in (rows_of (found_of matches.now)) word.now usual.entry.now }
 {
@@ -156,14 +156,14 @@ fn text_in<'a>(matches: &ArgMatches<'a>, word: &str, usual: &'a str) -> &'a str
     }
 }
 
-/// The text that the matches hold under this word, if any.
+/// The text that the matches contain under this word, if any.
 fn option_in<'a>(matches: &ArgMatches<'a>, word: &str) -> Option<&'a str>
     ensures { option_map (λ s. s.now) result ≡ first_of word.now (rows_of (found_of matches.now)) }
 {
     matches.get_str(word)
 }
 
-/// The number from 1 that the matches hold under this word, or the default.
+/// The number from 1 that the matches contain under this word, or the default.
 fn amount_in(matches: &ArgMatches<'_>, word: &str, usual: u32, most: u32) -> u32
     requires { (0 < usual) × (usual ≤ most) }
     ensures { IsAmount (rows_of (found_of matches.now)) word.now usual most result }
@@ -246,7 +246,7 @@ fn known_words<'a>(alloc: Global) -> Result<Vec<Arg<'a>>, AllocError>
 
 /// A word with a value.
 fn word_with_value<'a>(alloc: Global, name: &'a str, help: &'a str) -> Arg<'a>
-    ensures { IsWord result (named_word name.entry.now) }
+    ensures { IsWord result (word_with_value name.entry.now) }
 {
     Arg::new(alloc, name)
         .long(name)

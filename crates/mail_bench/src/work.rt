@@ -16,7 +16,7 @@ use std::time::{Duration, Instant};
 /// The number of NOOPs that are sent in one write.
 const PIPELINED: u64 = 64;
 
-/// What the connections of a run have in common.
+/// The plan that the connections of a run share.
 #[derive(Drop)]
 pub struct WorkPlan<'a> {
     /// The workload.

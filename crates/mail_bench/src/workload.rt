@@ -5,7 +5,7 @@ ghost use Rattle.mail_bench.specs.Workloads.{NamesNone, word_of};
 
 use std::fmt;
 
-/// What the connections of a run do, over and over.
+/// The work that the connections of a run do over and over.
 #[derive(Clone, Copy)]
 pub enum Workload {
     /// NOOP, one in flight.
@@ -31,7 +31,7 @@ pub enum Workload {
     Mixed,
     /// A connection, its greeting, LOGIN and LOGOUT.
     Login,
-    /// APPEND, timed until each of many idling connections received the news.
+    /// APPEND, timed until each of many idling connections received its EXISTS.
     IdleFanOut,
     /// NOOP by itself, then while many connections idle.
     NoopBesideIdle,

@@ -7,7 +7,7 @@ no_end : (front : List ℕ) → ◌≡◌ {A = List ℕ} [] (front ++ 10 ∷ [])
 no_end [] e = absurd cc
 no_end (octet ∷ front) e = absurd cc
 
--- one more octet at the beginning of the first line
+-- one more octet at the start of the first line
 text_of_prepend : (octet : ℕ) (lines : List (List ℕ)) (front : List ℕ) → text_of lines ≡ front ++ 10 ∷ [] → text_of (prepend_octet octet lines) ≡ octet ∷ (front ++ 10 ∷ [])
 text_of_prepend octet [] front e = absurd (no_end front e)
 text_of_prepend octet (line ∷ lines) front e = ap (λ (text : List ℕ). octet ∷ text) e

@@ -3,14 +3,14 @@ use Rattle.imap_node.specs.Nodes.{NodeWithRoom}
 use Rattle.mail_replay.specs.Exchanges.{nodes_in, with_nodes}
 use Rattle.mail_replay.specs.declared.script_state.ScriptReplica.{ScriptReplica}
 
--- the replicas, the first `k` with these nodes
+-- the replicas, with the first `k` of them given these nodes
 abbrev pub replicas_until : ℕ → List ScriptReplica → List NodeWithRoom → List ScriptReplica
 replicas_until zero replicas nodes = replicas
 replicas_until (suc k) [] nodes = []
 replicas_until (suc k) (r ∷ rs) [] = r ∷ rs
 replicas_until (suc k) (r ∷ rs) (n ∷ ns) = record r { node = n } ∷ replicas_until k rs ns
 
--- the nodes, the first `k` from the replicas
+-- the nodes, with the first `k` of them taken from the replicas
 abbrev pub nodes_until : ℕ → List ScriptReplica → List NodeWithRoom → List NodeWithRoom
 nodes_until zero replicas nodes = nodes
 nodes_until (suc k) [] nodes = nodes
@@ -26,7 +26,7 @@ replica_put zero (r0 ∷ rs) (n0 ∷ ns) r n same within = refl
 replica_put (suc k) (r0 ∷ rs) (n0 ∷ ns) r n same within =
     ap (λ (zs : List ScriptReplica). record r0 { node = n0 } ∷ zs) (replica_put k rs ns r n (omega (arith, same)) (omega (arith, within)))
 
--- one more node is a replica's
+-- one more node is taken from its replica
 node_put : (k : ℕ) (rs : List ScriptReplica) (ns : List NodeWithRoom) (r : ScriptReplica) → length ns ≡ length rs → k < length rs
     → slice_set (nodes_until k rs ns) k (get_or (replicas_until k rs ns) k r).node ≡ nodes_until (suc k) rs ns
 node_put k [] ns r same within = absurd (omega (arith, within))
@@ -34,7 +34,7 @@ node_put k (r0 ∷ rs) [] r same within = absurd (omega (arith, same))
 node_put zero (r0 ∷ rs) (n0 ∷ ns) r same within = refl
 node_put (suc k) (r0 ∷ rs) (n0 ∷ ns) r same within = ap (λ (zs : List NodeWithRoom). r0.node ∷ zs) (node_put k rs ns r (omega (arith, same)) (omega (arith, within)))
 
--- the same for lists that equal these, and for the elements at a place
+-- `replica_put` and `node_put` for lists that equal these, and for the elements at a place
 module _ (k : ℕ) (rs xs : List ScriptReplica) (ns ys : List NodeWithRoom) (r : ScriptReplica) (n : NodeWithRoom) (e : xs ≡ replicas_until k rs ns) (f : ys ≡ nodes_until k rs ns) (same : length ns ≡ length rs) (within : k < length rs) where
   pub one_more_replica : (new : ScriptReplica) → new ≡ record (get_or xs k r) { node = get_or ys k n } → slice_set xs k new ≡ replicas_until (k + 1) rs ns
   one_more_replica new is =
@@ -57,7 +57,7 @@ all_replicas (suc k) [] ns same whole = refl
 all_replicas (suc k) (r ∷ rs) [] same whole = refl
 all_replicas (suc k) (r ∷ rs) (n ∷ ns) same whole = ap (λ (zs : List ScriptReplica). record r { node = n } ∷ zs) (all_replicas k rs ns (omega (arith, same)) (omega (arith, whole)))
 
--- all nodes are the replicas'
+-- all nodes are taken from the replicas
 pub all_nodes : (k : ℕ) (rs : List ScriptReplica) (ns : List NodeWithRoom) → length ns ≡ length rs → length rs ≤ k → nodes_until k rs ns ≡ nodes_in rs
 all_nodes zero [] [] same whole = refl
 all_nodes (suc k) [] [] same whole = refl

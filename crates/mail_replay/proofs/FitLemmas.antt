@@ -6,7 +6,7 @@ use Rattle.merge_laws.specs.Orders.{AreSound}
 use Rattle.tags_clocks.specs.Clock.{IsAscendingFrom}
 use Rattle.crdt_ops.specs.Form.{Each, IsEntry, IsReplica, is_word}
 
--- what holds of each element holds of every one
+-- if `Each` holds for a list, the property holds for every element
 pub each_in : {X : Type 0} (P : X → Type 0) (xs : List X) → Each P xs → AreSound P xs
 each_in P [] h x i = absurd i
 each_in P (y ∷ xs) h x i = elim i [ inl e ↦ subst P e h.0 | inr t ↦ each_in P xs h.1 x t ]

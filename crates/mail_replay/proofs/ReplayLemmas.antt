@@ -13,8 +13,8 @@ use Rattle.mail_replay.specs.declared.replay_end.ReplayEnd.{ReplayEnd}
 use Rattle.mail_replay.specs.declared.replay_end.ReplayEnd.TheVariants.{Done, BadScript, ReadFailed, WriteFailed, NoMemory}
 use Rattle.mail_replay.proofs.LineLemmas.{appends_both, appends_none, nothing_in_part, serves_both}
 
--- The progress of a replay: the whole lines of what was read were served, and the
--- beginning of a line is left.
+-- The progress of a replay: the whole lines of the octets read were served, and a part of the next
+-- line is left.
 pub record HasReadFrom (script : List ℕ) (held left held' : Option (List ℕ)) (setup : ScriptContents) (served : ℕ) (text : List ℕ) : Type 0 where
   pub read : List ℕ
   pub rest : List ℕ
@@ -53,7 +53,7 @@ consumes_known rest bs None k = absurd k
 consumes_known rest bs (Some more) k = (more, refl, k)
 
 module _ (start held left held' : Option (List ℕ)) (setup : ScriptContents) (served : ℕ) (text : List ℕ) (has_read : HasRead start held left held' setup served text) where
-  -- a read that failed took nothing
+  -- a failed read took no octets
   pub read_unchanged : (left' : Option (List ℕ)) → Keeps left left' → HasRead start held left' held' setup served text
   read_unchanged left' k script e =
       let f = has_read script e in
@@ -180,7 +180,7 @@ module _ (start held left held' : Option (List ℕ)) (setup : ScriptContents) (s
         let f = has_read script e in
         (f.front, lines_of text, f.out, more, setup, last_lines f, f.serves, first, appends_both held held' held2 f.out more f.writes writes)
 
--- memory runs out at the beginning
+-- memory runs out at the start
 pub stopped_at_first : (script : List ℕ) (left held : Option (List ℕ)) → Replays script NoMemory left held held
 stopped_at_first script left held = ([], lines_of script, [], [], empty_script_contents, refl, (refl, refl), nothing_in_part empty_script_contents (lines_of script), appends_none held)
 

@@ -114,7 +114,7 @@ each_last : {X : Type 0} (P : X → Type 0) (xs : List X) (x : X) → Each P xs 
 each_last P [] x h p = (p, tt)
 each_last P (y ∷ xs) x h p = (h.0, each_last P xs x h.1 p)
 
--- a dump adds nothing to what was sent in a session
+-- a dump adds nothing to the texts sent in a session
 sent_after_dump : (session : List ℕ) (parts : List Part) (text : List ℕ) → sent_in session (parts ++ Dumped text ∷ []) ≡ sent_in session parts
 sent_after_dump session [] text = refl
 sent_after_dump session (Spoken other speaker sent ∷ parts) text = λ i. if bytes_eq session other then sent_by speaker sent ∷ sent_after_dump session parts text i else sent_after_dump session parts text i

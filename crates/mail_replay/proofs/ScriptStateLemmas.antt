@@ -27,7 +27,7 @@ has_id_in (o ∷ ops) op id h e = elim h [ inl k ↦ inl (subst (λ (p : Op). p.
 pub some_same : {X : Type 0} (o : Option X) (x y : X) → o ≡ Some x → o ≡ Some y → x ≡ y
 some_same o x y e f = same_Some x y (sym e ∙ f)
 
--- a replica that has issued none with this id has issued no such operation
+-- a replica that has issued no operation with this id hasn't issued this operation
 pub never_issued : (setup : ScriptContents) (id : OpId) (op : Op) (at : ℕ) (source : ScriptReplica) → replica_place setup.replicas id.replica ≡ Some at → slice_get setup.replicas at ≡ Some source → ¬ HasId id_of source.issued id
     → Issued setup id op → ⊥
 never_issued setup id op at source place is_declared none i =
@@ -52,7 +52,7 @@ err_in : {T E : Type 0} → E → Result T E → E
 err_in d (Ok x) = d
 err_in d (Err e) = e
 
--- one error for another
+-- equal errors have equal faults
 pub err_same : {T E : Type 0} (d e : E) → ◌≡◌ {A = Result T E} (Err d) (Err e) → d ≡ e
 unfolding err_in
 err_same {T} d e h = ap (err_in {T = T} d) h

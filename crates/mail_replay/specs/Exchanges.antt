@@ -43,9 +43,9 @@ settle_line (Err (faults.Conflict id)) = results.Conflict id
 settle_line (Err faults.Exhausted) = results.Exhausted
 settle_line (Err faults.NoMemory) = results.NoMemory
 
--- Replicas exchange what they received, applied or held, until all have applied one set; otherwise
--- what prevents it is reported. In either case each takes what some of them had received, and loses
--- nothing.
+-- Replicas exchange the operations that they received, applied or held, until all have applied the
+-- same set; otherwise the reason why they can't is reported. In either case each replica receives
+-- only operations that some of them had received, and loses none.
 abbrev pub Exchanges : List ScriptReplica → SettleResult → List ScriptReplica → Type 0
 Exchanges old out new =
     (nodes : List NodeWithRoom) × (answer : Result (Unit {0}) SettleFault)
@@ -57,7 +57,7 @@ Exchanges old out new =
     (all_without_room (nodes_in old)) (all_without_room nodes)
     × (out ≡ settle_line answer) × (new ≡ with_nodes old nodes)
 
--- All replicas exchange what they received, and the result is printed.
+-- All replicas exchange the operations that they received, and the result is printed.
 abbrev pub Settles : ScriptContents → List ℕ → ScriptContents → Type 0
 Settles old more new =
     (out : SettleResult) × (replicas : List ScriptReplica)

@@ -1,4 +1,4 @@
--- What each line of a script does to the script's state, and what it prints.
+-- The effect of each line of a script on the script's state, and the line's output.
 
 use Rattle.std.specs.Prelude.{◌≡◌, ◌≢◌, ◌⊎◌, ℕ, ◌<◌, ◌≤◌, ◌++◌, List, [], ◌∷◌, Option, Some, None}
 use Rattle.std.specs.Prelude.{IsSome, IsNone, Ok, drop, length, slice_get, slice_set, take}
@@ -54,8 +54,8 @@ Declares old first new =
     × ((replica : ScriptReplica) × IsNew first replica
     × (new ≡ record old { replicas = old.replicas ++ replica ∷ [] }))
 
--- A replica opens a session and greets; or, if 1,024 are open, it says that there are too many
--- sessions, and the session has ended.
+-- A replica opens a session and sends the greeting; or, if 1,024 are open, it answers that there
+-- are too many sessions, and the session has ended.
 abbrev pub BeginsSession : NodeState → Answer → NodeState → Option Connection → Type 0
 BeginsSession old answer new (Some connection) =
     Opens old.sessions Preauth connection.number new.sessions
@@ -73,7 +73,7 @@ BeginsSession old answer new None =
 abbrev pub IsReportedEnd : TalkFaultKind → Type 0
 IsReportedEnd why = (why ≢ Framing faults.NoMemory) × (why ≢ NoMemory)
 
--- The commands that octets complete which arrive at a connection at a moment.
+-- The commands completed by octets that arrive at a connection at a moment.
 abbrev pub cut_at_connection : Connection → ℕ → List ℕ → TimedCut
 cut_at_connection connection moment octets =
     cut_at moment (cut_from connection.framer.limits connection.framer.state octets)
@@ -114,7 +114,7 @@ pub record Feedable (setup : ScriptContents) (name : List ℕ) : Type 0 where
 abbrev pub ops_applied_since : NodeState → NodeState → List Op
 ops_applied_since old new = drop (length old.applied) new.applied
 
--- The replica after a conversation: it issued what its node applied during it.
+-- The replica after a conversation: it issued the operations that its node applied meanwhile.
 abbrev pub replica_after_talk : ScriptReplica → NodeWithRoom → ScriptReplica
 replica_after_talk old node =
     record old { node = node; issued = old.issued ++ ops_applied_since old.node.state node.state }
@@ -197,7 +197,7 @@ Shows setup name more =
     × (slice_get setup.replicas at ≡ Some replica)
     × IsDump replica.node.state.start.replica replica.node.state.applied more
 
--- The effect of a line on the script's state, and what it prints.
+-- The effect of a line on the script's state, and the line's output.
 abbrev pub Serves : ScriptContents → ScriptLine → List ℕ → ScriptContents → Type 0
 Serves old Blank more new = (more ≡ []) × (new ≡ old)
 Serves old (Node replica uid k) more new = (more ≡ []) × Declares old (start_at replica uid k) new
@@ -244,9 +244,9 @@ IsMisplaced setup (Join replica peer) =
 abbrev pub IsBad : ScriptContents → List ℕ → Type 0
 IsBad setup line = (meaning : ScriptLine) → Means line meaning → IsMisplaced setup meaning
 
--- ---- what is printed if memory runs out
+-- ---- the output if memory runs out
 
--- The turns that octets lead to: all of them, or those until a fault or lack of memory ends the
+-- The turns that result from octets: all of them, or those until a fault or lack of memory ends the
 -- conversation.
 abbrev pub HasTurns : NodeState → Connection → ℕ → List ℕ → List Turn → Type 0
 HasTurns old connection moment octets turns =
@@ -276,8 +276,8 @@ PollsInPart setup name more =
     × HasPolledTurns t.replica.node.state t.connection.number turns
     × (more ≡ transcript name (take count turns))
 
--- What a line prints if memory runs out partway: a session is opened and forgotten, or some of its
--- first turns are printed.
+-- The output of a line if memory runs out partway: the first answer of a session that is opened but
+-- not stored, or some of the first turns of a session that is fed or polled.
 abbrev pub PrintsInPart : ScriptContents → ScriptLine → List ℕ → Type 0
 PrintsInPart setup (Open replica name) more =
     (new : ScriptContents) × OpensAt setup replica name more new
@@ -286,7 +286,7 @@ PrintsInPart setup (Send name text) more = FeedsInPart setup name text more
 PrintsInPart setup (Poll name) more = PollsInPart setup name more
 PrintsInPart setup meaning more = ⊥
 
--- What is printed of a line for which memory runs out: nothing, or a part.
+-- The output of a line for which memory runs out: nothing, or a part.
 abbrev pub ServesInPart : ScriptContents → List ℕ → List ℕ → Type 0
 ServesInPart setup line more =
     (more ≡ []) ⊎ ((meaning : ScriptLine) × Means line meaning × PrintsInPart setup meaning more)

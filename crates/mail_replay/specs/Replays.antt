@@ -1,4 +1,4 @@
--- The replay of a whole script: what is written, and the meaning of each end.
+-- The replay of a whole script: its output, and the meaning of each end.
 
 use Rattle.std.specs.Prelude.{◌≡◌, ℕ, ◌+◌, ◌≤◌, ◌++◌, List, [], ◌∷◌, Option, Some, None, length}
 use Rattle.std.specs.Io.KnownBytes.{Appends}
@@ -16,7 +16,7 @@ use Rattle.mail_replay.specs.declared.replay_end.ReplayEnd.TheVariants.{WriteFai
 abbrev pub empty_script_contents : ScriptContents
 empty_script_contents = record { moment = 0; replicas = []; sessions = [] }
 
--- Lines are served in order, and this is what they print together.
+-- Lines are served in order, and this is their output as a whole.
 abbrev pub ServesAll : ScriptContents → List (List ℕ) → List ℕ → ScriptContents → Type 0
 ServesAll old [] out new = (out ≡ []) × (new ≡ old)
 ServesAll old (line ∷ lines) out new =
@@ -28,13 +28,13 @@ ServesAll old (line ∷ lines) out new =
     × Serves old meaning first mid
     × (out ≡ first ++ rest) × ServesAll mid lines rest new
 
--- A text consists of these whole lines and the beginning of a line, whatever follows.
+-- A text consists of these whole lines and a part of the next line, whatever follows.
 abbrev pub IsWholeLines : List ℕ → List (List ℕ) → List ℕ → Type 0
 IsWholeLines text lines partial =
     (cut_at 10 partial ≡ None)
     × ((more : List ℕ) → lines_of (text ++ more) ≡ lines ++ lines_of (partial ++ more))
 
--- What is printed of the first of these lines, for which memory runs out.
+-- The output of the first of these lines, for which memory runs out.
 abbrev pub FirstInPart : ScriptContents → List (List ℕ) → List ℕ → Type 0
 FirstInPart setup [] more = more ≡ []
 FirstInPart setup (line ∷ lines) more = ServesInPart setup line more
@@ -92,7 +92,7 @@ EndsEarly Breaks Stops ReadFailed = ⊥
 EndsEarly Breaks Stops WriteFailed = Unit {0}
 EndsEarly Breaks Stops NoMemory = Stops
 
--- Some lines at the beginning of a text were served, and another text is left.
+-- Some of a text's first lines were served, and another text is left.
 pub record Advances (held : Option (List ℕ)) (setup : ScriptContents) (served : ℕ) (text : List ℕ)
     (held' : Option (List ℕ)) (setup' : ScriptContents) (served' : ℕ) (text' : List ℕ) :
     Type 0 where
@@ -104,7 +104,7 @@ pub record Advances (held : Option (List ℕ)) (setup : ScriptContents) (served 
   pub writes : Appends held held' out
   pub fits : served' + length text' ≤ served + length text
 
--- Some lines at the beginning of a text were served, and the next, which has this number, can't be.
+-- Some of a text's first lines were served, and the next, which has this number, can't be served.
 pub record Breaks (held : Option (List ℕ)) (setup : ScriptContents) (served : ℕ) (text : List ℕ)
     (held' : Option (List ℕ)) (number : ℕ) : Type 0 where
   pub front : List (List ℕ)
@@ -118,8 +118,8 @@ pub record Breaks (held : Option (List ℕ)) (setup : ScriptContents) (served : 
   pub bad : IsBad setup' line
   pub writes : Appends held held' out
 
--- Some lines at the beginning of a text were served, and memory runs out for the next, whatever
--- follows the text.
+-- Some of a text's first lines were served, and memory runs out for the next, whatever follows the
+-- text.
 pub record Stops (held : Option (List ℕ)) (setup : ScriptContents) (text : List ℕ)
     (held' : Option (List ℕ)) : Type 0 where
   pub front : List (List ℕ)

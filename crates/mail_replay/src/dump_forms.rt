@@ -1,5 +1,6 @@
-//! Laws which say that every sound operation has a text: its types hold its octets, numbers and
-//! lists in range. These functions do nothing; each states what holds of every value of a type.
+//! Laws which say that every sound operation has a text: the types of its fields guarantee that
+//! octets, numbers and lists are in range. These functions do nothing; each states what holds of
+//! every value of a type.
 
 ghost use Rattle.std.specs.Prelude.{◌≡◌, ℕ, ◌^◌, ◌<◌, ◌≤◌, length};
 ghost use Rattle.imap_types.specs.DateTimes.{IsDateTime};

@@ -2,12 +2,12 @@
 //! sessions and what clients send in them, line by line), the audit of its output, and the status
 //! with which it ends.
 //!
-//! The contract of `replay` holds for any reader and writer whose octets are known: what is written
-//! is the output of the script's lines, one after another, and the end names the first line that
-//! can't be served; if the reader fails, the lines that were read whole were served; if memory runs
-//! out, the lines before the one that couldn't be completed were served, and the output of that
-//! line is missing or is a first part of it. `status` and `last_line` give the program's status and
-//! the last line for each end; that this line is written is only tested.
+//! The contract of `replay` holds for any reader and writer whose octets are known: the text
+//! written is the output of the script's lines, one after another, and the end names the first line
+//! that can't be served; if the reader fails, the lines that were read whole were served; if memory
+//! runs out, the lines before the one that couldn't be completed were served, and the output of
+//! that line is missing or is only its first part. `status` and `last_line` give the program's
+//! status and the last line for each end; that this line is written is only tested.
 //!
 //! `dumps_are_right` joins the definitions of nodes and of the audit: the dump that a node writes
 //! is a right dump. The laws of `dump_forms` say that every sound operation has a text. Nothing
@@ -18,9 +18,9 @@
 //! - A script's `open` prints `* BYE too many sessions` if 1,024 sessions are open, and the
 //!   session's name is used up.
 //!
-//! - A script's session ends at a line of IDLE that is refused for lack of memory, since a BYE says
-//!   so, and the script continues; an `open` that runs out of memory ends the script. A poll that
-//!   the node refuses prints nothing.
+//! - A script's session ends at a line of IDLE that is refused for lack of memory, since a BYE
+//!   reports it, and the script continues; an `open` that runs out of memory ends the script. A
+//!   poll that the node refuses prints nothing.
 //!
 //! - `deliver ID R` names operations that a replica's sessions issued. A forged operation with the
 //!   replica's own name is applied there and counts for its clock, but isn't one that it issued.

@@ -33,7 +33,7 @@ pub const PIECE_OCTETS: usize = 65_536;
 /// The result is `Done` after the last line. `BadScript` names the first line that can't be served;
 /// `ReadFailed` says that the reader failed, or that 16,777,216 reads didn't reach the end of the
 /// script; `WriteFailed` that the writer failed; `NoMemory` that memory ran out for a line or its
-/// output. The output of the lines before stays written.
+/// output. The output of the earlier lines stays written.
 pub fn replay<R: Read, W: Write>(alloc: Global, reader: &mut R, writer: &mut W) -> ReplayEnd
     ensures { (script : List ℕ)
         → R.remaining reader.old ≡ Some script

@@ -11,8 +11,7 @@ ghost use Rattle.mail_script.specs.Script.{Means};
 ghost use Rattle.mail_script.specs.Transcript.{transcript_line};
 ghost use Rattle.mail_script.specs.declared.script.ScriptLine.{ScriptLine};
 ghost use Rattle.mail_script.specs.declared.transcript.Speaker.TheVariants.{Server};
-ghost use Rattle.imap_node.specs.Nodes.{IsActive, with_session_closed};
-ghost use Rattle.imap_node.specs.Sessions.{IsOpen};
+ghost use Rattle.imap_node.specs.Nodes.{Idles, IsActive, with_session_closed};
 ghost use Rattle.mail_replay.specs.Lines.{BeginsSession, Closes, Declares, Feeds, FeedsInPart};
 ghost use Rattle.mail_replay.specs.Lines.{HasFirstUid, HasPolledTurns, HasTurns, IsBad, IsIdling};
 ghost use Rattle.mail_replay.specs.Lines.{IsMisplaced, IsTalking, OpensAt, PollsAt, PollsInPart};
@@ -191,7 +190,7 @@ fn declare(alloc: Global, setup: &mut ScriptState, start: Counters) -> Result<()
 }
 
 /// Opens a session at a replica, and prints the greeting. A replica that has 1,024 open sessions
-/// says BYE instead, and the session has ended.
+/// sends BYE instead, and the session has ended.
 fn open(
     alloc: Global,
     setup: &mut ScriptState,
@@ -459,7 +458,7 @@ fn poll_node(
 /// Whether the session is open and idles.
 fn is_idling(node: &Node, session: SessionNo) -> bool
     ensures idling { IsTrue result ↔ IsSome (idling_at node.now.state session) }
-    ensures open { IsTrue result → IsOpen node.now.state.sessions session }
+    ensures idles { IsTrue result → Idles node.now.state session }
 {
     match node.session(session) {
         Some(session) => session.idling.is_some(),

@@ -115,7 +115,7 @@ next_line_is taken searched octets own front after copied h o c k =
     sym (drop-drop (searched - taken + length front + 1) taken octets) ∙ ap (drop (searched - taken + length front + 1)) whole ∙ f.1 in
     ap (cut_at 10) o ∙ cut_is ∙ (λ i. Some (sym line i, sym rest i))
 
--- nothing lies between what was taken and what was searched
+-- no octet lies between those taken and those searched
 pub none_between : (n : ℕ) (octets : List ℕ) → n ≤ length octets → IsSearched n n octets
 none_between n octets h =
     let z : n - n ≡ 0 = omega arith in

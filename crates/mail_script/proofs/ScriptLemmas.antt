@@ -34,7 +34,7 @@ keyword_text DrainWord = codes "drain"
 keyword_text AgreeWord = codes "agree"
 keyword_text JoinWord = codes "join"
 
--- a word of the table, or a later one
+-- the word is this one of the table, or a later one
 picked : (word text : List ℕ) (k : ScriptWord) (next : Option ScriptWord) (keyword : ScriptWord) → text ≡ keyword_text k → cond (bytes_eq word text) (Some k) next ≡ Some keyword → (next ≡ Some keyword → word ≡ keyword_text keyword) → word ≡ keyword_text keyword
 picked word text k next keyword s h after =
     elim (chosen (bytes_eq word text) (Some k) next (Some keyword) h) [
@@ -321,6 +321,6 @@ only_by line (Err NoMemory) g meaning s = refl
 only_by line (Err NotALine) g meaning s =
     let e : ◌≡◌ {A = Option ScriptLine} None (Some meaning) = sym g ∙ line_again line meaning s in absurd cc
 
-pub one_by : (line : List ℕ) (meaning other : ScriptLine) → Means line meaning → Means line other → meaning ≡ other
-one_by line meaning other s t =
+pub script_is_one : (line : List ℕ) (meaning other : ScriptLine) → Means line meaning → Means line other → meaning ≡ other
+script_is_one line meaning other s t =
     let e : ◌≡◌ {A = Option ScriptLine} (Some meaning) (Some other) = sym (line_again line meaning s) ∙ line_again line other t in cc

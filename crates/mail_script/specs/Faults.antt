@@ -6,7 +6,7 @@ use Rattle.imap_types.specs.declared.escape.EscapeFault.TheVariants.{NoMemory as
 use Rattle.mail_script.specs.declared.script.LineFault.{LineFault}
 use Rattle.mail_script.specs.declared.script.LineFault.TheVariants.{NotALine, NoMemory}
 
--- A text that isn't properly escaped makes its line no script line.
+-- A line whose text isn't properly escaped is no script line.
 abbrev pub fault_of : EscapeFault → LineFault
 fault_of NotEscaped = NotALine
 fault_of NoMemoryForEscape = NoMemory

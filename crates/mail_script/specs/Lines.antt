@@ -4,7 +4,7 @@ use Rattle.std.specs.Prelude.{◌≡◌, ℕ, ◌-◌, ◌≤◌, ◌==◌, List
 use Rattle.std.specs.Prelude.{if◌then◌else◌}
 use Rattle.mail_script.specs.Reading.{cut_at}
 
--- Adds an octet to the beginning of the first line.
+-- Adds an octet at the start of the first line.
 abbrev pub prepend_octet : ℕ → List (List ℕ) → List (List ℕ)
 prepend_octet octet [] = (octet ∷ []) ∷ []
 prepend_octet octet (line ∷ lines) = (octet ∷ line) ∷ lines

@@ -21,7 +21,7 @@ pub enum ScriptLine {
     /// Nothing: the line is empty or a comment.
     Blank,
     /// `node R uid U k K` declares a replica. U is INBOX's first UID, from 1. K is the k of the
-    /// first incarnation of another folder that begins at R, from 1 to 65,536; 65,536 leaves no
+    /// first incarnation that begins at R for another folder, from 1 to 65,536; 65,536 leaves no
     /// incarnation to begin. A bare `node R` means 1 and 1.
     Node {
         replica: ReplicaId,
@@ -37,8 +37,8 @@ pub enum ScriptLine {
         replica: ReplicaId,
         session: SessionName,
     },
-    /// `line NAME TEXT` feeds a session the unescaped text and a CRLF; `text` holds the unescaped
-    /// text without the CRLF.
+    /// `line NAME TEXT` feeds a session the unescaped text and a CRLF; `text` is the unescaped text
+    /// without the CRLF.
     Line {
         session: SessionName,
         text: Octets,

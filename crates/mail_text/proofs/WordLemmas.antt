@@ -64,7 +64,7 @@ continuation_tail text (a ∷ rest) line tail g e p h =
       others = g.others ∙ k;
     }
 
--- a line that doesn't
+-- a line that doesn't continue the field
 record HasNoContinuation (rest : List ℕ) : Type 0 where
   no_lines : continuation_lines (field_lines (lines_of rest)) ≡ []
   all_after : after_continuations (field_lines (lines_of rest)) ≡ field_lines (lines_of rest)
@@ -94,7 +94,7 @@ pub continuation_at_end : (text rest : List ℕ) → IsInContinuation text rest 
 continuation_at_end text [] g l = after_continuation text [] g refl
 continuation_at_end text (x ∷ rest) g l = absurd (omega arith)
 
--- the first field: a line and those that continue it
+-- the first field is a line and those that continue it
 split_fields : (line : List ℕ) (lines : List (List ℕ)) → fields_in (line ∷ lines) ≡ (line ∷ continuation_lines lines) ∷ fields_in (after_continuations lines)
 split_fields line [] = refl
 split_fields line (next ∷ lines) =

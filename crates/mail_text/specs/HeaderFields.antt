@@ -29,7 +29,7 @@ abbrev pub with_octet : ℕ → Option (List ℕ) → Option (List ℕ)
 with_octet octet None = None
 with_octet octet (Some octets) = Some (octet ∷ octets)
 
--- What comes before the first colon, if there is one.
+-- The octets before the first colon, if there is one.
 abbrev pub before_colon : List ℕ → Option (List ℕ)
 before_colon [] = None
 before_colon (octet ∷ octets) =
@@ -46,8 +46,8 @@ abbrev pub is_among : List (List ℕ) → Option (List ℕ) → Bool
 is_among names None = false
 is_among names (Some name) = has_keyword name names
 
--- Whether a line begins a field with one of these names: the name comes before the first colon,
--- without blanks at its end.
+-- Whether a line begins a field with one of these names: the name precedes the first colon, without
+-- blanks at its end.
 abbrev pub has_asked_name : List (List ℕ) → List ℕ → Bool
 has_asked_name names line = is_among names (option_map trim_end_blanks (before_colon line))
 

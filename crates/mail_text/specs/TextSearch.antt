@@ -22,12 +22,13 @@ abbrev pub after_colon : List ℕ → List ℕ
 after_colon [] = []
 after_colon (octet ∷ octets) = if octet == 58 then octets else after_colon octets
 
--- Whether a field, given as its lines, has this name and holds a word after its first colon.
+-- Whether a field, given as its lines, has this name and contains a word after its first colon.
 abbrev pub field_holds : List ℕ → List ℕ → List (List ℕ) → Bool
 field_holds name word field =
     first_asked (has_asked_name (name ∷ [])) field && occurs_in word (after_colon (concat field))
 
--- Whether a field of this name in a text's header holds a word (RFC 9051, section 6.4.4, HEADER).
+-- Whether a field of this name in a text's header contains a word (RFC 9051, section 6.4.4,
+-- HEADER).
 abbrev pub any_field_holds : List ℕ → List ℕ → List ℕ → Bool
 any_field_holds name word text =
     list_any (field_holds name word) (fields_in (field_lines (lines_of text)))

@@ -25,8 +25,8 @@ struct Field<'a> {
 
 /// Whether a word occurs in a header field of this name, after the field's first colon, without
 /// regard to the case of ASCII letters (RFC 9051, section 6.4.4, HEADER). An empty word occurs in
-/// each field. Time is linear in the text's length. `Err` if memory runs out for a field in lower
-/// case.
+/// each field. Time is linear in the text's length. `Err` if memory runs out for a lower-case copy
+/// of a field.
 pub fn field_contains_nocase(
     alloc: Global,
     text: &[u8],
@@ -50,7 +50,7 @@ pub fn field_contains_nocase(
     Ok(false)
 }
 
-/// Whether the field with this first line and these octets has this name and holds a word.
+/// Whether the field with this first line and these octets has this name and contains a word.
 fn occurs_in(
     alloc: Global,
     line: &[u8],

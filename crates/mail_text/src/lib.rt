@@ -7,14 +7,14 @@
 //! section 6.4.4). `civil` gives the date-time of a moment in UTC, `written_day` the day of a
 //! date-time in its own zone.
 //!
-//! Contracts say what each result is as a filter or a cut of the whole text: the text's lines, the
+//! Contracts define each result as a filter or a cut of the whole text: the text's lines, the
 //! fields that these lines form, and those among them that are selected. Calls that make new octets
 //! return `Err` if memory runs out; all others take none.
 //!
 //! # Decided
 //!
-//! - Octets in messages are found by `bstr`, whose contracts say where each search ends in the
-//!   words of `memchr`; that crate is a dependency only for its lemmas.
+//! - `bstr` finds octets in messages. Its contracts define the result of each search in the terms
+//!   of `memchr`, which is a dependency only for its lemmas.
 #![tactic(auto)]
 
 mod dates;

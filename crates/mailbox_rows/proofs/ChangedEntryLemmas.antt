@@ -1,4 +1,4 @@
--- Changes by mod-sequence, and the search for entries by them.
+-- The entries in an index by mod-sequence, and the search for entries by it.
 use Rattle.std.proofs.Common.{◌≡◌, inl, inr, ℕ, Bool, zero, suc, ◌+◌, ◌-◌, ◌<◌, ◌≤◌, true, false, nat_lt, nat_eq, leb, ltb, ◌&&◌, if◌then◌else◌, List, [], ◌∷◌, ◌++◌, length, drop, take, set, remove, get_or, refl, sym, ap, subst, ◌∙◌, arith, Option, Some, None, Result, Ok, Err, OnOk}
 use Rattle.std.specs.Prelude.{slice_index_or}
 use Rattle.std.specs.List.{filter, list_any, slice_get}
@@ -7,9 +7,10 @@ use Rattle.std.specs.Option.{option_to_list}
 use Rattle.std.proofs.lemmas.Bool.{cases_Bool, cases_order}
 use Rattle.std.proofs.lemmas.Bool.Decides.{nat_tests}
 use Rattle.std.proofs.lemmas.List.Sorted.{list_any-IsPermutation}
-use Rattle.mailbox_rows.specs.declared.modseq_log.ModSeqChange.{ModSeqChange}
+use Rattle.modseq_index.specs.declared.index.ModSeqEntry.{ModSeqEntry}
 use Rattle.mailbox_rows.specs.declared.entry.ListingEntry.{ListingEntry}
-use Rattle.mailbox_rows.specs.ModSeqLog.{AreAmong, AreAscending, AreInOrder, AreLogged, IsLogged, changed_since, changed_with, changes_of, is_of, uids_above}
+use Rattle.modseq_index.specs.ModSeqIndex.{latest, uids_above}
+use Rattle.mailbox_rows.specs.ChangedEntries.{AreAmong, AreAscending, AreNoted, IsNoted, changed_since, changed_with, is_of, modseq_entries_of}
 use Rattle.mailbox_rows.specs.ListingEntries.{AreRising, IsEdge}
 use Rattle.mailbox_rows.proofs.IndexLemmas.{get_at_edge}
 
@@ -29,63 +30,17 @@ lower_rising : (low high : ℕ) (es : List ListingEntry) → low ≤ high → Ar
 lower_rising low high [] l h = tt
 lower_rising low high (e ∷ es) l h = let first : high ≤ e.uid = h.0 in (omega (arith, l, first), h.1)
 
--- ---- their order
+pub both_true : (a b : Bool) → (a && b) ≡ true → (a ≡ true) × (b ≡ true)
+both_true true true h = (refl, refl)
+both_true true false h = absurd (cc h)
+both_true false b h = absurd (cc h)
 
-pub in_order_from : (low : ℕ) (cs : List ModSeqChange) → ((d : ModSeqChange) → 0 < length cs → low ≤ (slice_index_or cs 0 d).modseq) → IsNonDecreasingBy (λ (c : ModSeqChange). c.modseq) cs → AreInOrder low cs
-in_order_from low [] b h = tt
-in_order_from low (c ∷ cs) b h = (
-  b c (omega arith),
-  in_order_from c.modseq cs (λ d k. h 0 1 d (omega arith) (omega arith)) (λ i j d l k. h (suc i) (suc j) d (omega arith) (omega arith)),
-)
+-- ---- which entries are noted
 
-pub order_put : (low m : ℕ) (cs : List ModSeqChange) (c : ModSeqChange) → c.modseq ≡ m → (length cs ≡ 0 → low ≤ m) → ((d : ModSeqChange) → 0 < length cs → (get_or cs (length cs - 1) d).modseq ≤ m) → AreInOrder low cs → AreInOrder low (cs ++ c ∷ [])
-order_put low m [] c e first last h = (subst (λ n. low ≤ n) (sym e) (first refl), tt)
-order_put low m (x ∷ []) c e first last h = (h.0, (subst (λ n. x.modseq ≤ n) (sym e) (last x (omega arith)), tt))
-order_put low m (x ∷ y ∷ cs) c e first last h =
-    let k : suc (suc (length cs)) - 1 ≡ suc (suc (length cs) - 1) = omega arith in (
-      h.0,
-      order_put x.modseq m (y ∷ cs) c e (λ z. absurd (omega (arith, z))) (λ d some. subst (λ i. (get_or (x ∷ y ∷ cs) i d).modseq ≤ m) k (last d (omega arith))) h.1,
-    )
-
-order_from : (low : ℕ) (cs : List ModSeqChange) → AreInOrder low cs → (j : ℕ) (d : ModSeqChange) → j < length cs → low ≤ (get_or cs j d).modseq
-order_from low [] h j d k = absurd (omega (arith, k))
-order_from low (c ∷ cs) h zero d k = h.0
-order_from low (c ∷ cs) h (suc j) d k =
-    let first : low ≤ c.modseq = h.0 in
-    let rest : c.modseq ≤ (get_or cs j d).modseq = order_from c.modseq cs h.1 j d (omega (arith, k)) in
-    omega arith
-
-above_all : (m low : ℕ) (cs : List ModSeqChange) → m < low → AreInOrder low cs → filter (λ (c : ModSeqChange). nat_lt m c.modseq) cs ≡ cs
-above_all m low [] k h = refl
-above_all m low (c ∷ cs) k h =
-    let first : low ≤ c.modseq = h.0 in
-    let is : nat_lt m c.modseq ≡ true = grind (arith, nat_tests) in
-    rw is (ap (λ x. c ∷ x) (above_all m c.modseq cs (omega (arith, k, first)) h.1))
-
--- The changes above a mod-sequence come after an edge.
-pub above_edge : (m low : ℕ) (cs : List ModSeqChange) (n : ℕ) → AreInOrder low cs → n ≤ length cs → ((d : ModSeqChange) → IsEdge (λ i. leb (get_or cs i d).modseq m) (length cs) n) → drop n cs ≡ filter (λ (c : ModSeqChange). nat_lt m c.modseq) cs
-above_edge m low [] zero h w e = refl
-above_edge m low [] (suc n) h w e = absurd (omega (arith, w))
-above_edge m low (c ∷ cs) zero h w e =
-    let first : m < c.modseq = leb_false _ _ ((e c).fail (omega arith)) in
-    let is : nat_lt m c.modseq ≡ true = grind (arith, nat_tests) in
-    rw is (ap (λ x. c ∷ x) (sym (above_all m c.modseq cs first h.1)))
-above_edge m low (c ∷ cs) (suc n) h w e =
-    let last : (get_or (c ∷ cs) (suc n - 1) c).modseq ≤ m = leb_true _ _ ((e c).pass (omega arith)) in
-    let own : AreInOrder c.modseq (c ∷ cs) = (omega arith, h.1) in
-    let first : c.modseq ≤ (get_or (c ∷ cs) (suc n - 1) c).modseq = order_from c.modseq (c ∷ cs) own (suc n - 1) c (omega (arith, w)) in
-    let is : nat_lt m c.modseq ≡ false = grind (arith, nat_tests) in
-    rw is (above_edge m c.modseq cs n h.1 (omega (arith, w)) (λ d. record {
-      pass = λ k. let q : suc n - 1 ≡ suc (n - 1) = omega (arith, k) in subst (λ i. leb (get_or (c ∷ cs) i d).modseq m ≡ true) q ((e d).pass (omega arith));
-      fail = λ k. (e d).fail (omega (arith, k));
-    }))
-
--- ---- which entries are logged
-
-pub own_change : (e : ListingEntry) (c : ModSeqChange) → c.modseq ≡ e.modseq → c.uid ≡ e.uid → is_of e c ≡ true
+pub own_change : (e : ListingEntry) (c : ModSeqEntry) → c.modseq ≡ e.modseq → c.uid ≡ e.uid → is_of e c ≡ true
 own_change e c m u = grind (arith, nat_tests)
 
-pub noted_last : (cs : List ModSeqChange) (c : ModSeqChange) (e : ListingEntry) → is_of e c ≡ true → IsLogged (cs ++ c ∷ []) e
+pub noted_last : (cs : List ModSeqEntry) (c : ModSeqEntry) (e : ListingEntry) → is_of e c ≡ true → IsNoted (cs ++ c ∷ []) e
 noted_last [] c e h = rw h refl
 noted_last (x ∷ cs) c e h =
     elim (cases_Bool (is_of e x)) [
@@ -93,7 +48,7 @@ noted_last (x ∷ cs) c e h =
       | inr f ↦ rw f (noted_last cs c e h)
     ]
 
-pub noted_longer : (cs more : List ModSeqChange) (e : ListingEntry) → IsLogged cs e → IsLogged (cs ++ more) e
+pub noted_longer : (cs more : List ModSeqEntry) (e : ListingEntry) → IsNoted cs e → IsNoted (cs ++ more) e
 noted_longer [] more e h = absurd (cc h)
 noted_longer (x ∷ cs) more e h =
     elim (cases_Bool (is_of e x)) [
@@ -101,18 +56,18 @@ noted_longer (x ∷ cs) more e h =
       | inr f ↦ rw f (noted_longer cs more e (rw f at h))
     ]
 
-noted_cons : (c : ModSeqChange) (cs : List ModSeqChange) (e : ListingEntry) → IsLogged cs e → IsLogged (c ∷ cs) e
+noted_cons : (c : ModSeqEntry) (cs : List ModSeqEntry) (e : ListingEntry) → IsNoted cs e → IsNoted (c ∷ cs) e
 noted_cons c cs e h =
     elim (cases_Bool (is_of e c)) [
       | inl t ↦ rw t refl
       | inr f ↦ rw f h
     ]
 
-pub noted_over : (stored own : List ModSeqChange) (e : ListingEntry) → IsLogged own e → IsLogged (stored ++ own) e
+pub noted_over : (stored own : List ModSeqEntry) (e : ListingEntry) → IsNoted own e → IsNoted (stored ++ own) e
 noted_over [] own e h = h
 noted_over (c ∷ stored) own e h = noted_cons c (stored ++ own) e (noted_over stored own e h)
 
-pub noted_over_more : (stored old new : List ModSeqChange) (e : ListingEntry) → (IsLogged old e → IsLogged new e) → IsLogged (stored ++ old) e → IsLogged (stored ++ new) e
+pub noted_over_more : (stored old new : List ModSeqEntry) (e : ListingEntry) → (IsNoted old e → IsNoted new e) → IsNoted (stored ++ old) e → IsNoted (stored ++ new) e
 noted_over_more [] old new e f h = f h
 noted_over_more (c ∷ stored) old new e f h =
     elim (cases_Bool (is_of e c)) [
@@ -120,56 +75,83 @@ noted_over_more (c ∷ stored) old new e f h =
       | inr n ↦ rw n (noted_over_more stored old new e f (rw n at h))
     ]
 
-pub are_noted_more : (cs ds : List ModSeqChange) (es : List ListingEntry) → ((e : ListingEntry) → IsLogged cs e → IsLogged ds e) → AreLogged cs es → AreLogged ds es
+pub are_noted_more : (cs ds : List ModSeqEntry) (es : List ListingEntry) → ((e : ListingEntry) → IsNoted cs e → IsNoted ds e) → AreNoted cs es → AreNoted ds es
 are_noted_more cs ds [] f h = tt
 are_noted_more cs ds (e ∷ es) f h = (f e h.0, are_noted_more cs ds es f h.1)
 
-pub noted_put : (cs : List ModSeqChange) (es : List ListingEntry) (x : ListingEntry) → IsLogged cs x → AreLogged cs es → AreLogged cs (es ++ x ∷ [])
+pub noted_put : (cs : List ModSeqEntry) (es : List ListingEntry) (x : ListingEntry) → IsNoted cs x → AreNoted cs es → AreNoted cs (es ++ x ∷ [])
 noted_put cs [] x n h = (n, tt)
 noted_put cs (e ∷ es) x n h = (h.0, noted_put cs es x n h.1)
 
-pub noted_without : (cs : List ModSeqChange) (es : List ListingEntry) (k : ℕ) → AreLogged cs es → AreLogged cs (remove es k)
+pub noted_without : (cs : List ModSeqEntry) (es : List ListingEntry) (k : ℕ) → AreNoted cs es → AreNoted cs (remove es k)
 noted_without cs [] zero h = tt
 noted_without cs [] (suc k) h = tt
 noted_without cs (e ∷ es) zero h = h.1
 noted_without cs (e ∷ es) (suc k) h = (h.0, noted_without cs es k h.1)
 
-pub noted_set : (cs : List ModSeqChange) (es : List ListingEntry) (k : ℕ) (x : ListingEntry) → IsLogged cs x → AreLogged cs es → AreLogged cs (set es k x)
+pub noted_set : (cs : List ModSeqEntry) (es : List ListingEntry) (k : ℕ) (x : ListingEntry) → IsNoted cs x → AreNoted cs es → AreNoted cs (set es k x)
 noted_set cs [] k x n h = tt
 noted_set cs (e ∷ es) zero x n h = (n, h.1)
 noted_set cs (e ∷ es) (suc k) x n h = (h.0, noted_set cs es k x n h.1)
 
-pub noted_all : (es : List ListingEntry) → AreLogged (changes_of es) es
+-- A new entry, noted in the index of edits.
+pub noted_own : (stored own : List ModSeqEntry) (x : ListingEntry) → IsNoted (stored ++ (own ++ record { modseq = x.modseq; uid = x.uid } ∷ [])) x
+noted_own stored own x = noted_over stored (own ++ record { modseq = x.modseq; uid = x.uid } ∷ []) x (noted_last own (record { modseq = x.modseq; uid = x.uid }) x (own_change x (record { modseq = x.modseq; uid = x.uid }) refl refl))
+
+-- Entries that were noted still are after one further entry of the index.
+pub noted_still : (stored own : List ModSeqEntry) (c : ModSeqEntry) (es : List ListingEntry) → AreNoted (stored ++ own) es → AreNoted (stored ++ (own ++ c ∷ [])) es
+noted_still stored own c es h = are_noted_more (stored ++ own) (stored ++ (own ++ c ∷ [])) es (λ e. noted_over_more stored own (own ++ c ∷ []) e (noted_longer own (c ∷ []) e)) h
+
+pub noted_all : (es : List ListingEntry) → AreNoted (modseq_entries_of es) es
 noted_all [] = tt
 noted_all (e ∷ es) =
-    let own : ModSeqChange = record { modseq = e.modseq; uid = e.uid } in
+    let own : ModSeqEntry = record { modseq = e.modseq; uid = e.uid } in
     let is : is_of e own ≡ true = own_change e own refl refl in (
       rw is refl,
-      are_noted_more (changes_of es) (own ∷ changes_of es) es (λ x h. noted_cons own (changes_of es) x h) (noted_all es),
+      are_noted_more (modseq_entries_of es) (own ∷ modseq_entries_of es) es (λ x h. noted_cons own (modseq_entries_of es) x h) (noted_all es),
     )
 
-pub noted_permuted : (cs ds : List ModSeqChange) (es : List ListingEntry) → IsPermutation cs ds → AreLogged cs es → AreLogged ds es
-noted_permuted cs ds es p h = are_noted_more cs ds es (λ e n. sym (list_any-IsPermutation (is_of e) cs ds p) ∙ n) h
+-- ---- the latest mod-sequence
 
-pub both_true : (a b : Bool) → (a && b) ≡ true → (a ≡ true) × (b ≡ true)
-both_true true true h = (refl, refl)
-both_true true false h = absurd (cc h)
-both_true false b h = absurd (cc h)
+pub latest_put : (cs : List ModSeqEntry) (c : ModSeqEntry) → latest cs ≤ c.modseq → latest (cs ++ c ∷ []) ≡ c.modseq
+latest_put [] c h = omega arith
+latest_put (x ∷ cs) c h = let rest = latest_put cs c (omega (arith, h)) in omega (arith, h, rest)
 
-pub both : (a b : Bool) → a ≡ true → b ≡ true → (a && b) ≡ true
-both true b h k = k
-both false b h k = absurd (cc h)
+above_latest : (m : ℕ) (cs : List ModSeqEntry) → latest cs ≤ m → list_any (λ (c : ModSeqEntry). nat_lt m c.modseq) cs ≡ false
+above_latest m [] h = refl
+above_latest m (c ∷ cs) h =
+    let own : c.modseq ≤ m = omega (arith, h) in
+    let no : nat_lt m c.modseq ≡ false = grind (arith, nat_tests) in
+    rw no (above_latest m cs (omega (arith, h)))
 
--- ---- a pass over all
-
-pub scan_step : (m : ℕ) (es : List ListingEntry) (i : ℕ) → i < length es → changed_since m (take (suc i) es) ≡ changed_since m (take i es) ++ changed_since m (option_to_list (slice_get es i))
-scan_step m [] i h = absurd (omega (arith, h))
-scan_step m (e ∷ es) zero h = refl
-scan_step m (e ∷ es) (suc i) h =
-    elim (cases_Bool (nat_lt m e.modseq)) [
-      | inl t ↦ rw t (ap (λ x. e ∷ x) (scan_step m es i (omega (arith, h))))
-      | inr f ↦ rw f (scan_step m es i (omega (arith, h)))
+latest_below : (m : ℕ) (cs : List ModSeqEntry) → list_any (λ (c : ModSeqEntry). nat_lt m c.modseq) cs ≡ false → latest cs ≤ m
+latest_below m [] h = omega arith
+latest_below m (c ∷ cs) h =
+    elim (cases_Bool (nat_lt m c.modseq)) [
+      | inl t ↦ absurd (cc (rw t at h))
+      | inr f ↦ (let own : c.modseq ≤ m = grind (arith, nat_tests) in let rest = latest_below m cs (rw f at h) in omega (arith, own, rest))
     ]
+
+noted_latest : (cs : List ModSeqEntry) (e : ListingEntry) → IsNoted cs e → e.modseq ≤ latest cs
+noted_latest [] e h = absurd (cc h)
+noted_latest (c ∷ cs) e h =
+    elim (cases_Bool (is_of e c)) [
+      | inl t ↦ (let same = nat_eq_is c.modseq e.modseq (both_true (nat_eq c.modseq e.modseq) (nat_eq c.uid e.uid) t).0 in omega (arith, same))
+      | inr f ↦ (let rest = noted_latest cs e (rw f at h) in omega (arith, rest))
+    ]
+
+latest_noted : (cs : List ModSeqEntry) (es : List ListingEntry) → AreNoted cs es → latest (modseq_entries_of es) ≤ latest cs
+latest_noted cs [] h = omega arith
+latest_noted cs (e ∷ es) h = let own = noted_latest cs e h.0 in let rest = latest_noted cs es h.1 in omega (arith, own, rest)
+
+-- The latest of the entries' own mod-sequences, in any order, is no greater than that of an index.
+pub latest_rebuilt : (cs ds : List ModSeqEntry) (es : List ListingEntry) → IsPermutation (modseq_entries_of es) ds → AreNoted cs es → latest ds ≤ latest cs
+latest_rebuilt cs ds es p h =
+    let m = latest cs in
+    latest_below m ds (sym (list_any-IsPermutation (λ (c : ModSeqEntry). nat_lt m c.modseq) (modseq_entries_of es) ds p) ∙ above_latest m (modseq_entries_of es) (latest_noted cs es h))
+
+pub noted_permuted : (cs ds : List ModSeqEntry) (es : List ListingEntry) → IsPermutation cs ds → AreNoted cs es → AreNoted ds es
+noted_permuted cs ds es p h = are_noted_more cs ds es (λ e n. sym (list_any-IsPermutation (is_of e) cs ds p) ∙ n) h
 
 -- ---- a search for each UID
 
@@ -217,7 +199,7 @@ all_beyond u low (e ∷ es) k r =
     let is : nat_lt u e.uid ≡ true = grind (arith, nat_tests) in
     rw is (ap (λ x. e ∷ x) (all_beyond u (e.uid + 1) es (omega (arith, k, first)) r.1))
 
--- None of those with UIDs below this one has a greater mod-sequence.
+-- No entry with a UID below this one has a greater mod-sequence.
 abbrev AreQuietBelow : ℕ → ℕ → List ListingEntry → Type 0
 AreQuietBelow m u [] = Unit {0}
 AreQuietBelow m u (e ∷ es) = (e.uid < u → nat_lt m e.modseq ≡ false) × AreQuietBelow m u es
@@ -322,9 +304,9 @@ picked_all m from low least (u ∷ us) es a r l h =
           rw f (picked_all m u low least us es a.1 r l (among_rest m u least us es (omega (arith, less, l)) r h))
     ]
 
--- ---- which UIDs are among them
+-- ---- which UIDs an index has above a mod-sequence
 
-among_noted : (m : ℕ) (cs : List ModSeqChange) (e : ListingEntry) → nat_lt m e.modseq ≡ true → IsLogged cs e → list_any (λ u. nat_eq u e.uid) (uids_above m cs) ≡ true
+among_noted : (m : ℕ) (cs : List ModSeqEntry) (e : ListingEntry) → nat_lt m e.modseq ≡ true → IsNoted cs e → list_any (λ u. nat_eq u e.uid) (uids_above m cs) ≡ true
 among_noted m [] e k h = absurd (cc h)
 among_noted m (c ∷ cs) e k h =
     elim (cases_Bool (is_of e c)) [
@@ -341,11 +323,11 @@ among_noted m (c ∷ cs) e k h =
           ]
     ]
 
-pub all_among : (m : ℕ) (cs : List ModSeqChange) (us : List ℕ) (es : List ListingEntry) → ((w : ℕ) → list_any (λ u. nat_eq u w) us ≡ list_any (λ u. nat_eq u w) (uids_above m cs)) → AreLogged cs es → AreAmong m us es
+pub all_among : (m : ℕ) (cs : List ModSeqEntry) (us : List ℕ) (es : List ListingEntry) → ((w : ℕ) → list_any (λ u. nat_eq u w) us ≡ list_any (λ u. nat_eq u w) (uids_above m cs)) → AreNoted cs es → AreAmong m us es
 all_among m cs us [] s h = tt
 all_among m cs us (e ∷ es) s h = ((λ k. s e.uid ∙ among_noted m cs e k h.0), all_among m cs us es s h.1)
 
-pub above_over : (m : ℕ) (cs ds : List ModSeqChange) → uids_above m cs ++ uids_above m ds ≡ uids_above m (cs ++ ds)
+pub above_over : (m : ℕ) (cs ds : List ModSeqEntry) → uids_above m cs ++ uids_above m ds ≡ uids_above m (cs ++ ds)
 above_over m [] ds = refl
 above_over m (c ∷ cs) ds =
     elim (cases_Bool (nat_lt m c.modseq)) [

@@ -1,4 +1,4 @@
--- What an edit in one piece leaves.
+-- The items after an edit in one piece.
 use borrow.Rule.Slice.PartMut.{put_mid}
 use Rattle.std.specs.Result.{is_err, is_ok}
 use Rattle.std.proofs.Common.{Result, Ok, Err, true, false, if◌then◌else◌, ◌≡◌, ℕ, zero, suc, ◌+◌, ◌-◌, ◌<◌, ◌≤◌, List, [], ◌∷◌, ◌++◌, Some, length, get_or, take, drop, set, map, remove, refl, ap, sym, subst, ◌∙◌, arith, length-append, length-drop, inl, inr}
@@ -29,7 +29,7 @@ second_of_two [] i x y d h = absurd (omega (arith, h))
 second_of_two (z ∷ xs) zero x y d h = refl
 second_of_two (z ∷ xs) (suc i) x y d h = second_of_two xs i x y d (omega (arith, h))
 
--- What a call that may fail left, if it didn't fail.
+-- The state after a call that may fail, if it didn't fail.
 pub given_ok : {A B X : Type 0} (r : Result A B) (x a b : X) → is_err r ≡ false → x ≡ (if is_ok r then a else b) → x ≡ a
 given_ok (Ok v) x a b e h = h
 given_ok (Err v) x a b e h = absurd (cc e)
@@ -58,7 +58,7 @@ slice_get_drop zero xs i = let e : i ≡ 0 + i = omega arith in ap (slice_get xs
 slice_get_drop (suc n) [] i = refl
 slice_get_drop (suc n) (x ∷ xs) i = let e : suc (n + i) ≡ suc n + i = omega arith in slice_get_drop n xs i ∙ ap (slice_get (x ∷ xs)) e
 
--- The items that a piece has of a list are within it.
+-- The items that a piece takes from a list are within the list.
 pub base_within : {T : Type 0} (b : List T) (from len : ℕ) → 0 < len → length (take len (drop from b)) ≡ len → from + len ≤ length b
 base_within b from len some item_count = omega (arith, some, item_count, length-take len (drop from b), length-drop from b)
 
@@ -82,7 +82,7 @@ module _ {T : Type 0} (b : List T) (ps : List (Piece T)) (index at : ℕ) (d : P
   pub slice_get_in : slice_get (piece_items b (get_or ps at d)) (index - (get_or ps at d).start) ≡ slice_get (items_of b ps) index
   slice_get_in = sym (ap (λ xs. slice_get xs index) (items_around b ps at d place.within) ∙ slice_get_between (items_of b (take at ps)) (piece_items b (get_or ps at d)) (items_of b (drop (suc at) ps)) index low high ∙ ap (λ k. slice_get (piece_items b (get_or ps at d)) (index - k)) (sym starts))
 
--- The same for the parts of the piece that were read.
+-- If the item at `index` is in a piece of the list below, it is read from that list.
 pub slice_get_base : {T : Type 0} (b : List T) (ps : List (Piece T)) (index at : ℕ) (p : Piece T) (from : ℕ) → ArePieces b 0 ps → IsInPiece ps index at → p ≡ get_or ps at p → p.source ≡ Base from → slice_get (drop from b) (index - p.start) ≡ slice_get (items_of b ps) index
 slice_get_base b ps index at p from h place is source =
     let inside : index - p.start < p.len = subst (λ q. index - q.start < q.len) (sym is) (let low = place.start p in let end = place.end p in omega (arith, low, end)) in
@@ -96,7 +96,7 @@ slice_get_own b ps index at p x h place is source =
     let none : index - p.start ≡ 0 = omega (arith, inside, one) in
     sym (ap (λ k. slice_get (piece_items b p) k) none ∙ ap (λ s. slice_get (source_items b p.len s) 0) source) ∙ ap (λ q. slice_get (piece_items b q) (index - q.start)) is ∙ slice_get_in b ps index at p h place
 
--- The place in the list below of an item of a piece.
+-- The place of a piece's item in the list below.
 pub held_place : {T : Type 0} (b : List T) (ps : List (Piece T)) (index at : ℕ) (p : Piece T) (from : ℕ) → ArePieces b 0 ps → IsInPiece ps index at → p ≡ get_or ps at p → p.source ≡ Base from → from + (index - p.start) < length b
 held_place b ps index at p from h place is source =
     let whole : IsPiece b (length (items_of b (take at ps))) p = subst (λ q. IsPiece b (length (items_of b (take at ps))) q) (sym is) (piece_is b ps at p place.within h) in

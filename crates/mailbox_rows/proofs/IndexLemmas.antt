@@ -6,7 +6,7 @@ use Rattle.std.proofs.lemmas.Bool.{cases_Bool, cases_order}
 use Rattle.std.proofs.lemmas.Bool.Decides.{nat_tests}
 use Rattle.tags_clocks.specs.declared.id.OpId.{OpId}
 use Rattle.mailbox_rows.specs.declared.entry.ListingEntry.{ListingEntry}
-use Rattle.mailbox_rows.specs.ListingEntries.{AreBelow, AreIndexed, AreRising, IsEdge, Lacks, LacksAt, is_id}
+use Rattle.mailbox_rows.specs.ListingEntries.{AreBelow, AreIndexed, AreRising, IsEdge, IsUidIndex, Lacks, LacksAt, is_id}
 
 -- ---- ids
 
@@ -169,7 +169,7 @@ rising_set low [] k x d inside e h = tt
 rising_set low (y ∷ es) zero x d inside e h = (subst (λ u. low ≤ u) (sym e) h.0, subst (λ u. AreRising (u + 1) es) (sym e) h.1)
 rising_set low (y ∷ es) (suc k) x d inside e h = (h.0, rising_set (y.uid + 1) es k x d (omega (arith, inside)) e h.1)
 
--- ---- what calls leave
+-- ---- the results of calls
 
 pub on_ok : {A B : Type 0} {P : Type 0} (r : Result A B) → is_err r ≡ false → OnOk r P → P
 on_ok (Ok v) e h = h
@@ -191,3 +191,47 @@ pub none_within : {X : Type 0} (xs : List X) (k : ℕ) → k < length xs → sli
 none_within [] k h e = omega (arith, h)
 none_within (x ∷ xs) zero h e = cc e
 none_within (x ∷ xs) (suc k) h e = none_within xs k (omega (arith, h)) e
+
+-- ---- an index without further origins
+
+lacks_parts : (i : OpId) (es : List ListingEntry) (x : ListingEntry) → Lacks i (es ++ x ∷ []) → Lacks i es × (is_id i x.origin ≡ false)
+lacks_parts i [] x l = (tt, l.0)
+lacks_parts i (e ∷ es) x l = let rest = lacks_parts i es x l.1 in ((l.0, rest.0), rest.1)
+
+lacks_back : (i : OpId) (es : List ListingEntry) (k : ℕ) (d : ListingEntry) → k < length es → is_id i (get_or es k d).origin ≡ false → Lacks i (remove es k) → Lacks i es
+lacks_back i [] k d inside n l = absurd (omega (arith, inside))
+lacks_back i (e ∷ es) zero d inside n l = (n, l)
+lacks_back i (e ∷ es) (suc k) d inside n l = (l.0, lacks_back i es k d (omega (arith, inside)) n l.1)
+
+lacks_set : (i : OpId) (es : List ListingEntry) (k : ℕ) (x d : ListingEntry) → k < length es → x.origin ≡ (get_or es k d).origin → Lacks i (set es k x) → Lacks i es
+lacks_set i [] k x d inside same l = absurd (omega (arith, inside))
+lacks_set i (e ∷ es) zero x d inside same l = (subst (λ o. is_id i o ≡ false) same l.0, l.1)
+lacks_set i (e ∷ es) (suc k) x d inside same l = (l.0, lacks_set i es k x d (omega (arith, inside)) same l.1)
+
+pub uid_index_put : (f h : OpId → Option ℕ) (es : List ListingEntry) (x : ListingEntry) → ((i : OpId) → h i ≡ (if is_id x.origin i then Some x.uid else f i)) → Lacks x.origin es → IsUidIndex f es → IsUidIndex h (es ++ x ∷ [])
+uid_index_put f h es x at lacks was = record {
+  indexed =
+      let others = indexed_others f h x.origin es lacks (λ i apart. pick_else (is_id x.origin i) _ _ _ apart (at i)) was.indexed in
+      indexed_put h es x others (pick_then (is_id x.origin x.origin) _ _ _ (is_id_same x.origin) (at x.origin));
+  only = λ i l.
+      let parts = lacks_parts i es x l in
+      pick_else (is_id x.origin i) _ _ _ (is_id_sym i x.origin parts.1) (at i) ∙ was.only i parts.0;
+}
+
+pub uid_index_without : (f h : OpId → Option ℕ) (es : List ListingEntry) (k : ℕ) (d : ListingEntry) → k < length es → AreRising 1 es → ((i : OpId) → h i ≡ (if is_id (get_or es k d).origin i then None else f i)) → IsUidIndex f es → IsUidIndex h (remove es k)
+uid_index_without f h es k d inside rising at was =
+    let o = (get_or es k d).origin in
+    record {
+      indexed = indexed_others f h o (remove es k) (others_lack f 1 es k d inside rising was.indexed) (λ i apart. pick_else (is_id o i) _ _ _ apart (at i)) (indexed_without f es k was.indexed);
+      only = λ i l.
+          elim (cases_Bool (is_id o i)) [
+            | inl t ↦ pick_then (is_id o i) _ _ _ t (at i)
+            | inr n ↦ pick_else (is_id o i) _ _ _ n (at i) ∙ was.only i (lacks_back i es k d inside (is_id_sym o i n) l)
+          ];
+    }
+
+pub uid_index_set : (f : OpId → Option ℕ) (es : List ListingEntry) (k : ℕ) (x d : ListingEntry) → k < length es → x.origin ≡ (get_or es k d).origin → x.uid ≡ (get_or es k d).uid → IsUidIndex f es → IsUidIndex f (set es k x)
+uid_index_set f es k x d inside same uid was = record {
+  indexed = indexed_set f es k x inside (indexed_without f es k was.indexed) (ap f same ∙ indexed_at f es k d inside was.indexed ∙ ap (λ u. Some u) (sym uid));
+  only = λ i l. was.only i (lacks_set i es k x d inside same l);
+}

@@ -42,7 +42,7 @@ from_at b ps i d inside h = back_of b 0 _ (take i ps) (get_or ps i d ∷ drop (s
 pub piece_is : {T : Type 0} (b : List T) (ps : List (Piece T)) (i : ℕ) (d : Piece T) → i < length ps → ArePieces b 0 ps → IsPiece b (length (items_of b (take i ps))) (get_or ps i d)
 piece_is b ps i d inside h = (from_at b ps i d inside h).0
 
--- Where the next piece starts.
+-- The place at which the next piece starts.
 pub next_start : {T : Type 0} (b : List T) (ps : List (Piece T)) (i : ℕ) (d : Piece T) → i + 1 < length ps → ArePieces b 0 ps → (get_or ps (i + 1) d).start ≡ (get_or ps i d).start + (get_or ps i d).len
 next_start b ps i d inside h =
     let here = piece_is b ps i d (omega (arith, inside)) h in
@@ -51,7 +51,7 @@ next_start b ps i d inside h =
     let parts = items_with b (take i ps) (get_or ps i d ∷ []) in
     omega (arith, here.start, here.item_count, next.start, more, ap (λ xs. length xs) parts, length-append (items_of b (take i ps)) (piece_items b (get_or ps i d) ++ []), length-append (piece_items b (get_or ps i d)) [])
 
--- Where the last piece ends.
+-- The place at which the last piece ends.
 pub last_end : {T : Type 0} (b : List T) (ps : List (Piece T)) (i : ℕ) (d : Piece T) → i + 1 ≡ length ps → ArePieces b 0 ps → length (items_of b ps) ≡ (get_or ps i d).start + (get_or ps i d).len
 last_end b ps i d last h =
     let here = piece_is b ps i d (omega (arith, last)) h in
@@ -78,7 +78,7 @@ in_piece b ps index i h within inside start late = record {
   ];
 }
 
--- Each piece counts one item less before it.
+-- Pieces have the same items if each counts one item less before it.
 pub down_items : {T : Type 0} (b : List T) (ps : List (Piece T)) → items_of b (map with_one_less ps) ≡ items_of b ps
 down_items b [] = refl
 down_items b (p ∷ ps) = ap (λ xs. piece_items b p ++ xs) (down_items b ps)
@@ -93,7 +93,7 @@ starts_late b n [] h some k d inside = absurd (omega (arith, inside))
 starts_late b n (p ∷ ps) h some zero d inside = omega (arith, h.0.start, some)
 starts_late b n (p ∷ ps) h some (suc k) d inside = starts_late b (n + p.len) ps h.1 (omega (arith, some)) k d (omega (arith, inside))
 
--- A piece after another.
+-- No piece after the first starts at 0.
 pub late_starts : {T : Type 0} (b : List T) (ps : List (Piece T)) → ArePieces b 0 ps → (k : ℕ) (d : Piece T) → 0 < k → k < length ps → 0 < (get_or ps k d).start
 late_starts b [] h k d late inside = absurd (omega (arith, inside))
 late_starts b (p ∷ ps) h zero d late inside = absurd (omega (arith, late))

@@ -12,7 +12,7 @@ use Rattle.mailbox_rows.specs.declared.entry.ListingEntry.{ListingEntry}
 use Rattle.mailbox_rows.specs.declared.folder_messages.FolderMessages.{FolderMessages}
 use Rattle.mailbox_rows.specs.declared.folder_messages.OwnedMessage.{OwnedMessage}
 use Rattle.mailbox_rows.specs.Windows.{IsEdge}
-use Rattle.mailbox_rows.specs.ModSeqLog.{changed_since as entries_since}
+use Rattle.mailbox_rows.specs.ChangedEntries.{changed_since as entries_since}
 use Rattle.std.specs.Prelude.{is_some}
 use Rattle.mailbox_rows.specs.ListingEntries.{AreRising}
 use Rattle.std.specs.Option.{option_to_list, unwrap_or}
@@ -81,7 +81,7 @@ ltb_true a b h = grind (arith, nat_tests)
 ltb_false : (a b : ℕ) → ltb a b ≡ false → b ≤ a
 ltb_false a b h = grind (arith, nat_tests)
 
--- The messages with UIDs below a number come first, and no others do.
+-- The first `n` messages have UIDs below a number, and no others do.
 pub record IsSeam (uid : ℕ) (rows : List ListedMessage) (n : ℕ) : Type 0 where
   pub below : (i : ℕ) (d : ListedMessage) → i < n → i < length rows → (get_or rows i d).uid < uid
   pub above : (i : ℕ) (d : ListedMessage) → n ≤ i → i < length rows → uid ≤ (get_or rows i d).uid
@@ -196,7 +196,7 @@ rising_left p low (row ∷ rows) h =
       | inr f ↦ rw f (rising_left p low rows (lower low (row.uid + 1) rows (omega (arith, first)) h.1))
     ]
 
--- The rows of the entries that are left are the rows that are left.
+-- The rows of the entries that changed are the rows that changed.
 pub rows_changed : (modseq : ℕ) (fresh : List (OpId × OwnedMessage)) (mailbox : FolderMessages) (es : List ListingEntry) → rows_by fresh mailbox (entries_since modseq es) ≡ changed_since modseq (rows_by fresh mailbox es)
 rows_changed modseq fresh mailbox [] = refl
 rows_changed modseq fresh mailbox (e ∷ es) =
@@ -228,7 +228,7 @@ head_listed rows place uid head h e u = listed (slice_get rows place) refl e
         let same : row.uid ≡ uid = sym (ap (λ (o : Option ListedHead). (unwrap_or o head).uid) k) ∙ u in
         k ∙ ap (option_map head_of) (sym (subst (λ n. row_of n rows ≡ Some row) same (row_of_get 1 rows place row h is)))
 
--- The messages of entries by ascending UID.
+-- The messages of entries by ascending UID have ascending UIDs.
 pub rows_rising : (low : ℕ) (fresh : List (OpId × OwnedMessage)) (mailbox : FolderMessages) (es : List ListingEntry) → AreRising low es → AreRisingRows low (rows_by fresh mailbox es)
 rows_rising low fresh mailbox [] r = tt
 rows_rising low fresh mailbox (e ∷ es) r = (r.0, rows_rising (e.uid + 1) fresh mailbox es r.1)

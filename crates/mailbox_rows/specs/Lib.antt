@@ -1,7 +1,7 @@
 pub mod Pieces
 pub mod ListingEntries
 pub mod EntryTables
-pub mod ModSeqLog
+pub mod ChangedEntries
 pub mod ListedMessage
 pub mod RowViews
 pub mod MessageData

@@ -1,10 +1,11 @@
 -- Lists of entries by ascending UID (RFC 9051, section 2.3.1.1), and indexes from origins to UIDs.
 
-use Rattle.std.specs.Prelude.{◌≡◌, ℕ, ◌+◌, ◌-◌, ◌<◌, ◌≤◌, ◌==◌, ◌&&◌, Bool, true, false, List, []}
+use Rattle.std.specs.Prelude.{◌≡◌, ℕ, ◌+◌, ◌<◌, ◌≤◌, ◌==◌, ◌&&◌, Bool, false, List, []}
 use Rattle.std.specs.Prelude.{◌∷◌, Option, Some, None, length, get_or}
 use Rattle.std.specs.Map.{lookup}
 use Rattle.tags_clocks.specs.declared.id.OpId.{OpId}
 use Rattle.mailbox_rows.specs.declared.entry.ListingEntry.{ListingEntry}
+pub use Rattle.modseq_index.specs.Edges.{IsEdge}
 
 -- Whether two ids are the same.
 abbrev pub is_id : OpId → OpId → Bool
@@ -35,6 +36,11 @@ abbrev pub AreIndexed : (OpId → Option ℕ) → List ListingEntry → Type 0
 AreIndexed f [] = Unit {0}
 AreIndexed f (e ∷ es) = (f e.origin ≡ Some e.uid) × AreIndexed f es
 
+-- The index has the UID of each entry under its origin, and nothing else.
+pub record IsUidIndex (f : OpId → Option ℕ) (es : List ListingEntry) : Type 0 where
+  pub indexed : AreIndexed f es
+  pub only : (origin : OpId) → Lacks origin es → f origin ≡ None
+
 -- The value of a map under an origin.
 abbrev pub indexed_value : {X : Type 0} → List (OpId × X) → OpId → Option X
 indexed_value keys origin = lookup (is_id origin) keys
@@ -46,12 +52,6 @@ first_of None other = other
 
 abbrev pub indexed_over : List (OpId × ℕ) → List (OpId × ℕ) → OpId → Option ℕ
 indexed_over own stored origin = first_of (indexed_value own origin) (indexed_value stored origin)
-
--- The edge of a test on `count` places: it passes just before `at` and fails at `at`, as far as
--- those places exist.
-pub record IsEdge (test : ℕ → Bool) (count at : ℕ) : Type 0 where
-  pub pass : 0 < at → test (at - 1) ≡ true
-  pub fail : at < count → test at ≡ false
 
 -- No entry with this UID has this origin.
 abbrev pub LacksAt : ℕ → OpId → List ListingEntry → Type 0

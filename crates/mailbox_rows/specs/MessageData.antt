@@ -1,4 +1,4 @@
--- What is known of a mailbox's messages by their origins: versions, flags, date and text.
+-- The data of a mailbox's messages by their origins: versions, flags, date and text.
 
 pub use Rattle.mailbox_rows.specs.ListingEntries.{first_of, is_id}
 use Rattle.std.specs.Prelude.{ℕ, List, [], Option, Some, None, map}
@@ -16,7 +16,7 @@ use Rattle.mailbox_rows.specs.declared.folder_messages.DatedText.{DatedText}
 use Rattle.mailbox_rows.specs.declared.folder_messages.FolderMessages.{FolderMessages}
 use Rattle.mailbox_rows.specs.declared.folder_messages.OwnedMessage.{OwnedMessage}
 
--- What is known of a message: the ids of its versions' tags, the union of their flags, its date and
+-- The data of a message: the ids of its versions' tags, the union of their flags, its date and
 -- text.
 pub record MessageData : Type 0 where
   pub versions : List OpId

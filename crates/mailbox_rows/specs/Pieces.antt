@@ -1,4 +1,4 @@
--- What pieces hold, and what each of them knows of the pieces before it.
+-- The items of pieces, and the number of items before each piece.
 
 use Rattle.std.specs.Prelude.{◌≡◌, ℕ, ◌+◌, ◌-◌, ◌*◌, ◌<◌, ◌≤◌, List, [], ◌∷◌, length, flat_map}
 use Rattle.std.specs.Prelude.{get_or, take, drop}
@@ -19,7 +19,8 @@ piece_items base p = source_items base p.len p.source
 abbrev pub items_of : {T : Type 0} → List T → List (Piece T) → List T
 items_of base ps = flat_map (λ p. piece_items base p) ps
 
--- A piece with `before` items before it: it isn't empty, and knows both numbers.
+-- A piece with `before` items before it: its `start` is that number, it isn't empty, and its `len`
+-- is the number of its items.
 pub record IsPiece {T : Type 0} (base : List T) (before : ℕ) (p : Piece T) : Type 0 where
   pub start : p.start ≡ before
   pub some : 0 < p.len

@@ -1,49 +1,14 @@
-//! The entries of a list that changed since a mod-sequence, by a scan or by their UIDs.
+//! The entries of a list that changed since a mod-sequence, found by their UIDs.
 
 ghost use Rattle.std.specs.Prelude.{◌≡◌, ◌++◌, ◌∷◌, [], IfOk, OnOk};
-ghost use Rattle.std.specs.List.{slice_get};
-ghost use Rattle.std.specs.Option.{option_to_list};
-ghost use Rattle.mailbox_rows.specs.ModSeqLog.{AreAmong, AreAscending, changed_since, changed_with};
+ghost use Rattle.mailbox_rows.specs.ChangedEntries.{AreAmong, AreAscending};
+ghost use Rattle.mailbox_rows.specs.ChangedEntries.{changed_since, changed_with};
 ghost use Rattle.mailbox_rows.specs.ListingEntries.{AreRising};
 
 use crate::entry::ListingEntry;
 use crate::entry_search::first_from;
 use crate::patched_list::PatchedList;
 use std::alloc::{AllocError, Global};
-
-/// The entries whose mod-sequences are above `modseq`, by one pass over the list. `Err` if memory
-/// runs out.
-pub fn changed_entries_by_scan(
-    alloc: Global,
-    list: &PatchedList<'_, ListingEntry>,
-    modseq: u64,
-) -> Result<Vec<ListingEntry>, AllocError>
-    ensures { IfOk result (λ changed. changed.items ≡ changed_since modseq list.now.items) }
-{
-    let mut changed = Vec::new(alloc);
-    for place in 0..list.len() {
-        push_at(&mut changed, list, place, modseq)?;
-    }
-    Ok(changed)
-}
-
-/// Appends the entry at `place` to `changed` if its mod-sequence is above `modseq`. `Err` if memory
-/// runs out.
-fn push_at(
-    changed: &mut Vec<ListingEntry>,
-    list: &PatchedList<'_, ListingEntry>,
-    place: usize,
-    modseq: u64,
-) -> Result<(), AllocError>
-    ensures { OnOk result (changed.new.items
-        ≡ changed.old.items
-        ++ changed_since modseq (option_to_list (slice_get list.now.items place))) }
-{
-    match list.get(place) {
-        Some(entry) => push_changed(changed, entry, modseq),
-        None => Ok(()),
-    }
-}
 
 /// Appends `entry` to `changed` if its mod-sequence is above `modseq`. `Err` if memory runs out.
 fn push_changed(

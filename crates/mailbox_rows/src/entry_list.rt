@@ -14,11 +14,16 @@ pub trait EntryList {
     /// The entries.
     ghost entries: { Self → List ListingEntry };
 
-    /// Room for this number of edits; an edit changes, removes or adds one entry.
+    /// Room for this number of edits, not counting places for added entries; an edit changes,
+    /// removes or adds one entry.
     ghost has_edits: { Self → ℕ → Type 0 };
 
     /// Room for this number of additional entries.
     ghost has_room: { Self → ℕ → Type 0 };
+
+    /// The greatest mod-sequence that an edit gave, as far as the list knows; 0 if it knows none.
+    /// An edit gives one that is no less.
+    ghost latest: { Self → ℕ };
 
     /// The number of entries.
     fn len(&self) -> usize
@@ -37,6 +42,7 @@ pub trait EntryList {
     fn set_modseq(&mut self, place: usize, modseq: u64)
         requires within { place < length (entries self.old) }
         requires edits { has_edits self.old 1 }
+        requires order { latest self.old ≤ modseq }
         ensures entries { (e : ListingEntry)
             → entries self.new
             ≡ set (entries self.old) place (record {
@@ -44,6 +50,7 @@ pub trait EntryList {
               uid = (get_or (entries self.old) place e).uid;
               modseq = modseq;
             }) }
+        ensures latest { latest self.new ≡ modseq }
         ensures edits { (n : ℕ) → has_edits self.old (n + 1) → has_edits self.new n }
         ensures room { (n : ℕ) → has_room self.old n → has_room self.new n };
 
@@ -52,10 +59,12 @@ pub trait EntryList {
         requires within { place < length (entries self.old) }
         requires edits { has_edits self.old 1 }
         ensures entries { entries self.new ≡ remove (entries self.old) place }
+        ensures latest { latest self.new ≡ latest self.old }
         ensures edits { (n : ℕ) → has_edits self.old (n + 1) → has_edits self.new n }
         ensures room { (n : ℕ) → has_room self.old n → has_room self.new n };
 
-    /// Appends an entry. Its UID is above all others and its origin is new.
+    /// Appends an entry. Its UID is above all others, its origin is new, and no edit gave a greater
+    /// mod-sequence.
     fn put(&mut self, entry: ListingEntry)
         requires first { 1 ≤ entry.uid }
         requires beyond { AreBelow entry.uid (entries self.old) }
@@ -63,7 +72,9 @@ pub trait EntryList {
         requires fits { length (entries self.old) < 2 ^ 32 }
         requires edits { has_edits self.old 1 }
         requires room { has_room self.old 1 }
+        requires order { latest self.old ≤ entry.modseq }
         ensures entries { entries self.new ≡ entries self.old ++ entry ∷ [] }
+        ensures latest { latest self.new ≡ entry.modseq }
         ensures edits { (n : ℕ) → has_edits self.old (n + 1) → has_edits self.new n }
         ensures room { (n : ℕ) → has_room self.old (n + 1) → has_room self.new n };
 }

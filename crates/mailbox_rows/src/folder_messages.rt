@@ -29,7 +29,7 @@ impl Drop for DatedText {
 }
 
 /// A folder's stored messages, borrowed. Versions are apart from dates and texts, since an origin's
-/// Append may come after a Store that names it, and may be of another folder.
+/// Append may be later than a Store that names it, and of another folder.
 #[derive(Clone, Copy)]
 pub struct FolderMessages<'a> {
     /// The versions of each message by its origin, ascending by id; None if the folder has no
@@ -164,9 +164,9 @@ fn versions_at<'a>(
     }
 }
 
-/// The value of a table under an entry's origin. Cost: one access by place if the entry is where
-/// its UID puts it, as most are while every item of the table came into this mailbox and few were
-/// taken out; else a look-up by hash.
+/// The value of a table under an entry's origin. Cost: one access by place if the entry is at the
+/// place that its UID gives, as most are if each item of the table was added to this mailbox and
+/// few were removed; else a look-up by hash.
 #[inline(always)]
 fn look_up<'a, V>(table: &'a IndexMap<OpId, V>, entry: &ListingEntry) -> Option<&'a V>
     ensures { option_map (λ value. value.now) result

@@ -9,26 +9,27 @@
 //!
 //! `Rows` is a mailbox's listing, and contracts see it as a list of messages by strictly ascending
 //! UID. Each look-up, by place, by UID or by mod-sequence, is an equation about that list, whether
-//! the rows were made one by one or are seen through a `Window`. A row borrows the message's
+//! the rows were made one by one or are read through a `Window`. A row borrows the message's
 //! versions, date and text: no command copies a mailbox.
 //!
 //! # Decided
 //!
-//! - Rows of a listing are borrowed: a row holds numbers, and references to versions, date and
-//!   text. Views and queries ask for rows by UID and by place, so that a table of rows needs no
-//!   copy and changes no contract.
+//! - Rows of a listing are borrowed: a row has numbers, and references to versions, date and text.
+//!   Views and queries ask for rows by UID and by place, so that a table of rows needs no copy and
+//!   changes no contract.
 //! - A listing is a window: the entries as they are stored, or with edits over them, and the
 //!   folder's messages as they are stored or as pending operations leave them. It shows an entry
 //!   without a message as an empty message, so that making a window requires nothing; that there is
 //!   no such entry is an invariant of the charts.
-//! - Entries are indexed by mod-sequence too, as the changes that gave them theirs. A new
-//!   mod-sequence is the greatest, so a change goes to the end, and what changed since a
-//!   mod-sequence comes after a place that a binary search finds. Earlier changes of an entry stay
-//!   until there are two for each entry; then, when room is made for pending operations, the log is
-//!   rebuilt.
-//! - A change that finds no room, or comes out of order, is left out of the log, which says so;
-//!   readers then scan all entries until it is rebuilt. So no edit can fail for the log, and none
-//!   needs room for it. An overlay notes its changes in a log of its own.
+//! - Entries are indexed by mod-sequence too (`modseq_index`). That each entry's mod-sequence and
+//!   UID are in the index is an invariant. A new mod-sequence is no less than the latest, so it
+//!   goes to the end, and the entries that changed since a mod-sequence are after a place that a
+//!   binary search finds. Earlier mod-sequences of an entry stay until there are two for each
+//!   entry; then, when room is made for pending operations, the index is rebuilt.
+//! - An edit never fails for the index: it requires room there, and a mod-sequence no less than the
+//!   latest, and contracts see both as numbers. An overlay has an index of its own edits.
+//! - The stored index by origin has all entries and nothing else. An overlay borrows it, and can't
+//!   remove from it what its edits remove, so there an indexed origin may have no entry.
 #![tactic(auto)]
 
 mod changed_entries;
@@ -38,7 +39,6 @@ mod entry_search;
 mod entry_table;
 mod folder_messages;
 mod listing_rows;
-mod modseq_log;
 mod overlay;
 mod owned_row;
 mod patched_list;

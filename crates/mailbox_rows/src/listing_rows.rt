@@ -110,8 +110,9 @@ impl<'a> Rows<'a> {
         }
     }
 
-    /// The message with this UID, if it exists. Looks first at `place`, from 0, where it is if the
-    /// view that counted it shows the same messages as the listing; else by a binary search.
+    /// The message with this UID, if it exists. Looks first at `place`, from 0, which is its place
+    /// if the view from which `place` was counted shows the same messages as the listing; else by a
+    /// binary search.
     pub fn row_near(&self, place: usize, uid: u32) -> Option<Row<'_>>
         ensures { option_map listed_message result ≡ row_of uid self.now }
     {

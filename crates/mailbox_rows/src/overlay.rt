@@ -1,30 +1,32 @@
 //! `EntryOverlay`: a mailbox's entries as pending operations will leave them.
 
 ghost use Rattle.std.specs.Prelude.{◌≡◌, ◌≤◌, IfOk, OnOk};
-ghost use Rattle.mailbox_rows.specs.ModSeqLog.{AreLoggedIn, changed_since};
+ghost use Rattle.mailbox_rows.specs.ChangedEntries.{AreNoted, changed_since};
 ghost use Rattle.mailbox_rows.specs.ListingEntries.{AreIndexed, AreRising, indexed_value};
 ghost use Rattle.mailbox_rows.specs.ListingEntries.{indexed_over};
 ghost use Rattle.mailbox_rows.specs.EntryTables.{HasEdits};
 
-use crate::changed_entries::{changed_entries_among, changed_entries_by_scan};
+use crate::changed_entries::changed_entries_among;
 use crate::entry::ListingEntry;
 use crate::entry_list::EntryList;
-use crate::modseq_log::ModSeqLog;
 use crate::patched_list::PatchedList;
 use crate::{entry_search, uid_index};
 use chunk_list::ChunkList;
 use indexmap::IndexMap;
+use modseq_index::ModSeqIndex;
 use std::alloc::{AllocError, Global};
 use std::marker::Model;
 use tags_clocks::OpId;
 
-/// A mailbox's entries with edits over them; the table below stays unchanged.
+/// A mailbox's entries with edits over them; the table below stays unchanged. Its indexes are the
+/// stored ones with those of the edits. Removed entries that the stored indexes still have are
+/// passed over.
 pub struct EntryOverlay<'a> {
     list: PatchedList<'a, ListingEntry>,
     stored: &'a IndexMap<OpId, u32>,
     own: IndexMap<OpId, u32>,
-    stored_changes: &'a ModSeqLog,
-    own_changes: ModSeqLog,
+    stored_modseqs: &'a ModSeqIndex,
+    own_modseqs: ModSeqIndex,
 }
 
 // By hand, so that crates above drop it whole.
@@ -34,16 +36,18 @@ impl<'a> Drop for EntryOverlay<'a> {
             list: _,
             stored: _,
             own: _,
-            stored_changes: _,
-            own_changes: _,
+            stored_modseqs: _,
+            own_modseqs: _,
         } = self;
     }
 }
 
 impl<'a> Model for EntryOverlay<'a> {
+    ghost use Rattle.std.specs.Prelude.{◌++◌};
     ghost use Rattle.indexmap.specs.IndexMap.{spare};
+    ghost use Rattle.modseq_index.specs.ModSeqIndex.{latest as latest_of};
     ghost use Rattle.mailbox_rows.specs.ListingEntries.{AreIndexed, AreRising, indexed_over};
-    ghost use Rattle.mailbox_rows.specs.ModSeqLog.{AreLoggedIn, log_over};
+    ghost use Rattle.mailbox_rows.specs.ChangedEntries.{AreNoted};
     ghost use Rattle.mailbox_rows.specs.EntryTables.{OverlayState};
 
     ghost Value = { OverlayState };
@@ -52,11 +56,13 @@ impl<'a> Model for EntryOverlay<'a> {
       entries = o.list.items;
       places = o.list.places;
       ids = spare o.own;
+      modseq_room = o.own_modseqs.room;
+      latest = latest_of o.own_modseqs.entries;
     } };
 
     ghost invariant = { λ o. AreRising 1 o.list.items
         × AreIndexed (indexed_over o.own.entries o.stored.now.entries) o.list.items
-        × AreLoggedIn (log_over o.stored_changes.now o.own_changes) o.list.items };
+        × AreNoted (o.stored_modseqs.now.entries ++ o.own_modseqs.entries) o.list.items };
 }
 
 impl<'a> EntryOverlay<'a> {
@@ -65,22 +71,23 @@ impl<'a> EntryOverlay<'a> {
         alloc: Global,
         list: &'a ChunkList<ListingEntry>,
         stored: &'a IndexMap<OpId, u32>,
-        stored_changes: &'a ModSeqLog,
+        stored_modseqs: &'a ModSeqIndex,
     ) -> Result<EntryOverlay<'a>, AllocError>
         requires rising { AreRising 1 list.now.items }
         requires indexed { AreIndexed (indexed_value stored.now.entries) list.now.items }
-        requires noted { AreLoggedIn stored_changes.now list.now.items }
-        ensures { IfOk result (λ over. over.entries ≡ list.now.items) }
+        requires noted { AreNoted stored_modseqs.now.entries list.now.items }
+        ensures entries { IfOk result (λ over. over.entries ≡ list.now.items) }
+        ensures latest { IfOk result (λ over. over.latest ≡ 0) }
     {
         let list = PatchedList::new(alloc, list)?;
         let own = IndexMap::new(alloc);
-        let own_changes = ModSeqLog::new(alloc);
+        let own_modseqs = ModSeqIndex::new(alloc);
         Ok(EntryOverlay {
             list,
             stored,
             own,
-            stored_changes,
-            own_changes,
+            stored_modseqs,
+            own_modseqs,
         })
     }
 
@@ -98,24 +105,22 @@ impl<'a> EntryOverlay<'a> {
         ensures ok { OnOk result (HasEdits self.new edits) }
         ensures places { self.old.places ≤ self.new.places }
         ensures ids { self.old.ids ≤ self.new.ids }
+        ensures modseq_room { self.old.modseq_room ≤ self.new.modseq_room }
+        ensures latest { self.new.latest ≡ self.old.latest }
     {
         self.own.reserve(edits)?;
-        self.own_changes.reserve(edits)?;
+        self.own_modseqs.reserve(edits)?;
         self.list.reserve(edits)
     }
 
-    /// The entries whose mod-sequences are above `modseq`; `Err` if memory runs out. Cost: the
-    /// changes to greater mod-sequences, with a search for each; if a change was left out of a log,
-    /// one pass over the entries.
+    /// The entries whose mod-sequences are above `modseq`; `Err` if memory runs out. Cost: two
+    /// binary searches, and a search for each entry of the indexes above `modseq`.
     pub fn changed_since(&self, alloc: Global, modseq: u64) -> Result<Vec<ListingEntry>, AllocError>
         ensures { IfOk result (λ changed. changed.items ≡ changed_since modseq self.now.entries) }
     {
-        if !self.stored_changes.is_whole() || !self.own_changes.is_whole() {
-            return changed_entries_by_scan(alloc, &self.list, modseq);
-        }
         let mut uids = Vec::new(alloc);
-        self.stored_changes.push_uids(modseq, &mut uids)?;
-        self.own_changes.push_uids(modseq, &mut uids)?;
+        self.stored_modseqs.push_uids(modseq, &mut uids)?;
+        self.own_modseqs.push_uids(modseq, &mut uids)?;
         uids.sort_by_key(|uid| *uid)?;
         changed_entries_among(alloc, &self.list, &uids, modseq)
     }
@@ -126,9 +131,11 @@ impl<'a> EntryList for EntryOverlay<'a> {
 
     ghost entries = { λ o. o.entries };
 
-    ghost has_edits = { λ o n. 2 * n ≤ o.places };
+    ghost has_edits = { λ o n. (2 * n ≤ o.places) × (n ≤ o.modseq_room) };
 
     ghost has_room = { λ o n. n ≤ o.ids };
+
+    ghost latest = { λ o. o.latest };
 
     fn len(&self) -> usize {
         self.list.len()
@@ -157,7 +164,7 @@ impl<'a> EntryList for EntryOverlay<'a> {
                         modseq,
                     },
                 );
-                self.own_changes.note(modseq, old.uid);
+                self.own_modseqs.note(modseq, old.uid);
             }
             None => unreachable!(),
         }
@@ -169,7 +176,7 @@ impl<'a> EntryList for EntryOverlay<'a> {
 
     fn put(&mut self, entry: ListingEntry) {
         uid_index::note(&mut self.own, &entry.origin, entry.uid);
-        self.own_changes.note(entry.modseq, entry.uid);
+        self.own_modseqs.note(entry.modseq, entry.uid);
         self.list.push(entry);
     }
 }

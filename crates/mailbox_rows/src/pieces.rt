@@ -8,7 +8,7 @@ ghost use Rattle.mailbox_rows.specs.Pieces.{with_one_less, piece_items};
 
 use chunk_list::ChunkList;
 
-/// Where the items of a piece come from.
+/// The source of a piece's items.
 #[derive(Clone, Copy)]
 pub enum PieceSource<T> {
     /// From the list below, from this place on.

@@ -51,7 +51,8 @@ impl<'a> Row<'a> {
 }
 
 impl Row<'_> {
-    /// When it was received, as clients are shown it: the first moment of 1970 if no date is known.
+    /// The date-time shown to clients: when it was received, or the first moment of 1970 if no date
+    /// is known.
     pub fn shown_date(&self) -> DateTime
         ensures { result ≡ (listed_message self.now).date }
     {
@@ -61,7 +62,7 @@ impl Row<'_> {
         }
     }
 
-    /// Its octets, as clients are shown them: none if no text is known.
+    /// The octets shown to clients: those of its text, or none if no text is known.
     pub fn shown_text(&self) -> &[u8]
         ensures { result.now ≡ (listed_message self.now).text }
     {

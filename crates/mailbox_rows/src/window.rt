@@ -22,8 +22,8 @@ use std::marker::Model;
 use tags_clocks::OpId;
 
 /// A mailbox's entries as pending operations leave them, with its stored messages and those that
-/// these operations make or change. An entry without a message is shown as an empty one; those who
-/// make windows know that there is none.
+/// these operations make or change. An entry without a message is shown as an empty one; callers
+/// that make windows know that there is no such entry.
 pub struct Window<'a> {
     entries: EntryOverlay<'a>,
     mailbox: FolderMessages<'a>,
@@ -224,7 +224,7 @@ fn fresh_at<'r, 'a>(
     fresh.get(origin)
 }
 
-/// The row of an entry by the mailbox's stored messages.
+/// The row of an entry from the mailbox's stored messages.
 fn stored_row<'r>(mailbox: &FolderMessages<'r>, entry: &ListingEntry) -> Row<'r>
     ensures { listed_message result
         ≡ with_numbers entry.now
@@ -236,7 +236,7 @@ fn stored_row<'r>(mailbox: &FolderMessages<'r>, entry: &ListingEntry) -> Row<'r>
     }
 }
 
-/// The head of an entry's row by the mailbox's stored messages.
+/// The head of an entry's row from the mailbox's stored messages.
 #[inline(always)]
 fn stored_head<'r>(mailbox: &FolderMessages<'r>, entry: &ListingEntry) -> RowHead<'r>
     ensures { listed_head result

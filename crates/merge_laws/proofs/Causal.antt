@@ -67,7 +67,7 @@ module _ {O : Type 0} (id : O → OpId) (clock : O → List (ℕ × ℕ)) where
   pub causal_from : (os : List O) → IsCausalAfter [] os → IsCausal id clock os
   causal_from os c = cuts_from_after [] [] os (λ i. (λ t. t, λ t. t)) c
 
-  -- A further ripe operation.
+  -- A causal list with a further ripe operation is causal.
   pub causal_more : (os : List O) (o : O) → IsCausal id clock os → IsRipe id clock os o → IsCausal id clock (os ++ o ∷ [])
   causal_more os o c r front p back k =
       elim (cut_last os front back o p k) [
@@ -79,7 +79,7 @@ module _ {O : Type 0} (id : O → OpId) (clock : O → List (ℕ × ℕ)) where
   pub causal_front : (front back : List O) → IsCausal id clock (front ++ back) → IsCausal id clock front
   causal_front front back c first o rest k = c first o (rest ++ back) (ap (λ xs. xs ++ back) k ∙ append_assoc first (o ∷ rest) back)
 
-  -- No id of a causal list came before the list.
+  -- No id of a causal list occurs before the list.
   pub is_new : (e os : List O) (o : O) → IsCausalAfter e os → IsIn o os → HasId id e (id o) → ⊥
   is_new e [] o c h = absurd h
   is_new e (a ∷ os) o c h =
@@ -106,7 +106,8 @@ module _ {O : Type 0} (id : O → OpId) (clock : O → List (ℕ × ℕ)) where
   pub causal_determines : (os : List O) (a b : O) → IsCausal id clock os → IsIn a os → IsIn b os → id a ≡ id b → a ≡ b
   causal_determines os a b c = after_determines [] os a b (causal_after os c)
 
-  -- Operations that are each ripe after the list and those before them.
+  -- A causal list is causal with further operations if each is ripe after the list and those before
+  -- it.
   pub causal_append : (os ops : List O) → IsCausal id clock os → ((front : List O) (o : O) (back : List O) → ops ≡ front ++ o ∷ back → IsRipe id clock (os ++ front) o) → IsCausal id clock (os ++ ops)
   causal_append os [] c r = subst (IsCausal id clock) (sym (append-nil os)) c
   causal_append os (o ∷ ops) c r =

@@ -6,19 +6,20 @@ use Rattle.merge_laws.proofs.Lists.{in_middle, in_rest, in_front, in_cases, spli
 use Rattle.merge_laws.proofs.Causal.{HaveSameIds, IsCausalAfter, ripe_along, same_ids_cons, causal_after, is_new}
 
 module _ {O V : Type 0} (id : O → OpId) (clock : O → List (ℕ × ℕ)) (sound : O → Type 0) (effect : V → O → V) where
-  -- causal after earlier ones with the same ids
+  -- operations that are causal after one list are causal after a list with the same ids
   causal_along : (e f : List O) (os : List O) → HaveSameIds id clock e f → IsCausalAfter id clock e os → IsCausalAfter id clock f os
   causal_along e f [] h c = tt
   causal_along e f (o ∷ os) h c = (ripe_along id clock e f o h c.0, causal_along (o ∷ e) (o ∷ f) os (same_ids_cons id clock o e f h) c.1)
 
-  -- the first two exchanged
+  -- a list has the same ids if its first two elements are exchanged
   same_swapped : (x y : O) (e : List O) → HaveSameIds id clock (x ∷ y ∷ e) (y ∷ x ∷ e)
   same_swapped x y e i = (
     λ t. elim t [ inl k ↦ inr (inl k) | inr u ↦ elim u [ inl k ↦ inl k | inr w ↦ inr (inr w) ] ],
     λ t. elim t [ inl k ↦ inr (inl k) | inr u ↦ elim u [ inl k ↦ inl k | inr w ↦ inr (inr w) ] ],
   )
 
-  -- What comes before an operation that needs only the earlier ones is concurrent with it.
+  -- If an operation needs only the earlier ones, those of the list before it are concurrent with
+  -- it.
   in_front_apart : (e front back : List O) (x a : O) → IsCausalAfter id clock e (front ++ x ∷ back) → ((i : OpId) → IsCause (clock x) i → HasId id e i) → IsIn a front → IsConcurrent id clock a x
   in_front_apart e [] back x a c first h = absurd h
   in_front_apart e (b ∷ front) back x a c first h =

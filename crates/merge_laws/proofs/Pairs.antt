@@ -6,7 +6,7 @@ pub fold_pair : {V W O : Type 0} (f : V → O → V) (g : W → O → W) (v : V)
 fold_pair f g v w [] = refl
 fold_pair f g v w (o ∷ os) = fold_pair f g (f v o) (g w o) os
 
--- What an `Ok` leads to.
+-- What follows from a statement that is true at an `Ok` is true at it too.
 pub on_ok : {T E : Type 0} (r : Result T E) {P Q : Type 0} → (P → Q) → OnOk r P → OnOk r Q
 on_ok (Ok x) f h = f h
 on_ok (Err e) f h = h

@@ -53,7 +53,7 @@ abbrev pub fold_of : {V O : Type 0} → (V → O → V) → V → List O → V
 fold_of effect v [] = v
 fold_of effect v (o ∷ os) = fold_of effect (effect v o) os
 
--- Causal lists of the same sound operations lead from one value to one value.
+-- Causal lists of the same sound operations lead from one value to the same value.
 abbrev pub GivesOneValue : {O V : Type 0} → (O → OpId) → (O → List (ℕ × ℕ)) → (O → Type 0)
     → (V → O → V) → Type 0
 GivesOneValue {O} {V} id clock is_sound effect =

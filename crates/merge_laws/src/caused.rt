@@ -19,7 +19,7 @@ pub trait Caused {
     /// The ids of what it removes.
     ghost removed: { Self → List OpId };
 
-    /// Holds of the operations that a check accepted.
+    /// True of the operations that a check accepted.
     ghost is_sound: { Self → Type 0 };
 
     /// Its id.

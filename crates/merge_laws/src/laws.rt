@@ -1,4 +1,4 @@
-//! What holds of every replicated value.
+//! What is true of every replicated value.
 
 ghost use Rattle.std.specs.Prelude.{◌≡◌, IfOk};
 ghost use Rattle.merge_laws.specs.Orders.{GivesOneValue, fold_of};
@@ -22,7 +22,7 @@ pub fn replay<R: Replicated + Drop>(
     Ok(value)
 }
 
-/// Any two causal lists of the same sound operations lead from one value to one value.
+/// Any two causal lists of the same sound operations lead from one value to the same value.
 pub fn same_for_all_orders<R: Replicated>()
     ensures { GivesOneValue R.Op.id R.Op.clock R.Op.is_sound R.effect }
 {}

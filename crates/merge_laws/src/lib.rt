@@ -6,9 +6,9 @@
 //! those of [`Caused`]: each has an id and a clock that counts its causes, and removes only what
 //! came before it.
 //!
-//! From pairwise commutation follows [`same_for_all_orders`]: any two causal lists of the same
-//! sound operations lead from one value to one value. [`replay`] computes that value. A [`Pair`] of
-//! replicated types is replicated.
+//! [`same_for_all_orders`] follows from pairwise commutation: any two causal lists of the same
+//! sound operations lead from one value to the same value. [`replay`] computes that value. A
+//! [`Pair`] of replicated types is replicated.
 //!
 //! A [`Follower`] notes the operations applied to a value. It is made ready for operations before
 //! they are applied, and refuses exactly those that would exhaust its counters.
@@ -16,8 +16,8 @@
 //! # Decided
 //!
 //! - A follower may rely on the list that it notes being causal, and is made ready for operations
-//!   after a list, not for operations by themselves: running counters can be right for causal lists
-//!   only.
+//!   after a list, not for operations by themselves: running counters can be right only for causal
+//!   lists.
 //! - A follower's contract says exactly when it is exhausted, as a relation between what it began
 //!   with and the list that it noted.
 #![tactic(auto)]

@@ -20,7 +20,7 @@ pub trait Replicated {
     /// The contents after an operation.
     ghost effect: { Meaning → Self.Op → Meaning };
 
-    /// The contents at first.
+    /// The initial contents.
     ghost initial: { Meaning };
 
     /// These operations can be applied in this order with no more memory.
@@ -33,7 +33,7 @@ pub trait Replicated {
         ensures prepared { OnOk result (is_prepared self.new ops.now) };
 
     /// Applies an operation that was prepared. Takes no memory, and those prepared after it stay
-    /// so.
+    /// prepared.
     fn apply(&mut self, op: &Self::Op)
         requires { is_prepared self.old (op.now ∷ []) }
         ensures meaning { meaning self.new ≡ effect (meaning self.old) op.now }

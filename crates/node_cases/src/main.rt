@@ -1,5 +1,5 @@
-//! Plays cases, and prints what the code answers to them now. The stored file `stdout` is what must
-//! be printed, so a change of any answer is noticed.
+//! Plays cases, and prints what the code answers to them now. The output must equal the stored file
+//! `stdout`, so a change of any answer is noticed.
 //!
 //! On the standard input, a line `=== KIND` precedes the cases of each kind. The program prints
 //! that line, and then the result of the cases. The head of this crate's file `stdin` lists the

@@ -122,14 +122,14 @@ partial_kind : (by_uid : Bool) → not by_uid ≡ true → sync_kind_by by_uid �
 partial_kind false b = refl
 partial_kind true b = absurd (false≢true b)
 
--- the sync after it is partial
+-- the sync after a command by number is partial
 sync_partial : (command : Command) → is_by_number command ≡ true → sync_of command ≡ Some Partial
 sync_partial (commands.Search request) b = ap (λ (k : SyncKind). Some k) (partial_kind request.by_uid b)
 sync_partial (commands.Fetch request) b = ap (λ (k : SyncKind). Some k) (partial_kind request.by_uid b)
 sync_partial (commands.Store request) b = ap (λ (k : SyncKind). Some k) (partial_kind request.by_uid b)
 sync_partial _ b = absurd (false≢true b)
 
--- and it selects nothing
+-- a command by number selects no mailbox
 base_stays : (start : Counters) (ops : List Op) (view : Option ViewState) (command : Command) → is_by_number command ≡ true → replay_base_of_command start ops view command ≡ view
 base_stays start ops view (commands.Search request) b = refl
 base_stays start ops view (commands.Fetch request) b = refl

@@ -46,7 +46,7 @@ pub filter_more : {X : Type 0} (test : X → Bool) (xs ys : List X) → filter t
 filter_more test [] ys = refl
 filter_more test (x ∷ xs) ys = elim (cases_Bool (test x)) [ inl t ↦ rw t (ap (λ zs. x ∷ zs) (filter_more test xs ys)) | inr f ↦ rw f (filter_more test xs ys) ]
 
--- ---- the rows after them
+-- ---- the rows after operations that copy
 
 one_test : (folder : List ℕ) (kind : Kind) → appends_to folder kind ≡ is_append_to folder kind
 one_test folder (kinds.Create name) = refl
@@ -92,7 +92,7 @@ and_not_true true false p q = refl
 and_not_true true true p q = absurd (false≢true (sym q))
 and_not_true false y p q = absurd (false≢true p)
 
--- its message gets the former UIDNEXT
+-- the message of an Append gets the former UIDNEXT
 pub append_added : (start : Counters) (folder : List ℕ) (before : List Op) (o : Op) → IsApplied (before ++ o ∷ []) → folder_exists folder (before ++ o ∷ []) ≡ true → is_append_to folder o.kind ≡ true
     → IsAddedRow (listing start folder (before ++ o ∷ [])) (uidnext_of start folder before) o
 append_added start folder before o a t is =

@@ -49,7 +49,7 @@ use Rattle.uid_projection.specs.Incarnations.{uidvalidity_of}
 use Rattle.uid_projection.specs.Incarnations as incarnations
 use Rattle.uid_projection.specs.UidsAndModSeqs.{uidnext_of}
 use Rattle.uid_projection.specs.Listing.{listing}
-use Rattle.uid_projection.proofs.ListingLaws.{names_applied}
+use Rattle.uid_projection.proofs.ListingLemmas.{ids_applied}
 use Rattle.imap_node.specs.Commands.{highest_answer_of, highest_answer, is_logged_in, is_idle, condstore_answer, sync_of, command_report, enables_condstore, command_intent, word_of}
 use Rattle.imap_node.specs.InputEffects.{answers_of_effect, sync_result}
 use Rattle.imap_node.specs.Mailboxes.{rows_for, validity_of}
@@ -137,12 +137,12 @@ line_code own sync tag code word intended n s (t, w, i) =
 least_next : (start : Counters) (name : List ℕ) (ops : List Op) → 1 ≤ start.uid → 1 ≤ uidnext_of start name ops
 least_next start name ops l = elim (cases_Bool (bytes_eq name inbox)) [ inl t ↦ rw t (omega arith) | inr f ↦ rw f (omega arith) ]
 
-under_has : (before : List Op) (uidvalidity : ℕ) (now : Option ℕ) (rows : List ListedMessage) → ((row : ListedMessage) → IsIn row rows → HasAll before row.versions) → (row : ListedMessage) → IsIn row (rows_under uidvalidity now rows) → HasAll before row.versions
-under_has before uidvalidity None rows h = λ row i. absurd i
-under_has before uidvalidity (Some now) rows h = elim (cases_Bool (nat_eq now uidvalidity)) [ inl t ↦ rw t h | inr f ↦ rw f (λ row i. absurd i) ]
+rows_under_has_all : (before : List Op) (uidvalidity : ℕ) (now : Option ℕ) (rows : List ListedMessage) → ((row : ListedMessage) → IsIn row rows → HasAll before row.versions) → (row : ListedMessage) → IsIn row (rows_under uidvalidity now rows) → HasAll before row.versions
+rows_under_has_all before uidvalidity None rows h = λ row i. absurd i
+rows_under_has_all before uidvalidity (Some now) rows h = elim (cases_Bool (nat_eq now uidvalidity)) [ inl t ↦ rw t h | inr f ↦ rw f (λ row i. absurd i) ]
 
-rows_had : (start : Counters) (ops : List Op) (view : ViewState) → IsApplied ops → (row : ListedMessage) → IsIn row (rows_for start ops view) → HasAll ops row.versions
-rows_had start ops view a = under_has ops view.uidvalidity (uidvalidity_of start view.name ops) (listing start view.name ops) (λ row i. (names_applied start view.name ops row a i).0)
+rows_for_has_all : (start : Counters) (ops : List Op) (view : ViewState) → IsApplied ops → (row : ListedMessage) → IsIn row (rows_for start ops view) → HasAll ops row.versions
+rows_for_has_all start ops view a = rows_under_has_all ops view.uidvalidity (uidvalidity_of start view.name ops) (listing start view.name ops) (λ row i. (ids_applied start view.name ops row a i).0)
 
 -- ---- COPY
 
@@ -313,7 +313,7 @@ module _ (start : Counters) (before issued : List Op) (stamp : List ℕ) (intend
       let removals = expunges_of_moved selected.name rows selected.entries numbers in
       let t = move_target_exists (is_in_range transfer.by_uid transfer.messages selected.entries) read_only (incarnations.folder_exists transfer.name before) (appends ++ removals) intended w in
       let is = move_is (is_in_range transfer.by_uid transfer.messages selected.entries) read_only (incarnations.folder_exists transfer.name before) (appends ++ removals) intended w in
-      let copying = each_append (IsCopying before) appends removals (appends_copying before transfer.name rows selected.entries numbers) (removals_copying before selected.name rows selected.entries numbers (rows_had start before selected b)) in
+      let copying = each_append (IsCopying before) appends removals (appends_copying before transfer.name rows selected.entries numbers) (removals_copying before selected.name rows selected.entries numbers (rows_for_has_all start before selected b)) in
       let same : selected ≡ view = cc in
       let p = moved_parts (validity_of start transfer.name (before ++ issued)) v (sources_of rows selected.entries numbers) ss (copies_in (uidnext_of start transfer.name before) (listing start transfer.name (before ++ issued))) cs e in
       subst (λ (x : ViewState). (uidvalidity_of start transfer.name (before ++ issued) ≡ Some v) × AreCopied (rows_for start before x) (listing start transfer.name (before ++ issued)) transfer.name ss cs (appends_among transfer.name issued)) same

@@ -9,7 +9,7 @@
 //! - `flags_are_unions`: the flags of a message with several versions are the union of its
 //!   versions' flags.
 //!
-//! The laws speak of `Responds` of `imap_node`, so that they hold for each reply of a node.
+//! The laws are stated over `Responds` of `imap_node`, so that they apply to each reply of a node.
 #![tactic(auto)]
 
 mod laws;

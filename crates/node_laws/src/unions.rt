@@ -6,8 +6,8 @@ ghost use Rattle.imap_types.specs.declared.flags.Flags.{Flags};
 ghost use Rattle.imap_types.specs.Unions.{union_of, with_flags};
 ghost use Rattle.node_laws.specs.Unions.{IsUnion};
 
-/// The flags of a message with several versions are the union of its versions' flags, and only they
-/// are. The flags to which a STORE adds others are a union too (RFC 9051, sections 2.3.2 and
+/// The flags of a message with several versions are the union of its versions' flags, and no other
+/// flags are. The flags to which a STORE adds others are a union too (RFC 9051, sections 2.3.2 and
 /// 6.4.6).
 pub fn flags_are_unions()
     ensures union { (parts : List Flags) → IsUnion parts (union_of parts) }

@@ -1,4 +1,4 @@
-//! The notes that a feed holds, and sessions that learn of more changes than their feed holds.
+//! The notes of a feed, and sessions that learn of more changes than their feed can hold.
 
 use crate::node_sessions::{
     NodeSession, answers, begin, begin_at, deliver_last, may_have_unsent_changes,
@@ -81,8 +81,8 @@ fn select_leaves_nothing_unsent(rt: HostRuntime) {
 }
 
 /// Whether, after each of these steps, something may have to be sent to a session that has selected
-/// INBOX with one message: `!` in `expected` for yes, `-` for no. A step `elsewhere ..` is another
-/// replica's, which delivers its last operation.
+/// INBOX with one message: `!` in `expected` for yes, `-` for no. A step `elsewhere ..` is taken at
+/// another replica, whose last operation is then delivered.
 fn has_unsent_after(alloc: Global, steps: &[&str], expected: &[u8]) -> Option<bool> {
     let mut other = begin(alloc, "joe", "secret")?;
     let mut reader = begin_at(alloc, 2, "joe", "secret")?;

@@ -88,8 +88,8 @@ fn user(alloc: Global, name: &[u8], password: &[u8]) -> Option<Auth> {
     })
 }
 
-/// Whether a conversation over this input, which comes in pieces of at most this many octets, ends
-/// so with this output.
+/// Whether a conversation over this input, which arrives in pieces of at most this many octets, has
+/// this end and this output.
 fn ends_with_output<R: Wait, O: Others>(
     rt: &R,
     alloc: Global,

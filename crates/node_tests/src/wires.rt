@@ -146,7 +146,7 @@ fn is_lawful_with_reads<R: Wait>(
 }
 
 /// The first number of reads after which a failure makes the conversation unlawful; the last
-/// numbers are more than it makes.
+/// numbers tried are above that of its reads.
 fn first_unlawful_read<R: Wait>(rt: &R, alloc: Global, fault: Option<ErrorKind>) -> Option<u64> {
     (0..200u64).find(|reads| !is_lawful_with_reads(rt, alloc, *reads, fault))
 }

@@ -80,7 +80,7 @@ pub fn put_pairs(given: &Given, answer: &mut Words) {
     }
 }
 
-/// The first two different places that hold the same operation, or a place whose operation differs
+/// The first two different places that have the same operation, or a place whose operation differs
 /// from itself.
 fn odd_pair(ops: &[SoundOp]) -> Option<(usize, usize)> {
     for (at, op) in ops.iter().enumerate() {

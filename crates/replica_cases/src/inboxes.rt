@@ -27,7 +27,7 @@ pub enum InboxWord {
     List,
     /// `since RAISES`: the applied operations that the clock doesn't cover.
     Since,
-    /// `told`: the folders, messages and subscriptions.
+    /// `contents`: the folders, messages and subscriptions.
     Contents,
     /// `folder NAME`: whether it exists, and the ids of its tags, of its delete set and of the
     /// subscriptions to it.
@@ -161,7 +161,7 @@ fn put_lists(state: &Mailboxes, name: &Name, answer: &mut Words) {
     answer.put(if state.first.exists(name) {
         " exists, tags"
     } else {
-        " isn't there, tags"
+        " doesn't exist, tags"
     });
     put_id_list(state.first.tags(answer.alloc(), name), answer);
     answer.put(" delete");

@@ -6,10 +6,10 @@
 //! text is printed unchanged exactly if every answer is right. docs/formats.md lists the questions
 //! of the first kind, the head of the cases in `crates/node_cases/stdin` those of the second.
 //!
-//! What no contract says is compared here: that a text is written as it was read, that a damaged
-//! one is, too, and that sets of operations have the same effect in every order of delivery. The
-//! contracts of this crate say only what an inbox needs, such as that an issued operation is the
-//! next one of its replica.
+//! What no contract says is tested here: that a text, even a damaged one, is written as it was
+//! read, and that sets of operations have the same effect in every order of delivery. The contracts
+//! of this crate say only what an inbox needs, such as that an issued operation is the next one of
+//! its replica.
 #![tactic(auto)]
 
 mod clocks;

@@ -45,8 +45,8 @@ pub fn put_findings(findings: Findings, answer: &mut Words) {
 /// The octets that replace others if a line names none.
 const STRANGE: [u8; 5] = [0, 10, 32, 126, 255];
 
-/// Puts how many of the text's shorter beginnings, and of the texts with one octet replaced by 0,
-/// 10, 32, 126 or 255, aren't written as they were read; nothing if all are.
+/// Puts how many of the text's shorter prefixes, and of the texts with one octet replaced by 0, 10,
+/// 32, 126 or 255, aren't written as they were read; nothing if all are.
 pub fn put_damage(text: &[u8], answer: &mut Words) {
     let cut = of_cuts(answer.alloc(), text).changed;
     let replaced = of_octets(answer.alloc(), text, &STRANGE).changed;
@@ -56,7 +56,7 @@ pub fn put_damage(text: &[u8], answer: &mut Words) {
     }
 }
 
-/// What the shorter beginnings of a text are.
+/// The findings on the shorter prefixes of a text.
 pub fn of_cuts(alloc: Global, text: &[u8]) -> Findings {
     let mut findings = Findings::none();
     for length in 0..text.len() {
@@ -65,7 +65,7 @@ pub fn of_cuts(alloc: Global, text: &[u8]) -> Findings {
     findings
 }
 
-/// What a text is with each of these octets at each place.
+/// The findings on a text with each of these octets at each place.
 pub fn of_octets(alloc: Global, text: &[u8], octets: &[u8]) -> Findings {
     let mut findings = Findings::none();
     for octet in octets {
@@ -80,7 +80,7 @@ fn note_octet(alloc: Global, text: &[u8], octet: u8, findings: &mut Findings) {
     }
 }
 
-/// What the text is with this octet at this place.
+/// The finding on the text with this octet at this place.
 fn finding_with(alloc: Global, text: &[u8], at: usize, octet: u8) -> Finding {
     match with_octet(alloc, text, at, octet) {
         Ok(other) => finding_of(alloc, &other),

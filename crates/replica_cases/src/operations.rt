@@ -5,7 +5,7 @@ use crdt_ops::{Op, OpFault, SoundOp, Unsound, check, read_op};
 use merge_laws::Caused;
 use std::alloc::{AllocError, Global};
 
-/// What a text is.
+/// The finding on a text.
 #[derive(Clone, Copy)]
 pub enum Finding {
     /// It spells no operation.
@@ -28,7 +28,7 @@ pub fn put_finding(finding: Finding, answer: &mut Words) {
     }
 }
 
-/// What a text is.
+/// The finding on a text.
 pub fn finding_of(alloc: Global, text: &[u8]) -> Finding {
     match read_op(alloc, text) {
         Ok(op) => finding_of_op(alloc, op, text),

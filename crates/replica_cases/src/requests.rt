@@ -18,13 +18,13 @@ use std::mem;
 /// A question about a text.
 #[derive(Clone, Copy)]
 enum TextWord {
-    /// `op LINE`: what the line is.
+    /// `op LINE`: the finding on the line.
     Op,
-    /// `octets TEXT`: what the line is that TEXT spells in the escape.
+    /// `octets TEXT`: the finding on the line that TEXT spells in the escape.
     Octets,
-    /// `cuts LINE`: what its shorter beginnings are.
+    /// `cuts LINE`: the findings on the line's shorter prefixes.
     Cuts,
-    /// `replaced OCTETS LINE`: what the line is with each octet at each place.
+    /// `replaced OCTETS LINE`: the findings on the line with each octet at each place.
     Replaced,
 }
 
@@ -90,7 +90,7 @@ const WORDS: &[(&str, Word)] = &[
     ("show", Word::Asks(Asks::Inbox(InboxWord::Show))),
     ("list", Word::Asks(Asks::Inbox(InboxWord::List))),
     ("since", Word::Asks(Asks::Inbox(InboxWord::Since))),
-    ("told", Word::Asks(Asks::Inbox(InboxWord::Contents))),
+    ("contents", Word::Asks(Asks::Inbox(InboxWord::Contents))),
     ("folder", Word::Asks(Asks::Inbox(InboxWord::Folder))),
     ("pairs", Word::Asks(Asks::Given(GivenWord::Pairs))),
     ("replay", Word::Asks(Asks::Given(GivenWord::Replay))),

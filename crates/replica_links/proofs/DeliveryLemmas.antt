@@ -12,7 +12,7 @@ or_assoc : (a b c : Bool) → ((a || b) || c) ≡ (a || (b || c))
 or_assoc true b c = refl
 or_assoc false b c = refl
 
--- a complete intake changes no other
+-- joining a complete intake to another changes nothing
 joined_intake_complete : (one : Took) → joined_intake one complete_intake ≡ one
 joined_intake_complete one = λ i. record { lacking = or_false one.lacking i; stalled = or_false one.stalled i }
 

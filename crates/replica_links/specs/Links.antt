@@ -1,5 +1,5 @@
--- What a replica does with the messages of others, and what the worker of a link does: definitions
--- over any taker and any way to the other replicas.
+-- A replica's work on the messages of others, and the run of a link's worker, as definitions over
+-- any taker and any way to the other replicas.
 
 use Rattle.std.specs.Prelude.{◌≡◌, ◌⊎◌, ◌||◌, ℕ, Bool, true, false, List, [], ◌∷◌, map, Option}
 use Rattle.std.specs.Prelude.{None, Some, Ok, Err}
@@ -57,7 +57,7 @@ pub record Takes {S : Type 0} (takes : S → Op → Took → S → Type 0) (s : 
   pub total : result ≡ total_intake deliveries
 
 -- The result of a delivery, by the outcome of its call. An operation that conflicts will never be
--- applied, so that it doesn't lack.
+-- applied, so it isn't lacking.
 abbrev pub is_held : Arrival → Bool
 is_held (Applied count) = false
 is_held Held = true
@@ -92,7 +92,7 @@ module _ {S P : Type 0} (lacks : S → Type 0) (has : S → List (ℕ × ℕ) �
   MayAsk s p from q =
       ((clock : List (ℕ × ℕ)) × has s clock × asks p from clock q) ⊎ (lacks s × (p ≡ q))
 
-  -- Each of these replicas is asked so, one after another.
+  -- Each of these replicas is asked in this way, one after another.
   abbrev pub AreAsked : S → P → List ℕ → P → Type 0
   AreAsked s p [] q = p ≡ q
   AreAsked s p (to ∷ rest) q = (next : P) × MayAsk s p to next × AreAsked s next rest q
@@ -189,8 +189,7 @@ module _ {S P : Type 0} (takes : S → Op → Took → S → Type 0) (drains : S
   abbrev pub TakesTurns : List ℕ → S → P → S → P → Type 0
   TakesTurns peers s p t q = (turns : List (Option PeerMsg)) × Turns peers turns s p t q
 
-  -- What a link's worker does: it asks the others first, if it is to, and then takes turns and does
-  -- nothing else.
+  -- The run of a link's worker: it asks the others first, if it is to, and then only takes turns.
   abbrev pub IsWorkerRun : List ℕ → Bool → S → P → S → P → Type 0
   IsWorkerRun peers asks_first s p t q =
       (started : P)

@@ -1,4 +1,4 @@
-//! What a replica does with a message of another replica.
+//! A replica's work on a message from another replica.
 
 ghost use Rattle.std.specs.Prelude.{◌≡◌, ℕ, List};
 ghost use Rattle.crdt_ops.specs.declared.op.Op.{Op};

@@ -19,19 +19,19 @@
 //!   checked before each message, or a flood of messages would put the request off.
 //! - If an operation of an answer was held or refused, a replica asks again, as after any other
 //!   message: a message doesn't say whether it is an answer, and one that was held may be the only
-//!   one that shows a gap. So a replica that can't take an operation for good (a counter is used
-//!   up) and the one that has it exchange it without end, with a journal entry each time. This
-//!   isn't bounded: a bound by the clock last sent would leave a gap open for up to a minute if the
-//!   request or its answer was lost.
+//!   one that shows a gap. So if a replica can never take an operation (a counter is used up), it
+//!   and the replica that has the operation exchange it without end, with a journal entry each
+//!   time. This isn't bounded: a bound by the clock last sent would leave a gap open for up to a
+//!   minute if the request or its answer was lost.
 //! - A link's worker rests for 250 microseconds after a message if no other is waiting: waking it
 //!   takes a sender longer than sending, and operations that arrive close together wake it once. So
 //!   an operation reaches another replica at once if nothing arrived just before, and otherwise up
-//!   to some 0.3 ms later.
+//!   to about 0.3 ms later.
 //! - The first request of a replica that joined is its link's (`LinkInput::asks_first`), so that a
 //!   contract fixes the order: it asks, then takes messages.
 //! - A message bears the place of its sender: a replica under its lock has no name for a channel,
 //!   and the answer to a `Have` goes to the replica that sent it.
-//! - `LinkMsg::Stop` ends a link though senders are left, since all threads of a program may share
+//! - `LinkMsg::Stop` ends a link even if senders are left, since all threads of a program may share
 //!   the senders.
 //! - In the result of `hand_on`, an operation is lacking if the journal had no room or was
 //!   cut, or if it is held; not if it conflicts with another one, since it will never be applied.

@@ -46,7 +46,7 @@ pub trait Taker {
 }
 
 /// Delivers the operations, each once and in their order, whatever the results. Each field of the
-/// result is true if it is in one of these.
+/// result is true if it is true in one of the results.
 pub fn hand_on<T: Taker>(taker: &mut T, ops: Vec<SoundOp>) -> Took
     ensures { Takes T.takes taker.old ops.items result taker.new }
 {

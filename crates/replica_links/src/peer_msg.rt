@@ -1,9 +1,9 @@
-//! What is sent over a link.
+//! Messages that are sent over a link.
 
 use crdt_ops::SoundOp;
 use tags_clocks::Clock;
 
-/// What one replica sends another. The operations of a message are sound, by their type.
+/// A message from one replica to another. The operations of a message are sound, by their type.
 #[derive(Drop)]
 pub enum LinkMsg {
     /// Operations, in an order in which they can be applied.

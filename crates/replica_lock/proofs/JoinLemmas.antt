@@ -44,7 +44,7 @@ not_true : (b : Bool) → ¬ IsTrue b → b ≡ false
 not_true true h = absurd (h refl)
 not_true false h = refl
 
--- The replica took the operation: its journal entry, and the replica then.
+-- The replica applied the operation: the outcome, and the replica's state after it.
 abbrev pub HasApplied : NodeState → Op → Outcome → NodeState → Type 0
 HasApplied old op outcome new =
     (outcome ≡ Delivered (Ok (record { arrival = Applied 1; stalled = false })))
@@ -97,7 +97,7 @@ module _ (old : NodeState) (op : Op) (nothing : old.held ≡ []) where
   err_by Held new h r e = apply_fault_of_err (NotCausal op.id) r e (refl, h.arrives.1.0)
   err_by Repeat new h r e = apply_fault_of_err (NotCausal op.id) r e (refl, received_not_ripe h.arrives.0)
 
-  -- if it wasn't
+  -- if the operation wasn't applied
   pub take_err : (outcome : Outcome) (new : NodeState) → IsStep old (Deliver op) outcome new → (r : Result (Unit {0}) JoinFault) → r ≡ join_fault_of op.id outcome → IfErr r (IsApplyFault old op)
   take_err (Delivered (Ok receipt)) new h r e = err_by receipt.arrival new h.0 r e
   take_err (Delivered (Err (delivering.Conflict other))) new h r e = apply_fault_of_err (NotCausal op.id) r e (refl, conflict_not_ripe h.0.1)
@@ -124,7 +124,7 @@ take_written old new op given outcome (Err why) e j h = tt
 pub take_next : {X : Type 0} (xs : List X) (i : ℕ) (x : X) → i < length xs → x ≡ get_or xs i x → take (i + 1) xs ≡ take i xs ++ x ∷ []
 take_next xs i x l is = take_more xs i x l ∙ ap (λ y. take i xs ++ y ∷ []) (sym is)
 
--- the one at a place, between those before it and those after it
+-- the operation at a place, between those before it and those after it
 cut_at : (ops : List Op) (i : ℕ) (op : Op) → i < length ops → op ≡ get_or ops i op → (back : List Op) × (ops ≡ take i ops ++ op ∷ back)
 cut_at [] i op l is = absurd (omega (arith, l))
 cut_at (x ∷ ops) zero op l is = (ops, ap (λ (y : Op). y ∷ ops) (sym is))
@@ -164,7 +164,7 @@ module _ (name : ℕ) (ops : List Op) (i : ℕ) (op : Op) (l : i < length ops) (
   first_fault : (Why : List Op → Op → Type 0) → Why (take i ops) op → HasFirstFault name ops Why
   first_fault Why h = let c = cut_at ops i op l at in record { front = take i ops; op = op; back = c.0; cut = c.1; causal = s.causal; not_exhausted = s.not_exhausted; why = h }
 
-  -- if it stops
+  -- the fault if an operation of the list isn't applied
   pub join_fault_at : (why : JoinFault) → IsApplyFault book.node op why → IsLeastOwn id_of name ops None → IsJoinFault name ops why
   join_fault_at (Own id) h none = absurd h
   join_fault_at (NotCausal id) h none = (
@@ -191,7 +191,7 @@ joined_book_none name book e = record {
     no_cut [] o back h = absurd cc
     no_cut (x ∷ front) o back h = absurd cc
 
--- a copied clock is that of a list that was applied
+-- the copy of a clock is the clock of a list of applied operations
 pub clock_of_applied : {E : Type 0} (applied : List Op) (r : Result (List (ℕ × ℕ)) E) → IsCausal id_of clock_of applied → IfOk r (λ clock. IsClockOf id_of applied clock)
     → IfOk r (λ clock. (covered : List Op) × IsCausal id_of clock_of covered × IsClockOf id_of covered clock)
 clock_of_applied applied (Ok clock) causal is = (applied, causal, is)

@@ -1,4 +1,5 @@
--- A replica under its lock may be shared among threads, from its node up (`Rattle.imap_node.proofs.ThreadLemmas`).
+-- A replica under its lock may be shared among threads; for its node this is in
+-- `Rattle.imap_node.proofs.ThreadLemmas`.
 use denote.RattleType.{RattleType}
 use denote.Param.Send.{IsSend, IsSync, sendable, view_send, recorded_send, recorded_sync, struct_send, struct_sync}
 use denote.Struct.Declared.{shape}

@@ -15,7 +15,7 @@ use Rattle.replica_lock.specs.declared.compact_entry.EntryRef.{EntryRef}
 use Rattle.replica_lock.specs.declared.compact_entry.EntryRef.TheVariants as refs
 use Rattle.replica_lock.specs.declared.outcome.Outcome.TheVariants.{Closed, Replied}
 
--- The reply to a NOOP with this tag that is only its tagged OK: nothing changed (RFC 9051, section
+-- The reply to a NOOP with this tag if nothing changed: only its tagged OK (RFC 9051, section
 -- 6.1.2).
 abbrev pub noop_done : List ℕ → Reply
 noop_done tag = Done (Completed tag None words.Noop ∷ []) [] []

@@ -69,7 +69,7 @@ fetch_exchange_answers tag word shown = answers_of shown ++ Completed tag None w
 abbrev pub fetch_exchange_reply : List ℕ → CompletedWord → FetchAnswers → Reply
 fetch_exchange_reply tag word shown = Done (fetch_exchange_answers tag word shown) [] []
 
--- The command's entry.
+-- The journal entry of a command with such a reply.
 abbrev pub fetch_exchange_entry : FetchExchange → JournalEntry
 fetch_exchange_entry exchange =
     record {

@@ -1,4 +1,4 @@
--- The book of a replica that joins with another one's operations, and why it can't.
+-- The book of a replica that joins with another one's operations, and why it can't join.
 
 use Rattle.std.specs.Prelude.{◌≡◌, ℕ, List, [], ◌∷◌, ◌++◌, None, Some, Result, Ok, Err, false, map}
 use Rattle.tags_clocks.specs.declared.id.OpId.{OpId}
@@ -20,7 +20,7 @@ use Rattle.replica_lock.specs.declared.outcome.Outcome.{Outcome}
 use Rattle.replica_lock.specs.declared.outcome.Outcome.TheVariants.{Delivered}
 use Rattle.uid_projection.specs.Exhaustion.{Exhausts}
 
--- The entry of an operation that was delivered and applied, and for which no held one waited.
+-- The entry of an operation that was delivered and applied; no held operation waited for it.
 abbrev pub applied_entry : Op → JournalEntry
 applied_entry op =
     record {
@@ -44,8 +44,8 @@ pub record HasFirstFault (name : ℕ) (ops : List Op) (Why : List Op → Op → 
   pub not_exhausted : ¬ Exhausts (first_numbers name) [] front
   pub why : Why front op
 
--- Why no replica of this name joins with these operations. An operation that bears its name is
--- looked for first.
+-- Why no replica of this name joins with these operations. If one of them bears its name, that is
+-- the reason, whatever else prevents the join.
 abbrev pub IsJoinFault : ℕ → List Op → JoinFault → Type 0
 IsJoinFault name ops (Own id) = IsLeastOwn id_of name ops (Some id)
 IsJoinFault name ops (NotCausal id) =

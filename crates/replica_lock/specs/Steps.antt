@@ -1,10 +1,11 @@
 -- The events of a replica and their outcomes, as a relation between the node before and after.
 
 use Rattle.std.specs.Prelude.{◌≡◌, ℕ, Bool, false, is_some}
-use Rattle.imap_node.specs.Nodes.{Idles, NodeState}
+use Rattle.imap_node.specs.Nodes.{NodeState}
+pub use Rattle.imap_node.specs.Nodes.{Awaits}
 use Rattle.imap_node.specs.Replies.{is_done}
 use Rattle.imap_node.specs.Responses.{Responds}
-use Rattle.imap_node.specs.Sessions.{IsOpen, session_at}
+use Rattle.imap_node.specs.Sessions.{session_at}
 pub use Rattle.imap_node.specs.Steps.{ClosesAt, DeliversAt, DrainsAt, IsNotOpenAt, OpensAt}
 use Rattle.imap_node.specs.declared.input.Input.{Input}
 use Rattle.imap_node.specs.declared.input.Input.TheVariants as inputs
@@ -15,18 +16,11 @@ use Rattle.replica_lock.specs.declared.outcome.Outcome.{Outcome}
 use Rattle.replica_lock.specs.declared.outcome.Outcome.TheVariants.{Closed, Delivered, Drained}
 use Rattle.replica_lock.specs.declared.outcome.Outcome.TheVariants.{Opened, PassedOver, Replied}
 
--- Whether a copy of an outcome takes memory: only that of the reply to an input that was carried
--- out does.
+-- Whether a copy of an outcome takes memory: it does only if the outcome is the reply to an input
+-- that was carried out.
 abbrev pub takes_memory : Outcome → Bool
 takes_memory (Replied reply) = is_done reply
 takes_memory _ = false
-
--- A session takes this input: a command if it is open and doesn't idle, a line or a poll if it
--- idles (RFC 2177, section 3).
-abbrev pub Awaits : NodeState → ℕ → Input → Type 0
-Awaits node n (inputs.Command moment tagged) = IsOpen node.sessions n × (Idles node n → ⊥)
-Awaits node n (inputs.Line line) = Idles node n
-Awaits node n inputs.Poll = Idles node n
 
 -- The event by which a session gets this input.
 abbrev pub event_of : ℕ → Input → BookEvent
@@ -34,8 +28,8 @@ event_of n (inputs.Command moment tagged) = Command n moment tagged
 event_of n (inputs.Line line) = Line n line
 event_of n inputs.Poll = Poll n
 
--- An input of a session is answered, or passed over if the session doesn't take it; then nothing
--- changes.
+-- An input of a session is answered; or, if the session doesn't take it, it is passed over and
+-- nothing changes.
 abbrev pub TakesInput : NodeState → ℕ → Input → Outcome → NodeState → Type 0
 TakesInput old n input (Replied reply) new = Awaits old n input × Responds old n input reply new
 TakesInput old n input PassedOver new = (Awaits old n input → ⊥) × (new ≡ old)

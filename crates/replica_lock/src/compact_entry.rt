@@ -20,7 +20,8 @@ use std::marker::Model;
 
 /// A journal entry in compact form. A NOOP whose reply is only its tagged OK takes no memory but
 /// its tag, a command whose reply is only FETCH answers and its tagged OK takes a few words for
-/// each, and the close of a session takes no memory besides its place, so that it can't run out.
+/// each answer, and the close of a session takes no memory besides its place, so that it can't fail
+/// for lack of memory.
 pub struct CompactEntry {
     form: CompactForm,
 }

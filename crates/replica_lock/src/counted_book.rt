@@ -1,4 +1,4 @@
-//! What a replica's lock guards: the book, and the count of all calls.
+//! The value under a replica's lock: the book, and the count of all calls.
 
 ghost use Rattle.std.specs.Prelude.{◌≡◌, ◌⊎◌, ◌↔◌, ℕ, ◌<◌, ◌≤◌, ◌^◌, length, IsTrue, IsOk};
 ghost use Rattle.std.specs.Prelude.{slice_get, OnOk, OnErr, IfOk, IfErr, IfSome, IfNone, Some};
@@ -82,7 +82,7 @@ impl<L: Ledger> CountedBook<L> {
     }
 
     /// The place of the last entry after which another session may have to be sent something, or a
-    /// later place. No entry after it is such a one.
+    /// later place. After none of the later entries does another session have to be sent anything.
     pub fn last_visible(&self) -> u64
         ensures within { result ≤ length self.now.journal }
         ensures quiet { AreQuietAfter self.now.journal result }
@@ -110,9 +110,9 @@ impl<L: Ledger> CountedBook<L> {
         &self.book
     }
 
-    /// Takes an event for a caller, and returns the outcome of the caller's call before, which may
-    /// be dropped once the lock is released. An error changes nothing. An open session can always
-    /// be closed, unless the journal was cut.
+    /// Takes an event for a caller, and returns the outcome of the caller's previous call, which
+    /// may be dropped once the lock is released. An error changes nothing. An open session can
+    /// always be closed, unless the journal was cut.
     pub fn call(
         &mut self,
         alloc: Global,
@@ -142,7 +142,7 @@ impl<L: Ledger> CountedBook<L> {
         Ok(pass.note(&mut self.calls, outcome, place))
     }
 
-    /// Takes all passes back, and returns the book. `Missing` if the passes don't count all calls;
+    /// Takes all passes, and returns the book. `Missing` if the passes don't count all calls;
     /// `Strange` if a pass's outcome isn't the journal's at its place.
     pub fn settle(self, passes: Vec<Pass<L>>) -> Result<Book, FinishFault>
         requires { L.parts ≡ 4294967295 }

@@ -134,7 +134,7 @@ impl FetchExchange {
     }
 }
 
-/// Takes the command back from a box for which memory ran out.
+/// Takes the command out of a box for which memory ran out.
 fn unbox_command(failed: AllocFailed<FetchExchange>) -> Tagged
     ensures { result ≡ failed.value.tagged }
 {

@@ -4,7 +4,7 @@ use imap_node::{MAX_SESSIONS, Node, SessionNo};
 use std::alloc::Global;
 use std::sync::Condvar;
 
-/// A condition variable for each session, as far as there was memory, and one for all other
+/// A condition variable for each session, as far as memory sufficed, and one for all other
 /// sessions.
 pub struct SessionSignals {
     own: Vec<Condvar>,
@@ -19,7 +19,7 @@ impl Drop for SessionSignals {
 }
 
 impl SessionSignals {
-    /// Condition variables for all sessions that a replica can have, as far as there is memory.
+    /// Condition variables for all sessions that a replica can have, as far as memory suffices.
     pub fn new(alloc: Global) -> SessionSignals {
         let mut own = Vec::new(alloc);
         for _ in 0..MAX_SESSIONS {
@@ -41,7 +41,7 @@ impl SessionSignals {
         }
     }
 
-    /// Signals each session that idles and may have something to be sent, and no other. It looks at
+    /// Signals each session that idles and may have to be sent something, and no other. It looks at
     /// each session's feed.
     pub fn notify(&self, node: &Node) {
         for number in 1..node.last_session() + 1 {

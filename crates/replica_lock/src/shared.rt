@@ -24,20 +24,20 @@ use std::sync::ledger::{Blank, Ledger};
 use std::sync::{Condvar, Mutex, MutexGuard, Wait};
 use tags_clocks::Clock;
 
-/// A gate that a thread passes at given points, by which a test sets the order of threads.
+/// A gate by which a test sets the order of threads: each thread passes it at given points.
 pub trait Gate {
     /// Passes for the n-th time, from 1 on.
     fn pass(&mut self, n: u64);
 }
 
 /// A replica under a lock. Each call takes the lock, for which it may wait, for one step of the
-/// replica, and notes it in the caller's pass.
+/// replica, and notes the step in the caller's pass.
 #[derive(Drop)]
 pub struct Shared<L: Ledger> {
     locked: Mutex<CountedBook<L>>,
     changed: Condvar,
-    /// Signals of each session that it idles and may have something to be sent, that it begins to
-    /// idle, or that it was closed.
+    /// For each session, the signal that it idles and may have to be sent something, that it begins
+    /// to idle, or that it was closed.
     signals: SessionSignals,
 }
 
@@ -65,8 +65,8 @@ impl<'a, L: Ledger> LockTurn<'a, L> {
         self.locked.call(alloc, pass, event)
     }
 
-    /// Gives the pass's session a command, which came at this moment and doesn't begin IDLE: a turn
-    /// doesn't wake the threads that wait for a session to idle.
+    /// Gives the pass's session a command that arrived at this moment and doesn't begin IDLE: a
+    /// turn doesn't wake the threads that wait for a session to idle.
     pub fn command(
         &mut self,
         alloc: Global,
@@ -142,8 +142,8 @@ impl<L: Ledger> Shared<L> {
         if let Some(session) = woken {
             self.signals.signal_of(session).notify_all();
         }
-        // The outcome of the call before is dropped only here, after the lock was released: it may
-        // be long.
+        // The outcome of the previous call is dropped only here, after the lock was released: it
+        // may be long.
         match result {
             Ok(last) => {
                 pass.store_spent(last);
@@ -187,7 +187,7 @@ impl<L: Ledger> Shared<L> {
         self.call(rt, alloc, pass, BookEvent::Open { auth })
     }
 
-    /// Gives the pass's session a command, which came at this moment.
+    /// Gives the pass's session a command that arrived at this moment.
     pub fn command<R: Wait>(
         &self,
         rt: &R,
@@ -232,7 +232,7 @@ impl<L: Ledger> Shared<L> {
         self.call(rt, alloc, pass, BookEvent::Line { session, line })
     }
 
-    /// Sends the pass's session, in IDLE, what changed.
+    /// Sends the pass's session, in IDLE, the changes.
     pub fn poll<R: Wait>(&self, rt: &R, alloc: Global, pass: &mut Pass<L>) -> Result<(), CallFault>
         requires { IsSome pass.old.session }
         ensures called { OnOk result (IsCalledIn pass.old (λ n. events.Poll n) pass.new) }
@@ -294,8 +294,8 @@ impl<L: Ledger> Shared<L> {
 
     /// Waits until this session may have to be sent something for an entry after the first `seen`,
     /// and returns the journal's length then; `None` if the session is closed. It looks again when
-    /// the session begins to idle. While the session idles, the wait is woken when its own feed has
-    /// notes, or missed some, and at its close, by no other entry.
+    /// the session begins to idle. While the session idles, the wait is woken only when the
+    /// session's own feed has notes or missed some, and at the session's close.
     pub fn wait_session_change<R: Wait>(&self, rt: &R, session: SessionNo, seen: u64) -> Option<u64>
         ensures { IfSome result (λ length. seen < length) }
     {
@@ -314,8 +314,8 @@ impl<L: Ledger> Shared<L> {
     /// Copies of the operations that the replica applied, in their order; `Err` if memory runs out.
     /// It makes no entry, and leaves the pass as it is.
     ///
-    /// It holds the lock for one pass over the list, and copies each operation; a text's memory is
-    /// shared. Other calls wait for as long as that takes. The copies take as much memory as the
+    /// It holds the lock for one run through the list, and copies each operation; a text's memory
+    /// is shared. Other calls wait for as long as that takes. The copies take as much memory as the
     /// list does, at once, besides the replica's and the journal's own.
     pub fn ops_copy<R: Wait>(
         &self,
@@ -325,7 +325,7 @@ impl<L: Ledger> Shared<L> {
     ) -> Result<Vec<SoundOp>, AllocError>
         ensures { IfOk result (λ ops. IsCausal id_of clock_of ops.items) }
     {
-        copies_of_ops(alloc, self.locked.lock(rt).book())
+        copy_book_ops(alloc, self.locked.lock(rt).book())
     }
 
     /// A copy of the clock that counts the operations that the replica applied; `Err` if memory
@@ -334,7 +334,7 @@ impl<L: Ledger> Shared<L> {
         ensures { IfOk result (λ clock. (applied : List Op) × IsCausal id_of clock_of applied
             × IsClockOf id_of applied clock) }
     {
-        clock_in(alloc, self.locked.lock(rt).book())
+        copy_clock_of_book(alloc, self.locked.lock(rt).book())
     }
 
     /// Copies of the operations applied that the clock doesn't cover, in their order; `Err` if
@@ -348,7 +348,7 @@ impl<L: Ledger> Shared<L> {
         ensures { IfOk result (λ ops. (applied : List Op) × IsCausal id_of clock_of applied
             × (ops.items ≡ uncovered_ops id_of clock.now applied)) }
     {
-        ops_in(alloc, self.locked.lock(rt).book(), clock)
+        ops_of_book_since(alloc, self.locked.lock(rt).book(), clock)
     }
 
     /// Removes the lock and returns the book if no pass is missing. `Missing` if one is, `Strange`
@@ -378,7 +378,7 @@ impl<L: Ledger> Shared<L> {
 }
 
 /// The session that an event closes, or lets idle. Threads that wait for its changes look again,
-/// since nothing that came while it didn't idle signalled them.
+/// since no change signalled them while it didn't idle.
 fn session_woken_by(event: &BookEvent) -> Option<SessionNo> {
     match event {
         BookEvent::Close { session } => Some(*session),
@@ -398,15 +398,15 @@ fn session_woken_by(event: &BookEvent) -> Option<SessionNo> {
 }
 
 /// Copies of the operations applied, in their order.
-fn copies_of_ops(alloc: Global, book: &Book) -> Result<Vec<SoundOp>, AllocError>
+fn copy_book_ops(alloc: Global, book: &Book) -> Result<Vec<SoundOp>, AllocError>
     ensures ops { IfOk result (λ ops. ops.items ≡ book.now.node.applied) }
     ensures causal { IsCausal id_of clock_of book.now.node.applied }
 {
-    copies(alloc, book.node().op_list())
+    copy_ops(alloc, book.node().op_list())
 }
 
 /// A copy of the clock that counts the operations applied.
-fn clock_in(alloc: Global, book: &Book) -> Result<Clock, AllocError>
+fn copy_clock_of_book(alloc: Global, book: &Book) -> Result<Clock, AllocError>
     ensures clock { IfOk result (λ clock. IsClockOf id_of book.now.node.applied clock) }
     ensures causal { IsCausal id_of clock_of book.now.node.applied }
 {
@@ -415,7 +415,7 @@ fn clock_in(alloc: Global, book: &Book) -> Result<Clock, AllocError>
 }
 
 /// Copies of the operations applied that the clock doesn't cover, in their order.
-fn ops_in(alloc: Global, book: &Book, clock: &Clock) -> Result<Vec<SoundOp>, AllocError>
+fn ops_of_book_since(alloc: Global, book: &Book, clock: &Clock) -> Result<Vec<SoundOp>, AllocError>
     ensures ops { IfOk result
         (λ ops. ops.items ≡ uncovered_ops id_of clock.now book.now.node.applied) }
     ensures causal { IsCausal id_of clock_of book.now.node.applied }
@@ -425,7 +425,7 @@ fn ops_in(alloc: Global, book: &Book, clock: &Clock) -> Result<Vec<SoundOp>, All
 }
 
 /// Copies of the operations, in their order.
-fn copies(alloc: Global, ops: &[SoundOp]) -> Result<Vec<SoundOp>, AllocError>
+fn copy_ops(alloc: Global, ops: &[SoundOp]) -> Result<Vec<SoundOp>, AllocError>
     ensures { IfOk result (λ copied. copied.items ≡ ops.now) }
 {
     let mut copied = Vec::with_capacity(alloc, ops.len())?;

@@ -1,5 +1,5 @@
--- A counter with a limit that has room for a list of operations has room for the first:
--- what `Follower::first` owes of the counting follower of `refusals`.
+-- A counter with a limit that has room for a list of operations has room for the first: the proof
+-- that `Follower::first` asks of the counting follower of `refusals`.
 
 use Rattle.std.specs.Prelude.{ℕ, ◌+◌, ◌≤◌, suc}
 use Rattle.std.proofs.Common.{suc-le-suc, zero-le}

@@ -46,7 +46,7 @@ fn follower() -> FirstFollower<Unfollowed> {
     }
 }
 
-/// What `ready` answers for a follower that records nothing.
+/// The answer of `ready` for a follower that records nothing.
 fn answer_of_ready(alloc: Global) -> Result<Result<(), NotReady>, Trouble> {
     let ops = operations(alloc, LINES)?;
     let mut follower = follower();

@@ -96,7 +96,7 @@ fn is_drained_alike(
     Ok(filing.held().len() == plain.held.len() && filing.op_list().len() == plain.applied.len())
 }
 
-/// Whether both give the same operations since the clocks of some.
+/// Whether both give the same operations since the clocks of one applied operation in 16.
 fn are_since_alike(alloc: Global, filing: &Filing, plain: &PlainInbox) -> Result<bool, Trouble> {
     for (at, op) in plain.applied.iter().enumerate() {
         if at % 16 == 0 && !is_since_alike(alloc, filing, plain, op.clock())? {

@@ -1,4 +1,5 @@
-//! Tests of what no clause says of operations, folders, subscriptions and the causal inbox.
+//! Tests of properties of operations, folders, subscriptions and the causal inbox that no clause
+//! states.
 //!
 //! Values and followers that are refused memory, or whose counter is used up, show that a refusal
 //! leaves an inbox as it was, that a stalled one continues when it is drained, and that the end is
@@ -8,8 +9,8 @@
 //! Tables are compared with plain lists: 200 generated lists of operations, shuffled, repeated and
 //! forged, are delivered to `Inbox` and to an inbox in plain lists, which must answer alike. The
 //! operations that were applied are then replayed, and folders, subscriptions, UIDs and
-//! mod-sequences are compared with those that plain lists compute. Of fifty lists and more, 150 to
-//! 300 operations are applied.
+//! mod-sequences are compared with those that plain lists compute. In at least fifty of the lists,
+//! 150 to 300 operations are applied.
 #![tactic(auto)]
 
 #[cfg(test)]
@@ -29,6 +30,8 @@ mod held_count;
 #[cfg(test)]
 mod laws;
 #[cfg(test)]
+mod long_chain;
+#[cfg(test)]
 mod plain_charts;
 #[cfg(test)]
 mod plain_inbox;
@@ -40,6 +43,8 @@ mod refusals;
 mod refused_call;
 #[cfg(test)]
 mod refused_values;
+#[cfg(test)]
+mod releases;
 #[cfg(test)]
 mod retries;
 #[cfg(test)]

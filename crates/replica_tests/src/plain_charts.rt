@@ -74,8 +74,8 @@ impl PlainReplica {
         }
     }
 
-    /// Brings the folder's chart up to an operation that was applied, by which the origins in
-    /// `lost` lost a version.
+    /// Updates the folder's chart for an operation that was applied; by it, the origins in `lost`
+    /// lost a version.
     fn note(&mut self, alloc: Global, op: &Op, lost: &[OpId]) -> Result<(), Trouble> {
         let folder = op.kind.name();
         let is_present = self.mailboxes.exists(folder);
@@ -173,7 +173,8 @@ fn place_of(charts: &[PlainChart], folder: &Name) -> Option<usize> {
     None
 }
 
-/// Brings the chart up to an operation about its folder, which exists afterwards or doesn't.
+/// Updates the chart for an operation about its folder; `is_present` says whether the folder exists
+/// afterwards.
 fn step(
     chart: &mut PlainChart,
     mailboxes: &PlainMailboxes,

@@ -260,8 +260,8 @@ fn deliver(
 }
 
 /// Delivers the line's operation, and repeats the delivery if memory ran out or drains the inbox if
-/// it stalled. Whether the refusal changed nothing, and the second call was refused nothing. `Err`
-/// if memory for the test's own values runs out.
+/// it stalled. Returns whether the refusal changed nothing, and the second call was refused
+/// nothing. `Err` if memory for the test's own values runs out.
 fn is_delivered_in_the_end(alloc: Global, inbox: &mut Node, line: &str) -> Result<bool, Trouble> {
     let before = shown(alloc, inbox)?;
     match deliver(alloc, inbox, line)? {
@@ -286,7 +286,7 @@ fn is_delivered_again(
     Ok(unchanged && answer.is_ok())
 }
 
-/// Whether each of the mixed lines is delivered in the end, and the inbox ends as it must.
+/// Whether each of the mixed lines is delivered in the end, and the inbox then has the right text.
 fn are_all_delivered(alloc: Global) -> Result<bool, Trouble> {
     let mut inbox = node(alloc)?;
     let is_expected = is_each_delivered(alloc, &mut inbox);

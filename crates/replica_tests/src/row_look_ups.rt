@@ -7,10 +7,9 @@ use crdt_ops::SoundOp;
 use folder_state::Folders;
 use imap_types::Name;
 use merge_laws::Caused;
-use modseq_index::changed_since;
 use std::alloc::{AllocError, Global};
 use tags_clocks::OpId;
-use uid_projection::Charts;
+use uid_projection::{Charts, changed_since};
 
 /// Whether looking up each UID below `end` gives the plain row, or none.
 pub fn are_uids_alike(
@@ -100,7 +99,7 @@ fn is_change_alike(
     are_rows_alike(alloc, &changed, rows, since)
 }
 
-/// For each id of `ops`, as an origin: whether its versions in the folder are equal.
+/// Whether the versions in the folder are equal for each id of `ops`, taken as an origin.
 pub fn are_origins_alike(
     alloc: Global,
     folders: &Folders,
@@ -133,8 +132,8 @@ fn is_origin_alike(
     )
 }
 
-/// For each id of `ops`, as an origin: whether it has a version in the folder after `next` just if
-/// the later plain lists have one.
+/// Whether each id of `ops`, taken as an origin, has a version in the folder after `next` exactly
+/// if it has one in the later plain lists.
 pub fn are_later_origins_alike(
     folders: &Folders,
     later: &PlainMailboxes,

@@ -167,11 +167,11 @@ fn is_listing_alike(
 struct ReplayPoint<'a> {
     /// The state now.
     now: &'a PlainReplica,
-    /// The operations that come next, six at most.
+    /// The next operations, six at most.
     next: &'a [SoundOp],
-    /// The state after these.
+    /// The state after these operations.
     later: &'a PlainReplica,
-    /// All operations that are still to come.
+    /// All operations after this point.
     rest: &'a [SoundOp],
     /// The state at the end.
     last: &'a PlainReplica,

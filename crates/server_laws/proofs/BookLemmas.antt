@@ -35,7 +35,7 @@ none_named (first ∷ books) name none book i =
       | inr t ↦ none_named books name w.1 book t
     ]
 
--- and there are no entries of that name
+-- no entry of an interleaving bears such a name
 no_entries : (books : List BookState) (interleaving : List ReplicaEntry) (name : ℕ) → ((item : ReplicaEntry) → IsIn item interleaving → (book : BookState) × IsIn book books × (book.node.start.replica ≡ item.replica))
     → current_world books name ≡ None → entries_of_replica interleaving name ≡ []
 no_entries books [] name theirs none = refl
@@ -47,7 +47,7 @@ pub start_in : (books : List BookState) (book : BookState) → IsIn book books �
 start_in [] book i = absurd i
 start_in (first ∷ books) book i = elim i [ inl same ↦ inl (ap start_of same) | inr t ↦ inr (start_in books book t) ]
 
--- of books with different names, each is in the world at its own name
+-- books with different names are each in the world at their own name
 pub at_own_name : (books : List BookState) → AreApart (starts_of books) → (book : BookState) → IsIn book books → IsAt (current_world books) book.node.start.replica book.node
 at_own_name [] apart book i = absurd i
 at_own_name (first ∷ books) apart book i = elim i [

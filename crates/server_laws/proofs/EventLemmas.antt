@@ -1,13 +1,10 @@
-use Rattle.std.proofs.Common.{◌≡◌, inr, ℕ, Bool, true, false, Option, None, Some, Result, Ok, Err, refl, sym, ap, ◌∙◌, subst}
-use Rattle.std.specs.Prelude.{is_some}
+use Rattle.std.proofs.Common.{◌≡◌, inr, ℕ, Bool, true, false, Result, Ok, Err, refl, sym, subst}
 use Rattle.causal_inbox.specs.declared.delivery.DeliverFault.{DeliverFault}
 use Rattle.causal_inbox.specs.declared.delivery.Delivered.{Delivered as Receipt}
 use Rattle.crdt_ops.specs.declared.op.Op.{Op}
-use Rattle.imap_commands.specs.declared.session.Session.{Session}
 use Rattle.imap_node.specs.Issues.{Issues, issued_by}
-use Rattle.imap_node.specs.Nodes.{Idles, NodeState}
+use Rattle.imap_node.specs.Nodes.{NodeState}
 use Rattle.imap_node.specs.Responses.{Responds}
-use Rattle.imap_node.specs.Sessions.{IsOpen, session_at}
 use Rattle.imap_node.specs.Steps.{DeliversAt}
 use Rattle.imap_node.specs.declared.input.Input.{Input}
 use Rattle.imap_node.specs.declared.input.Input.TheVariants as inputs
@@ -25,32 +22,8 @@ use Rattle.server_laws.specs.Interleavings.{ops_of_outcome}
 use Rattle.uid_projection.specs.Applied.{IsApplied}
 use Rattle.world_core.specs.Replicas.{IsAt, IsIssuedIn, StepsAt, Replicas, with_node}
 use Rattle.world_core.specs.Steps.{AnswersBy, AwaitsInput, NodeSteps, Steps, replica_of_event}
-use Rattle.world_core.proofs.NamedLemmas.{some_same}
+use Rattle.world_core.proofs.AwaitLemmas.{awaits_awake, awake_awaits}
 use Rattle.world_core.proofs.StepLemmas.{takes_from}
-
--- ---- which inputs a session takes
-
-some_of_is_some : {X : Type 0} (o : Option X) → is_some o ≡ true → (x : X) × (o ≡ Some x)
-some_of_is_some None h = let z : false ≡ true = h in absurd cc
-some_of_is_some (Some x) h = (x, refl)
-
-not_then : (b : Bool) → (b ≡ true → ⊥) → b ≡ false
-not_then true h = absurd (h refl)
-not_then false h = refl
-
-module _ (node : NodeState) (n : ℕ) where
-  awake_awaits : IsOpen node.sessions n × (Idles node n → ⊥) → AwaitsInput node n false
-  awake_awaits h =
-      let s = some_of_is_some (session_at node.sessions n) h.0 in
-      (s.0, s.1, not_then (is_some s.0.idling) (λ t. h.1 (s.0, s.1, t)))
-
-  awaits_awake : AwaitsInput node n false → IsOpen node.sessions n × (Idles node n → ⊥)
-  awaits_awake h = (
-    ap is_some h.1,
-    λ i.
-        let same : i.0 ≡ h.0 = some_same i.0 h.0 (sym i.1 ∙ h.1) in
-        let z : true ≡ false = sym i.2 ∙ ap (λ (s : Session). is_some s.idling) same ∙ h.2 in absurd cc,
-  )
 
 -- ---- an entry as an event
 
@@ -68,7 +41,7 @@ module _ (issued : Op → Type 0) (name : ℕ) where
   delivers old op (Ok receipt) new i h = takes_from issued old op.id (world_outcome (Delivered (Ok receipt))) new op i refl h
   delivers old op (Err fault) new i h = takes_from issued old op.id (world_outcome (Delivered (Err fault))) new op i refl h
 
-  -- a step of a replica is a step of its node in a world, where what is delivered was issued
+  -- a step of a replica is a step of its node in a world, if each delivered operation was issued
   pub node_steps : (old : NodeState) (event : BookEvent) (outcome : Outcome) (new : NodeState) → ((op : Op) → event ≡ Deliver op → issued op) → IsStep old event outcome new
       → NodeSteps issued old (world_event name event) (world_outcome outcome) new
   node_steps old (Open auth) (Opened (Ok n)) new from h = h
@@ -118,14 +91,14 @@ world_steps w name old event outcome new at from step =
     record { before = old; after = new; is_at = at; moves = node_steps (IsIssuedIn w) name old event outcome new from step; rest = refl } in
     inr (subst (λ (q : ℕ). StepsAt w q (λ before after. NodeSteps (IsIssuedIn w) before (world_event name event) (world_outcome outcome) after) (with_node w name new)) (sym (replica_of_world_event name event)) moves)
 
--- ---- what an entry issued
+-- ---- the operations that an entry issued
 
 reply_issues : (old new : NodeState) (n : ℕ) (input : Input) (reply : Reply) → IsApplied old.applied → Responds old n input reply new → (op : Op) → IsIn op (issued_by reply) → (op.id.replica ≡ old.start.replica) × IsIn op new.applied
 reply_issues old new n input reply a h op i =
     let k : Issues old (issued_by reply) new = issues_well old new n input reply a h in
     ((k.fresh op i).own, subst (IsIn op) (sym k.applied) (in_back op old.applied (issued_by reply) i))
 
--- it bears the replica's name, and was applied there
+-- an operation that a step issued bears the replica's name, and was applied there
 pub step_issues : (old : NodeState) (event : BookEvent) (outcome : Outcome) (new : NodeState) → IsApplied old.applied → IsStep old event outcome new → (op : Op) → IsIn op (ops_of_outcome outcome)
     → (op.id.replica ≡ old.start.replica) × IsIn op new.applied
 step_issues old event (Opened answer) new a h op i = absurd i

@@ -114,7 +114,7 @@ in_entries name (entry ∷ entries) item i = elim i [
   | inr later ↦ let w = in_entries name entries item later in (inr w.0, w.1)
 ]
 
--- where a list of two parts is cut: in its first part, or in its second
+-- a cut of a list of two parts is in its first part or in its second
 cut_parts : {X : Type 0} (xs ys front back : List X) (x : X) → xs ++ ys ≡ front ++ x ∷ back
     → ((rest : List X) × (xs ≡ front ++ x ∷ rest)) ⊎ ((rest : List X) × (front ≡ xs ++ rest) × (ys ≡ rest ++ x ∷ back))
 cut_parts [] ys front back x e = inr (front, refl, e)
@@ -138,7 +138,7 @@ module _ (books : List BookState) (peer joined : BookState) (interleaving : List
   abbrev added : List ReplicaEntry
   added = map (entry_at name) joined.journal
 
-  -- what the others' entries are, the replica's own left out
+  -- the others' entries are their journals, also with the joined replica's entries added
   others_stay : (book : BookState) → IsIn book books → entries_of_replica (interleaving ++ added) book.node.start.replica ≡ book.journal
   others_stay book i =
       entries_append interleaving added book.node.start.replica
@@ -168,7 +168,7 @@ module _ (books : List BookState) (peer joined : BookState) (interleaving : List
     ];
   }
 
-  -- what the peer has in its list, an entry of the interleaving issued or delivered
+  -- an entry of the interleaving issued or delivered each operation in the peer's list
   in_list_known : (op : Op) → IsIn op peer.node.applied → (earlier : ReplicaEntry) × IsIn earlier interleaving × IssuesOrDelivers earlier.entry op
   in_list_known op i =
       let w = issued_or_delivered peer (ran.histories peer known) op i in

@@ -62,7 +62,7 @@ entries_stay (item ∷ interleaving) one name e = elim (eqb_tells name item.repl
       ∙ sym (entries_past item interleaving name f.1)
 ]
 
--- where an interleaving with one more entry is cut: at its end, or within the rest
+-- a cut of an interleaving with one more entry is at its end, or within the rest
 cut_last : (interleaving front back : List ReplicaEntry) (one other : ReplicaEntry) → interleaving ++ one ∷ [] ≡ front ++ other ∷ back → ((interleaving ≡ front) × (one ≡ other)) ⊎ ((rest : List ReplicaEntry) × (interleaving ≡ front ++ other ∷ rest))
 cut_last [] [] back one other k = inl (refl, cc)
 cut_last [] (a ∷ []) back one other k = absurd cc
@@ -80,7 +80,7 @@ same_starts : (front : List BookState) (old new : BookState) (back : List BookSt
 same_starts [] old new back e = ap (λ (s : Counters). s ∷ starts_of back) e
 same_starts (book ∷ front) old new back e = ap (λ (ss : List Counters). start_of book ∷ ss) (same_starts front old new back e)
 
--- the others have other names
+-- the other books have other names
 named_apart : (front : List BookState) (old : BookState) (back : List BookState) → AreApart (starts_of (front ++ old ∷ back)) → (book : BookState) → IsIn book (front ++ back) → book.node.start.replica ≢ old.node.start.replica
 named_apart [] old back apart book i = apart.0 book.node.start (start_in back book i)
 named_apart (first ∷ front) old back apart book i = elim i [

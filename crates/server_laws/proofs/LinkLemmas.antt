@@ -29,9 +29,9 @@ use Rattle.replica_lock.specs.declared.outcome.Outcome.TheVariants.{Closed, Deli
 use Rattle.server_laws.specs.Interleavings.{AreKnownBeforeDelivery, AreIssuedBeforeDelivery, ReplicaEntry, HasHistory, HasIssuedOrDelivered, IsIssuedAmong, ops_of_outcome}
 use Rattle.uid_projection.specs.Exhaustion.{Exhausts}
 
--- ---- what a replica received, its entries issued or delivered
+-- ---- a replica's entries issued or delivered all operations that it received
 
--- it had been received, or this event with this outcome issues or delivers it
+-- the operation had been received, or this event with this outcome issues or delivers it
 abbrev IsReceivedOrNew : NodeState → BookEvent → Outcome → Op → Type 0
 IsReceivedOrNew old event outcome op = IsReceived (received_ops old) op ⊎ (IsIn op (ops_of_outcome outcome) ⊎ (event ≡ Deliver op))
 
@@ -112,14 +112,14 @@ all_received s (entry ∷ journal) t h op r = elim (all_received h.0 journal t h
   | inr later ↦ inr (later.0, inr later.1, later.2)
 ]
 
--- an entry of the journal issued or delivered what is in the list
+-- an entry of the journal issued or delivered each operation in the list
 pub issued_or_delivered : (book : BookState) → HasHistory book → (op : Op) → IsIn op book.node.applied → HasIssuedOrDelivered book.journal op
 issued_or_delivered book has op i = elim (all_received (unused_node book.node.start) book.journal book.node has.history op (inl i)) [
   | inl none ↦ elim none [ inl u ↦ absurd u | inr u ↦ absurd u ]
   | inr was ↦ was
 ]
 
--- ---- what was known before its delivery was issued before it
+-- ---- an operation that was known before its delivery was issued before it
 
 shorter : (fronts front back : List ReplicaEntry) (one : ReplicaEntry) (n : ℕ) → length fronts ≤ suc n → fronts ≡ front ++ one ∷ back → length front ≤ n
 shorter fronts front back one n l e = let size = ap length e ∙ length-append front (one ∷ back) in omega (arith, l, size)

@@ -24,7 +24,8 @@ issued_on old new grows op i =
     let g = grows op.id.replica i.issuer i.is_at in
     record { issuer = g.0; is_at = g.1; applied = subst (IsIn op) (sym g.2.1) (in_front op i.issuer.applied g.2.0 i.applied) }
 
--- The first entry of an interleaving as a step of a world, and what the others do from the next world on.
+-- The first entry of an interleaving as a step of a world, and the effect of the others from the next
+-- world on.
 record FirstStep (old : Replicas) (item : ReplicaEntry) (interleaving : List ReplicaEntry) (new : Replicas) : Type 0 where
   next : Replicas
   steps : Steps old (event_of item) (outcome_of item) next
@@ -42,7 +43,7 @@ module _ (old new : Replicas) (item : ReplicaEntry) (interleaving : List Replica
   abbrev next_world : Replicas
   next_world = with_node old item.replica begins.after
 
-  -- what it delivers was issued
+  -- each operation that the entry delivers was issued
   delivers_issued : (op : Op) → item.entry.event ≡ Deliver op → IsIssuedIn old op
   delivers_issued op e = elim (link [] item interleaving op refl e) [ inl i ↦ i | inr w ↦ absurd w.1 ]
 
@@ -99,14 +100,14 @@ interleaving_runs (item ∷ interleaving) old new fair lead link =
     let rest = interleaving_runs interleaving g.next new g.fair g.leads g.linked in
     record { moments = g.next ∷ rest.moments; trace = (g.steps, rest.trace); ends = rest.ends }
 
--- what had been issued is issued in the end
+-- each operation that had been issued is issued in the end
 pub issued_then : (interleaving : List ReplicaEntry) (old new : Replicas) → IsIssuedWorld old → AllLead old interleaving new → AreIssuedBeforeDeliveryFrom old interleaving → (op : Op) → IsIssuedIn old op → IsIssuedIn new op
 issued_then [] old new fair lead link op i = subst (λ (w : Replicas). IsIssuedIn w op) (λ k name. sym (stays_so (old name) (new name) (lead name)) k) i
 issued_then (item ∷ interleaving) old new fair lead link op i =
     let g = first_step old new item interleaving fair lead link in
     issued_then interleaving g.next new g.fair g.leads g.linked op (issued_on old g.next g.grows op i)
 
--- and what an entry issued
+-- each operation that an entry issued is issued in the end
 pub interleaving_issues : (interleaving : List ReplicaEntry) (old new : Replicas) → IsIssuedWorld old → AllLead old interleaving new → AreIssuedBeforeDeliveryFrom old interleaving → (op : Op) → IsIssuedAmong interleaving op → IsIssuedIn new op
 interleaving_issues [] old new fair lead link op w = absurd w.1
 interleaving_issues (item ∷ interleaving) old new fair lead link op w =

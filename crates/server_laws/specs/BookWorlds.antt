@@ -1,4 +1,4 @@
--- Replicas with their journals, as a world, and what an interleaving of the journals is to that
+-- Replicas with their journals, as a world, and how an interleaving of the journals relates to that
 -- world.
 
 use Rattle.std.specs.Prelude.{◌≡◌, ◌⊎◌, ℕ, List, ◌∷◌, ◌++◌, map}

@@ -30,15 +30,15 @@ TwoInterleave =
 abbrev pub entry_at : ℕ → JournalEntry → ReplicaEntry
 entry_at name entry = record { replica = name; entry = entry }
 
--- The replica began with operations that this one had applied: each entry of its journal delivers
+-- The replica began with operations that its peer had applied: each entry of its journal delivers
 -- one of them.
 pub record JoinedFrom (peer joined : BookState) : Type 0 where
   pub history : HasHistory joined
   pub delivers : (entry : JournalEntry) → IsIn entry joined.journal
       → (op : Op) × IsIn op peer.node.applied × (entry.event ≡ Deliver op)
 
--- A replica that joins, under a name of its own, after all that happened at the others extends
--- their interleaving.
+-- A replica that joins under a name of its own, after all events at the others, extends their
+-- interleaving.
 abbrev pub JoinedInterleave : Type 0
 JoinedInterleave =
     (books : List BookState) (peer joined : BookState) (interleaving : List ReplicaEntry)
@@ -67,8 +67,8 @@ pub record BeginsWithDelivery (book : BookState) : Type 0 where
   pub journal : book.journal ≡ entry ∷ rest
   pub event : entry.event ≡ Deliver op
 
--- Each journal may lead to its replica, and yet no order of their entries be a run: so it is if
--- each begins with the delivery of what another one issues later.
+-- Each journal may lead to its replica although no order of their entries is a run: for example, if
+-- each begins with the delivery of an operation that another one issues later.
 abbrev pub CrossedAreNotLinked : Type 0
 CrossedAreNotLinked =
     (books : List BookState) (book : BookState) (interleaving : List ReplicaEntry)

@@ -1,5 +1,5 @@
--- What happened at several replicas, as one sequence: an interleaving of the journals that their
--- locks keep. Nothing here speaks of a world.
+-- The events at several replicas as one sequence: an interleaving of the journals that their locks
+-- guard. Nothing here speaks of a world.
 
 use Rattle.std.specs.Prelude.{◌≡◌, ◌⊎◌, ℕ, ◌≤◌, ◌==◌, List, [], ◌∷◌, ◌++◌, Option, None, Some}
 use Rattle.std.specs.Prelude.{if◌then◌else◌}
@@ -27,7 +27,7 @@ entries_of_replica (item ∷ interleaving) name =
     if name == item.replica then item.entry ∷ entries_of_replica interleaving name
     else entries_of_replica interleaving name
 
--- It has the entries of each of the journals, in their order, and no others.
+-- The interleaving has the entries of each of the journals, in their order, and no others.
 pub record IsInterleavingOf (books : List BookState) (interleaving : List ReplicaEntry) :
     Type 0 where
   pub whole : (book : BookState) → IsIn book books
@@ -67,7 +67,7 @@ AreKnownBeforeDelivery interleaving =
     → item.entry.event ≡ Deliver op
     → (earlier : ReplicaEntry) × IsIn earlier front × IssuesOrDelivers earlier.entry op
 
--- ---- what locks keep
+-- ---- the journals under the locks
 
 -- The replica is the one that results from a new one by the entries of its journal, in their order,
 -- with their recorded outcomes. Its UIDs began with 1 or more.
@@ -75,7 +75,7 @@ pub record HasHistory (book : BookState) : Type 0 where
   pub from_one : 1 ≤ book.node.start.uid
   pub history : LeadsTo (unused_node book.node.start) book.journal book.node
 
--- All of the replicas do.
+-- `HasHistory` holds of each of the replicas.
 abbrev pub HaveHistories : List BookState → Type 0
 HaveHistories books = (book : BookState) → IsIn book books → HasHistory book
 
@@ -88,7 +88,8 @@ HasIssuedOrDelivered journal op =
 abbrev pub unused_book : Counters → BookState
 unused_book start = record { node = unused_node start; journal = [] }
 
--- One of the books takes a step, whose entry becomes its journal's last one. The other books stay.
+-- One of the books takes a step, whose entry becomes its journal's last one. The other books stay
+-- unchanged.
 pub record TakesStep (books : List BookState) (item : ReplicaEntry) (later : List BookState) :
     Type 0 where
   pub front : List BookState
@@ -101,7 +102,7 @@ pub record TakesStep (books : List BookState) (item : ReplicaEntry) (later : Lis
   pub step : IsStep old.node item.entry.event item.entry.outcome new.node
   pub entry : new.journal ≡ old.journal ++ item.entry ∷ []
 
--- ---- from any world on
+-- ---- interleavings that begin in any world
 
 -- These entries lead from the replica at a name to the later one; without a replica there
 -- are no entries.

@@ -1,5 +1,5 @@
--- A journal's entry as an event of a world with its outcome. Everything is the same but a delivery:
--- the entry carries the operation, the world's event names its id.
+-- A journal's entry as an event of a world with its outcome. They differ only for a delivery: the
+-- entry carries the operation, the world's event names its id.
 
 use Rattle.std.specs.Prelude.{ℕ, Ok, Err}
 use Rattle.replica_lock.specs.declared.event.BookEvent.{BookEvent}

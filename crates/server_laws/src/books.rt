@@ -1,11 +1,11 @@
-//! The headline of replicas as their locks hand them out.
+//! The headline of replicas as their locks return them.
 
 ghost use Rattle.server_laws.specs.BookWorlds.{KeepTheHeadline};
 
 use crate::laws::interleavings_are_runs;
 use replica_lock::Book;
 
-/// The headline holds of these replicas, whatever happened behind their locks. It isn't required
+/// The headline holds of these replicas, whatever happened under their locks. It isn't required
 /// that each journal leads to its replica, nor that UIDs began with 1 or more: every `Book`
 /// guarantees both.
 pub fn books_keep_the_headline(books: &[Book])

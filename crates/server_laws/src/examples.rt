@@ -1,4 +1,4 @@
-//! Which interleavings there are in some cases, and in which there are none.
+//! Which interleavings exist in some cases, and in which cases none exists.
 
 ghost use Rattle.server_laws.specs.ExampleInterleavings.{TwoInterleave, JoinedInterleave};
 ghost use Rattle.server_laws.specs.ExampleInterleavings.{UnissuedAreNotLinked, CrossedAreNotLinked};
@@ -7,9 +7,9 @@ ghost use Rattle.server_laws.specs.ExampleInterleavings.{UnissuedAreNotLinked, C
 ///
 /// `two`: one entry at each of two replicas gives two interleavings. `joined`: a replica that joins
 /// extends the others' interleaving. `unissued`: with a delivered operation that nobody issued the
-/// premise fails. `crossed`: it fails for every order if each journal begins with a delivery, as of
-/// two replicas each of which received what the other issued only later, though each journal leads
-/// to its replica; so that the premise speaks of order is needed.
+/// premise fails. `crossed`: it fails for every order if each journal begins with a delivery, as if
+/// two replicas each received first what the other issued only later. Each of these journals leads
+/// to its replica, so the premise has to speak of order.
 pub fn interleavings_by_example()
     ensures two { TwoInterleave }
     ensures joined { JoinedInterleave }

@@ -28,10 +28,10 @@ ghost use Rattle.world_core.specs.Worlds.{AreApart, AreFromOne};
 /// journals' events and outcomes. So the headline holds of it, and so does everything that holds of
 /// worlds in which all operations were issued.
 ///
-/// `from_any_world` says the same of entries that begin in any such world. `issued`: what an entry
-/// issued was issued in the world. `own_place`: replicas of distinct names are each at their name
-/// in the world, and by `clocks` two of them with equal clocks hold the same folders, messages and
-/// subscriptions.
+/// `from_any_world` says the same of entries that begin in any such world. `issued`: each operation
+/// that an entry issued was issued in the world. `own_place`: replicas of distinct names are each
+/// at their name in the world, and by `clocks` two of them with equal clocks hold the same folders,
+/// messages and subscriptions.
 pub fn interleavings_are_runs()
     ensures from_any_world { (old new : Replicas) (interleaving : List ReplicaEntry)
         → IsIssuedWorld old
@@ -66,7 +66,7 @@ pub fn interleavings_are_runs()
         → MeansTheSame one.node.applied other.node.applied }
 {}
 
-/// Links pass on what is in some replica's list, and that is enough for the premise of
+/// Links pass on operations in some replica's list, and that is enough for the premise of
 /// [`interleavings_are_runs`]. By `lists` the journal's entries issued or delivered everything in a
 /// replica's list; by `linked`, if each delivered operation was issued or delivered before, at
 /// whichever replica, then each was issued before.

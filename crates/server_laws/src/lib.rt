@@ -1,16 +1,15 @@
-//! What holds of several replicas that ran side by side, each behind its lock, as the server runs
-//! them.
+//! Laws of several replicas that ran side by side, each under its lock, as the server runs them.
 //!
-//! All that is known of a replica behind its lock is a journal that leads to it. An interleaving of
+//! All that is known of a replica under its lock is a journal that leads to it. An interleaving of
 //! the journals puts the entries of all replicas into one sequence. [`interleavings_are_runs`] says
 //! that an interleaving in which each operation was issued before it was delivered is a run of a
 //! world (`world_core`), with the journals' events and outcomes; so the headline holds of it.
 //! [`books_keep_the_headline`] says this of replicas as their locks return them, and `serve` of
 //! `server_runtime` of those that the server ran. The premise is one on links:
-//! [`lists_may_be_passed_on`] says that links which pass on what is in replicas' lists meet it,
+//! [`lists_may_be_passed_on`] says that links which pass on operations in replicas' lists meet it,
 //! [`interleavings_grow`] that each step of a book extends such an interleaving, and
-//! [`interleavings_by_example`] which interleavings there are in some cases, and in which there are
-//! none.
+//! [`interleavings_by_example`] which interleavings exist in some cases, and in which cases none
+//! exists.
 #![tactic(auto)]
 
 mod books;

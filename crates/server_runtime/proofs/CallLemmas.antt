@@ -55,7 +55,7 @@ pub line_by : (line : IdleLine) (r : Result Reply PortFault) (p q : PassState) (
 line_by line (Ok reply) p q last c e h = (c, sym e ∙ h)
 line_by line (Err fault) p q last c e h = tt
 
--- a result by passes is one between the positions that they saw
+-- a result by the passes before and after a call is one between these passes' positions
 pub opens_by_call : (access : Access) (from to : SessionPosition) (r : Result Login PortFault) (p q : PassState) → BeginsFrom from p q to → OpensIn access p r q → OpensByCall access from r to
 opens_by_call access from to (Ok login) p q g h = (p, q, g, h)
 opens_by_call access from to (Err TooManySessions) p q g h = (p, q, g, h)
@@ -68,7 +68,7 @@ pub steps_by_call : (call : PortCall) (from to : SessionPosition) (r : Result Re
 steps_by_call call from to (Ok reply) p q g l h = (p, q, g, h)
 steps_by_call call from to (Err fault) p q g l h = (g.2, subst (λ (n : ℕ). from.seen ≤ n) (sym g.3) (omega (arith, g.1, l)))
 
--- at most one call never shortens what was seen
+-- at most one call never moves a pass back in the journal
 seen_after_call : (p q : PassState) (event : BookEvent) → IsCalled p event q → p.seen ≤ q.seen
 seen_after_call p q event c = omega (arith, c.5, ap (λ (pass : PassState). pass.seen) c.6)
 
@@ -109,7 +109,7 @@ once_refused : (from : SessionPosition) (p q : PassState) (tagged : Tagged) (fau
     → StepsByCall from (calls.Command tagged) (Err fault) (record { session = from.session; seen = q.seen })
 once_refused from p q tagged fault low h = let on = seen_after_command p q tagged h.1 in (refl, omega (arith, low, on))
 
--- a connection at its pass's position
+-- commands of a connection that is at its pass's position
 carries_from_pass : (all : List Tagged) (replies : List Reply) (result : Result (Unit {0}) PortFault) (p q : PassState) (session : Option ℕ) → session ≡ p.session → CarriesCommands StepsOnce p all replies result q
     → CarriesCommands StepsByCall (record { session = session; seen = p.seen }) all replies result (record { session = session; seen = q.seen })
 carries_from_pass [] [] (Ok u) p q session own c = ap (λ (pass : PassState). record { session = session; seen = pass.seen }) c
@@ -123,7 +123,7 @@ carries_from_pass (tagged ∷ all) (reply ∷ replies) result p q session own c 
   carries_from_pass all replies result c.0 q session (own ∙ sym (command_stays p c.0 tagged reply c.1.0)) c.2,
 )
 
--- a connection that had seen no further
+-- commands of a connection whose position isn't after its pass's
 pub carries_from : (all : List Tagged) (replies : List Reply) (result : Result (Unit {0}) PortFault) (from : SessionPosition) (p q : PassState) → 0 < length all → from.session ≡ p.session → from.seen ≤ p.seen
     → CarriesCommands StepsOnce p all replies result q → CarriesCommands StepsByCall from all replies result (record { session = from.session; seen = q.seen })
 carries_from [] replies result from p q some own low c = absurd (not_below_zero some)

@@ -25,12 +25,12 @@ ends_of_calls names ends count each = record {
   each = λ i name end named at. subst (IsEndOf name) (get_or_from_slice_get ends i end end at) (each i name end (slice_get_within names i name named) named);
 }
 
--- what two clauses say of a success, a third follows from
+-- if two clauses hold of a success, so does a third that follows from them
 pub both_ok : {A E : Type 0} (P Q S : A → Type 0) (r : Result A E) → IfOk r P → IfOk r Q → ((a : A) → P a → Q a → S a) → IfOk r S
 both_ok P Q S (Ok a) p q f = f a p q
 both_ok P Q S (Err e) p q f = tt
 
--- the names of a list and of the rest of another, if the next of that one moves to the first
+-- the names of a list and of the rest of another stay the same if the next item moves to the first list
 pub moved_name : {A B C : Type 0} (f : A → C) (g : B → C) (xs : List A) (x : A) (y : B) (ys : List B) → f x ≡ g y
     → map f (xs ++ x ∷ []) ++ map g ys ≡ map f xs ++ map g (y ∷ ys)
 moved_name f g [] x y ys same = ap (λ c. c ∷ map g ys) same

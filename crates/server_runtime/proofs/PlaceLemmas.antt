@@ -10,7 +10,7 @@ range_more a (suc n) =
     let e : a + 1 + n ≡ a + suc n = omega arith in
     ap (λ (xs : List ℕ). a ∷ xs) (range_more (a + 1) n ∙ ap (λ (x : ℕ). range_with_len (a + 1) n ++ x ∷ []) e)
 
--- one further place is one of the others, unless it is the own one
+-- one further place is one of the others, unless it is the replica's own
 all_but_more : (own n : ℕ) → all_but own (suc n) ≡ all_but own n ++ cond (not (n == own)) (n ∷ []) []
 all_but_more own n =
     let e : 0 + n ≡ n = omega arith in

@@ -1,4 +1,4 @@
--- What the threads of a connection and those of a replica share may be shared among threads.
+-- The state shared by the threads of a connection, and by those of a replica, may be shared among threads.
 use denote.Param.Send.{IsSend, IsSync, sendable, recorded_sync, struct_sync}
 use denote.RattleType.{RattleType}
 use denote.Ref.{NamedLft}

@@ -46,8 +46,8 @@ text_of_poll (Some (Replied reply)) = flat_map text_of_answer (polled_answers re
 text_of_poll _ = []
 
 -- The result of opening a session, by the pass before and after: it was opened by one such call,
--- and the greeting has the login; or the call found too many sessions; or no session was opened for
--- another reason.
+-- and the greeting has the login; or one such call was refused, since there are too many sessions;
+-- or, for another reason, no session was opened.
 abbrev pub OpensIn : Access → PassState → Result Login PortFault → PassState → Type 0
 OpensIn access p (Ok login) q =
     (login ≡ login_of access)
@@ -77,13 +77,13 @@ StepsOnce p (calls.Command tagged) response q =
 StepsOnce p (calls.Line line) response q =
     StepsIn p (calls.Line line) response q × CallsOnceIn p (λ n. events.Line n line) q
 
--- A pass that had seen at least as much of the journal as a connection opened a session for it, and
--- the connection's new position is the pass's.
+-- A pass opened a session for a connection, after the pass had seen the journal at least up to the
+-- connection's position; the connection's new position is the pass's.
 abbrev pub BeginsFrom : SessionPosition → PassState → PassState → SessionPosition → Type 0
 BeginsFrom from p q to = (from.seen ≤ p.seen) × (to.session ≡ q.session) × (to.seen ≡ q.seen)
 
--- A pass in the session of a connection, which had seen at least as much of the journal, has now
--- seen it up to the connection's new position, in the same session.
+-- A pass had the session of a connection, and had seen the journal at least up to the connection's
+-- position; it has now seen the journal up to the connection's new position, in the same session.
 abbrev pub ContinuesFrom : SessionPosition → PassState → PassState → SessionPosition → Type 0
 ContinuesFrom from p q to =
     (from.session ≡ p.session)

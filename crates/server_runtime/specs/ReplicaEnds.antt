@@ -1,11 +1,11 @@
--- What becomes of the replicas that a server ran: their books, for the headline of
--- `server_laws`.
+-- The ends of the replicas that a server ran, and their books, of which the headline of
+-- `server_laws` holds.
 
-use Rattle.std.specs.Prelude.{◌≡◌, ℕ, List, [], ◌∷◌, length, Some, slice_get}
+use Rattle.std.specs.Prelude.{◌≡◌, ℕ, Bool, true, false, List, [], ◌∷◌, length, Some, slice_get}
 use Rattle.replica_lock.specs.Histories.{BookState}
 use Rattle.server_laws.specs.Interleavings.{HasHistory}
 use Rattle.server_runtime.specs.declared.replica_end.ReplicaEnd.{ReplicaEnd}
-use Rattle.server_runtime.specs.declared.replica_end.ReplicaEnd.TheVariants.{Finished}
+use Rattle.server_runtime.specs.declared.replica_end.ReplicaEnd.TheVariants.{Finished, Lost}
 
 -- The books of those that returned them, in order.
 abbrev pub books_of : List ReplicaEnd → List BookState
@@ -17,6 +17,11 @@ books_of (_ ∷ ends) = books_of ends
 abbrev pub IsEndOf : ℕ → ReplicaEnd → Type 0
 IsEndOf name (Finished book) = book.node.start.replica ≡ name
 IsEndOf name _ = Unit {0}
+
+-- The replica returned its whole journal, or never ran: it isn't lost.
+abbrev pub is_whole : ReplicaEnd → Bool
+is_whole Lost = false
+is_whole _ = true
 
 -- There is one end for each of these names, in their order, and the books bear the names.
 pub record AreEndsOf (names : List ℕ) (ends : List ReplicaEnd) : Type 0 where

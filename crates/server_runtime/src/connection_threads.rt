@@ -25,7 +25,7 @@ use std::thread;
 use std::thread::Threads;
 use std::time::Duration;
 
-/// What all connections of a replica share.
+/// The state that all connections of a replica share.
 #[derive(Drop)]
 pub struct ReplicaContext<'a, L: Ledger> {
     /// The state that all threads of the server share.
@@ -36,10 +36,10 @@ pub struct ReplicaContext<'a, L: Ledger> {
     pub shared: &'a Shared<L>,
 }
 
-/// What the two threads of a connection share.
+/// The state that the two threads of a connection share.
 #[derive(Drop)]
 pub struct ConnectionContext<'a, L: Ledger> {
-    /// What all connections of the replica share.
+    /// The state that all connections of the replica share.
     pub context: &'a ReplicaContext<'a, L>,
     /// The connection.
     pub stream: &'a TcpStream,
@@ -133,9 +133,9 @@ fn converse_on_stream<L: Ledger, R: Wait + Clock, G: Gate>(
 /// Holds a conversation as a session of a replica under its lock, over any source of octets and any
 /// sink for them. One call of the replica opens the session, for the users that the server admits.
 /// Each command and each line of IDLE that the octets read spell is one call in that session, in
-/// their order, which is also the order of their entries in the journal. What is written is the
+/// their order, which is also the order of their entries in the journal. The output is the
 /// greeting, the printed outcomes of these calls in that order, and the BYE that the end names; or,
-/// if a write failed, a beginning of that.
+/// if a write failed, a prefix of that.
 pub fn converse_over<L: Ledger, R: Wait + Clock, G: Gate, S: Source, K: Sink>(
     rt: &R,
     alloc: Global,
@@ -171,7 +171,7 @@ fn name_of(ended: Ended) -> &'static str {
     }
 }
 
-/// Whether the client is gone, so that nothing can be sent to it any more.
+/// Whether the client can't be reached any more, so that nothing can be sent to it.
 fn is_gone(ended: Ended) -> bool {
     matches!(
         ended,
@@ -196,8 +196,9 @@ fn drain_and_close(stream: &TcpStream) {
     }
 }
 
-/// Turns away a client for which no pass is left.
-pub fn refuse_connection(stream: &TcpStream) {
+/// Turns away a client for which no pass is left, and says so in the log.
+pub fn refuse_connection<R: Log>(rt: &R, stream: &TcpStream) {
     let mut writer = stream;
     let _ = writer.write_all(b"* BYE too many sessions\r\n");
+    log_end(rt, Ended::TooManySessions);
 }

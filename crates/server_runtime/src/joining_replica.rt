@@ -39,7 +39,7 @@ pub struct JoinedReplica {
     pub peers: Vec<usize>,
 }
 
-/// Whether a replica joined. Its text is what the program prints.
+/// Whether a replica joined. The program prints its text.
 #[derive(Clone, Copy, Debug, PartialEq, Eq)]
 pub enum JoinOutcome<'a> {
     /// It joined, and listens.

@@ -5,25 +5,25 @@
 //! own. A replica's threads share its [`ReplicaContext`], and others reach it by its
 //! [`ReplicaHandle`].
 //!
-//! The contract of [`serve`] says what became of each replica, and that the headline holds of the
-//! journals that come out (`server_laws`). Other contracts are about one connection. That of
+//! The contract of [`serve`] says how each replica ended, and that the headline holds of the
+//! journals that are returned (`server_laws`). Other contracts are about one connection. That of
 //! [`converse_over`] says: one call of the replica opens the session, each command and each line of
 //! IDLE that the octets read spell is one call in that session, with entries in the journal in the
-//! same order, and what is written is the greeting, the printed outcomes of these calls, and a BYE.
-//! That of [`totals_of`] says that the totals in the log are counts over the journal. What passes
+//! same order, and the output is the greeting, the printed outcomes of these calls, and a BYE. That
+//! of [`totals_of`] says that the totals in the log are counts over the journal. The exchange
 //! between threads is tested and not proved.
 //!
 //! # Decided
 //!
 //! - `serve` takes the allocator, the server's state (who may log in, when to stop) and one setup
-//!   for each replica, with its listener: a thread of a replica needs all three, and one list keeps
+//!   for each replica, with its listener: a thread of a replica needs all three, and one list puts
 //!   them together. A connection's thread is no public call; `converse_over` is, so that tests can
 //!   give it other devices.
-//! - The server raises the C library's thresholds at its start, by a block of 33 MB that it takes
-//!   and gives back (`raise_memory_thresholds`): the program can't call `mallopt`, and a variable
-//!   of the environment would be forgotten. The library then takes blocks of up to that size from
-//!   memory that it holds, and gives memory back to the system only if it holds 64 MiB that nobody
-//!   uses. So a server may hold that much more than it needs.
+//! - The server raises the C library's thresholds at its start, by a block of 33 MB that it
+//!   allocates and frees (`raise_memory_thresholds`): the program can't call `mallopt`, and whoever
+//!   starts the server would forget an environment variable. The library then takes blocks of up to
+//!   that size from memory that it owns, and returns memory to the system only if 64 MiB of it are
+//!   unused. So a server may own that much more memory than it needs.
 //! - Each replica's ledger is named in a call of its own, by `Brand`: a function can't call itself
 //!   with another ledger, so a program with a list of replicas starts a thread for each, and that
 //!   thread's function names the ledger.
@@ -37,17 +37,17 @@
 //! - A replica whose list of others can't be made since memory runs out can't join, like one that
 //!   can't listen: the program prints `cannot join`, and the run continues.
 //! - The port's clauses name no pass and no node before and after a call (`OpensByCall`,
-//!   `StepsByCall`): the pass is under a lock, which no contract sees through, so they say that a
-//!   call was made, with its event, its outcome and its place, and not which pass made it. The port
-//!   stores its session and the place of its last call, and checks, under the lock, that the pass
-//!   has that session and hasn't gone back before that place, which is always so. Hence its
-//!   commands are given in one session, the places of its calls rise, and the order of commands is
-//!   the order of their entries. Under the lock, clauses are about the pass itself (`OpensIn`,
+//!   `StepsByCall`): the pass is under a lock, and no contract can name what is under a lock, so
+//!   they say that a call was made, with its event, its outcome and its place, and not which pass
+//!   made it. The port stores its session and the place of its last call, and checks, under the
+//!   lock, that the pass has that session and isn't before that place, which is always true. Hence
+//!   its commands are given in one session, the places of its calls rise, and the order of commands
+//!   is the order of their entries. Under the lock, clauses are about the pass itself (`OpensIn`,
 //!   `StepsIn`, `IsClosedIn`).
-//! - No clause of the port says what `close` leaves: the pass before and after it could be any two,
-//!   and each pass without a session meets `IsClosedIn` with itself. `close_in` has that clause,
-//!   about its own pass, and `server_tests::a_connection_waits_for_another` fails if a close does
-//!   nothing.
+//! - No clause of the port describes the state after `close`: it could only say that some two
+//!   passes, before and after, meet `IsClosedIn`, and each pass without a session meets it with
+//!   itself. `close_in` has that clause, about its own pass, and
+//!   `server_tests::a_connection_waits_for_another` fails if a close does nothing.
 //! - If the journal has no room, the connection ends as if memory had run out. A call that is
 //!   passed over ends it as a cut journal does.
 //! - If a command was carried out, but memory runs out for copying its reply out of the lock, the
@@ -57,26 +57,27 @@
 //!   doesn't idle, and polls only after an entry that concerns its own session. If its answers
 //!   can't be written or printed, it shuts the connection down.
 //! - If the connection's thread is at work when the feeder would poll, the feeder waits and looks
-//!   at the same entries again: a client may have sent only the beginning of a line, after which
+//!   at the same entries again: a client may have sent only the first octets of a line, after which
 //!   the session still idles.
-//! - The feeder waits for changes only while its pass has a session: the close is then still to
-//!   come, and ends the wait. Otherwise a connection that ended just before would wait for another
+//! - The feeder waits for changes only while its pass has a session: a close then still follows,
+//!   and ends the wait. Otherwise a connection that ended just before would wait for another
 //!   client's command.
 //! - A command that may issue operations holds its replica's `ReplicaHandle::send_lock` until they
 //!   are sent, so that those of several connections don't overtake each other on the way. If they
 //!   did, the receiving replica would hold them and have to ask for what it lacks.
-//! - A read of a connection polls for octets for 50 microseconds before it sleeps, if those before
-//!   came within that time (`SocketReader`), and lets other threads run between two polls: waking a
-//!   thread takes longer than answering most commands. So a client that sends one command after
-//!   another is answered sooner, for a processor that would idle; one that takes its time costs at
-//!   most one such poll after each time that it was quick, and a session that idles none. Meanwhile
-//!   the socket doesn't block, for writes either, so a writer that would have to wait lets it block
-//!   again (`SocketWriter`). Reads of that connection then sleep at once: a client that is sent
-//!   more than a socket holds seldom waits for each command, and reads that used the clock to find
-//!   out whether they slept made STOREs slower (20,669 and 23,655 a second by turns, seven rounds).
-//!   The reason isn't known; perhaps a poll that lets others run sometimes takes long too.
-//! - A connection's gate is passed once for each command, with its number, before the turn is taken
-//!   in which several brief commands are carried out.
+//! - A read of a connection polls for octets for 50 microseconds before it sleeps, if the previous
+//!   octets arrived within that time (`SocketReader`), and lets other threads run between two
+//!   polls: waking a thread takes longer than answering most commands. So a client that sends one
+//!   command after another is answered sooner, at the cost of a processor that would idle; a slow
+//!   client costs at most one such poll after each time that it was quick, and a session that idles
+//!   costs none. Meanwhile the socket doesn't block, for writes either, so a writer that would have
+//!   to wait lets it block again (`SocketWriter`). Reads of that connection then sleep at once: a
+//!   client that is sent more than a socket can hold seldom waits for each command, and reads that
+//!   used the clock to measure whether they slept made STOREs slower (20,669 and 23,655 a second,
+//!   measured by turns in seven rounds). The reason isn't known; perhaps a poll that lets others
+//!   run sometimes takes long too.
+//! - A connection's gate is passed once for each command, with its number, before the turn in which
+//!   several brief commands are carried out.
 //! - Passes of connections that ended are used again, so that a server that runs for long doesn't
 //!   run out of them.
 //! - After the end of a conversation the server shuts down its side of the connection and drops
@@ -84,8 +85,8 @@
 //!   connection while octets are unread resets it, which may take the BYE from the client (RFC
 //!   9293, section 3.6.1).
 //! - `serve_over` takes connections and gates as two lists, and cuts the passes itself: a
-//!   connection for which there is none is turned away. Connections are `TcpStream`s, since two
-//!   threads share one and either may shut it down.
+//!   connection for which no pass can be cut is turned away. Connections are `TcpStream`s, since
+//!   two threads share one and either may shut it down.
 #![tactic(auto)]
 
 mod connection_threads;

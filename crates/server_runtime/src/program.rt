@@ -21,7 +21,7 @@ use tags_clocks::ReplicaId;
 /// MiB.
 const LARGEST_BLOCK: usize = 33_000_000;
 
-/// Why the server can't run. Its text is what the log prints.
+/// Why the server can't run. The log prints its text.
 #[derive(Debug, Drop, thiserror::Error)]
 pub enum RunFault {
     /// An address can't be listened at. This was printed already.
@@ -135,11 +135,11 @@ fn are_whole(ends: Option<Vec<ReplicaEnd>>) -> bool {
     }
 }
 
-/// Takes a large block of memory and gives it back. The C library then takes blocks of up to its
-/// size from memory that it holds, and gives memory back to the system only if it holds twice as
-/// much unused (mallopt(3): both thresholds follow the largest block that was given back, up to 32
-/// MiB). Otherwise each FETCH of many messages would pay again for the pages of its answers. If
-/// there is no such block, the server runs without it.
+/// Allocates a large block of memory and frees it. The C library then takes blocks of up to its
+/// size from memory that it owns, and returns memory to the system only if twice as much of it is
+/// unused (mallopt(3): both thresholds follow the largest block that was freed, up to 32 MiB).
+/// Otherwise each FETCH of many messages would pay again for the pages of its answers. If memory
+/// runs out for the block, the server runs without it.
 fn raise_memory_thresholds(alloc: Global) {
     if let Ok(block) = Vec::<u8>::with_capacity(alloc, LARGEST_BLOCK) {
         drop(block);

@@ -1,13 +1,14 @@
-//! What becomes of a replica that the server ran.
+//! The end of a replica that the server ran.
 
+ghost use Rattle.std.specs.Prelude.{◌≡◌};
 ghost use Rattle.server_laws.specs.BookWorlds.{KeepTheHeadline};
-ghost use Rattle.server_runtime.specs.ReplicaEnds.{EndHasHistory, IsEndOf, books_of};
+ghost use Rattle.server_runtime.specs.ReplicaEnds.{EndHasHistory, IsEndOf, books_of, is_whole};
 
 use replica_lock::Book;
 use server_laws::interleavings_are_runs;
 use tags_clocks::ReplicaId;
 
-/// What became of one replica when the server stopped.
+/// How one replica ended when the server stopped.
 #[derive(Drop)]
 pub enum ReplicaEnd {
     /// It ran, and returned its whole journal.
@@ -20,7 +21,9 @@ pub enum ReplicaEnd {
 
 impl ReplicaEnd {
     /// Whether the replica returned its whole journal, or never ran because it couldn't join.
-    pub fn is_whole(&self) -> bool {
+    pub fn is_whole(&self) -> bool
+        ensures { result ≡ is_whole self.now }
+    {
         match self {
             ReplicaEnd::Finished(_) | ReplicaEnd::NotJoined => true,
             ReplicaEnd::Lost => false,
@@ -28,9 +31,11 @@ impl ReplicaEnd {
     }
 }
 
-/// This end, if it is one of the replica with this name: a book of another name counts as lost.
+/// This end unchanged, if it is an end of the replica with this name; `Lost` if its book has
+/// another name.
 pub(crate) fn end_of(replica: ReplicaId, end: ReplicaEnd) -> ReplicaEnd
-    ensures { IsEndOf replica result }
+    ensures named { IsEndOf replica result }
+    ensures own { IsEndOf replica end → result ≡ end }
 {
     match end {
         ReplicaEnd::Finished(book) => {
@@ -46,8 +51,7 @@ pub(crate) fn end_of(replica: ReplicaId, end: ReplicaEnd) -> ReplicaEnd
     }
 }
 
-/// The headline holds of the books that the replicas returned, whatever happened behind their
-/// locks.
+/// The headline holds of the books that the replicas returned, whatever happened under their locks.
 pub(crate) fn ends_keep_the_headline(ends: &[ReplicaEnd])
     ensures { KeepTheHeadline (books_of ends.now) }
 {

@@ -37,7 +37,7 @@ pub enum StartMode<'a> {
     Joining(JoiningReplica<'a>),
 }
 
-/// What the thread of a replica needs to start.
+/// The setup that the thread of a replica needs to start.
 #[derive(Drop)]
 pub struct ReplicaSetup<'a> {
     /// Its name.
@@ -66,7 +66,7 @@ impl<'a> SetupSlot<'a> {
     }
 }
 
-/// What reaches a replica that runs, and the replicas that it asks.
+/// The inputs of a replica that runs, and the replicas that it asks.
 #[derive(Drop)]
 pub struct ReplicaInputs {
     /// Its place among all.
@@ -83,12 +83,12 @@ pub struct ReplicaInputs {
     pub asks: bool,
 }
 
-/// What the threads that serve a replica share.
+/// The state that the threads that serve a replica share.
 #[derive(Drop)]
 pub struct ServedReplica<'a, L: Ledger> {
-    /// What all its connections share.
+    /// The state that all its connections share.
     pub context: &'a ReplicaContext<'a, L>,
-    /// What reaches it, and the replicas that it asks.
+    /// Its inputs, and the replicas that it asks.
     pub inputs: &'a ReplicaInputs,
     /// The passes of connections that ended.
     pub returned: &'a Mutex<Vec<Pass<L>>>,
@@ -113,10 +113,10 @@ impl Gate for OpenGate {
     fn pass(&mut self, _n: u64) {}
 }
 
-/// Runs all replicas, each in a thread of its own, until the server stops, and says what became of
-/// each, in the order of the setups. The headline holds of the books that come out: of every
+/// Runs all replicas, each in a thread of its own, until the server stops, and returns how each
+/// ended, in the order of the setups. The headline holds of the returned books, for every
 /// interleaving of their journals in which each operation is issued before it is delivered. `None`
-/// if memory runs out; then nothing is said of any replica.
+/// if memory runs out; then no end of a replica is known.
 pub fn serve<
     R: Threads
         + Wait
@@ -435,7 +435,7 @@ pub fn serve_over<
     connections: Vec<TcpStream>,
     gates: Vec<G>,
 ) -> Result<Vec<Pass<L>>, AllocError> {
-    let pending = accepted_connections(alloc, first, connections, gates)?;
+    let pending = accepted_connections(rt, alloc, first, connections, gates)?;
     thread::map_vec(
         rt,
         pending,
@@ -444,7 +444,8 @@ pub fn serve_over<
 }
 
 /// The connections, each with its gate and a pass. `Err` if memory runs out.
-fn accepted_connections<L: Ledger, G: Gate + Drop>(
+fn accepted_connections<L: Ledger, R: Log, G: Gate + Drop>(
+    rt: &R,
     alloc: Global,
     first: &mut Pass<L>,
     connections: Vec<TcpStream>,
@@ -453,7 +454,7 @@ fn accepted_connections<L: Ledger, G: Gate + Drop>(
     let mut pending = Vec::new(alloc);
     for (stream, gate) in connections.into_iter().zip(gates) {
         let Some(pass) = first.cut() else {
-            refuse_connection(&stream);
+            refuse_connection(rt, &stream);
             continue;
         };
         pending.push(AcceptedConnection { stream, gate, pass })?;
@@ -461,8 +462,8 @@ fn accepted_connections<L: Ledger, G: Gate + Drop>(
     Ok(pending)
 }
 
-/// Serves the connections of a listener, each in a thread of its own, and in two further threads
-/// the link and the requests for copies, until the server stops.
+/// Serves the connections of a listener, each in a thread of its own, until the server stops. Two
+/// further threads serve the link and the requests for copies.
 fn serve_listener<
     L: Ledger + Send + Sync,
     R: Threads + Wait + Clock + Log + Sync + Net<Listener = TcpListener, Stream = TcpStream>,
@@ -497,7 +498,8 @@ fn serve_listener<
                 continue;
             };
             let Some(pass) = next_pass(rt, served.returned, &mut first) else {
-                refuse_connection(&stream);
+                refuse_connection(rt, &stream);
+                end_one(rt, served.context.server);
                 continue;
             };
             let accepted = AcceptedConnection {

@@ -281,8 +281,8 @@ fn pass_gate<G: Gate>(gate: &mut G, passed: &mut u64, count: usize) {
     }
 }
 
-/// Gives the session of a pass commands, which came at this moment, one after another, and appends
-/// the replies.
+/// Gives the session of a pass these commands, one after another, which arrived at this moment, and
+/// appends the replies.
 fn give_all<L: Ledger>(
     alloc: Global,
     turn: &mut LockTurn<'_, L>,
@@ -305,7 +305,7 @@ fn give_all<L: Ledger>(
     Ok(())
 }
 
-/// Gives the session of a pass a command, which came at this moment, by at most one call.
+/// Gives the session of a pass a command, which arrived at this moment, by at most one call.
 fn give_command<L: Ledger>(
     alloc: Global,
     turn: &mut LockTurn<'_, L>,

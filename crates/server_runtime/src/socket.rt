@@ -10,17 +10,17 @@ use std::rt::Clock;
 use std::time::{Duration, Instant};
 use std::{io, thread};
 
-/// How long a read polls for octets before it sleeps until some come, in microseconds. Waking a
+/// How long a read polls for octets before it sleeps until some arrive, in microseconds. Waking a
 /// thread takes longer than answering most commands.
 const SOON: u64 = 50;
 
-/// The number of times that a read polls at most, whatever the clock says.
+/// The largest number of polls of one read, whatever the clock says.
 const MAX_POLLS: u32 = 100_000;
 
-/// A reader of what a client sends. If the last octets came soon, as from a client that sends one
-/// command after another, a read polls for the next ones for a while, and lets other threads run
-/// between two polls; only then does it sleep. A client that takes its time costs nothing further:
-/// after octets that came late, a read sleeps at once.
+/// A reader of what a client sends. If the last octets arrived soon, as from a client that sends
+/// one command after another, a read polls for the next ones for a while, and lets other threads
+/// run between two polls; only then does it sleep. A slow client costs nothing further: after
+/// octets that arrived late, a read sleeps at once.
 #[derive(Drop)]
 pub struct SocketReader<'a, R: Clock> {
     rt: &'a R,
@@ -39,7 +39,7 @@ impl<'a, R: Clock> SocketReader<'a, R> {
         }
     }
 
-    /// Polls until there are octets, an end or a fault. `None` if they don't come soon.
+    /// Polls until there are octets, an end or a fault. `None` if they don't arrive soon.
     fn poll_soon(&self, started: Option<Instant>, buf: &mut [u8]) -> Option<io::Result<usize>>
         ensures { IfSome result (λ outcome. ReadsAtMost outcome buf.new) }
     {

@@ -64,7 +64,7 @@ digits_lack c n (d ∷ ds) h (suc i) l e =
 abbrev pub IsRsplitOnceResult : ℕ → List ℕ → Option (Bor (List ℕ) × Bor (List ℕ)) → Type 0
 IsRsplitOnceResult c bs r = MatchOption r (RFindsChar c bs None) (λ x. (i : ℕ) × (j : ℕ) × RFindsChar c bs (Some (i, j)) × (x.0.now ≡ take i bs) × (x.1.now ≡ drop j bs) × (i ≤ j) × (length x.0.now ≡ i) × (length x.1.now + j ≡ length bs))
 
--- if bs is xs, c and ys, and ys holds no c, it is split at that c
+-- if bs is xs, c and ys, and ys doesn't contain c, then bs is split at that c
 pub rsplit_after : (c : ℕ) (bs xs ys : List ℕ) (r : Option (Bor (List ℕ) × Bor (List ℕ))) → IsRsplitOnceResult c bs r → c < 128 → bs ≡ xs ++ (c ∷ ys) → ((i : ℕ) → i < length ys → get_or ys i 0 ≢ c)
     → MatchOption r ⊥ (λ x. (x.0.now ≡ xs) × (x.1.now ≡ ys))
 rsplit_after c bs xs ys None h low e free =
@@ -89,7 +89,7 @@ rsplit_after c bs xs ys (Some x) h low e free =
     let past : length xs + 1 ≡ j = omega arith in
     (h.3 ∙ ap (take i) e ∙ take_at xs (c ∷ ys) i here, h.4 ∙ ap (λ (k : ℕ). drop k bs) (sym past) ∙ ap (drop (length xs + 1)) e ∙ drop-append-add xs (c ∷ ys) 1)
 
--- how the text of a replica is split, and that of a replica that joins
+-- the split of a replica's text, and that of a joining replica's text
 pub place_split : (text : List ℕ) (r : Option (Bor (List ℕ) × Bor (List ℕ))) (place : Place) → IsSplitOnceResult 61 text r → (is : IsPlaceText text place) → MatchOption r ⊥ (λ x. (x.0.now ≡ is.0) × (x.1.now ≡ place.address.now))
 place_split text r place h is = split_after 61 text is.0 place.address.now r h (omega arith) is.3 (digits_lack 61 refl is.0 (name_digits is.0 place.replica is.1))
 

@@ -15,11 +15,11 @@ preauth_word =
     record (new_rule (codes "preauth")) { long = Some (codes "preauth"); action = Some SetTrue }
 
 -- A word with a value.
-abbrev pub named_word : List ℕ → Rule
-named_word name = record (new_rule name) { long = Some name; action = Some Set }
+abbrev pub word_with_value : List ℕ → Rule
+word_with_value name = record (new_rule name) { long = Some name; action = Some Set }
 
 abbrev pub stop_word : Rule
-stop_word = record (named_word (codes "stop-after")) { parser = Some (Unsigned 0 4294967295) }
+stop_word = record (word_with_value (codes "stop-after")) { parser = Some (Unsigned 0 4294967295) }
 
 abbrev pub join_word : Rule
 join_word = record (new_rule (codes "join")) { long = Some (codes "join"); action = Some Append }
@@ -35,8 +35,8 @@ replica_word =
 -- The words for users.
 abbrev pub with_access_words : App → App
 with_access_words app =
-    with_rule (with_rule (with_rule app preauth_word) (named_word (codes "user")))
-    (named_word (codes "pass"))
+    with_rule (with_rule (with_rule app preauth_word) (word_with_value (codes "user")))
+    (word_with_value (codes "pass"))
 
 -- The words for replicas, for replicas that join, and for the end of the server.
 abbrev pub with_replica_words : App → App

@@ -45,8 +45,8 @@ HavePeers names (join ∷ joins) =
 abbrev pub IsNameText : List ℕ → ℕ → Type 0
 IsNameText text name = (0 < name) × (name < 65536) × (text ≡ decimal name)
 
--- The text is a replica with its address: its name, `=` (61), which no name has, so that it is the
--- text's first, and an address of at least one octet.
+-- The text is a replica with its address: its name, `=` (61), and an address of at least one octet.
+-- No name has a `=`, so this one is the text's first.
 abbrev pub IsPlaceText : List ℕ → Place → Type 0
 IsPlaceText text place =
     (name : List ℕ)
@@ -54,8 +54,8 @@ IsPlaceText text place =
     × (place.address.now ≢ [])
     × (text ≡ name ++ 61 ∷ place.address.now)
 
--- The text is a replica that joins: the replica with its address, `/` (47), which no name has, so
--- that it is the text's last, and the name of its peer.
+-- The text is a replica that joins: the replica with its address, `/` (47), and the name of its
+-- peer. No name has a `/`, so this one is the text's last.
 abbrev pub IsJoinText : List ℕ → Join → Type 0
 IsJoinText text join =
     (place peer : List ℕ)

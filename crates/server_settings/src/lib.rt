@@ -10,7 +10,7 @@
 //!
 //! # Decided
 //!
-//! - The reader of the command line is `read_settings`, since a function can't bear the name of its
+//! - The reader of the command line is `read_settings`, since a function can't have the name of its
 //!   module.
 //! - The access of a command line is stated over clap's own definition of its matches
 //!   (`matches_of`), with the program's words as data (`server_words`). `--preauth` counts as given

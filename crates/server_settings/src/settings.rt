@@ -4,7 +4,8 @@ ghost use Rattle.std.specs.Prelude.{ℕ, ◌≡◌, ◌++◌, ◌∷◌, ◌<◌
 ghost use Rattle.std.specs.Prelude.{OnOk, Some, map, slice_get};
 ghost use Rattle.clap.specs.Words.{app_of, found_of, matches_of, rows_of};
 ghost use Rattle.clap_laws.specs.Words.{Add, IsWord};
-ghost use Rattle.server_settings.specs.Options.{NamesAccess, join_word, named_word, preauth_word};
+ghost use Rattle.server_settings.specs.Options.{NamesAccess, join_word, preauth_word};
+ghost use Rattle.server_settings.specs.Options.{word_with_value};
 ghost use Rattle.server_settings.specs.Options.{replica_word, server_words, stop_word};
 ghost use Rattle.server_settings.specs.Options.{with_access_words, with_replica_words};
 ghost use Rattle.server_settings.specs.Settings.{AreNames, HavePeers, IsJoinText, IsNameText};
@@ -245,7 +246,7 @@ fn preauth<'a>(alloc: Global) -> Arg<'a>
 
 /// An argument with a value.
 fn word_with_value<'a>(alloc: Global, name: &'a str, help: &'a str) -> Arg<'a>
-    ensures { IsWord result (named_word name.entry.now) }
+    ensures { IsWord result (word_with_value name.entry.now) }
 {
     Arg::new(alloc, name)
         .long(name)

@@ -21,7 +21,7 @@ pub enum Manner {
     Deaf(u64),
 }
 
-/// A client that is to connect.
+/// A client that will connect.
 #[derive(Drop)]
 pub struct Caller {
     /// The octets that it sends.

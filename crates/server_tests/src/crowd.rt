@@ -87,7 +87,7 @@ fn while_held(
     })
 }
 
-/// The result of a plan; `None` if it can't be made or fails.
+/// The result of a plan; `None` if the plan can't be made or fails.
 pub fn outcome<
     R: Threads + Wait + Clock + Log + Sync + Net<Listener = TcpListener, Stream = TcpStream>,
 >(rt: &R, alloc: Global, plan: Result<Plan, AllocError>) -> Option<Outcome> {

@@ -5,8 +5,7 @@ use std::sync::Wait;
 use std::sync::atomic::{AtomicU64, Ordering};
 use std::thread;
 
-/// How many times a thread checks, and lets others run, for what is due and for what shouldn't
-/// happen.
+/// How many times a thread checks for an event, expected or unwanted, and lets other threads run.
 pub const TURNS: u64 = 1_000_000;
 
 /// The counters by which the threads of a scene signal one another.
@@ -40,8 +39,8 @@ impl Signs {
     }
 }
 
-/// Checks for `turns` turns, and lets others run, until a count is at least `least`; false if it
-/// never was.
+/// Checks up to `turns` times, and lets other threads run, until a count is at least `least`; false
+/// if it never was.
 pub fn await_count(count: &AtomicU64, least: u64, turns: u64) -> bool {
     for _ in 0..turns {
         if count.load(Ordering::SeqCst) >= least {

@@ -112,9 +112,9 @@ fn outcome<
     }
 }
 
-/// Whether each client received the expected answers. The client that doesn't read gave four
-/// commands at least, and stopped before its fortieth FETCH, after what its connection holds; the
-/// others made 15 calls.
+/// Whether each client received the expected answers. The client that doesn't read gave at least
+/// four commands, and stopped before its fortieth FETCH, when its connection was full; the others
+/// made 15 calls.
 fn are_served(outcome: &Option<Outcome>) -> bool {
     let expected: [&[u8]; 6] = [b"", READY, LONG, NUL, UNASKED, GOOD];
     match outcome {

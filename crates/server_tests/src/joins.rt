@@ -1,10 +1,10 @@
-//! The lines that are printed of joining replicas.
+//! The lines printed about joining replicas.
 
 use server_runtime::{Join, JoinOutcome, Place};
 use std::alloc::Global;
 use std::test::*;
 
-/// Whether this is printed of a replica that was to join.
+/// Whether this is printed about a replica that was to join.
 fn is_printed(alloc: Global, end: JoinOutcome<'_>, expected: &str) -> bool {
     match format!(in alloc; "{end}") {
         Ok(text) => text.as_str() == expected,

@@ -1,13 +1,14 @@
 //! Tests of the server over sockets of the loopback interface.
 //!
-//! Servers run as their command lines ask: what one client does at one replica another sees at
-//! another, a replica joins when the first connection has ended, a run continues if a replica can't
-//! join, nobody logs in without both user and password, messages are dated by the clock, and a
-//! client that reads late receives everything. Connections are served concurrently: one continues
-//! while another waits, while a replica's lock is held, and with clients that send what no client
-//! should. Messages reach the replicas that have joined, and the lines printed of joining replicas
-//! are compared. Replicas join in their order, the last connection's end included; the end of each
-//! connection is logged; and a program that can't run says so and ends with its status.
+//! Servers run as their command lines ask: a client at one replica learns of what another client
+//! does at another replica, a replica joins when the first connection has ended, a run continues if
+//! a replica can't join, nobody logs in without both user and password, messages are dated by the
+//! clock, and a client that reads late receives everything. Connections are served concurrently:
+//! one continues while another waits, while a replica's lock is held, and with clients that send
+//! what no client should. Messages reach the replicas that have joined, and the lines printed about
+//! joining replicas are compared. Replicas join in their order, even when the last connection ends;
+//! the end of each connection is logged; and a program that can't run reports it and ends with its
+//! status.
 //!
 //! # Decided
 //!

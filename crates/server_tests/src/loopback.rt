@@ -1,4 +1,4 @@
-//! Servers over sockets: what one client does at one replica, another sees at another; replicas
+//! Servers over sockets: clients at one replica that learn of what others do at another; replicas
 //! that join; logins; the server's clock; and a client that reads late.
 
 use crate::scenarios::Scenario;

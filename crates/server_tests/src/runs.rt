@@ -41,7 +41,7 @@ fn a_replica_joins_when_the_last_connection_has_ended(rt: HostRuntime) {
     assert_eq!(rt; terminal.times_logged(second), 1);
 }
 
-/// What is logged of five connections, of which each ends in a way of its own.
+/// What is logged about five connections, each of which ends in its own way.
 const ENDS: [&str; 5] = [
     "connection ended: logout\n",
     "connection ended: closed by the client\n",
@@ -67,7 +67,7 @@ fn the_end_of_each_connection_is_logged(rt: HostRuntime) {
     assert!(rt; are_logged(&terminal));
 }
 
-/// What a client is sent for which a replica has no session.
+/// The answer to a client for which a replica has no session.
 const TURNED_AWAY: &[u8] = b"* BYE too many sessions\r\n";
 
 /// A client of a replica that has as many sessions as it can.
@@ -88,7 +88,7 @@ fn one_too_many(alloc: Global) -> Result<Plan, AllocError> {
     })
 }
 
-/// Whether the only client was turned away. Its call comes after those of 1,024 others.
+/// Whether the only client was turned away. Its call is counted after those of 1,024 others.
 fn is_turned_away(outcome: &Option<Outcome>) -> bool {
     match outcome {
         Some(outcome) => {
@@ -114,7 +114,7 @@ fn the_end_without_a_session_is_logged(rt: HostRuntime) {
     );
 }
 
-/// The second replica's address can't be one.
+/// The words of a run in which the second replica's address is invalid.
 const NOWHERE: [&[u8]; 4] = [b"imap_server", b"--preauth", b"1=127.0.0.1:0", b"2=nowhere"];
 
 #[test]
@@ -125,10 +125,10 @@ fn an_address_that_is_none_ends_the_run(rt: HostRuntime) {
     assert_eq!(rt; terminal.times_logged("cannot listen at nowhere: "), 1);
 }
 
-/// A word that is no text.
+/// The words of a run, one of which is no text.
 const NO_TEXT: [&[u8]; 2] = [b"imap_server", b"\xff"];
 
-/// A server that would stop at once.
+/// The words of a run that would stop at once.
 const STOPPED: [&[u8]; 5] = [
     b"imap_server",
     b"--preauth",
@@ -147,7 +147,7 @@ fn faults_of_the_run_end_with_status_1(rt: HostRuntime) {
     assert_eq!(rt; silent.times_logged("the server can't run: "), 1);
 }
 
-/// No access is named.
+/// The words of a run that name no access.
 const NO_ACCESS: [&[u8]; 2] = [b"imap_server", b"1=127.0.0.1:1"];
 
 #[test]

@@ -40,7 +40,7 @@ const LONG: usize = 200_000;
 /// The length of each answer in octets: the message, with the lines around it.
 const LONG_ANSWER: usize = LONG + 53;
 
-/// How many times it asks, for more than its connection holds.
+/// How many times it asks, so that its connection can't buffer all answers.
 const LATE_TIMES: usize = 60;
 
 impl Scenario {
@@ -154,8 +154,8 @@ fn play_two<R: Wait + Clock + Net<Listener = TcpListener, Stream = TcpStream>>(
     Some(first.has_succeeded() && second.has_succeeded() && third.has_succeeded())
 }
 
-/// Appends a message while the second client doesn't idle, which learns of it as soon as it idles
-/// again.
+/// Appends a message while the second client doesn't idle. That client learns of it as soon as it
+/// idles again.
 fn idle_again(third: &mut Client, second: &mut Client) {
     third.exchange(
         b"a APPEND INBOX {3+}\r\nghi\r\n",
@@ -229,8 +229,8 @@ fn append_in_turn(second: &mut Client, third: &mut Client) {
     stir(third)
 }
 
-/// Runs two clients of one replica, one after the other, while another replica was to join between
-/// them and can't; true if each received the expected answers.
+/// Runs two clients of one replica, one after the other, while another replica, which was to join
+/// between them, can't; true if each received the expected answers.
 fn play_alone<R: Wait + Clock + Net<Listener = TcpListener, Stream = TcpStream>>(
     rt: &R,
     alloc: Global,
@@ -297,8 +297,8 @@ fn play_clock<R: Wait + Clock + Net<Listener = TcpListener, Stream = TcpStream>>
     Some(client.has_succeeded() && is_dated(alloc, &client, before?, after?))
 }
 
-/// Runs a client that sends one command after another, then asks for more than its connection holds
-/// and reads late; true if it received everything.
+/// Runs a client that sends one command after another, then asks for more than its connection can
+/// buffer and reads late; true if it received everything.
 fn play_late<R: Wait + Clock + Net<Listener = TcpListener, Stream = TcpStream>>(
     rt: &R,
     alloc: Global,
@@ -389,7 +389,7 @@ fn leave_after_command(client: Client) -> bool {
     client.leave_unread()
 }
 
-/// Leaves without having read answers of which there are more than its connection holds.
+/// Leaves without having read the answers, which are more than its connection can buffer.
 fn leave_early(alloc: Global, client: Client) -> Option<bool> {
     let mut client = client;
     let long = long_append(alloc)?;
@@ -400,7 +400,7 @@ fn leave_early(alloc: Global, client: Client) -> Option<bool> {
     Some(client.leave_unread())
 }
 
-/// FETCHes of the long message, for more than a connection holds.
+/// FETCHes of the long message, whose answers are more than a connection can buffer.
 fn late_fetches(alloc: Global) -> Option<Vec<u8>> {
     let mut input = Vec::new(alloc);
     for _ in 0..LATE_TIMES {

@@ -317,7 +317,7 @@ fn both_results<L: Ledger>(
     Ok((passes?, received?))
 }
 
-/// Two replicas as the threads of their connections and clients see them.
+/// Two replicas, shared by the threads of their connections and clients.
 #[derive(Drop)]
 struct Setup<'a, L: Ledger, M: Ledger> {
     server: &'a ServerState<'a>,
@@ -405,7 +405,7 @@ fn serve_while_held<
     )
 }
 
-/// Serves both replicas' connections as `serve_while_held`, and owns the context meanwhile.
+/// Serves both replicas' connections as `serve_while_held` does, and owns the context meanwhile.
 fn serve_stage<
     L: Ledger + Send + Sync,
     M: Ledger + Send + Sync,

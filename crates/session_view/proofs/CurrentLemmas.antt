@@ -30,7 +30,7 @@ none_above b uid (e ∷ es) r l =
       | inr f ↦ rw f (none_above e.uid uid es r.1 l)
     ]
 
--- a listing that shows none above a UID has none
+-- a listing whose view entries have no UID above this one has no rows above it
 none_beyond : (n : ℕ) (rows : List ListedMessage) → ((uid : ℕ) → n < uid → flags_at uid (entries_of rows) ≡ None) → rows_after_uid n rows ≡ []
 none_beyond n [] h = refl
 none_beyond n (row ∷ rows) h =

@@ -196,7 +196,7 @@ module _ (kind : SyncKind) (modseq : Bool) (rows : List ListedMessage) (view : L
       lower high low [] l k = tt
       lower high low (u ∷ us) l k = (let m : high ≤ u = k.0 in omega arith, k.1)
 
-  -- a UID that no message has that isn't done
+  -- no message that isn't done has this UID
   pub passed : (u : ℕ) (w : SyncWalk) → NoneHas rows u (drop w.done view) → IsWalk kind modseq rows view (u ∷ rest) w → IsWalk kind modseq rows view rest w
   passed u w n s = record {
     within = s.within;
@@ -550,7 +550,7 @@ few_noted kind rows view new last v r n l =
 
 -- ---- as the code computes it
 
--- the result of looking at the next message, at the message with the next UID
+-- the walk that results from looking at the next message, if this has the next UID
 pub named_next : (kind : SyncKind) (modseq : Bool) (rows : List ListedMessage) (view : List ViewEntry) (rest : List ℕ) (e : ViewEntry) (uid p : ℕ) (w v : SyncWalk) → AreRising 1 view → w.done ≤ p → slice_get view p ≡ Some e → e.uid ≡ uid
     → ((view : List ViewEntry) (rest : List ℕ) (back : List ViewEntry) → drop p view ≡ e ∷ back → Covers rest rows back → IsWalk kind modseq rows view (e.uid ∷ rest) (record w { done = p }) → IsWalk kind modseq rows view rest v)
     → IsWalk kind modseq rows view (uid ∷ rest) w → IsWalk kind modseq rows view rest v
@@ -578,7 +578,7 @@ last_staying rows low (e ∷ view) (suc p) d l t n =
       | inr h ↦ rw h (last_staying rows low view p d (omega arith) t n)
     ]
 
--- by the UID at a place
+-- the last listed message, by the UID at its place
 pub last_by_uid : (rows : List ListedMessage) (view : List ViewEntry) (p uid : ℕ) → p < length view → ((d : ViewEntry) → uid ≡ (slice_index_or view p d).uid) → is_some (row_of uid rows) ≡ true → filter (is_listed rows) (drop (p + 1) view) ≡ []
     → uid ≡ last_uid (filter (is_listed rows) view)
 last_by_uid rows [] p uid l u t n = absurd (omega arith)

@@ -20,7 +20,7 @@ use Rattle.session_view.specs.Replay.{after_silent, with_flags_at, without_messa
 use Rattle.session_view.specs.Sync.{is_listed, sync_answers, view_after_sync}
 use Rattle.session_view.specs.Views.{AreRising, entries_of}
 
--- The flags that are shown of the message with this UID, if any message has it.
+-- The flags that the view shows for the message with this UID, if the view has one.
 abbrev pub flags_at : ℕ → List ViewEntry → Option Flags
 flags_at uid [] = None
 flags_at uid (e ∷ es) = if e.uid == uid then Some e.flags else flags_at uid es
@@ -72,7 +72,7 @@ abbrev pub AreAscending : ℕ → List ℕ → Type 0
 AreAscending low [] = Unit {0}
 AreAscending low (u ∷ us) = (low ≤ u) × AreAscending u us
 
--- The messages without those of these numbers, the last number first.
+-- These messages, once those with these numbers are removed, the last number first.
 abbrev pub without_from : List ℕ → List ViewEntry → List ViewEntry
 without_from [] view = view
 without_from (n ∷ ns) view = without_message (without_from ns view) n
@@ -114,7 +114,7 @@ HasRoomForArrivals view patch =
     (patch.arrivals.items ≡ [])
     ⊎ ((length view ≤ patch.place.most) × (length patch.arrivals.items ≤ patch.place.room))
 
--- The flags are of messages with numbers up to this one.
+-- The flags belong to messages with numbers up to this one.
 abbrev pub AreUpTo : ℕ → List SilentFlags → Type 0
 AreUpTo last [] = Unit {0}
 AreUpTo last (s ∷ silents) = (s.number ≤ last) × AreUpTo last silents
@@ -123,7 +123,7 @@ AreUpTo last (s ∷ silents) = (s.number ≤ last) × AreUpTo last silents
 abbrev pub all_silent_notes : List ViewEntry → List SilentFlags → List Note
 all_silent_notes view silents = flat_map (λ s. silent_notes view s.number) silents
 
--- The messages with flags set back, the last one first.
+-- These messages, once these flags are restored, the last of them first.
 abbrev pub with_flags_restored : List ViewEntry → List SilentFlags → List ViewEntry
 with_flags_restored view [] = view
 with_flags_restored view (s ∷ silents) =

@@ -1,11 +1,11 @@
--- A view as contracts see it (RFC 9051, section 2.3.1).
+-- A view's state in contracts (RFC 9051, section 2.3.1).
 
 use Rattle.std.specs.Prelude.{ℕ, List, [], Option, Some, None, ◌==◌, if◌then◌else◌}
 use Rattle.mailbox_rows.specs.ListedMessage.{ListedMessage}
 use Rattle.session_view.specs.declared.view_entry.ViewEntry.{ViewEntry}
 
--- The messages of a mailbox that a session sees, in order, under a UIDVALIDITY (RFC 9051, section
--- 2.3.1).
+-- The messages of a mailbox that a session was shown, in order, under a UIDVALIDITY (RFC 9051,
+-- section 2.3.1).
 pub record ViewState : Type 0 where
   pub name : List ℕ
   pub uidvalidity : ℕ

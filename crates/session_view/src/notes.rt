@@ -12,7 +12,7 @@ use crate::view_entry::ViewEntries;
 use std::alloc::{AllocError, Global};
 use std::marker::Model;
 
-/// What a session may still have to learn of its mailbox.
+/// A possible difference between a view and its mailbox's listing.
 #[derive(Clone, Copy, Debug, PartialEq, Eq)]
 pub enum Note {
     /// The message with this UID arrived.
@@ -41,7 +41,7 @@ impl Model for Changes {
 }
 
 impl Changes {
-    /// Makes changes of these notes, in the same memory.
+    /// Turns these notes into `Changes`, in the same memory.
     pub fn new(notes: Vec<Note>) -> Changes
         ensures { result ≡ notes.items }
     {

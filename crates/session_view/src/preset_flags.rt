@@ -15,9 +15,10 @@ use imap_types::Flags;
 use std::alloc::{AllocError, Global};
 use std::mem;
 
-/// Those of these flags, in their order, that the view's messages don't have already. To set only
-/// these has the same result. Flags with a number that isn't above all earlier ones stay, since
-/// earlier ones may have changed their message. `Err` if memory runs out. Cost: a look-up for each.
+/// Those of these flags, in their order, that the view's messages don't have already. Setting only
+/// these has the same result. Flags with a number that isn't above all earlier numbers stay, since
+/// earlier flags may have changed their message. `Err` if memory runs out. Cost: a look-up for
+/// each.
 pub fn flags_to_set(
     alloc: Global,
     silents: &[SilentFlags],
@@ -48,7 +49,7 @@ pub fn silent_and_answer_flags(
 }
 
 /// Appends each of these flags that `flags_to_set` leaves. `last` is the greatest number so far.
-/// Returns the greatest number then. `Err` if memory runs out.
+/// Returns the new greatest number. `Err` if memory runs out.
 fn push_all_to_set(
     alloc: Global,
     silents: &[SilentFlags],
@@ -115,7 +116,7 @@ fn push_answer_flags(
 }
 
 /// Appends these flags, unless their number is above `last` and the view's message has them.
-/// Returns the greatest number then. `Err` if memory runs out.
+/// Returns the new greatest number. `Err` if memory runs out.
 #[tactic(auto, using(crate::proofs::FlagLemmas::left_out, crate::proofs::FlagLemmas::put_on, crate::proofs::FlagLemmas::up_to_more))]
 fn push_to_set(
     alloc: Global,
@@ -184,7 +185,7 @@ fn set_all_flags(alloc: Global, silents: &mut [SilentFlags], entries: &mut ViewE
     }
 }
 
-/// Sets messages' flags back, the last one first, and leaves the replaced flags in `silents`. Takes
+/// Restores messages' flags, the last one first, and leaves the replaced flags in `silents`. Takes
 /// no memory.
 fn restore_all_flags(alloc: Global, silents: &mut [SilentFlags], entries: &mut ViewEntries)
     ensures back { entries.new.items ≡ with_flags_restored entries.old.items silents.old }

@@ -23,9 +23,9 @@ pub struct SilentFlags {
     pub flags: Flags,
 }
 
-/// The view's messages after a reply: first the flags are set that the session set silently, then
-/// the answers are replayed one after another. `rows` is the listing from which EXISTS takes
-/// messages. `Err` if memory runs out. Cost: a copy of the view, and a look-up for each answer.
+/// The view's messages after a reply: first the session's silent flags are set, then the answers
+/// are replayed one after another. `rows` is the listing from which EXISTS takes messages. `Err` if
+/// memory runs out. Cost: a copy of the view, and a look-up for each answer.
 pub fn replay_reply(
     alloc: Global,
     rows: &Rows<'_>,

@@ -20,7 +20,7 @@ pub struct Span {
 }
 
 /// The numbers of the messages that a set of numbers or UIDs names, ascending. `Err` if memory runs
-/// out. The set's ranges are sorted, and each is found in the view by binary search.
+/// out. The set's ranges are sorted, and each is looked up in the view by binary search.
 pub fn numbers_in_set(
     alloc: Global,
     by_uid: bool,
@@ -138,8 +138,8 @@ fn push_spans(spans: &[Span], count: usize, numbers: &mut Vec<u32>) -> Result<()
     Ok(())
 }
 
-/// Appends the numbers of the messages at the span's places from `done` on, and returns the number
-/// of places that are done then. `Err` if memory runs out.
+/// Appends the numbers of the messages at the span's places from `done` on, and returns the new
+/// number of places that are done. `Err` if memory runs out.
 fn push_span(
     span: Span,
     done: usize,

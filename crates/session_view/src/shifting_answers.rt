@@ -1,4 +1,4 @@
-//! Tests whether answers change which messages a session sees.
+//! Tests whether answers change the messages of a session's view or their numbers.
 
 ghost use Rattle.std.specs.Prelude.{◌≡◌};
 ghost use Rattle.std.specs.List.{list_any};

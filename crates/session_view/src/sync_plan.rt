@@ -32,8 +32,8 @@ pub struct Patch {
     pub(crate) gone: Vec<u32>,
     pub(crate) arrivals: Vec<ViewEntry>,
     pub(crate) flags: Vec<SilentFlags>,
-    /// Room for the new messages, if there are any. It is here because a view doesn't say whether
-    /// it has room itself.
+    /// Room for the new messages, if there are any. It is here because a view itself doesn't say
+    /// whether it has room.
     pub(crate) place: ReservedRoom<ViewEntry>,
 }
 
@@ -75,8 +75,8 @@ pub struct SyncWalk {
     left: Vec<Note>,
 }
 
-/// Plans a sync of this view with this listing. The ascending UIDs include those of all messages of
-/// the view that differ. `Err` if memory runs out. Cost: a look-up in the view and one in the
+/// Plans a sync of this view with this listing. The UIDs ascend and include those of all messages
+/// of the view that differ. `Err` if memory runs out. Cost: a look-up in the view and one in the
 /// listing for each UID, and the listing's messages after the view's last.
 pub fn plan_sync(
     alloc: Global,
@@ -112,7 +112,7 @@ pub fn plan_sync(
 }
 
 /// The plan of a sync after all messages were looked at: the view has `count` messages, the listing
-/// has `listed`, and `arrivals` holds the new ones. `Err` if memory runs out.
+/// has `listed`, and `arrivals` contains the new ones. `Err` if memory runs out.
 fn finish_walk(
     alloc: Global,
     count: u32,

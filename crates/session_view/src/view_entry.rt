@@ -8,7 +8,7 @@ use chunk_list::ChunkList;
 use imap_types::Flags;
 use std::alloc::{AllocError, Global};
 
-/// A message as a session sees it.
+/// A message as it was shown to a session.
 #[derive(Drop)]
 pub struct ViewEntry {
     /// Its UID, from 1 on (RFC 9051, section 2.3.1.1).
@@ -17,7 +17,7 @@ pub struct ViewEntry {
     pub flags: Flags,
 }
 
-/// The messages of a view, in order. Each is found, changed and taken out by its place in the time
+/// The messages of a view, in order. Each is read, changed and taken out by its place in the time
 /// of a look-up.
 pub type ViewEntries = ChunkList<ViewEntry>;
 

@@ -29,7 +29,7 @@ Named = Vec ℕ × NameTags
 abbrev same_key : Vec ℕ → Vec ℕ → Bool
 same_key x y = bytes_eq x.items y.items
 
--- An entry is found by its name, since no other has it.
+-- The look-up of an entry's name gives the entry, since no other has the name.
 entry_by_name : (tags : List Named) → IsDistinct same_key (keys_of tags) → (e : Named) → IsIn e tags → ids_entry e.0.items tags ≡ Some e.1
 unfolding IsDistinct
 entry_by_name [] d e h = absurd h

@@ -1,4 +1,4 @@
--- What a change of one name's tags leaves.
+-- The table after a change of one name's tags.
 use Rattle.std.specs.Result.{is_err}
 use Rattle.std.proofs.Common.{Result, Ok, Err, OnOk, ◌≡◌, inl, inr, ℕ, ◌+◌, ◌≤◌, Bool, true, false, cond, not, ◌&&◌, ◌||◌, Option, None, Some, List, [], ◌∷◌, length, refl, sym, ap, subst, ◌∙◌, arith, if◌then◌else◌}
 use Rattle.std.specs.Global.{Vec}
@@ -39,7 +39,8 @@ other_entry name old new keeps other d =
     (λ x y t. ap (λ (n : List ℕ). bytes_eq n y.items) (same_name other x.items t))
     (λ k t. ap (bytes_eq other) (sym (same_name name k.items t)) ∙ d)
 
--- What holds of one name's tags before and after, and of all that stays, holds of each name's.
+-- If a relation is true of one name's tags before and after, and of unchanged tags, it is true of
+-- each name's tags.
 one_changed : (P : List ℕ → Option NameTags → Option NameTags → Type 0) (name : List ℕ) (old new : List Named) (a b : Option NameTags) → KeepsOthers same_key (has_name name) old new → ids_entry name old ≡ a → ids_entry name new ≡ b → P name a b → ((other : List ℕ) → bytes_eq other name ≡ false → (name_tags : Option NameTags) → P other name_tags name_tags) → (n : List ℕ) → P n (ids_entry n old) (ids_entry n new)
 one_changed P name old new a b keeps was is here others n =
     elim (cases_Bool (bytes_eq n name)) [
@@ -49,7 +50,7 @@ one_changed P name old new a b keeps was is here others n =
       | inr d ↦ subst (P n (ids_entry n old)) (sym (other_entry name old new keeps n d)) (others n d (ids_entry n old))
     ]
 
--- A further tag of a name.
+-- The tags after one is added to a name.
 pub tags_put : (name : List ℕ) (id : OpId) (old new : List Named) (a b : NameTags) → KeepsOthers same_key (has_name name) old new → ids_entry name old ≡ Some a → ids_entry name new ≡ Some b → ((i : OpId) → list_any (same_id i) b.ids.keys ≡ (same_id i id || list_any (same_id i) a.ids.keys)) → (n : List ℕ) (i : OpId) → tag_in new n i ≡ (is_at n i name id || tag_in old n i)
 tags_put name id old new a b keeps was is post n i =
     one_changed (λ m o p. list_any (same_id i) (ids_in p) ≡ (is_at m i name id || list_any (same_id i) (ids_in o))) name old new (Some a) (Some b) keeps was is
@@ -62,7 +63,7 @@ put_room name old new a b keeps was is post =
     (subst (λ t. spare a.ids ≤ spare b.ids + (if t then 1 else 0)) (sym (itself name)) post)
     (λ other d name_tags. omega arith)
 
--- Tags of a name taken out.
+-- The tags after some of a name are taken out.
 pub tags_left : (name : List ℕ) (ids : List OpId) (old new : List Named) (a b : Option NameTags) → KeepsOthers same_key (has_name name) old new → ids_entry name old ≡ a → ids_entry name new ≡ b → ((i : OpId) → list_any (same_id i) (ids_in b) ≡ (not (list_any (same_id i) ids) && list_any (same_id i) (ids_in a))) → (n : List ℕ) (i : OpId) → tag_in new n i ≡ (not (is_among n i name ids) && tag_in old n i)
 tags_left name ids old new a b keeps was is post n i =
     one_changed (λ m o p. list_any (same_id i) (ids_in p) ≡ (not (is_among m i name ids) && list_any (same_id i) (ids_in o))) name old new a b keeps was is
@@ -73,7 +74,7 @@ none_left : (b : Bool) → false ≡ (not b && false)
 none_left true = refl
 none_left false = refl
 
--- A name without tags loses none.
+-- If a name has no tags, taking some out changes nothing.
 pub tags_absent : (name : List ℕ) (ids : List OpId) (tags : List Named) → ids_entry name tags ≡ None → (n : List ℕ) (i : OpId) → tag_in tags n i ≡ (not (is_among n i name ids) && tag_in tags n i)
 tags_absent name ids tags was n i =
     elim (cases_Bool (bytes_eq n name)) [
@@ -83,7 +84,7 @@ tags_absent name ids tags was n i =
       | inr d ↦ ap (λ t. not (t && list_any (same_id i) ids) && tag_in tags n i) (sym d)
     ]
 
--- A name's tags are the same, with other room.
+-- If only the room of a name's tags changes, the tags are the same.
 pub tags_same : (name : List ℕ) (old new : List Named) (a b : Option NameTags) → KeepsOthers same_key (has_name name) old new → ids_entry name old ≡ a → ids_entry name new ≡ b → ids_in b ≡ ids_in a → (n : List ℕ) (i : OpId) → tag_in new n i ≡ tag_in old n i
 tags_same name old new a b keeps was is same n i =
     one_changed (λ m o p. list_any (same_id i) (ids_in p) ≡ list_any (same_id i) (ids_in o)) name old new a b keeps was is (ap (list_any (same_id i)) same) (λ other d name_tags. refl) n
@@ -108,7 +109,7 @@ taken true false n = refl
 taken false true n = refl
 taken false false n = refl
 
--- One id taken out, and those still to be taken out.
+-- Taking out one id, and then the remaining ones.
 pub one_taken : (id i : OpId) (tail now new : List OpId) → list_any (same_id i) new ≡ cond (same_id id i) false (list_any (same_id i) now) → (not (list_any (same_id i) tail) && list_any (same_id i) new) ≡ (not (same_id i id || list_any (same_id i) tail) && list_any (same_id i) now)
 one_taken id i tail now new e =
     ap (λ t. not (list_any (same_id i) tail) && t) (e ∙ ap (λ s. cond s false (list_any (same_id i) now)) (same_back id i))
@@ -122,7 +123,7 @@ none_filtered p (x ∷ xs) e =
       | inr f ↦ ap (λ s. length (cond s (x ∷ filter p xs) (filter p xs))) f ∙ none_filtered p xs (sym (ap (λ s. s || list_any p xs) f) ∙ e)
     ]
 
--- Room for all that pass a test, if there is room for them whenever one passes.
+-- There is room for all elements that pass a test, if there is whenever one passes.
 pub room_for_all : {X : Type 0} (p : X → Bool) (xs : List X) (room : ℕ) → (list_any p xs ≡ true → length (filter p xs) ≤ room) → length (filter p xs) ≤ room
 room_for_all p xs room h =
     elim (cases_Bool (list_any p xs)) [
@@ -134,7 +135,7 @@ counted : {X : Type 0} (b : Bool) (x : X) (xs : List X) → length (cond b (x �
 counted true x xs = omega arith
 counted false x xs = omega arith
 
--- Room for the operations after one, once it was applied.
+-- Once an operation was applied, there is room for those after it.
 pub room_after : (n : List ℕ) (o applied : Op) (rest : List Op) (old mid new : ℕ) → applied ≡ o → length (filter (subscribes n) (o ∷ rest)) ≤ old → old ≤ mid → mid ≤ new + (if subscribes n applied then 1 else 0) → length (filter (subscribes n) rest) ≤ new
 room_after n o applied rest old mid new e h k l =
     let all : length (filter (subscribes n) (o ∷ rest)) ≡ length (filter (subscribes n) rest) + (if subscribes n o then 1 else 0) = counted (subscribes n o) o (filter (subscribes n) rest) in

@@ -1,5 +1,5 @@
--- What subscriptions contain, and the effect of an operation on it (Jungnickel, Oldenburg, Loibl,
--- OPODIS 2017).
+-- The contents of subscriptions, and the effect of an operation on them (Jungnickel, Oldenburg,
+-- Loibl, OPODIS 2017).
 
 use Rattle.std.specs.Prelude.{◌≡◌, ℕ, Bool, true, false, not, ◌&&◌, ◌||◌, List}
 use Rattle.tags_clocks.specs.declared.id.OpId.{OpId}
@@ -24,7 +24,7 @@ effect_of subscriptions op name id =
     adds (SubscriptionTag name id) op
     || (not (removes (SubscriptionTag name id) op) && subscriptions name id)
 
--- The contents that a set of operations means: its present subscription tags.
+-- The contents by a set of operations: its present subscription tags.
 abbrev pub subscriptions_by : List Op → Subscriptions
 subscriptions_by ops name id = is_present ops (SubscriptionTag name id)
 

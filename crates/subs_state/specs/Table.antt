@@ -1,4 +1,4 @@
--- What the table of subscription tags contains, and when operations are prepared.
+-- The contents of the table of subscription tags, and when operations are prepared.
 
 use Rattle.std.specs.Prelude.{ℕ, ◌≤◌, List, [], ◌∷◌, length}
 use Rattle.std.specs.List.{filter}
@@ -8,7 +8,7 @@ use Rattle.subs_state.specs.declared.subs.Subs.{Subs}
 use Rattle.subs_state.specs.Entries.{room_of, subscribes, tag_in}
 use Rattle.subs_state.specs.Subscriptions.{Subscriptions}
 
--- What the table contains.
+-- The table's contents.
 abbrev pub subscriptions_of : Subs → Subscriptions
 subscriptions_of subs = tag_in subs.tags.entries
 

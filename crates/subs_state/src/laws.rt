@@ -1,4 +1,4 @@
-//! What holds of subscriptions, and of them with folders, in every order of operations.
+//! Laws of subscriptions, and of subscriptions with folders, for every order of operations.
 
 ghost use Rattle.std.specs.Prelude.{◌≡◌, List};
 ghost use Rattle.merge_laws.specs.Orders.{AreSound, GivesOneValue, IsCausal, fold_of};
@@ -15,7 +15,7 @@ use folder_state::Folders;
 use merge_laws::{Pair, same_for_all_orders};
 
 /// Any two causal lists of the same sound operations lead from one value of the subscriptions to
-/// one.
+/// the same value.
 pub fn subs_for_all_orders()
     ensures { GivesOneValue id_of clock_of IsSound effect_of }
 {
@@ -23,7 +23,7 @@ pub fn subs_for_all_orders()
 }
 
 /// Any two causal lists of the same sound operations lead from one value of folders and
-/// subscriptions to one.
+/// subscriptions to the same value.
 pub fn whole_state_for_all_orders()
     ensures { GivesOneValue {V = Contents × Subscriptions} id_of clock_of IsSound
         (λ v o. (folders.effect_of v.0 o, effect_of v.1 o)) }
@@ -32,7 +32,7 @@ pub fn whole_state_for_all_orders()
 }
 
 /// A causal list of sound operations makes empty subscriptions contain exactly the present
-/// subscription tags of the set of them.
+/// subscription tags of the set of these operations.
 pub fn subscriptions_follow_the_set()
     ensures { (ops : List Op) → AreSound IsSound ops
         → IsCausal id_of clock_of ops

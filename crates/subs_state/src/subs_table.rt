@@ -32,7 +32,8 @@ impl Drop for NameTags {
     }
 }
 
-/// Removes the subscription tags that the operation removes. Names stay, with their room.
+/// Removes the subscription tags that the operation removes. Names stay in the table, with their
+/// room.
 pub fn remove_tags_of(tags: &mut IndexMap<Vec<u8>, NameTags>, op: &Op)
     ensures listed { (n : List ℕ) (i : OpId)
         → tag_in tags.new.entries n i
@@ -122,8 +123,8 @@ fn put_id(name_tags: &mut NameTags, id: &OpId)
     }
 }
 
-/// Makes room for the subscription tags that these operations add, each name having an entry in the
-/// table. `Err` if memory runs out: the tags stay.
+/// Makes room for the subscription tags that these operations add; each of their names gets an
+/// entry in the table. `Err` if memory runs out; the tags are then unchanged.
 pub fn make_room(
     alloc: Global,
     tags: &mut IndexMap<Vec<u8>, NameTags>,
@@ -140,7 +141,8 @@ pub fn make_room(
     Ok(())
 }
 
-/// Makes room for the tags that these operations add to the name to which one of them subscribes.
+/// Makes room for the tags that the operations `ops` add to the name to which `op` subscribes, if
+/// any.
 fn make_room_of(
     alloc: Global,
     tags: &mut IndexMap<Vec<u8>, NameTags>,

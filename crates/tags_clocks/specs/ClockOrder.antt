@@ -6,7 +6,8 @@ use Rattle.tags_clocks.specs.declared.clock.ClockOrder.TheVariants.{Before, Afte
 use Rattle.tags_clocks.specs.declared.clock.ClockOrder.TheVariants.{Concurrent}
 use Rattle.tags_clocks.specs.Clock.{IsCoveredBy}
 
--- `es` is covered by `fs`, the other way round, both, or neither.
+-- The order of the two: `Before` if only `es` is covered by the other, `After` if only `fs` is,
+-- `Equal` if both are, `Concurrent` if neither is.
 abbrev pub Compares : ClockOrder → List (ℕ × ℕ) → List (ℕ × ℕ) → Type 0
 Compares Before es fs = IsCoveredBy es fs × ¬ IsCoveredBy fs es
 Compares After es fs = (¬ IsCoveredBy es fs) × IsCoveredBy fs es

@@ -123,7 +123,7 @@ cut_takes separator (octet ∷ octets) parts h =
           ap (λ (t : List ℕ). octet ∷ t) (cut_takes separator octets y.0 y.1) ∙ sym (λ i. y.2 i ++ separator ∷ y.3 i)
     ]
 
--- parts joined by a separator that the first one lacks are cut there
+-- two parts joined by a separator that the first one lacks are cut at it
 pub cut_again : (separator : ℕ) (front back : List ℕ) → list_all (λ octet. not (eqb octet separator)) front ≡ true → cut_at separator (front ++ separator ∷ back) ≡ Some (front, back)
 cut_again separator [] back h = let t : eqb separator separator ≡ true = eq-eqb separator separator refl in rw t refl
 cut_again separator (octet ∷ front) back h =

@@ -9,16 +9,16 @@ use Rattle.std.specs.Str.Parse.{digits_value}
 use Rattle.tags_clocks.specs.declared.id.OpId.{OpId}
 
 infixl 10 ◌>>=◌
--- What the next reading gives of the value of this one, if both succeed.
+-- The result of the next reading for the value of this one, if both succeed.
 abbrev pub ◌>>=◌ : {A B : Type 0} → Option A → (A → Option B) → Option B
 read >>= next = option_and_then next read
 
--- Octets before the first part of a cut.
+-- A cut, with these octets before its first part.
 abbrev pub before_first_part : List ℕ → Option (List ℕ × List ℕ) → Option (List ℕ × List ℕ)
 before_first_part front None = None
 before_first_part front (Some cut) = Some (front ++ cut.0, cut.1)
 
--- What comes before the first separator, and what comes after it.
+-- The octets before the first separator, and those after it.
 abbrev pub cut_at : ℕ → List ℕ → Option (List ℕ × List ℕ)
 cut_at separator [] = None
 cut_at separator (octet ∷ octets) =

@@ -11,8 +11,7 @@ ghost use Rattle.text_fields.specs.FieldReading.{pair_at, replica_at};
 use std::str;
 use tags_clocks::{OpId, ReplicaId};
 
-/// What comes before the first separator, and what comes after it; `None` if the text has no
-/// separator.
+/// The text before the first separator, and the text after it; `None` if there is no separator.
 pub fn split(separator: u8, text: &[u8]) -> Option<(&[u8], &[u8])>
     ensures { option_map (λ parts. (parts.0.now, parts.1.now)) result ≡ cut_at separator text.now }
 {
@@ -78,7 +77,7 @@ fn parse_digits(digits: &[u8]) -> Option<u64>
     text.parse::<u64>().ok()
 }
 
-/// The replica whose number, from 1 to 65,535, the text writes; `None` if it writes none.
+/// The replica whose number, from 1 to 65,535, the text spells; `None` if it spells none.
 #[tactic(auto, unfolding(crate::specs::FieldReading::replica_at))]
 pub fn replica(text: &[u8]) -> Option<ReplicaId>
     ensures { result ≡ replica_at text.now }

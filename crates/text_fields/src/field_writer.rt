@@ -8,8 +8,8 @@ use itoa::Buffer;
 use std::alloc::AllocError;
 use tags_clocks::OpId;
 
-/// Appends the number in decimal digits. `Err` if memory runs out; `out` still begins with what it
-/// held before.
+/// Appends the number in decimal digits. `Err` if memory runs out; `out` then still begins with its
+/// former contents.
 pub fn push_number(number: u64, out: &mut Vec<u8>) -> Result<(), AllocError>
     ensures ok { OnOk result (out.new.items ≡ out.old.items ++ decimal number) }
     ensures extends { (more : List ℕ) × (out.new.items ≡ out.old.items ++ more) }
@@ -18,8 +18,8 @@ pub fn push_number(number: u64, out: &mut Vec<u8>) -> Result<(), AllocError>
     out.extend_from_slice(buffer.format(number).as_bytes())
 }
 
-/// Appends the id: the replica, a colon and the number. `Err` if memory runs out; `out` still
-/// begins with what it held before.
+/// Appends the id: the replica, a colon and the number. `Err` if memory runs out; `out` then still
+/// begins with its former contents.
 pub fn push_id(id: OpId, out: &mut Vec<u8>) -> Result<(), AllocError>
     ensures ok { OnOk result (out.new.items ≡ out.old.items ++ id_text id) }
     ensures extends { (more : List ℕ) × (out.new.items ≡ out.old.items ++ more) }

@@ -6,8 +6,8 @@
 //! `push_id` append these texts. The readers take no memory: they return the value of a field, or
 //! `None` for any other text, such as a number above its limit.
 //!
-//! Contracts say what a field is by its text (`id_text` and `entry_text` of `specs/Fields.antt`)
-//! and how it is read (`specs/FieldReading.antt`). The crates that read and write whole lines prove
+//! Contracts define a field by its text (`id_text` and `entry_text` of `specs/Fields.antt`) and say
+//! how it is read (`specs/FieldReading.antt`). The crates that read and write whole lines prove
 //! that reading and writing are inverse.
 #![tactic(auto)]
 

@@ -1,4 +1,4 @@
--- The place at which the items on both sides of one stop passing a test.
+-- The place at which a list's items stop passing a test, from those on both sides of one item.
 use Rattle.std.proofs.Common.{◌≡◌, ℕ, suc, ◌+◌, ◌-◌, ◌<◌, ◌≤◌, Bool, true, false, List, [], ◌∷◌, ◌++◌, length, get_or, refl, ap, sym, subst, ◌∙◌, arith, length-append, inl, inr}
 use Rattle.std.proofs.Math.Seq.{get_or-append_seam}
 use Rattle.std.proofs.lemmas.List.{get_or_append_left, get_or-append-add}
@@ -39,7 +39,7 @@ passes_before : {X : Type 0} (p : ℕ → X → Bool) (left right : List X) (x d
 passes_before p left right x d parts_around passes i order =
     parts_around i (length left) d order (omega (arith, length-append left (x ∷ right))) (test_middle p left right x d ∙ passes)
 
--- Places to the right of an item.
+-- The test's results for places to the right of an item.
 test_after : {X : Type 0} (p : ℕ → X → Bool) (left right : List X) (x d : X) (b : Bool) (i : ℕ) → length left < i → p (length left + suc (i - length left - 1)) (get_or right (i - length left - 1) d) ≡ b → at p (left ++ x ∷ right) i d ≡ b
 test_after p left right x d b i order is =
     let k = i - length left - 1 in
@@ -87,13 +87,13 @@ point_alike p q xs n same point = record {
 pub answer : {F X R : Type 0} (g : Mut F X R) (P : X → R → Type 0) (f f' : F) (a : X) (r : R) → Called g f a r f' → AlwaysReturns g P f → P a r
 answer g P f f' a r called always = (always.at (a ∷ []) r f' called).0
 
--- The number of a tree's items that pass, from place `from`, if its own item fails,
+-- The number of a tree's items that pass, from place `from`, if its own item fails.
 pub on_left : {X : Type 0} (p : ℕ → X → Bool) (xs left right : List X) (x : X) (from before n : ℕ) → xs ≡ left ++ x ∷ right → before ≡ length left → IsPartitioned (λ i. p (from + i)) xs → p (from + before) x ≡ false → n ≤ length left → (IsPartitioned (λ i. p (from + i)) left → IsPoint (λ i. p (from + i)) left n) → IsPoint (λ i. p (from + i)) xs n
 on_left p xs left right x from before n is count_is parts_around fails within rest =
     let parts = subst (IsPartitioned (λ i. p (from + i))) is parts_around in
     rw is (point_left (λ i. p (from + i)) left right x n parts (rw count_is at fails) within (rest (left_partitioned (λ i. p (from + i)) left right x parts)))
 
--- and if it passes.
+-- The number of a tree's items that pass, from place `from`, if its own item passes.
 pub on_right : {X : Type 0} (p : ℕ → X → Bool) (xs left right : List X) (x : X) (from before n : ℕ) → xs ≡ left ++ x ∷ right → before ≡ length left → IsPartitioned (λ i. p (from + i)) xs → p (from + before) x ≡ true → (IsPartitioned (λ i. p (from + before + 1 + i)) right → IsPoint (λ i. p (from + before + 1 + i)) right n) → IsPoint (λ i. p (from + i)) xs (before + 1 + n)
 on_right p xs left right x from before n is count_is parts_around passes rest =
     let parts = subst (IsPartitioned (λ i. p (from + i))) is parts_around in

@@ -2,23 +2,23 @@
 use Rattle.std.proofs.Common.{◌≡◌, ℕ, zero, suc, ◌-◌, ◌<◌, List, [], ◌∷◌, ◌++◌, Some, length, remove, slice_get, refl, ap, ◌∙◌, arith}
 use Rattle.std.proofs.lemmas.List.Edits.{remove-append_left, remove-append_right}
 
--- To the left of it.
+-- Removing an item to the left of another.
 pub remove_left : {X : Type 0} → (left right : List X) (x : X) (i : ℕ) → i < length left → remove (left ++ x ∷ right) i ≡ remove left i ++ x ∷ right
 remove_left left right x i within = remove-append_left left (x ∷ right) i within
 
--- The item itself.
+-- Removing the item itself.
 pub remove_middle : {X : Type 0} → (left right : List X) (x : X) (i : ℕ) → i ≡ length left → remove (left ++ x ∷ right) i ≡ left ++ right
 remove_middle left right x i is =
     let none : i - length left ≡ 0 = omega (arith, is) in
     remove-append_right left (x ∷ right) (length left) i refl (omega (arith, is)) ∙ ap (λ k. left ++ remove (x ∷ right) k) none
 
--- To the right of it.
+-- Removing an item to the right of another.
 pub remove_right : {X : Type 0} → (left right : List X) (x : X) (i : ℕ) → length left < i → remove (left ++ x ∷ right) i ≡ left ++ x ∷ remove right (i - length left - 1)
 remove_right left right x i past =
     let after : i - length left ≡ suc (i - length left - 1) = omega (arith, past) in
     remove-append_right left (x ∷ right) (length left) i refl (omega (arith, past)) ∙ ap (λ k. left ++ remove (x ∷ right) k) after
 
--- The item at such a place.
+-- The item at a place to the left of another item.
 pub get_left : {X : Type 0} → (left right : List X) (x : X) (i : ℕ) → i < length left → slice_get (left ++ x ∷ right) i ≡ slice_get left i
 get_left [] right x i within = absurd (omega (arith, within))
 get_left (y ∷ left) right x zero within = refl

@@ -54,7 +54,7 @@ made_after c list ops m a = record {
   made = ap (λ v. after v ops) m.made ∙ sym (fold_append effect_of no_contents list ops);
 }
 
--- the origins of versions by the contents
+-- the origins of versions that the contents give
 pub versions_in_list : (c : Contents) (list : List Op) (folder : List ℕ) → IsMadeBy c list → AreVersions folder list (origin_in c folder)
 versions_in_list c list folder m i g = subst (λ (w : Contents). IsVersion w folder g i ↔ IsVersionBySet list folder g i) (sym (contents_made c list m)) (version_is list folder g i)
 
@@ -95,6 +95,15 @@ below_from low uid (suc k) (e ∷ es) r n b =
     let m = w.1 in
     let f = r.0 in
     ((omega (arith, m), w.0), omega (arith, m, f))
+
+below_at : (uid : ℕ) (es : List ListingEntry) (j : ℕ) (d : ListingEntry) → AreBelow uid es → j < length es → (get_or es j d).uid < uid
+below_at uid [] j d h k = absurd (omega (arith, k))
+below_at uid (e ∷ es) zero d h k = h.0
+below_at uid (e ∷ es) (suc j) d h k = below_at uid es j d h.1 (omega (arith, k))
+
+pub last_follows : (uid : ℕ) (es : List ListingEntry) → AreBelow uid es → (length es ≡ 0) ⊎ ((e : ListingEntry) → (get_or es (length es - 1) e).uid < uid)
+last_follows uid [] h = inl refl
+last_follows uid (e ∷ es) h = inr (λ d. below_at uid (e ∷ es) (length (e ∷ es) - 1) d h (omega arith))
 
 pub follows_last : (uid : ℕ) (es : List ListingEntry) → AreRising 1 es → 1 ≤ uid → uid < 4294967295 → (length es ≡ 0) ⊎ ((e : ListingEntry) → (get_or es (length es - 1) e).uid < uid) → IsNext uid es × (uid < 4294967295)
 follows_last uid [] r l m h = (record { first = l; beyond = tt; few = omega arith }, m)

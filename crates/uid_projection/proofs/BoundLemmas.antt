@@ -34,7 +34,7 @@ use Rattle.uid_projection.proofs.CounterLemmas.{starts}
 use Rattle.uid_projection.proofs.Numbers.{k_begins}
 use Rattle.uid_projection.proofs.LaterNumbers.{uidnext_within}
 use Rattle.uid_projection.proofs.SortedRowLemmas.{row_in}
-use Rattle.uid_projection.proofs.ListingLaws.{flags_carried, keywords_have}
+use Rattle.uid_projection.proofs.ListingLemmas.{flags_from_op, keywords_have}
 use Rattle.uid_projection.proofs.NextOpLemmas.{validity_none, validity_inbox, validity_present}
 use Rattle.uid_projection.proofs.Presence.{applied_front, exists_tags}
 use Rattle.uid_projection.proofs.RowLemmas.{rising_chart, rows_listed}
@@ -200,7 +200,7 @@ dated_text_written ops id w =
 -- each version's flags can be written
 carried_words : (ops : List Op) (folder : List ℕ) (g : OpId) (flags : Flags) → AreWritable ops → IsIn flags (filter_map (tag_flags_of ops folder) (versions_of ops folder g)) → HasWords flags
 carried_words ops folder g flags w i =
-    let v = flags_carried ops folder g flags i in
+    let v = flags_from_op ops folder g flags i in
     subst HasWords v.4 (words_by v.0.id v.0.kind v.1 (w v.0 v.2).0.parts.fields v.3)
 
 -- the union of the flags can be written too

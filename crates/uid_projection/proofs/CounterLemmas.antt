@@ -27,7 +27,7 @@ about_name folder (Subscribe name) h = absurd (false≢true h)
 about_name folder (Unsubscribe name seen) h = absurd (false≢true h)
 
 module _ (start : Counters) (folder : List ℕ) where
-  -- a folder begins to exist by an operation about it
+  -- only an operation about a folder makes it exist
   pub starts : (ops : List Op) (o : Op) → IsApplied (ops ++ o ∷ []) → folder_exists folder ops ≡ false → folder_exists folder (ops ++ o ∷ []) ≡ true → begins_incarnation ops o ≡ true
   starts ops o a f t =
       elim (cases_Bool (kind_names_folder folder o.kind)) [
@@ -35,7 +35,7 @@ module _ (start : Counters) (folder : List ℕ) where
         | inr other ↦ absurd (false≢true (sym f ∙ sym (other_exists folder ops o a other) ∙ t))
       ]
 
-  -- a folder other than INBOX exists since an operation of the list
+  -- a folder other than INBOX has existed since some operation of the list
   own_begin : (ops : List Op) → IsApplied ops → (folder ≡ inbox → ⊥) → folder_exists folder ops ≡ true → 0 < count_since (folder_exists folder) begins_incarnation ops
   own_begin = by_last (λ (ops : List Op). IsApplied ops → (folder ≡ inbox → ⊥) → folder_exists folder ops ≡ true → 0 < count_since (folder_exists folder) begins_incarnation ops)
       (λ a n t. elim ((exists_tags folder []).0 t) [ inl e ↦ absurd (n e) | inr w ↦ elim w.1 [ inl e ↦ absurd (false≢true e) | inr e ↦ absurd (false≢true e) ] ])

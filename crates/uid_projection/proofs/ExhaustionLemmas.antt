@@ -27,7 +27,7 @@ use Rattle.uid_projection.proofs.Steps.{uidnext_absent, uidnext_here}
 use Rattle.uid_projection.proofs.TouchedLineLemmas.{version_added}
 use Rattle.uid_projection.proofs.Versions.{origin_applied, version_in}
 
--- the operations before and the next one, after the list
+-- the list, the operations before the next one, and the next one
 pub append_next : (list front through : List Op) (o : Op) → through ≡ front ++ o ∷ [] → list ++ through ≡ (list ++ front) ++ o ∷ []
 append_next list front through o e = ap (λ xs. list ++ xs) e ∙ sym (append_assoc list front (o ∷ []))
 
@@ -129,14 +129,14 @@ begins_store folder ops o a name flags old_ids origin is =
     begins_chosen folder ops o a (bytes_eq folder name) origin
     (ap (origin_by folder o.id) is ∙ origin_put (bytes_eq folder name) (same_id o.id o.id) (record { flags = flags; origin = origin }) ((ids_decide o.id o.id).1 refl))
 
--- the operations through a place
+-- the operations up to and including a place
 pub take_op : (ops : List Op) (at : ℕ) (x o : Op) → at < length ops → x ≡ get_or ops at x → o ≡ x → take (at + 1) ops ≡ take at ops ++ o ∷ []
 take_op ops at x o l is e = take_more ops at x l ∙ (λ i. take at ops ++ (sym is ∙ sym e) i ∷ [])
 
 pub applied_take : (list ops : List Op) (n : ℕ) → IsApplied (list ++ ops) → IsApplied (list ++ take n ops)
 applied_take list ops n a = applied_front (list ++ take n ops) (drop n ops) (subst IsApplied (ap (λ xs. list ++ xs) (sym (take-append-drop n ops)) ∙ sym (append_assoc list (take n ops) (drop n ops))) a)
 
--- far from the end of a counter
+-- no number is lacking far from the end of a counter
 pub k_far : (start : Counters) (list front : List Op) (o : Op) (next_k : ℕ) → next_k ≤ 65535 → length front ≤ 65535 - next_k → next_k ≡ start.k + count_all begins_incarnation list → (false ≡ true) ↔ LacksK start (list ++ front) o
 k_far start list front o next_k l m is =
     let b = k_bound front list in
@@ -168,13 +168,13 @@ uid_near start list front o folder b r own t e is = (
   λ w. eq-eqb r 4294967295 (is ∙ ap (λ n. uidnext_of start n (list ++ front)) own ∙ w.1),
 )
 
--- ---- the first operation that lacks a number
+-- ---- the first operation for which a counter lacks a number
 
 pub none_exhausted : (start : Counters) (list : List Op) → Exhausts start list [] → ⊥
 none_exhausted start list ([], o, back, e, x) = absurd cc
 none_exhausted start list (y ∷ front, o, back, e, x) = absurd cc
 
--- an operation lacks a number after those before it
+-- a counter lacks a number for an operation after those before it
 pub exhausted_at : (start : Counters) (list ops : List Op) (at : ℕ) (o : Op) → take (at + 1) ops ≡ take at ops ++ o ∷ [] → IsExhausted start (list ++ take at ops) o → Exhausts start list ops
 exhausted_at start list ops at o next h =
     (take at ops, o, drop (at + 1) ops, sym (take-append-drop (at + 1) ops) ∙ ap (λ xs. xs ++ drop (at + 1) ops) next ∙ append_assoc (take at ops) (o ∷ []) (drop (at + 1) ops), h)

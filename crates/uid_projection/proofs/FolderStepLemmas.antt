@@ -14,7 +14,7 @@ use Rattle.uid_projection.specs.Counting.{count_all}
 use Rattle.uid_projection.specs.Incarnations.{begins_incarnation, folder_exists, k_of}
 use Rattle.uid_projection.specs.UidsAndModSeqs.{has_version}
 use Rattle.uid_projection.specs.EntryMoves.{AreApart, IsNext, added_origin, has_entry, loses, moved_entries, origins_with, with_line, origins_without}
-use Rattle.uid_projection.specs.ChartTable.{Advances, IsNextAt, IsUpTo, origin_at}
+use Rattle.uid_projection.specs.ChartTable.{Advances, IsNextAt, IsUpTo, modseqs_by, origin_at}
 use Rattle.uid_projection.proofs.MovedEntryLemmas.{advanced_none, advanced_some, apart_chart, apart_moved, left_held, next_moved}
 use Rattle.uid_projection.proofs.HistoryLemmas.{once, all-append}
 use Rattle.uid_projection.proofs.Numbers.{k_begins, stays_added, uid_lasts}
@@ -41,7 +41,7 @@ module _ (start : Counters) (folder : List ℕ) (value : Contents) (ops : List O
     now_apart : AreApart now
     now_apart = subst AreApart (sym is) (apart_moved (loses f ids) stays (c.highest + 1) c.entries.entries all_apart)
 
-    -- the UID that the added origin needs is left
+    -- a UID remains for the added origin
     pub uid_for : (g : OpId) → added_origin o ≡ Some g → has_entry now g ≡ false → c.uidnext < 4294967295
     uid_for g e h =
         let held = left_held start folder ops o r.applied r.exists_now r.about c.uidnext c.highest c.entries.entries r.shows f r.versions g e (stays_added folder ops o r.applied r.about g e) in
@@ -131,22 +131,25 @@ module _ (start : Counters) (k : ℕ) (value : Contents) (ops : List Op) (o : Op
           exists_now = t;
           not_exhausted = r.next.not_exhausted;
           shows = chart_as start folder ops _ _ _ _ _ _ u h (λ j. (es j).entries) r.up.shows;
+          latest = subst (λ x. x.latest ≤ d.highest) (sym es) (subst (λ x. c.entries.latest ≤ x) (sym h) r.up.latest);
           versions = subst (λ v. AreVersions folder ops (origin_at v.entries)) (sym vs) r.up.versions;
           roomy =
               let q = r.roomy.highest in let w = r.roomy.uidnext in
               record {
                 places = λ g j. subst (λ x. 1 ≤ x.room) (sym es) (r.roomy.places g j);
                 version_places = λ g j. subst (λ x. 1 ≤ spare x) (sym vs) (r.roomy.version_places g j);
+                modseq_places = subst (λ x. modseqs_by o ≤ x.modseq_room) (sym es) r.roomy.modseq_places;
                 highest = subst (λ x. x + 1 ≤ 18446744073709551615) (sym h) q;
                 uidnext = subst (λ x. x ≤ 4294967295) (sym u) w;
               };
         })
 
-    pub up_now : (l : ℕ) (d : Chart) → l ≡ cond c.present c.k k → d.present ≡ true → d.k ≡ l → IsChart start folder (ops ++ o ∷ []) d.uidnext d.highest d.entries.entries → AreVersions folder (ops ++ o ∷ []) (origin_at d.versions.entries) → IsUpTo start folder (ops ++ o ∷ []) d
-    up_now l d e y is s v = record {
+    pub up_now : (l : ℕ) (d : Chart) → l ≡ cond c.present c.k k → d.present ≡ true → d.k ≡ l → IsChart start folder (ops ++ o ∷ []) d.uidnext d.highest d.entries.entries → AreVersions folder (ops ++ o ∷ []) (origin_at d.versions.entries) → d.entries.latest ≤ d.highest → IsUpTo start folder (ops ++ o ∷ []) d
+    up_now l d e y is s v latest = record {
       present = y ∙ sym t;
       shows = s;
       versions = v;
       is_k = λ q. is ∙ k_now l e;
       small = λ q n. subst (λ m. m ≤ 65535) (sym is) (k_stays_small l e n);
+      latest = latest;
     }

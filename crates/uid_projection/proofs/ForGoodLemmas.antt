@@ -95,7 +95,7 @@ module _ (start : Counters) (folder : List ℕ) (ops : List Op) where
     pub uid : uid_of start folder later g ≡ uid_of start folder ops g
     pub modseq : ((versions_of ops folder g ≡ versions_of later folder g) × (modseq_of folder later g ≡ modseq_of folder ops g)) ⊎ (highest_modseq_of folder ops < modseq_of folder later g)
 
-  -- the message came later
+  -- the message is new in the later list
   abbrev pub IsNew : List Op → OpId → Type 0
   IsNew later g = (uidnext_of start folder ops ≤ uid_of start folder later g) × (highest_modseq_of folder ops < modseq_of folder later g)
 

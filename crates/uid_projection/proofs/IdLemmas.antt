@@ -36,7 +36,7 @@ key_of_lookup {X} i (e ∷ es) h =
       | inr f ↦ inr (key_of_lookup i es (subst (λ b. IsSome (cond b (Some e.1) (lookup (same_id i) es))) f h))
     ]
 
--- the first of a list's elements up to a place
+-- an element up to and including a place is before the place, or is the element at it
 pub in_more : {X : Type 0} (x : X) (xs : List X) (i : ℕ) (y : X) → i < length xs → y ≡ get_or xs i y → IsIn x (take (i + 1) xs) → IsIn x (take i xs) ⊎ (x ≡ y)
 in_more x xs i y l e h =
     elim (in_parts x (take i xs) (get_or xs i y ∷ []) (subst (IsIn x) (take_more xs i y l) h)) [
@@ -116,7 +116,7 @@ pub at_key_some : {X : Type 0} (test : Option X → Bool) (es : List (OpId × X)
 at_key_some test es None h = absurd (false≢true h)
 at_key_some test es (Some e) h = (e.0, h)
 
--- no place has the property, so no key has it
+-- if no place has the property, no key has it
 pub at_no_key : {X : Type 0} (test : Option X → Bool) (es : List (OpId × X)) → (test None ≡ true → ⊥) → ((place : ℕ) → value_at_key test es (slice_get es place) ≡ false) → (i : OpId) → test (lookup (same_id i) es) ≡ true → ⊥
 at_no_key {X} test es none h i t = at (lookup (same_id i) es) refl
   where

@@ -17,7 +17,7 @@ use Rattle.uid_projection.specs.Counting.{count_all}
 use Rattle.uid_projection.specs.Incarnations.{begins_incarnation, folder_exists, k_of}
 use Rattle.uid_projection.specs.UidsAndModSeqs.{begins_line, kind_names_folder, first_uid, highest_modseq_of, uidnext_of}
 use Rattle.uid_projection.specs.EntryMoves.{added_origin}
-use Rattle.uid_projection.specs.ChartTable.{HasRooms, HasRoomsIn, IsRoomy, IsTable, chart_at}
+use Rattle.uid_projection.specs.ChartTable.{HasRooms, HasRoomsIn, IsRoomy, IsTable, chart_at, modseqs_of}
 use Rattle.uid_projection.proofs.ExhaustionLemmas.{append_next}
 use Rattle.uid_projection.proofs.HistoryLemmas.{once, all-append}
 use Rattle.uid_projection.proofs.CounterLemmas.{about_name, starts}
@@ -25,7 +25,7 @@ use Rattle.uid_projection.proofs.Presence.{applied_front}
 use Rattle.uid_projection.proofs.Steps.{highest_absent, highest_here, k_here, k_none, uidnext_absent, uidnext_here}
 use Rattle.uid_projection.proofs.TouchedLineLemmas.{line_about}
 
--- ---- if none lacks a number, none of the others does after the first
+-- ---- if no counter lacks a number for the operations, none does for the others after the first
 
 first_lasts : (start : Counters) (list rest : List Op) (o : Op) → (Exhausts start list (o ∷ rest) → ⊥) → IsExhausted start list o → ⊥
 first_lasts start list rest o not_exhausted h = not_exhausted ([], o, rest, refl, subst (λ (xs : List Op). IsExhausted start xs o) (sym (append-nil list)) h)
@@ -161,21 +161,21 @@ highest_still folder (o ∷ ops) list n a none u l =
     omega (arith, r, e)
 
 -- a folder with room has a chart
-charted_roomy : (origin : Option OpId) (n : ℕ) (folder : List ℕ) (charts : List (Vec ℕ × Chart)) → HasRooms origin n folder charts → (c : Chart) × (chart_at folder charts ≡ Some c) × IsRoomy origin n c
-charted_roomy origin n folder charts r = by (chart_at folder charts) refl r
+charted_roomy : (origin : Option OpId) (n k : ℕ) (folder : List ℕ) (charts : List (Vec ℕ × Chart)) → HasRooms origin n k folder charts → (c : Chart) × (chart_at folder charts ≡ Some c) × IsRoomy origin n k c
+charted_roomy origin n k folder charts r = by (chart_at folder charts) refl r
   where
-    by : (x : Option Chart) → chart_at folder charts ≡ x → HasRoomsIn origin n x → (c : Chart) × (chart_at folder charts ≡ Some c) × IsRoomy origin n c
+    by : (x : Option Chart) → chart_at folder charts ≡ x → HasRoomsIn origin n k x → (c : Chart) × (chart_at folder charts ≡ Some c) × IsRoomy origin n k c
     by None e h = absurd h
     by (Some c) e h = (c, e, h)
 
--- charts that are ready for the operations have its numbers
+-- charts that are ready for the operations have numbers left for HIGHESTMODSEQ
 pub highest_within : (x : Charts) (list ops : List Op) (folder : List ℕ) → Follows x list → IsReadyFor x list ops → highest_modseq_of folder list ≤ 18446744073709551615 → highest_modseq_of folder (list ++ ops) ≤ 18446744073709551615
 highest_within x list ops folder f r u =
     elim (cases_Bool (list_any (λ (o : Op). kind_names_folder folder o.kind) ops)) [
       | inl t ↦
           let w = (any_in (λ (o : Op). kind_names_folder folder o.kind) ops).0 t in
           let own : folder ≡ name_of w.0.kind = about_name folder w.0.kind w.2 in
-          let roomy = charted_roomy (added_origin w.0) (length ops) (name_of w.0.kind) x.charts.entries (r.rooms w.0 w.1 (subst (λ (n : List ℕ). kind_names_folder n w.0.kind ≡ true) own w.2)) in
+          let roomy = charted_roomy (added_origin w.0) (length ops) (modseqs_of ops) (name_of w.0.kind) x.charts.entries (r.rooms w.0 w.1 (subst (λ (n : List ℕ). kind_names_folder n w.0.kind ≡ true) own w.2)) in
           let is : roomy.0.highest ≡ highest_modseq_of folder list = (f.table.shows (name_of w.0.kind) roomy.0 roomy.1).shows.is_highest ∙ ap (λ n. highest_modseq_of n list) (sym own) in
           let least : 1 ≤ highest_modseq_of folder list = omega arith in
           let b = highest_bound folder ops list (highest_modseq_of folder list) (omega arith) least in

@@ -25,7 +25,7 @@ pub mod ChartQueryLemmas
 pub mod ExhaustionLemmas
 pub mod NextOpLemmas
 pub mod LaterNumbers
-pub mod ListingLaws
+pub mod ListingLemmas
 pub mod BoundLemmas
 pub mod NamedLemmas
 pub mod TouchedMessagesLemmas

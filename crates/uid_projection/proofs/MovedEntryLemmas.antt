@@ -61,7 +61,7 @@ moved_twice a b s m es = mapped_twice (move_of a s m) b s m es ∙ (λ k. filter
 pub moved_alike : (a b s : OpId → Bool) (m : ℕ) (es : List ListingEntry) → ((g : OpId) → a g ≡ b g) → moved_entries a s m es ≡ moved_entries b s m es
 moved_alike a b s m es h = λ k. moved_entries (λ g. h g k) s m es
 
--- what is settled for one origin by one test is settled by a test of all
+-- a test of one origin moves its entry as a test of all origins does
 pub moved_by_one : (g : OpId) (b : Bool) (s : OpId → Bool) (m : ℕ) (es : List ListingEntry) → b ≡ s g → moved_entries (λ x. same_id x g) (λ x. b) m es ≡ moved_entries (λ x. same_id x g) s m es
 moved_by_one g b s m es h = λ k. filter_map (λ x. one x k) es
   where
@@ -78,7 +78,7 @@ moved_still c s m (x ∷ es) h = λ k. cons_option (cond (sym (h x.origin) k) (c
 
 -- ---- ids one by one
 
--- a list through a place
+-- a list up to and including a place
 through : {X : Type 0} (xs : List X) (i : ℕ) (d : X) → i < length xs → take (i + 1) xs ≡ take i xs ++ get_or xs i d ∷ []
 through xs i d l = take_more xs i d l
 
@@ -139,7 +139,7 @@ pub apart_moved : (c s : OpId → Bool) (m : ℕ) (es : List ListingEntry) → A
 apart_moved c s m [] a = tt
 apart_moved c s m (x ∷ es) a = apart_one x (move_of c s m x) (moved_entries c s m es) (move_origin c s m x) (lacks_moved x.origin c s m es a.0) (apart_moved c s m es a.1)
 
--- a message that stays keeps its entry
+-- a message that stays has an entry after the moves exactly if it had one before
 past_other : (g : OpId) (x : ListingEntry) (o : Option ListingEntry) (rest : List ListingEntry) → ((e : ListingEntry) → o ≡ Some e → x.origin ≡ e.origin) → same_id g x.origin ≡ false → has_entry (cons_option o rest) g ≡ has_entry rest g
 past_other g x None rest h n = refl
 past_other g x (Some e) rest h n = ap (λ b. b || has_entry rest g) (subst (λ y. same_id g y ≡ false) (h e refl) n)
@@ -199,7 +199,7 @@ first_least start folder l = by (bytes_eq folder inbox)
     by true = l
     by false = omega arith
 
--- a UID that is left can be put after the moved entries
+-- an entry with a remaining UID can be put after the moved entries
 pub next_moved : (start : Counters) (folder : List ℕ) (ops : List Op) (u h : ℕ) (es : List ListingEntry) (c s : OpId → Bool) (m : ℕ) → 1 ≤ start.uid → IsChart start folder ops u h es → u < 4294967295 → IsNext u (moved_entries c s m es)
 next_moved start folder ops u h es c s m l k less =
     let below : (e : ListingEntry) → IsIn e (moved_entries c s m es) → e.uid < u = λ e i. let w = in_mapped (move_of c s m) es e i in let b = k.below w.0 w.1 in let q = move_uid c s m w.0 e w.2 in omega (arith, b, q) in

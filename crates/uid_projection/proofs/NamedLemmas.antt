@@ -1,8 +1,7 @@
 use Rattle.std.specs.List.{slice_get}
 use Rattle.std.specs.Option.{option_to_list}
-use Rattle.std.proofs.Common.{◌≡◌, ◌⊎◌, inl, inr, ℕ, zero, suc, ◌+◌, ◌-◌, ◌<◌, ◌≤◌, nat_eq, nat_lt, Bool, true, false, cond, ◌&&◌, ◌||◌, Option, Some, None, List, [], ◌∷◌, ◌++◌, length, map, drop, get_or, refl, sym, ap, ◌∙◌, subst, arith, append_assoc}
+use Rattle.std.proofs.Common.{◌≡◌, ◌⊎◌, inl, inr, ℕ, zero, suc, ◌<◌, nat_eq, Bool, true, false, cond, ◌&&◌, ◌||◌, Option, Some, None, List, [], ◌∷◌, ◌++◌, length, map, get_or, refl, sym, ap, ◌∙◌, subst, arith}
 use Rattle.std.proofs.lemmas.Bool.{cases_Bool, eq-eqb, eqb-true, false≢true, or_cases}
-use Rattle.std.proofs.lemmas.Bool.Decides.{nat_tests}
 use Rattle.tags_clocks.specs.declared.id.OpId.{OpId}
 use Rattle.merge_laws.specs.Orders.{IsIn}
 use Rattle.merge_laws.proofs.Lists.{in_back, in_front}
@@ -11,9 +10,8 @@ use Rattle.mailbox_rows.specs.ListingEntries.{IsAt, Lacks}
 use Rattle.crdt_ops.specs.declared.op.Op.{Op}
 use Rattle.crdt_ops.specs.SortedSets.{is_some_id, same_id}
 use Rattle.crdt_ops.specs.Tags.{removed_ids}
-use Rattle.crdt_ops.proofs.Members.{in_filter, in_map}
 use Rattle.mailbox_rows.specs.ListedMessage.{ListedMessage}
-use Rattle.mailbox_rows.specs.RowViews.{AreRisingRows, rows_after_uid, row_of}
+use Rattle.mailbox_rows.specs.RowViews.{row_of}
 use Rattle.uid_projection.specs.UidsAndModSeqs.{kind_names_folder}
 use Rattle.uid_projection.specs.EntryMoves.{AreApart, added_origin, loses}
 use Rattle.uid_projection.specs.TouchedMessages.{AddsUids, names_message}

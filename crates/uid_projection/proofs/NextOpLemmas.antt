@@ -22,7 +22,7 @@ use Rattle.uid_projection.specs.Incarnations.{folder_exists, k_of, uidvalidity_o
 use Rattle.uid_projection.specs.UidsAndModSeqs.{kind_names_folder}
 use Rattle.uid_projection.specs.EntryMoves.{added_origin}
 use Rattle.uid_projection.specs.Readiness.{less_room}
-use Rattle.uid_projection.specs.ChartTable.{HasRooms, IsNextOn, IsTable, IsUpTo, chart_at, origin_at}
+use Rattle.uid_projection.specs.ChartTable.{HasRooms, IsNextOn, IsTable, IsUpTo, chart_at, modseqs_by, modseqs_of, origin_at}
 use Rattle.uid_projection.proofs.ChartOf.{chart_first}
 use Rattle.uid_projection.proofs.CounterLemmas.{about_name}
 use Rattle.uid_projection.proofs.Presence.{inbox_exists, exists_tags}
@@ -39,7 +39,7 @@ both_applied list ops a s d = record {
 pub made_by : (c : Contents) (list : List Op) → IsApplied list → c ≡ fold_of effect_of no_contents list → IsMadeBy c list
 made_by c list a m = record { sound = a.sound; causal = a.causal; made = m }
 
--- an operation for which the charts were made ready comes next
+-- the next operation is one for which the charts were made ready
 pub next_on : (x : Charts) (value : Contents) (list : List Op) (o p : Op) → p ≡ o → Follows x list → IsReadyFor x list (o ∷ []) → IsMadeBy value (list ++ o ∷ []) → IsNextOn x.start x.next_k x.charts.entries value list p
 next_on x value list o p e f r m =
     let r2 : IsReadyFor x list (p ∷ []) = subst (λ (q : Op). IsReadyFor x list (q ∷ [])) (sym e) r in
@@ -54,15 +54,21 @@ next_on x value list o p e f r m =
       table = f.table;
     }
 
+-- its folder's chart has room for it
+pub next_rooms : (x : Charts) (list : List Op) (o p : Op) → p ≡ o → IsReadyFor x list (o ∷ []) → kind_names_folder (name_of p.kind) p.kind ≡ true → HasRooms (added_origin p) 1 (modseqs_by p) (name_of p.kind) x.charts.entries
+next_rooms x list o p e r about =
+    let r2 : IsReadyFor x list (p ∷ []) = subst (λ (q : Op). IsReadyFor x list (q ∷ [])) (sym e) r in
+    less_room (added_origin p) 1 (length (p ∷ [])) (modseqs_by p) (modseqs_of (p ∷ [])) (name_of p.kind) x.charts.entries (omega arith) (omega arith) (r2.rooms p (inl refl) about)
+
 -- the charts stay ready for the others
-pub others_ready : (x y : Charts) (list : List Op) (o : Op) (rest : List Op) → y.start ≡ x.start → ((origin : Option OpId) (n : ℕ) (folder : List ℕ) → HasRooms origin (n + 1) folder x.charts.entries → HasRooms origin n folder y.charts.entries) → IsReadyFor x list (o ∷ rest) → IsReadyFor y (list ++ o ∷ []) rest
+pub others_ready : (x y : Charts) (list : List Op) (o : Op) (rest : List Op) → y.start ≡ x.start → ((origin : Option OpId) (n k : ℕ) (folder : List ℕ) → HasRooms origin (n + 1) (k + modseqs_by o) folder x.charts.entries → HasRooms origin n k folder y.charts.entries) → IsReadyFor x list (o ∷ rest) → IsReadyFor y (list ++ o ∷ []) rest
 others_ready x y list o rest same rooms r = record {
   applied = subst IsApplied (sym (append_assoc list (o ∷ []) rest)) r.applied;
   not_exhausted = λ e.
       let (front, p, back, k, h) = e in
       let h2 : IsExhausted x.start (list ++ o ∷ front) p = subst (λ (xs : List Op). IsExhausted x.start xs p) (append_assoc list (o ∷ []) front) (subst (λ (s : Counters). IsExhausted s ((list ++ o ∷ []) ++ front) p) same h) in
       r.not_exhausted (o ∷ front, p, back, ap (λ xs. o ∷ xs) k, h2);
-  rooms = λ p i about. rooms (added_origin p) (length rest) (name_of p.kind) (less_room (added_origin p) (length rest + 1) (length (o ∷ rest)) (name_of p.kind) x.charts.entries (omega arith) (r.rooms p (inr i) about));
+  rooms = λ p i about. rooms (added_origin p) (length rest) (modseqs_of rest) (name_of p.kind) (less_room (added_origin p) (length rest + 1) (length (o ∷ rest)) (modseqs_of rest + modseqs_by o) (modseqs_of (o ∷ rest)) (name_of p.kind) x.charts.entries (omega arith) (omega arith) (r.rooms p (inr i) about));
 }
 
 -- an operation that is about no folder
@@ -78,8 +84,8 @@ unmoved x list o f w r = record {
 }
 
 -- the charts of an empty list
-first_up : (start : Counters) (c : Chart) → c.present ≡ true → c.k ≡ start.k → c.uidnext ≡ start.uid → c.highest ≡ 1 → c.entries.entries ≡ [] → c.versions.entries ≡ [] → IsUpTo start inbox [] c
-first_up start c t k u h es vs =
+first_up : (start : Counters) (c : Chart) → c.present ≡ true → c.k ≡ start.k → c.uidnext ≡ start.uid → c.highest ≡ 1 → c.entries.entries ≡ [] → c.versions.entries ≡ [] → c.entries.latest ≡ 0 → IsUpTo start inbox [] c
+first_up start c t k u h es vs l =
     let first : start.k ≡ k_of start inbox [] = omega arith in
     record {
       present = t ∙ sym (inbox_exists []);
@@ -87,11 +93,12 @@ first_up start c t k u h es vs =
       versions = subst (λ v. AreVersions inbox [] (origin_at v)) (sym vs) (λ i g. (λ e. absurd (no_origin g e), λ v. absurd (false≢true v.0)));
       is_k = λ q. k ∙ first;
       small = λ q n. absurd (n refl);
+      latest = omega (arith, l);
     }
 
-pub first_table : (start : Counters) (name : List ℕ) (old charts : List Named) (c : Chart) → old ≡ [] → KeepsOthers same_key (has_name name) old charts → chart_at name charts ≡ Some c → name ≡ inbox → c.present ≡ true → c.k ≡ start.k → c.uidnext ≡ start.uid → c.highest ≡ 1 → c.entries.entries ≡ [] → c.versions.entries ≡ [] → IsTable start [] start.k charts
-first_table start name old charts c none keeps is own t k u h es vs =
-    let first : IsUpTo start name [] c = subst (λ n. IsUpTo start n [] c) (sym own) (first_up start c t k u h es vs) in
+pub first_table : (start : Counters) (name : List ℕ) (old charts : List Named) (c : Chart) → old ≡ [] → KeepsOthers same_key (has_name name) old charts → chart_at name charts ≡ Some c → name ≡ inbox → c.present ≡ true → c.k ≡ start.k → c.uidnext ≡ start.uid → c.highest ≡ 1 → c.entries.entries ≡ [] → c.versions.entries ≡ [] → c.entries.latest ≡ 0 → IsTable start [] start.k charts
+first_table start name old charts c none keeps is own t k u h es vs l =
+    let first : IsUpTo start name [] c = subst (λ n. IsUpTo start n [] c) (sym own) (first_up start c t k u h es vs l) in
     record {
       is_k = omega arith;
       shows = λ folder d e. elim (cases_Bool (bytes_eq folder name)) [
@@ -107,7 +114,7 @@ first_table start name old charts c none keeps is own t k u h es vs =
       ];
     }
 
--- the UIDVALIDITY by the chart
+-- the UIDVALIDITY that the chart gives
 pub validity_at : (start : Counters) (list : List Op) (k : ℕ) (charts : List Named) (name : List ℕ) (t : IsTable start list k charts) (c : Chart) (r : Option ℕ) → chart_at name charts ≡ Some c → bytes_eq name inbox ≡ false → (c.present ≡ false → r ≡ None) → (c.present ≡ true → c.k ≤ 65535 → r ≡ Some (65536 * c.k + start.replica)) → r ≡ uidvalidity_of start name list
 validity_at start list k charts name t c r is other if_absent present =
     let up = t.shows name c is in

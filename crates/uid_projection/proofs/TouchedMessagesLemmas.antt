@@ -35,7 +35,7 @@ use Rattle.uid_projection.proofs.Steps.{modseq_unchanged, uid_unchanged}
 use Rattle.uid_projection.proofs.TouchedLineLemmas.{origin_here, removed_here, has_version_still, unchanged_by}
 use Rattle.uid_projection.proofs.Versions.{dated_text_later, origin_applied, same_itself, unchanged, version_cases, versions_other}
 
--- ---- a message whose versions operations leave keeps its row
+-- ---- a message whose versions operations leave has the same row
 
 module _ (folder : List ℕ) (list : List Op) (o : Op) (a : IsApplied (list ++ o ∷ [])) where
   -- its flags, date and text

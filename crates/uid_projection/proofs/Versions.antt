@@ -40,7 +40,7 @@ carries f i id (Unsubscribe name seen) h = absurd (false≢true h)
 pub first_some_more : {X Y : Type 0} (f : X → Option Y) (xs ys : List X) (y : Y) → first_some f xs ≡ Some y → first_some f (xs ++ ys) ≡ Some y
 first_some_more f xs ys y h = first_some_append f xs ys ∙ ap (λ o. option_or o (first_some f ys)) h
 
--- an id that came earlier has no date and text later
+-- operations appended to the list leave the date and text of an id in it unchanged
 pub dated_text_later : (id : OpId) (ops more : List Op) → IsApplied (ops ++ more) → Has ops id → dated_text_of (ops ++ more) id ≡ dated_text_of ops id
 dated_text_later id ops more a h =
     first_some_append (dated_text_from id) ops more ∙ ap (option_or (dated_text_of ops id)) (none_later more (λ o i.
@@ -88,7 +88,7 @@ present_carries folder ops id p =
 one_some : {Y : Type 0} (o : Option Y) (x y : Y) → o ≡ Some x → o ≡ Some y → x ≡ y
 one_some o x y h k = cc
 
--- ---- where origins come from
+-- ---- origins are ids of applied operations
 
 first_some_step : {X Y : Type 0} (f : X → Option Y) (x : X) (xs : List X) (y : Y) (o : Option Y) → o ≡ f x → option_or o (first_some f xs) ≡ Some y → (first_some f xs ≡ Some y → (z : X) × IsIn z xs × (f z ≡ Some y)) → (z : X) × IsIn z (x ∷ xs) × (f z ≡ Some y)
 first_some_step f x xs y None e h k = let w = k h in (w.0, inr w.1, w.2)
@@ -98,11 +98,11 @@ pub first_some_by : {X Y : Type 0} (f : X → Option Y) (xs : List X) (y : Y) �
 first_some_by f [] y h = absurd cc
 first_some_by f (x ∷ xs) y h = first_some_step f x xs y (f x) refl h (first_some_by f xs y)
 
-pub body_chosen : (b : Bool) (o : Option MessageTagData) (y : MessageTagData) → cond b o None ≡ Some y → o ≡ Some y
-body_chosen true o y h = h
-body_chosen false o y h = absurd cc
+pub tag_data_chosen : (b : Bool) (o : Option MessageTagData) (y : MessageTagData) → cond b o None ≡ Some y → o ≡ Some y
+tag_data_chosen true o y h = h
+tag_data_chosen false o y h = absurd cc
 
--- the origin in a tag's data came earlier, or is the tag's own id
+-- the origin in a tag's data is the id of an earlier operation, or the tag's own id
 origin_by : (ops : List Op) (id : OpId) (kind : Kind) (clock : List (ℕ × ℕ)) (b : MessageTagData) → CoversReferenced clock kind → ((i : OpId) → IsCause clock i → Has ops i) → Has ops id → tag_data_by id kind ≡ Some b → Has ops b.origin
 origin_by ops id (Create folder) clock b c h i e = absurd cc
 origin_by ops id (Delete folder seen) clock b c h i e = absurd cc
@@ -120,7 +120,7 @@ data_origin_applied folder ops id b a h =
     origin_by ops w.0.id w.0.kind w.0.clock b (a.sound w.0 w.1).covered
     (λ i c. subst (λ xs. Has xs i) (sym s.2) (id_in_front id_of i s.0 (w.0 ∷ s.1) (ripe.0 i c)))
     (id_of_element id_of w.0 ops w.1)
-    (body_chosen (adds (MessageTag folder id) w.0) (tag_data_by w.0.id w.0.kind) b w.2)
+    (tag_data_chosen (adds (MessageTag folder id) w.0) (tag_data_by w.0.id w.0.kind) b w.2)
 
 -- ---- an origin has a version
 
@@ -157,7 +157,7 @@ was_present true r b h k = refl
 was_present false r b h k = (λ i. not (h i) && k i)
 
 module _ (folder : List ℕ) (ops : List Op) (o : Op) (a : IsApplied (ops ++ o ∷ [])) where
-  -- a tag that was present keeps its origin
+  -- a tag that was present has the same origin
   origin_unchanged : (i : OpId) → is_present ops (MessageTag folder i) ≡ true → origin_of (ops ++ o ∷ []) folder i ≡ origin_of ops folder i
   origin_unchanged i p =
       let b = present_carries folder ops i p in

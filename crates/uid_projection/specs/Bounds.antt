@@ -1,5 +1,5 @@
 -- The bounds of a replica's numbers (RFC 9051, section 2.3.1.1; RFC 7162, section 3.1), and when
--- what a listing shows can be written.
+-- the rows of a listing can be written as text.
 
 use Rattle.std.specs.Prelude.{◌≡◌, ℕ, ◌+◌, ◌<◌, ◌≤◌, ◌^◌, List, [], length, Some}
 use Rattle.crdt_ops.specs.declared.kind.Kind.{Kind}
@@ -17,8 +17,8 @@ use Rattle.uid_projection.specs.Incarnations.{uidvalidity_of}
 use Rattle.uid_projection.specs.UidsAndModSeqs.{highest_modseq_of, uidnext_of}
 use Rattle.uid_projection.specs.Listing.{listing}
 
--- The first numbers that a replica's counters can begin with: a name of 16 bits and a UID of 32
--- bits, each from 1 on.
+-- The first numbers that a replica's counters can begin with: a replica's number of 16 bits and a
+-- UID of 32 bits, both at least 1.
 pub record IsLawfulStart (start : Counters) : Type 0 where
   pub named : 1 ≤ start.replica
   pub replica : start.replica ≤ 65535
@@ -31,15 +31,15 @@ pub record IsLasting (start : Counters) (ops : List Op) : Type 0 where
   pub applied : IsApplied ops
   pub not_exhausted : Exhausts start [] ops → ⊥
 
--- A row's numbers are from 1 on; its UID is below UIDNEXT, and its mod-sequence is at most one more
--- than the number of operations.
+-- A row's numbers are at least 1; its UID is below UIDNEXT, and its mod-sequence is at most one
+-- more than the number of operations.
 pub record IsRowWithin (uidnext count : ℕ) (row : ListedMessage) : Type 0 where
   pub uid_from : 1 ≤ row.uid
   pub uid : row.uid < uidnext
   pub modseq_from : 1 ≤ row.modseq
   pub modseq : row.modseq ≤ 1 + count
 
--- A folder's numbers are from 1 on and in their bits, and its rows ascend (RFC 9051, section
+-- A folder's numbers are at least 1 and fit in their bits, and its rows ascend (RFC 9051, section
 -- 2.3.1.1; RFC 7162, section 3.1).
 pub record HasBounds (start : Counters) (folder : List ℕ) (ops : List Op) : Type 0 where
   pub uidnext_from : 1 ≤ uidnext_of start folder ops
@@ -66,8 +66,8 @@ IsCountable _ = Unit {0}
 abbrev pub AreWritable : List Op → Type 0
 AreWritable ops = (op : Op) → IsIn op ops → IsInForm op × IsCountable op.kind
 
--- What a row shows can be written: its keywords are atoms in their one spelling, its date is a
--- date-time, and the number of its octets fits in 64 bits.
+-- A row can be written as text: its keywords are atoms in their one spelling, its date is a
+-- date-time, and the number of its text's octets fits in 64 bits.
 pub record IsWritableRow (row : ListedMessage) : Type 0 where
   pub flags : HasWords row.flags
   pub date : IsDateTime row.date

@@ -1,8 +1,7 @@
--- The charts of all folders by name: which list of operations they are up to, and the room that
--- they have.
+-- The charts of all folders by name: the list of operations that they are up to, and their room.
 
 use Rattle.std.specs.Prelude.{◌≡◌, ℕ, ◌+◌, ◌≤◌, true, false, Option, None, Some, List, [], ◌∷◌}
-use Rattle.std.specs.Prelude.{◌++◌}
+use Rattle.std.specs.Prelude.{◌++◌, length}
 use Rattle.std.specs.Global.{Vec}
 use Rattle.std.specs.Map.{lookup}
 use Rattle.std.specs.Str.{bytes_eq}
@@ -11,7 +10,7 @@ use Rattle.imap_types.specs.Names.{inbox}
 use Rattle.tags_clocks.specs.declared.id.OpId.{OpId}
 use Rattle.crdt_ops.specs.declared.op.Op.{Op}
 use Rattle.crdt_ops.specs.SortedSets.{same_id}
-use Rattle.crdt_ops.specs.Tags.{name_of}
+use Rattle.crdt_ops.specs.Tags.{name_of, removed_ids}
 use Rattle.folder_state.specs.Contents.{Contents, IsMadeBy}
 use Rattle.uid_projection.specs.declared.chart.Chart.{Chart}
 use Rattle.uid_projection.specs.declared.first_numbers.Counters.{Counters}
@@ -38,6 +37,7 @@ pub record IsUpTo (start : Counters) (folder : List ℕ) (ops : List Op) (c : Ch
   pub versions : AreVersions folder ops (origin_at c.versions.entries)
   pub is_k : c.present ≡ true → c.k ≡ k_of start folder ops
   pub small : c.present ≡ true → (folder ≡ inbox → ⊥) → c.k ≤ 65535
+  pub latest : c.entries.latest ≤ c.highest
 
 -- The charts are up to these operations, and each existing folder has one.
 pub record IsTable (start : Counters) (ops : List Op) (next_k : ℕ) (charts : List (Vec ℕ × Chart)) :
@@ -48,25 +48,37 @@ pub record IsTable (start : Counters) (ops : List Op) (next_k : ℕ) (charts : L
       → IsUpTo start folder ops c
   pub covers : (folder : List ℕ) → chart_at folder charts ≡ None → folder_exists folder ops ≡ false
 
--- The chart has `n` further mod-sequences and, if an origin is added, places for `n` entries and
--- versions.
-pub record IsRoomy (origin : Option OpId) (n : ℕ) (c : Chart) : Type 0 where
+-- The number of messages that may get a new mod-sequence by the operation: one for each id that it
+-- removes, and one to which it may add a version.
+abbrev pub modseqs_by : Op → ℕ
+modseqs_by o = length (removed_ids o.kind) + 1
+
+-- The number of messages that may get a new mod-sequence by the operations: the sum over all
+-- operations.
+abbrev pub modseqs_of : List Op → ℕ
+modseqs_of [] = 0
+modseqs_of (o ∷ ops) = modseqs_by o + modseqs_of ops
+
+-- The chart has `n` further mod-sequences, places for `modseqs` of them in its entries' index and,
+-- if an origin is added, places for `n` entries and versions.
+pub record IsRoomy (origin : Option OpId) (n modseqs : ℕ) (c : Chart) : Type 0 where
   pub places : (g : OpId) → origin ≡ Some g → n ≤ c.entries.room
   pub version_places : (g : OpId) → origin ≡ Some g → n ≤ spare c.versions
+  pub modseq_places : modseqs ≤ c.entries.modseq_room
   pub highest : c.highest + n ≤ 18446744073709551615
   pub uidnext : c.uidnext ≤ 4294967295
 
--- There is a chart, with room for `n` operations.
-abbrev pub HasRoomsIn : Option OpId → ℕ → Option Chart → Type 0
-HasRoomsIn origin n None = ⊥
-HasRoomsIn origin n (Some c) = IsRoomy origin n c
+-- A chart exists, with room for `n` operations that give `modseqs` mod-sequences.
+abbrev pub HasRoomsIn : Option OpId → ℕ → ℕ → Option Chart → Type 0
+HasRoomsIn origin n modseqs None = ⊥
+HasRoomsIn origin n modseqs (Some c) = IsRoomy origin n modseqs c
 
--- The folder has a chart, with room for `n` operations.
-abbrev pub HasRooms : Option OpId → ℕ → List ℕ → List (Vec ℕ × Chart) → Type 0
-HasRooms origin n folder charts = HasRoomsIn origin n (chart_at folder charts)
+-- The folder has a chart, with room for `n` operations that give `modseqs` mod-sequences.
+abbrev pub HasRooms : Option OpId → ℕ → ℕ → List ℕ → List (Vec ℕ × Chart) → Type 0
+HasRooms origin n modseqs folder charts = HasRoomsIn origin n modseqs (chart_at folder charts)
 
--- The operation is applied next after the list, with these contents as its result. It lacks no
--- number.
+-- The operation is applied next after the list, with these contents as its result. No counter lacks
+-- a number for it.
 pub record IsNextOp (start : Counters) (next_k : ℕ) (value : Contents) (list : List Op) (o : Op) :
     Type 0 where
   pub first : 1 ≤ start.uid
@@ -82,7 +94,7 @@ pub record IsNextAt (start : Counters) (next_k : ℕ) (value : Contents) (list :
   pub next : IsNextOp start next_k value list o
   pub about : kind_names_folder (name_of o.kind) o.kind ≡ true
   pub up : IsUpTo start (name_of o.kind) list c
-  pub roomy : IsRoomy (added_origin o) 1 c
+  pub roomy : IsRoomy (added_origin o) 1 (modseqs_by o) c
 
 -- The operation is applied next after the list that the charts are up to.
 pub record IsNextOn (start : Counters) (next_k : ℕ) (charts : List (Vec ℕ × Chart))
@@ -100,6 +112,8 @@ pub record IsSame (old new : Chart) : Type 0 where
   pub versions : new.versions.entries ≡ old.versions.entries
   pub room : old.entries.room ≤ new.entries.room
   pub version_room : spare old.versions ≤ spare new.versions
+  pub modseq_room : old.entries.modseq_room ≤ new.entries.modseq_room
+  pub latest : new.entries.latest ≤ old.entries.latest
 
 -- The operation is applied next after the list that the folder's numbers are up to, the folder
 -- exists afterwards, and the chart has room for it.
@@ -112,5 +126,6 @@ pub record Advances (start : Counters) (folder : List ℕ) (value : Contents) (l
   pub exists_now : folder_exists folder (list ++ o ∷ []) ≡ true
   pub not_exhausted : IsExhausted start list o → ⊥
   pub shows : IsChart start folder list c.uidnext c.highest c.entries.entries
+  pub latest : c.entries.latest ≤ c.highest
   pub versions : AreVersions folder list (origin_at c.versions.entries)
-  pub roomy : IsRoomy (added_origin o) 1 c
+  pub roomy : IsRoomy (added_origin o) 1 (modseqs_by o) c

@@ -1,5 +1,5 @@
--- Counting over a list of operations: those that have a property, and those since which something
--- has always held.
+-- Counts over a list of operations: of those with a property, and of those with a property for
+-- which a condition has held ever since.
 
 use Rattle.std.specs.Prelude.{ℕ, Bool, not, ◌&&◌, nat_lt, List, [], ◌∷◌, ◌++◌, length}
 use Rattle.std.specs.List.{filter}
@@ -30,7 +30,7 @@ holds_since present front (op ∷ back) = present front && holds_since present (
 abbrev pub has_held_since : {O : Type 0} → (List O → Bool) → Split O → Bool
 has_held_since present cut = holds_since present (cut.front ++ cut.op ∷ []) cut.back
 
--- The number of operations that have the property `P` and since which `present` has always held.
+-- The number of operations with the property `P` for which `present` has held ever since.
 abbrev pub count_since : {O : Type 0} → (List O → Bool) → (List O → O → Bool) → List O → ℕ
 count_since present P ops =
     length (filter (λ cut. P cut.front cut.op && has_held_since present cut) (splits_of ops))
@@ -40,7 +40,7 @@ abbrev pub count_since_up_to : {O : Type 0} → ℕ → (List O → Bool) → (L
 count_since_up_to n present P ops =
     count_since present (λ front op. P front op && nat_lt (length front) n) ops
 
--- The number of operations that have the property `P` and since which `present` hasn't always held.
+-- The number of operations with the property `P` for which `present` hasn't held ever since.
 abbrev pub count_not_since : {O : Type 0} → (List O → Bool) → (List O → O → Bool) → List O → ℕ
 count_not_since present P ops =
     length (filter (λ cut. P cut.front cut.op && not (has_held_since present cut)) (splits_of ops))

@@ -20,11 +20,11 @@ added_origin op = option_map (λ body. body.origin) (tag_data_by op.id op.kind)
 abbrev pub loses : (OpId → Option OpId) → List OpId → OpId → Bool
 loses origin_of removed origin = list_any (λ id. is_some_id origin (origin_of id)) removed
 
--- The origins by ids, without these ids.
+-- The origins of the versions by id, without the versions with these ids.
 abbrev pub origins_without : (OpId → Option OpId) → List OpId → OpId → Option OpId
 origins_without origin_of removed id = if list_any (same_id id) removed then None else origin_of id
 
--- The origins by ids, with this id added for this origin.
+-- The origins of the versions by id, with a version added: this id, of this origin.
 abbrev pub origins_with : (OpId → Option OpId) → OpId → OpId → OpId → Option OpId
 origins_with origin_of id origin other = if same_id id other then Some origin else origin_of other
 
@@ -53,8 +53,8 @@ abbrev pub takes_uid : Option OpId → List ListingEntry → Bool
 takes_uid None entries = false
 takes_uid (Some origin) entries = not (has_entry entries origin)
 
--- The entries with one of this origin: the existing one with this mod-sequence, or a new one after
--- the others.
+-- The entries after that of this origin is set: the existing one with this mod-sequence, or a new
+-- one after the others.
 abbrev pub with_line : OpId → ℕ → ℕ → List ListingEntry → List ListingEntry
 with_line origin uid modseq entries =
     if has_entry entries origin

@@ -49,7 +49,7 @@ pub record IsOrderly (ahead : FolderAhead) : Type 0 where
       → IsSome (lookup (same_id id) ahead.dated_texts.entries)
       → IsSome (list_of ahead.messages id)
 
--- The folder is as in these contents.
+-- The folder is the one in these contents.
 pub record IsAhead (contents : Contents) (ahead : FolderAhead) : Type 0 where
   pub orderly : IsOrderly ahead
   pub tags : (id : OpId) → tags_ahead ahead id ≡ contents.tags ahead.name id

@@ -13,8 +13,8 @@ use Rattle.uid_projection.specs.Applied.{IsApplied}
 use Rattle.uid_projection.specs.UidsAndModSeqs.{kind_names_folder}
 use Rattle.uid_projection.specs.EntryMoves.{loses}
 
--- These operations come next after the list that led to the contents, and the folder is as in these
--- contents.
+-- These operations come next after the list that led to the contents, and the folder is the one in
+-- these contents.
 pub record IsNextAhead (start : Counters) (folder : List ℕ) (nothing : List ListingEntry)
     (c : Contents) (list ops : List Op) (ahead : FolderAhead) : Type 0 where
   pub own : folder_of ahead ≡ folder
@@ -23,8 +23,8 @@ pub record IsNextAhead (start : Counters) (folder : List ℕ) (nothing : List Li
   pub made : IsMadeBy c list
   pub is_ahead : IsAhead c ahead
 
--- The operation about the folder comes next after the list that led to the contents. These origins
--- lose a version by it, and the folder is as it leaves it.
+-- The operation about the folder comes next after the list that led to the contents. It removes
+-- versions of these origins, and the folder is the one after it.
 pub record AdvancesAhead (c : Contents) (list : List Op) (o : Op) (lost : OpId → Bool)
     (ahead : FolderAhead) : Type 0 where
   pub applied : IsApplied (list ++ o ∷ [])

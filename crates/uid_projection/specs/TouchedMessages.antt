@@ -1,6 +1,6 @@
 -- Which messages operations name, and what operations leave unchanged in a listing.
 
-use Rattle.std.specs.Prelude.{◌≡◌, ◌⊎◌, ℕ, ◌≤◌, Bool, true, false, ◌&&◌, ◌||◌, Option, None, Some}
+use Rattle.std.specs.Prelude.{◌≡◌, ◌⊎◌, ℕ, ◌≤◌, Bool, true, false, ◌&&◌, ◌||◌, Option, None}
 use Rattle.std.specs.Prelude.{List, ◌++◌}
 use Rattle.tags_clocks.specs.declared.id.OpId.{OpId}
 use Rattle.merge_laws.specs.Orders.{IsIn}
@@ -28,7 +28,7 @@ RowsStayExcept uids uidnext before later =
 abbrev pub AreAboutOthers : List ℕ → List Op → Type 0
 AreAboutOthers folder ops = (op : Op) → IsIn op ops → kind_names_folder folder op.kind ≡ false
 
--- What is shown of a folder is the same after both lists.
+-- The folder's listing and numbers are the same after both lists.
 pub record IsShownAlike (start : Counters) (folder : List ℕ) (before later : List Op) :
     Type 0 where
   pub rows : listing start folder later ≡ listing start folder before
@@ -36,7 +36,7 @@ pub record IsShownAlike (start : Counters) (folder : List ℕ) (before later : L
   pub uidnext : uidnext_of start folder later ≡ uidnext_of start folder before
   pub highest : highest_modseq_of folder later ≡ highest_modseq_of folder before
 
--- Operations that are all about other folders leave what is shown of this one unchanged.
+-- Operations that are all about other folders leave this folder's listing and numbers unchanged.
 abbrev pub LeaveOthers : Counters → Type 0
 LeaveOthers start =
     (folder : List ℕ) (list ops : List Op) → IsApplied (list ++ ops) → AreAboutOthers folder ops

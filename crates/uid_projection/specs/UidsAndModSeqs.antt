@@ -66,8 +66,8 @@ line_start_of folder ops origin =
 abbrev pub first_uid : Counters → List ℕ → ℕ
 first_uid start folder = if bytes_eq folder inbox then start.uid else 1
 
--- The UID of the message of this origin: the first one, and one for each line of the incarnation
--- that began before its own. Lines whose messages are gone still count.
+-- The UID of the message of this origin: the first UID, plus one for each line of the incarnation
+-- that began before its own. Lines of removed messages still count.
 abbrev pub uid_of : Counters → List ℕ → List Op → OpId → ℕ
 uid_of start folder ops origin =
     first_uid start folder
@@ -114,7 +114,7 @@ last_change_of folder ops origin =
     (λ cut. if changes_versions folder origin cut.front cut.op then Some (length cut.front + 1)
     else None) (splits_of ops)) 0
 
--- The mod-sequence of the message of this origin: 1, and one for each operation about the folder
+-- The mod-sequence of the message of this origin: 1, plus one for each operation about the folder
 -- from the beginning of its incarnation to the latest one that changed the message's versions.
 abbrev pub modseq_of : List ℕ → List Op → OpId → ℕ
 modseq_of folder ops origin =
@@ -122,7 +122,7 @@ modseq_of folder ops origin =
     + count_since_up_to (last_change_of folder ops origin) (folder_exists folder)
     (names_folder folder) ops
 
--- HIGHESTMODSEQ: 1, and one for each operation about the folder from the beginning of its
+-- HIGHESTMODSEQ: 1, plus one for each operation about the folder from the beginning of its
 -- incarnation.
 abbrev pub highest_modseq_of : List ℕ → List Op → ℕ
 highest_modseq_of folder ops = 1 + count_since (folder_exists folder) (names_folder folder) ops

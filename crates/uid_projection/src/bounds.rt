@@ -9,8 +9,8 @@ ghost use Rattle.uid_projection.specs.Bounds.{IsWritableRow};
 ghost use Rattle.uid_projection.specs.Listing.{listing};
 ghost use Rattle.uid_projection.specs.declared.first_numbers.Counters.{Counters};
 
-/// UIDs, UIDNEXT and UIDVALIDITY are numbers of 32 bits from 1 on. Mod-sequences are from 1 on, and
-/// at most one more than the number of applied operations. This holds as long as no counter was
+/// UIDs, UIDNEXT and UIDVALIDITY are numbers of 32 bits, at least 1. Mod-sequences are at least 1,
+/// and at most one more than the number of applied operations. This holds as long as no counter was
 /// used up.
 pub fn numbers_have_bounds()
     ensures { (start : Counters) (folder : List ℕ) (ops : List Op) → IsLawfulStart start
@@ -18,7 +18,7 @@ pub fn numbers_have_bounds()
         → HasBounds start folder ops }
 {}
 
-/// If the applied operations can be written as text, then so can everything that a listing shows.
+/// If the applied operations can be written as text, then each row of a listing can be written too.
 pub fn rows_are_writable()
     ensures { (start : Counters) (folder : List ℕ) (ops : List Op) (row : ListedMessage)
         → AreWritable ops

@@ -1,7 +1,8 @@
 //! `ChartAhead`: a folder's entries after pending operations, laid over its stored entries.
 
-ghost use Rattle.std.specs.Prelude.{◌≡◌, ◌⊎◌, ◌<◌, ◌+◌, ◌-◌, ℕ, List, [], ◌∷◌, ◌++◌, true, false};
-ghost use Rattle.std.specs.Prelude.{◌||◌, if◌then◌else◌, IfOk, OnOk, length, get_or, option_copied};
+ghost use Rattle.std.specs.Prelude.{◌≡◌, ◌↔◌, ◌⊎◌, ◌<◌, ◌≤◌, ◌+◌, ◌-◌, ℕ, List, [], ◌∷◌, ◌++◌};
+ghost use Rattle.std.specs.Prelude.{true, false, ◌||◌, if◌then◌else◌, IfOk, IsTrue, OnOk};
+ghost use Rattle.std.specs.Prelude.{length, get_or, option_copied};
 ghost use Rattle.std.specs.List.{list_any};
 ghost use Rattle.tags_clocks.specs.declared.id.OpId.{OpId};
 ghost use Rattle.mailbox_rows.specs.declared.entry.ListingEntry.{ListingEntry};
@@ -50,11 +51,12 @@ pub fn stored_ahead<'a>(
     charts: &'a Charts,
     folder: &Name,
 ) -> Result<ChartAhead<'a>, AllocError>
-    ensures { (list : List Op) (k : ℕ)
+    ensures shows { (list : List Op) (k : ℕ)
         → IsTable charts.now.start list k charts.now.charts.entries
         → charts.now.nothing.entries ≡ []
         → IfOk result
         (λ c. IsChart charts.now.start folder.now list c.uidnext c.highest c.entries.entries) }
+    ensures latest { IfOk result (λ c. c.entries.latest ≤ c.highest) }
 {
     ahead_by(alloc, charts, folder, chart_of(&charts.charts, folder))
 }
@@ -67,12 +69,13 @@ pub fn ahead_by<'a>(
     folder: &Name,
     chart: Option<&'a Chart>,
 ) -> Result<ChartAhead<'a>, AllocError>
-    ensures { (list : List Op) (k : ℕ)
+    ensures shows { (list : List Op) (k : ℕ)
         → IsTable charts.now.start list k charts.now.charts.entries
         → option_copied chart.entry ≡ chart_at folder.now charts.now.charts.entries
         → charts.now.nothing.entries ≡ []
         → IfOk result
         (λ c. IsChart charts.now.start folder.now list c.uidnext c.highest c.entries.entries) }
+    ensures latest { IfOk result (λ c. c.entries.latest ≤ c.highest) }
 {
     match chart {
         Some(chart) => Ok(ChartAhead {
@@ -90,8 +93,9 @@ fn absent_chart_ahead<'a>(
     first: u32,
     nothing: &'a EntryTable,
 ) -> Result<ChartAhead<'a>, AllocError>
-    ensures { IfOk result
+    ensures shows { IfOk result
         (λ c. (c.uidnext ≡ first) × (c.highest ≡ 1) × (c.entries.entries ≡ nothing.now.entries)) }
+    ensures latest { IfOk result (λ c. c.entries.latest ≤ c.highest) }
 {
     Ok(ChartAhead {
         uidnext: first,
@@ -112,6 +116,8 @@ pub fn advance_over<'a>(
     folder: &Name,
     ops: &'a [SoundOp],
 ) -> Result<(), AllocError>
+    requires { chart.old.entries.latest ≤ chart.old.highest }
+    ensures latest { OnOk result (chart.new.entries.latest ≤ chart.new.highest) }
     ensures folder { folder_of ahead.new ≡ folder_of ahead.old }
     ensures ahead { OnOk result
         ((c : Contents) → IsAhead c ahead.old → IsAhead (after c ops.now) ahead.new) }
@@ -138,6 +144,8 @@ fn advance_over_one<'a>(
     folder: &Name,
     op: &'a SoundOp,
 ) -> Result<(), AllocError>
+    requires { chart.old.entries.latest ≤ chart.old.highest }
+    ensures latest { OnOk result (chart.new.entries.latest ≤ chart.new.highest) }
     ensures folder { folder_of ahead.new ≡ folder_of ahead.old }
     ensures ahead { OnOk result
         ((c : Contents) → IsAhead c ahead.old → IsAhead (effect_of c op.now) ahead.new) }
@@ -198,15 +206,17 @@ fn push_origin(lost: &mut Vec<OpId>, origin: Option<OpId>) -> Result<(), AllocEr
 /// Brings the chart up to an operation about its folder, which `ahead` has applied and after which
 /// the folder exists. The origins `lost` lose versions by it. Messages whose versions change get
 /// the new mod-sequence, those without a version are removed, and a new one gets the next UID.
-/// `Err` if memory runs out. (It also fails if mod-sequences are used up, but no memory holds that
-/// many operations.)
+/// `Err` if memory runs out. (It also fails if mod-sequences are used up, but no memory has room
+/// for that many operations.)
 fn advance(
     chart: &mut ChartAhead<'_>,
     ahead: &FolderAhead<'_>,
     lost: &[OpId],
     op: &Op,
 ) -> Result<(), AllocError>
-    ensures { OnOk result ((start : Counters) (list : List Op) (c : Contents)
+    requires { chart.old.entries.latest ≤ chart.old.highest }
+    ensures latest { OnOk result (chart.new.entries.latest ≤ chart.new.highest) }
+    ensures shows { OnOk result ((start : Counters) (list : List Op) (c : Contents)
         → folder_exists (folder_of ahead.now) (list ++ op.now ∷ []) ≡ true
         → AdvancesAhead c list op.now (λ g. list_any (same_id g) lost.now) ahead.now
         → IsChart start (folder_of ahead.now) list chart.old.uidnext chart.old.highest
@@ -225,16 +235,19 @@ fn advance(
     }
 }
 
-/// Gives each message of the origins `lost` the mod-sequence, or removes it if the folder has no
-/// version of it any longer. Returns the place where the last one's entry is or was. `Err` if
-/// memory runs out.
+/// Gives the mod-sequence to each message of the origins `lost`, or removes the message if the
+/// folder no longer has a version of it. Returns the place where the last one's entry is or was.
+/// `Err` if memory runs out.
 fn lose(
     entries: &mut EntryOverlay<'_>,
     ahead: &FolderAhead<'_>,
     lost: &[OpId],
     modseq: u64,
 ) -> Result<usize, AllocError>
-    ensures { OnOk result ((list : List Op) (c : Contents) → IsAhead c ahead.now → IsMadeBy c list
+    requires { entries.old.latest ≤ modseq }
+    ensures latest { OnOk result (entries.new.latest ≤ modseq) }
+    ensures entries { OnOk result ((list : List Op) (c : Contents) → IsAhead c ahead.now
+        → IsMadeBy c list
         → AreApart entries.old.entries
         → entries.new.entries
         ≡ moved_entries (λ g. list_any (same_id g) lost.now)
@@ -260,6 +273,8 @@ fn has_version(ahead: &FolderAhead<'_>, origin: &OpId) -> bool
 /// one with the next UID, after the others. `near` is a guess at the place of its entry. `Err` if
 /// memory runs out.
 fn add(chart: &mut ChartAhead<'_>, origin: &OpId, near: usize) -> Result<(), AllocError>
+    requires { chart.old.entries.latest ≤ chart.old.highest }
+    ensures latest { OnOk result (chart.new.entries.latest ≤ chart.new.highest) }
     ensures uidnext { OnOk result (chart.new.uidnext
         ≡ (if has_entry chart.old.entries.entries origin.now then chart.old.uidnext
         else chart.old.uidnext + 1)) }
@@ -280,9 +295,9 @@ fn add(chart: &mut ChartAhead<'_>, origin: &OpId, near: usize) -> Result<(), All
     Ok(())
 }
 
-/// Whether an entry with this UID can be put after the others. It can whenever a UID is left.
+/// Whether an entry with this UID can be put after the others, and it isn't the last UID.
 fn can_follow(entries: &EntryOverlay<'_>, uid: u32) -> bool
-    ensures { result ≡ true → IsNext uid entries.now.entries × (uid < 4294967295) }
+    ensures { IsTrue result ↔ (IsNext uid entries.now.entries × (uid < 4294967295)) }
 {
     entries.prove_ascending();
     if uid == 0 || uid == u32::MAX {
@@ -293,10 +308,9 @@ fn can_follow(entries: &EntryOverlay<'_>, uid: u32) -> bool
 
 /// Whether the last entry's UID is below this one, or there is no entry.
 fn is_last_below(entries: &EntryOverlay<'_>, uid: u32) -> bool
-    ensures { result ≡ true
-        → (length entries.now.entries ≡ 0)
+    ensures { IsTrue result ↔ ((length entries.now.entries ≡ 0)
         ⊎ ((e : ListingEntry)
-        → (get_or entries.now.entries (length entries.now.entries - 1) e).uid < uid) }
+        → (get_or entries.now.entries (length entries.now.entries - 1) e).uid < uid)) }
 {
     let count = entries.len();
     if count == 0 {

@@ -10,6 +10,7 @@ ghost use Rattle.uid_projection.specs.declared.chart.Chart.{Chart};
 ghost use Rattle.uid_projection.specs.UidsAndModSeqs.{kind_names_folder, uidnext_of};
 ghost use Rattle.uid_projection.specs.EntryMoves.{added_origin};
 ghost use Rattle.uid_projection.specs.ChartTable.{HasRooms, IsNextOn, IsTable, chart_at};
+ghost use Rattle.uid_projection.specs.ChartTable.{modseqs_by};
 
 use crate::chart::{Chart, step};
 use crate::first_numbers::{Counters, first_of};
@@ -58,14 +59,15 @@ pub fn note_on(
 )
     requires next { (list : List Op)
         × IsNextOn start.now next_k.old charts.old.entries (contents_of value.now) list op.now }
-    requires rooms { HasRooms (added_origin op.now) 1 (name_of op.now.kind) charts.old.entries }
+    requires rooms { HasRooms (added_origin op.now) 1 (modseqs_by op.now) (name_of op.now.kind)
+        charts.old.entries }
     requires kind { kind_names_folder (name_of op.now.kind) op.now.kind ≡ true }
     ensures next { (list : List Op)
         → IsNextOn start.now next_k.old charts.old.entries (contents_of value.now) list op.now
         → IsTable start.now (list ++ op.now ∷ []) next_k.new charts.new.entries }
-    ensures rooms { (origin : Option OpId) (n : ℕ) (folder : List ℕ)
-        → HasRooms origin (n + 1) folder charts.old.entries
-        → HasRooms origin n folder charts.new.entries }
+    ensures rooms { (origin : Option OpId) (n modseqs : ℕ) (folder : List ℕ)
+        → HasRooms origin (n + 1) (modseqs + modseqs_by op.now) folder charts.old.entries
+        → HasRooms origin n modseqs folder charts.new.entries }
 {
     match charts.get_mut(op.kind.name().as_bytes()) {
         Some(chart) => step(chart, start, next_k, value, op),

@@ -26,7 +26,7 @@ use indexmap::IndexMap;
 use tags_clocks::OpId;
 
 /// Whether one of these operations, applied after those before it, needs a number that a counter
-/// lacks. `value` holds the folders that the charts follow.
+/// lacks. `value` contains the folders that the charts follow.
 /// Cost: the number of operations; near the end of a counter, the square of their number times the
 /// size of the folders.
 pub fn are_exhausting(
@@ -77,7 +77,7 @@ fn lacks_uid(
         && uid_after(value, folder, first, now, front) == 4_294_967_295
 }
 
-/// Whether `more` further UIDs may use them up.
+/// Whether UIDs may be used up by `more` further ones.
 fn is_near(uid: u32, more: usize) -> bool
     ensures { result ≡ nat_le (4294967295 - uid) more }
 {
@@ -182,8 +182,8 @@ fn lacks_k(next_k: u32, value: &Folders, front: &[SoundOp], through: &[SoundOp],
     begins(value, front, through, op) && 65_535 < k_after(next_k, value, front)
 }
 
-/// Whether an incarnation begins with the operation. `through` holds the operations of `front` and
-/// this one.
+/// Whether an incarnation begins with the operation. `through` contains the operations of `front`
+/// and this one.
 pub fn begins(value: &Folders, front: &[SoundOp], through: &[SoundOp], op: &Op) -> bool
     ensures { (list : List Op)
         → through.now ≡ front.now ++ op.now ∷ []

@@ -35,7 +35,7 @@ pub fn uid_in_32_bits(uid: u64) -> u32
 }
 
 /// The mod-sequence as a 64-bit number, or the greatest such number if it is above.
-pub fn modseq_within(modseq: u128) -> u64
+pub fn modseq_in_64_bits(modseq: u128) -> u64
     ensures { result ≡ min modseq 18446744073709551615 }
 {
     match u64::try_from(modseq) {
@@ -54,26 +54,27 @@ pub fn highest_after(value: &Folders, folder: &Name, now: u64, ops: &[SoundOp]) 
 {
     let mut highest = u128::from(now);
     for at in 0..ops.len() {
-        let about = names_folder(&ops[at].op().kind, folder);
+        let is_named = names_folder(&ops[at].op().kind, folder);
         let present = value.exists_after(folder, &ops[..at + 1]);
-        highest = highest_after_op(present, about, highest);
+        highest = highest_after_op(present, is_named, highest);
     }
     highest
 }
 
-fn highest_after_op(present: bool, about: bool, highest: u128) -> u128
+fn highest_after_op(present: bool, is_named: bool, highest: u128) -> u128
     requires { highest < 340282366920938463463374607431768211455 }
-    ensures highest { result ≡ (if present then (if about then highest + 1 else highest) else 1) }
+    ensures highest { result
+        ≡ (if present then (if is_named then highest + 1 else highest) else 1) }
     ensures bound { (n : ℕ) → highest ≤ n → 1 ≤ n → result ≤ n + 1 }
 {
     if !present {
         return 1;
     }
-    if about { highest + 1 } else { highest }
+    if is_named { highest + 1 } else { highest }
 }
 
 /// The k of the folder's incarnation, or of the next one that begins if the folder doesn't exist.
-pub fn k_in(charts: &IndexMap<Vec<u8>, Chart>, next_k: u32, folder: &Name) -> u32
+pub fn k_of(charts: &IndexMap<Vec<u8>, Chart>, next_k: u32, folder: &Name) -> u32
     ensures { (start : Counters) (list : List Op)
         → IsTable start list next_k charts.now.entries
         → result ≡ k_of start folder.now list }
@@ -104,9 +105,9 @@ pub fn k_of_after(value: &Folders, folder: &Name, now: u32, next_k: u32, ops: &[
     let mut next = u64::from(next_k);
     let mut k = u64::from(now);
     for at in 0..ops.len() {
-        let starts = begins(value, &ops[..at], &ops[..at + 1], ops[at].op());
+        let begins_incarnation = begins(value, &ops[..at], &ops[..at + 1], ops[at].op());
         let present = value.exists_after(folder, &ops[..at + 1]);
-        next = next_k_after_op(starts, next);
+        next = next_k_after_op(begins_incarnation, next);
         k = k_after_op(present, k, next);
     }
     k
@@ -129,14 +130,14 @@ fn is_deleted(folder: &Name, ops: &[SoundOp]) -> bool
     ensures { result ≡ list_any (λ (o : Op). deletes_folder folder.now o.kind) ops.now }
 {
     for op in ops {
-        if deletes(&op.op().kind, folder) {
+        if deletes_folder(&op.op().kind, folder) {
             return true;
         }
     }
     false
 }
 
-fn deletes(kind: &Kind, folder: &Name) -> bool
+fn deletes_folder(kind: &Kind, folder: &Name) -> bool
     ensures { result ≡ deletes_folder folder.now kind.now }
 {
     match kind {
@@ -145,12 +146,12 @@ fn deletes(kind: &Kind, folder: &Name) -> bool
     }
 }
 
-fn next_k_after_op(starts: bool, next: u64) -> u64
+fn next_k_after_op(begins_incarnation: bool, next: u64) -> u64
     requires { next < 18446744073709551615 }
-    ensures next { result ≡ (if starts then next + 1 else next) }
+    ensures next { result ≡ (if begins_incarnation then next + 1 else next) }
     ensures bound { result ≤ next + 1 }
 {
-    if starts { next + 1 } else { next }
+    if begins_incarnation { next + 1 } else { next }
 }
 
 fn k_after_op(present: bool, k: u64, next: u64) -> u64
@@ -160,7 +161,7 @@ fn k_after_op(present: bool, k: u64, next: u64) -> u64
 }
 
 /// The UIDVALIDITY of a replica's incarnation with this k, from 1 to 65,535.
-pub fn uidvalidity_with(k: u64, replica: ReplicaId) -> Option<u32>
+pub fn uidvalidity_of_k(k: u64, replica: ReplicaId) -> Option<u32>
     ensures { k ≤ 65535 → result ≡ Some (65536 * k + replica) }
 {
     if k > 65_535 {

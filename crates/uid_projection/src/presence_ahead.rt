@@ -43,7 +43,7 @@ fn is_tag_at(tags: &IndexMap<OpId, bool>, place: usize) -> bool
     }
 }
 
-/// Whether the folder tag with this id is present by these changes.
+/// Whether the folder tag with this id is present according to these changes.
 fn is_tag(tags: &IndexMap<OpId, bool>, id: &OpId) -> bool
     ensures { result ≡ is_tag (lookup (same_id id.now) tags.now.entries) }
 {
@@ -82,7 +82,7 @@ fn is_added_at(changes: &IndexMap<OpId, TagChange<'_>>, place: usize) -> bool
     }
 }
 
-/// Whether the message tag with this id is present by these changes.
+/// Whether the message tag with this id is present according to these changes.
 fn is_added(changes: &IndexMap<OpId, TagChange<'_>>, id: &OpId) -> bool
     ensures { result ≡ is_added (lookup (same_id id.now) changes.now.entries) }
 {

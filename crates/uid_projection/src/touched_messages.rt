@@ -29,8 +29,8 @@ use tags_clocks::OpId;
 
 impl Charts {
     /// The UIDs of the folder's messages that these operations change or expunge if they are
-    /// applied next, in this order. The UIDs are in no order; a UID may occur more than once, or
-    /// although its message doesn't change. Below the folder's UIDNEXT, every other row stays
+    /// applied next, in this order. The UIDs are in no order; a UID may occur more than once, and
+    /// even if its message doesn't change. Below the folder's UIDNEXT, every other row stays
     /// unchanged as long as the UIDVALIDITY does. `Err` if memory runs out. Cost: a look-up for
     /// each id that the operations name.
     pub fn touched_uids(
@@ -94,7 +94,7 @@ fn push_uids_named(
 }
 
 /// Appends the UID of the entry of this origin, if any, unless one of the versions `removed` is of
-/// this origin, so that the UID is listed already.
+/// this origin, in which case the UID is listed already.
 fn push_added(
     uids: &mut Vec<u32>,
     chart: &Chart,

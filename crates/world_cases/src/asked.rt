@@ -16,8 +16,8 @@ pub fn cut(text: &str) -> (&str, &str) {
     text.split_once(' ').unwrap_or((text, ""))
 }
 
-/// The event that a line says: `open R`, `command R S TEXT`, `line R S TEXT`, `poll R S`, `deliver
-/// R ID`, `drain R`, `close R S` or `join R S`.
+/// The event that a line spells: `open R`, `command R S TEXT`, `line R S TEXT`, `poll R S`,
+/// `deliver R ID`, `drain R`, `close R S` or `join R S`.
 pub fn event(alloc: Global, line: &str) -> Result<Event, Trouble> {
     let (word, rest) = cut(line);
     match word {

@@ -127,7 +127,7 @@ impl Client {
         }
     }
 
-    /// Whether all that the client knows of messages is right by another client, which knows
+    /// Whether all that the client knows of messages agrees with another client, which knows
     /// everything.
     pub fn is_right_by(&self, other: &Client) -> bool {
         if self.is_lost || self.slots.len() != other.slots.len() {
@@ -141,7 +141,7 @@ impl Client {
         true
     }
 
-    /// Whether all that the client knows of messages is what a session sees.
+    /// Whether all that the client knows of messages agrees with a session's view.
     pub fn is_right_for(&self, entries: &ViewEntries) -> bool {
         if self.is_lost || self.slots.len() != entries.len() {
             return false;
@@ -181,7 +181,7 @@ impl Slot {
     }
 }
 
-/// The place of the message with this number, counted from 1; that of no message for 0.
+/// The place of the message with this number, counted from 1; for 0 a place without a message.
 fn place_of(number: u32) -> usize {
     match number.checked_sub(1) {
         Some(place) => place as usize,

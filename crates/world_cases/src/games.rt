@@ -132,7 +132,7 @@ fn made_up(
     Ok(events)
 }
 
-/// The game after a run, and whether its sessions see what their clients received.
+/// The game after a run, and whether its sessions' views are what their clients received.
 fn judged(
     alloc: Global,
     notes: &[Note],

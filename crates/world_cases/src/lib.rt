@@ -5,10 +5,10 @@
 //!
 //! The text of a worked world is printed again with the outcomes that its events have now, so it is
 //! printed unchanged exactly if every outcome is right. After each run of a random world each
-//! session must see what a plain client makes of its replies. At the end the replicas settle, must
-//! have applied every operation that was issued, agree, and have equal dumps.
+//! session's view must be the one that a plain client makes of its replies. At the end the replicas
+//! settle, must have applied every operation that was issued, agree, and have equal dumps.
 //!
-//! Proved is only what `world_core` needs of its callers, such as that the UIDs of a world begin
+//! Only what `world_core` needs of its callers is proved, such as that the UIDs of a world begin
 //! with 1 or more; the rest is compared.
 #![tactic(auto)]
 

@@ -1,4 +1,4 @@
-//! The clients of a random world, and whether they know what their sessions see.
+//! The clients of a random world, and whether they know their sessions' views.
 
 use crate::client::Client;
 use crate::commands::Sort;
@@ -45,7 +45,7 @@ impl Watch {
         }
     }
 
-    /// A session selects a mailbox, and `fresh` is its new client, or leaves the selected one.
+    /// Sets a session's client: `fresh` if the session selected a mailbox, `None` if it left one.
     fn begin(&mut self, note: Note, fresh: Option<Client>) {
         if let Some(client) = self.clients.get_mut(place_of(note)) {
             *client = fresh;
@@ -100,7 +100,7 @@ impl Watch {
         client.take_all(alloc, answers)
     }
 
-    /// Whether each session of these nodes sees what its client received.
+    /// Whether each client agrees with its session's view at these nodes.
     pub fn is_right_by(&self, nodes: &[Node]) -> bool {
         for (place, node) in nodes.iter().enumerate() {
             if !self.is_right_at(place, node) {
@@ -139,8 +139,8 @@ fn session_of(node: &Node, number: usize) -> Option<&Session> {
     node.session(session)
 }
 
-/// Whether there is a client exactly if the session has selected a mailbox, and the client is right
-/// about what the session sees.
+/// Whether a client exists exactly if the session has selected a mailbox, and the client knows the
+/// session's view.
 fn agrees_with(client: Option<&Option<Client>>, session: Option<&Session>) -> bool {
     match client {
         None => false,

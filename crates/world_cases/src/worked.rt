@@ -18,7 +18,7 @@ enum Replicas {
     NotRun,
     /// A world in which further events can happen.
     World(World),
-    /// The nodes that settling left.
+    /// The nodes after settling.
     Settled(Vec<Node>),
 }
 
@@ -193,7 +193,7 @@ fn settle(alloc: Global, asked: &str, worked: &mut Worked, page: &mut Words) {
     worked.replicas = Replicas::Settled(nodes);
 }
 
-/// Puts why there is no such world, or no such replica in it.
+/// Puts the reason why there is no such world, or no such replica in it.
 fn put_no_world(asked: &str, fault: WorldFault, page: &mut Words) {
     match fault {
         WorldFault::TwoAlike { id } => put_alike(asked, id, page),

@@ -1,4 +1,4 @@
--- What sessions see at each replica, and how their answers, replayed, give it.
+-- The views of sessions at each replica, and how their answers, replayed, give them.
 
 use Rattle.std.specs.Prelude.{◌≡◌, ℕ, true, List, [], ◌∷◌, Option, Some, None}
 use Rattle.imap_node.specs.OlderViews.{updates_view}

@@ -1,4 +1,4 @@
--- What `settle` makes of nodes that exchange what they received, and why it may fail.
+-- The result of `settle`, which has nodes exchange what they received, and why it may fail.
 
 use Rattle.std.specs.Prelude.{◌≡◌, ◌≢◌, List, [], ◌∷◌}
 use Rattle.tags_clocks.specs.declared.id.OpId.{OpId}
@@ -67,8 +67,8 @@ OneLacksNumber old new = (node : NodeState) × IsIn node new × LacksNumber (IsR
 
 -- ---- results
 
--- All nodes applied one set: the least that has what any of them had applied, and each operation
--- that any of them had received, applied or held, and whose causes are in the set.
+-- All nodes applied one set: the least that contains what any of them had applied, and each
+-- operation that any of them had received, applied or held, and whose causes are in the set.
 pub record AreSettled (old new : List NodeState) : Type 0 where
   pub least : (node : NodeState) → IsIn node new
       → IsLeastTaken id_of clock_of (IsReceivedBy old) node.applied
@@ -78,7 +78,7 @@ pub record AreSettled (old new : List NodeState) : Type 0 where
       → IsIn after new
       → IsIn op after.applied
 
--- When each refusal comes, and what it leaves.
+-- When each fault is returned, and the nodes that it leaves.
 abbrev pub AreUnsettled : List NodeState → SettleFault → List NodeState → Type 0
 AreUnsettled old (Conflict id) new = IsLeastConflict old id × (new ≡ old)
 AreUnsettled old Exhausted new = AreAgreed old × OneLacksNumber old new

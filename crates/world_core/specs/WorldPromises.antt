@@ -28,7 +28,7 @@ pub record IsIssuedWorld (replicas : Replicas) : Type 0 where
   pub issued : (name : ℕ) (node : NodeState) → IsAt replicas name node → (op : Op)
       → IsReceived (received_ops node) op
       → IsIssuedIn replicas op
-  -- the UIDs in a session's view ascend, and what the view lacks is later than what it has
+  -- the UIDs in a session's view ascend, and what the view lacks is later than its entries
   pub ascending : SessionViewsAscend replicas
   pub back : (name : ℕ) (node : NodeState) → IsAt replicas name node
       → AreOlderViews node.start node.applied node.sessions
@@ -42,7 +42,7 @@ IssuedAreDetermined replicas =
 abbrev pub IssuedAreSound : Replicas → Type 0
 IssuedAreSound replicas = (op : Op) → IsIssuedIn replicas op → IsSound op
 
--- Two replicas that applied the same operations hold the same folders, messages and subscriptions:
+-- Two replicas that applied the same operations have the same folders, messages and subscriptions:
 -- those that the set of operations defines.
 abbrev pub Converges : Replicas → Type 0
 Converges replicas =

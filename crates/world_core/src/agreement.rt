@@ -20,7 +20,7 @@ pub enum Agreement {
 }
 
 /// Whether two replicas applied the same operations, forged ones included. `Same` exactly if they
-/// did; they then hold the same folders, messages, flags and subscriptions. Takes no memory.
+/// did; they then have the same folders, messages, flags and subscriptions. Takes no memory.
 pub fn agree(one: &Node, other: &Node) -> Agreement
     ensures exact { (result ≡ AreSame)
         ↔ HaveSameElements one.now.state.applied other.now.state.applied }

@@ -6,7 +6,7 @@
 //! that another one applied.
 //!
 //! [`run`] takes a list of such events, and its contract is the promise for which the project
-//! exists: whatever the events are, replicas that applied the same operations hold the same
+//! exists: whatever the events are, replicas that applied the same operations have the same
 //! folders, messages, flags and subscriptions, each session's untagged answers, replayed, give its
 //! view, and no UID or mod-sequence is ever reused. [`settle`] has nodes exchange what they
 //! received until all applied one set of operations, [`agree`] tests whether two did, and
@@ -20,16 +20,16 @@
 //! - A delivery copies the operation from the list of the replica that issued it. If memory runs
 //!   out for the copy, the outcome is `NotTaken` with `NoMemory`, even if the node had received the
 //!   operation before.
-//! - If two replicas bear one name, the fault has a name that occurs twice. If there are several
+//! - If two replicas have one name, the fault has a name that occurs twice. If there are several
 //!   such names, the contract doesn't say which.
 //! - `settle` sends all nodes what the first one applied, and the first one what the others
 //!   applied, until that adds nothing. A held operation is never sent: the causes of whatever is
 //!   delivered have been applied, so that no further operation is held and the limit of held
-//!   operations is never met. It ends, since the first node's list grows in each round but the
+//!   operations is never reached. It ends, since the first node's list grows in each round but the
 //!   last.
 //! - `settle` stops at the first operation that a counter refuses, although others could still be
 //!   exchanged. What was delivered stays.
-//! - A conflict is looked for between nodes. No single node can have one, since it refuses a
+//! - Conflicts are searched for only between nodes. No single node can have one, since it refuses a
 //!   different operation with an id that it received.
 #![tactic(auto)]
 

@@ -27,7 +27,7 @@ pub struct Outcomes {
 }
 
 /// Takes the events one after another, and returns the outcome of each. Whatever they are, the
-/// world keeps its promise: the clause `headline` says so of all events that have an outcome.
+/// world keeps its promise: the clause `headline` states it for all events that have an outcome.
 pub fn run(alloc: Global, world: World, events: Vec<Event>) -> Outcomes
     ensures steps { Runs (nodes_by_name world) (take (length result.list.items) events.items)
         result.list.items (nodes_by_name result.world) }

@@ -33,8 +33,8 @@ pub enum SettleFault {
         /// The id of both.
         id: OpId,
     },
-    /// At a node an operation can be applied but for a counter that has no number left. What was
-    /// delivered stays.
+    /// A node could apply an operation, but a counter has no number left for it. What was delivered
+    /// stays.
     #[error("number used up")]
     Exhausted,
     /// Memory ran out for an operation. What was delivered stays.
@@ -43,16 +43,16 @@ pub enum SettleFault {
 }
 
 /// Has the nodes exchange what they received until all have applied one set of operations: the
-/// least set that has whatever any of them had applied, and each operation that any of them had
-/// received and whose causes are in the set. Whatever the result, sessions stay as they were, and
-/// lists only grow at their end.
+/// least set that contains whatever any of them had applied, and each operation that any of them
+/// had received and whose causes are in the set. Whatever the result, sessions stay as they were,
+/// and lists only grow at their end.
 ///
 /// `Conflict` exactly if two nodes received different operations with one id, with the least such
-/// id; this is tested first, takes no memory and changes nothing. `Exhausted` only if at some node
-/// an operation can be applied but for a counter that has no number left; otherwise `NoMemory`.
+/// id; this is tested first, takes no memory and changes nothing. `Exhausted` only if some node
+/// could apply an operation, but a counter has no number left for it; otherwise `NoMemory`.
 ///
 /// In each round a node pays for the deliveries of the operations that it lacks. If no node holds
-/// any, there are at most two rounds.
+/// operations, there are at most two rounds.
 pub fn settle(alloc: Global, nodes: &mut [Node]) -> Result<(), SettleFault>
     ensures settles { MatchResult result
         (λ _. AreAgreed (all_without_room nodes.old)

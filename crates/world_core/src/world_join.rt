@@ -6,7 +6,7 @@ ghost use Rattle.crdt_ops.specs.declared.op.Op.{Op};
 ghost use Rattle.imap_node.specs.Nodes.{NodeState, joined_node, unused_node};
 ghost use Rattle.merge_laws.specs.Orders.{IsCausal, IsRipe};
 ghost use Rattle.uid_projection.specs.Exhaustion.{Exhausts};
-ghost use Rattle.world_core.specs.Joins.{IsNotJoined, LacksNumbers, outcome_of};
+ghost use Rattle.world_core.specs.Joins.{IsNotJoined, LacksNumbers, outcome_of_join};
 ghost use Rattle.imap_node.specs.Operations.{clock_of, id_of};
 ghost use Rattle.world_core.specs.Replicas.{IsAt, nodes_by_name, all_without_room};
 ghost use Rattle.world_core.specs.Steps.{Steps};
@@ -44,22 +44,22 @@ pub fn join(
     alloc: Global,
     nodes: &mut Vec<Node>,
     name: ReplicaId,
-    peer: ReplicaId,
+    from: ReplicaId,
 ) -> Result<(), WorldFault>
-    ensures ok { OnOk result ((from : NodeState)
-        × IsAt (nodes_by_name (all_without_room nodes.old.items)) peer from
+    ensures ok { OnOk result ((peer : NodeState)
+        × IsAt (nodes_by_name (all_without_room nodes.old.items)) from peer
         × (nodes_by_name (all_without_room nodes.old.items) name ≡ None)
-        × (¬ LacksNumbers name from.applied)
+        × (¬ LacksNumbers name peer.applied)
         × (all_without_room nodes.new.items
-        ≡ all_without_room nodes.old.items ++ joined_node name from.applied ∷ [])) }
+        ≡ all_without_room nodes.old.items ++ joined_node name peer.applied ∷ [])) }
     ensures why { IfErr result
-        (IsNotJoined (nodes_by_name (all_without_room nodes.old.items)) name peer) }
+        (IsNotJoined (nodes_by_name (all_without_room nodes.old.items)) name from) }
     ensures err { OnErr result (nodes.new.items ≡ nodes.old.items) }
 {
     if is_taken(nodes, name) {
         return Err(WorldFault::TwoAlike { id: name });
     }
-    let Some(place) = place_of(nodes, peer) else {
+    let Some(place) = place_of(nodes, from) else {
         return Err(WorldFault::NoPeer);
     };
     let Ok(()) = nodes.reserve(1) else {
@@ -87,17 +87,17 @@ fn is_taken(nodes: &[Node], name: ReplicaId) -> bool
 }
 
 /// Performs the event `Join`.
-pub fn join_step(alloc: Global, nodes: &mut Vec<Node>, name: ReplicaId, peer: ReplicaId) -> Outcome
-    ensures { Steps (nodes_by_name (all_without_room nodes.old.items)) (events.Join name peer)
+pub fn join_step(alloc: Global, nodes: &mut Vec<Node>, name: ReplicaId, from: ReplicaId) -> Outcome
+    ensures { Steps (nodes_by_name (all_without_room nodes.old.items)) (events.Join name from)
         result (nodes_by_name (all_without_room nodes.new.items)) }
 {
-    let answer = join(alloc, nodes, name, peer);
+    let answer = join(alloc, nodes, name, from);
     outcome_of_join(&answer)
 }
 
 /// The outcome of the event, from the result of `join`.
 fn outcome_of_join(answer: &Result<(), WorldFault>) -> Outcome
-    ensures { result ≡ outcome_of answer.now }
+    ensures { result ≡ outcome_of_join answer.now }
 {
     match answer {
         Ok(()) => Outcome::Joined,
@@ -131,7 +131,7 @@ pub fn with_operations_of(alloc: Global, name: ReplicaId, from: &Node) -> Result
     let Ok(mut node) = Node::new(alloc, start) else {
         return Err(JoinRefusal::NoMemory);
     };
-    if let Err(why) = take_all(alloc, &mut node, from.op_list()) {
+    if let Err(why) = apply_copies(alloc, &mut node, from.op_list()) {
         drop(node);
         return Err(why);
     }
@@ -139,7 +139,7 @@ pub fn with_operations_of(alloc: Global, name: ReplicaId, from: &Node) -> Result
 }
 
 /// Applies copies of these operations, in their order, at a node that has received nothing.
-fn take_all(alloc: Global, node: &mut Node, ops: &[SoundOp]) -> Result<(), JoinRefusal>
+fn apply_copies(alloc: Global, node: &mut Node, ops: &[SoundOp]) -> Result<(), JoinRefusal>
     requires causal { IsCausal id_of clock_of ops.now }
     requires fresh { node.old.state ≡ unused_node node.old.state.start }
     ensures ok { OnOk result (node.new.state ≡ record node.old.state { applied = ops.now }) }
@@ -148,13 +148,13 @@ fn take_all(alloc: Global, node: &mut Node, ops: &[SoundOp]) -> Result<(), JoinR
         (λ why. why ≡ UsedUp → Exhausts node.old.state.start [] ops.now) }
 {
     for op in ops {
-        take(alloc, node, op)?;
+        apply_copy(alloc, node, op)?;
     }
     Ok(())
 }
 
 /// Applies a copy of the operation at a node that holds nothing and has applied all of its causes.
-fn take(alloc: Global, node: &mut Node, op: &SoundOp) -> Result<(), JoinRefusal>
+fn apply_copy(alloc: Global, node: &mut Node, op: &SoundOp) -> Result<(), JoinRefusal>
     requires ripe { IsRipe id_of clock_of node.old.state.applied op.now }
     requires nothing { node.old.state.held ≡ [] }
     ensures ok { OnOk result (node.new.state

@@ -12,7 +12,7 @@ use std::alloc::{AllocError, Global};
 pub enum Asked {
     /// `WORD`: whether the text contains it.
     Contains,
-    /// `NAME WORD`: whether a field of this name does.
+    /// `NAME WORD`: whether a field of this name contains the word.
     FieldContains,
     /// `DATE`: whether it is a date-time.
     DateOk,

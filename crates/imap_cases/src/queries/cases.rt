@@ -7,7 +7,7 @@ use crate::queries::texts::put_of_text;
 use case_lines::Words;
 use std::alloc::Global;
 
-/// Puts what the code answers to a query.
+/// Puts the code's answer to a query.
 pub fn put_query(alloc: Global, words: &mut Words, setup: &Setup, kind: &str, input: &str) {
     let text = setup.text.as_bytes();
     match kind {

@@ -1,12 +1,12 @@
-//! What commands that read mailboxes answer.
+//! The answers of commands that read mailboxes.
 
-use crate::parts::joined;
+use crate::parts::concat;
 use crate::queries::fields::octets;
 use crate::queries::mailbox::Mailbox;
 use crate::queries::messages::rows_of;
-use crate::queries::searches::{are_rising, is_in_range, named};
+use crate::queries::searches::{are_rising, is_in_range, named_messages};
 use crate::queries::setup::Setup;
-use crate::round_trips::printed_after;
+use crate::round_trips::text_after;
 use case_lines::{Trouble, Words};
 use imap_answers::{Answer, SearchResults};
 use imap_grammar::{Command, Fetch, ListNames, ParseFault, Search, StatusItem, Tagged, parse};
@@ -24,7 +24,7 @@ pub fn put_command(alloc: Global, words: &mut Words, setup: &Setup, line: &str) 
 }
 
 fn put_line(alloc: Global, words: &mut Words, setup: &Setup, line: &[u8]) {
-    match joined(alloc, line, b"\r\n") {
+    match concat(alloc, line, b"\r\n") {
         Ok(frame) => put_frame(alloc, words, setup, &frame),
         Err(AllocError) => words.give_up(),
     }
@@ -44,7 +44,7 @@ fn put_frame(alloc: Global, words: &mut Words, setup: &Setup, frame: &[u8]) {
 fn put_tagged(alloc: Global, words: &mut Words, setup: &Setup, tagged: &Tagged) {
     match &tagged.command {
         Command::ListNames(list) => put_names(alloc, words, setup, list),
-        _ => put_of_mailbox(alloc, words, &setup.mailbox, tagged),
+        _ => put_mailbox_answers(alloc, words, &setup.mailbox, tagged),
     }
 }
 
@@ -64,17 +64,17 @@ fn put_names(alloc: Global, words: &mut Words, setup: &Setup, list: &ListNames) 
     put_answers(alloc, words, answers);
 }
 
-fn put_of_mailbox(alloc: Global, words: &mut Words, mailbox: &Mailbox, tagged: &Tagged) {
+fn put_mailbox_answers(alloc: Global, words: &mut Words, mailbox: &Mailbox, tagged: &Tagged) {
     match rows_of(alloc, &mailbox.messages, false) {
         Ok(rows) => {
-            put_of_rows(alloc, words, mailbox, &rows, tagged);
+            put_answers_from_rows(alloc, words, mailbox, &rows, tagged);
             drop(rows);
         }
         Err(trouble) => words.put_trouble("", trouble),
     }
 }
 
-fn put_of_rows(
+fn put_answers_from_rows(
     alloc: Global,
     words: &mut Words,
     mailbox: &Mailbox,
@@ -101,7 +101,7 @@ fn put_status(
 ) {
     let items = status(rows, items, mailbox.counters);
     match name.copy(alloc) {
-        Ok(name) => put_alone(alloc, words, Answer::Status { name, items }),
+        Ok(name) => put_owned_answer(alloc, words, Answer::Status { name, items }),
         Err(AllocError) => words.give_up(),
     }
 }
@@ -112,15 +112,15 @@ fn put_search(
     mailbox: &Mailbox,
     rows: &Rows<'_>,
     tag: &Octets,
-    asked: &Search,
+    request: &Search,
 ) {
-    let by_uid = asked.by_uid;
+    let by_uid = request.by_uid;
     if !are_rising(by_uid, &mailbox.view) {
         words.put_trouble("", Trouble::NotACase);
         return;
     }
-    let steps = asked.steps.as_slice();
-    let options = asked.options.as_slice();
+    let steps = request.steps.as_slice();
+    let options = request.options.as_slice();
     match search(alloc, &mailbox.view, rows, by_uid, steps, options) {
         Ok(results) => put_results(alloc, words, tag, by_uid, results),
         Err(AllocError) => words.give_up(),
@@ -135,7 +135,7 @@ fn put_results(
     results: SearchResults,
 ) {
     match tag.copy(alloc) {
-        Ok(tag) => put_alone(
+        Ok(tag) => put_owned_answer(
             alloc,
             words,
             Answer::Search {
@@ -156,37 +156,51 @@ fn put_fetch(
     words: &mut Words,
     mailbox: &Mailbox,
     before: &Rows<'_>,
-    asked: &Fetch,
+    request: &Fetch,
 ) {
-    let set = asked.messages.ranges();
-    if !is_in_range(&mailbox.view, set, asked.by_uid) {
+    let set = request.messages.ranges();
+    if !is_in_range(&mailbox.view, set, request.by_uid) {
         words.put_trouble("", Trouble::OutOfRange);
         return;
     }
-    match named(alloc, &mailbox.view, set, asked.by_uid) {
-        Ok(named) => put_fetched(alloc, words, mailbox, &named, before, asked),
+    match named_messages(alloc, &mailbox.view, set, request.by_uid) {
+        Ok(named_messages) => put_fetch_answers(
+            alloc,
+            words,
+            mailbox,
+            &named_messages,
+            before,
+            request,
+        ),
         Err(AllocError) => words.give_up(),
     }
 }
 
 /// Puts the answers of a FETCH of these messages, from their rows before and after the command.
-fn put_fetched(
+fn put_fetch_answers(
     alloc: Global,
     words: &mut Words,
     mailbox: &Mailbox,
-    named: &[ViewedMessage],
+    named_messages: &[ViewedMessage],
     before: &Rows<'_>,
-    asked: &Fetch,
+    request: &Fetch,
 ) {
     let mode = FetchMode {
-        by_uid: asked.by_uid,
+        by_uid: request.by_uid,
         condstore: mailbox.condstore,
         writable: mailbox.is_writable,
-        changed_since: asked.changed_since,
+        changed_since: request.changed_since,
     };
     match rows_of(alloc, &mailbox.messages, true) {
         Ok(after) => {
-            let answers = fetch(alloc, named, before, &after, asked.items.as_slice(), mode);
+            let answers = fetch(
+                alloc,
+                named_messages,
+                before,
+                &after,
+                request.items.as_slice(),
+                mode,
+            );
             drop(after);
             put_answers(alloc, words, answers);
         }
@@ -208,19 +222,19 @@ fn put_answers(alloc: Global, words: &mut Words, answers: Result<Vec<Answer>, Al
 fn put_each(alloc: Global, words: &mut Words, answers: &[Answer]) {
     let mut separator = "";
     for answer in answers {
-        put_one(alloc, words, separator, answer);
+        put_answer(alloc, words, separator, answer);
         separator = " | ";
     }
     words.put_if(answers.is_empty(), "nothing");
 }
 
-fn put_alone(alloc: Global, words: &mut Words, answer: Answer) {
-    put_one(alloc, words, "", &answer);
+fn put_owned_answer(alloc: Global, words: &mut Words, answer: Answer) {
+    put_answer(alloc, words, "", &answer);
     drop(answer);
 }
 
-fn put_one(alloc: Global, words: &mut Words, separator: &str, answer: &Answer) {
-    match printed_after(alloc, b"", answer) {
+fn put_answer(alloc: Global, words: &mut Words, separator: &str, answer: &Answer) {
+    match text_after(alloc, b"", answer) {
         Ok(text) => words.put_escaped(
             separator,
             text.strip_suffix(b"\r\n".as_slice()).unwrap_or(&text),

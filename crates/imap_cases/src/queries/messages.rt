@@ -11,7 +11,7 @@ use mailbox_rows::{OwnedRow, Rows, VersionsCow};
 use std::alloc::Global;
 use tags_clocks::{OpId, ReplicaId};
 
-/// What a command may change of a message.
+/// The part of a message that a command may change.
 #[derive(Drop)]
 pub struct MessageState {
     modseq: u64,
@@ -24,7 +24,7 @@ pub struct MessageState {
 pub struct Message {
     pub uid: u32,
     before: MessageState,
-    /// What it is after a command, if that changes it.
+    /// Its state after a command, if the command changes it.
     after: Option<MessageState>,
     date: DateTime,
     text: Option<Text>,
@@ -42,7 +42,7 @@ impl Message {
         }
     }
 
-    /// `MODSEQ FLAGS`: sets what the message is after a command.
+    /// `MODSEQ FLAGS`: sets the message's state after a command.
     pub fn set_after(&mut self, alloc: Global, text: &str) -> Result<(), Trouble> {
         match state_in(alloc, text) {
             Ok(state) => {

@@ -29,20 +29,20 @@ pub fn is_in_range(view: &[ViewedMessage], set: &[SequenceRange], by_uid: bool) 
 }
 
 /// The messages of a view that a set of numbers, or of UIDs, names.
-pub fn named(
+pub fn named_messages(
     alloc: Global,
     view: &[ViewedMessage],
     set: &[SequenceRange],
     by_uid: bool,
 ) -> Result<Vec<ViewedMessage>, AllocError> {
     let top = top_of(view, by_uid);
-    let mut named = Vec::new(alloc);
+    let mut named_messages = Vec::new(alloc);
     for message in view {
         if is_named(top, set, name_of(by_uid, *message)) {
-            named.push(*message)?;
+            named_messages.push(*message)?;
         }
     }
-    Ok(named)
+    Ok(named_messages)
 }
 
 /// Whether there is a message for both ends of a range, if `top` is the greatest number.

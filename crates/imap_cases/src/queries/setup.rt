@@ -1,4 +1,4 @@
-//! What queries ask about, and the lines that set it.
+//! The subjects of queries, and the lines that set them.
 
 use crate::queries::fields::{gathered, octets, set};
 use crate::queries::mailbox::Mailbox;
@@ -6,7 +6,7 @@ use case_lines::Trouble;
 use imap_types::{Escape, Name, Octets};
 use std::alloc::Global;
 
-/// What queries ask about: a text, a mailbox, and the names of folders and subscriptions.
+/// The subjects of queries: a text, a mailbox, and the names of folders and subscriptions.
 #[derive(Drop)]
 pub struct Setup {
     pub text: Octets,
@@ -15,7 +15,7 @@ pub struct Setup {
     pub subscriptions: Vec<Name>,
 }
 
-/// The first words of the lines that set what is asked about.
+/// The first words of the lines that set a subject.
 const SETTINGS: &[&str] = &[
     "text",
     "mailbox",
@@ -28,7 +28,7 @@ const SETTINGS: &[&str] = &[
     "mode",
 ];
 
-/// Whether a line with this first word sets what is asked about.
+/// Whether a line with this first word sets a subject.
 pub fn is_setting(kind: &str) -> bool {
     for setting in SETTINGS {
         if *setting == kind {
@@ -49,7 +49,7 @@ impl Setup {
         }
     }
 
-    /// Sets what a line says. `Err` leaves the rest unchanged.
+    /// Sets the subject that a line gives. `Err` leaves the others unchanged.
     pub fn set(&mut self, alloc: Global, kind: &str, rest: &str) -> Result<(), Trouble> {
         match kind {
             "text" => set(&mut self.text, octets(alloc, Escape::Text, rest)),

@@ -36,7 +36,7 @@ fn put_partial(words: &mut Words, text: &[u8], input: &str) {
     }
 }
 
-/// Puts the fields of these names, or the others.
+/// Puts the fields with these names, or the other fields.
 fn put_fields(alloc: Global, words: &mut Words, text: &[u8], names: &str, others: bool) {
     let mut all: Vec<Octets> = Vec::new(alloc);
     match take_each(alloc, &mut all, ' ', names) {

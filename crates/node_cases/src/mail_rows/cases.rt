@@ -1,5 +1,6 @@
 //! Lines that are tried one by one at the end of a script.
 
+use crate::mail_rows::damage::{Tried, put_first_wrong_after};
 use crate::mail_rows::replays::{Replay, play_script, put_shortened};
 use case_lines::Words;
 use mail_replay::ReplayEnd;
@@ -25,13 +26,23 @@ pub fn try_case(alloc: Global, script: &[u8], line: &[u8], then: &str, page: &mu
     }
 }
 
+/// Damages the line at its places that count, as `put_first_wrong_after` says.
+pub fn damage_case(alloc: Global, script: &[u8], line: &[u8], tried: &mut Tried, page: &mut Words) {
+    let whole = script_with(alloc, script, line, "\n", "");
+    put_first_wrong_after(alloc, whole.so_far(), script.len(), tried, page);
+}
+
 fn with_line(alloc: Global, script: &[u8], line: &[u8], end: &str, then: &str) -> Replay {
+    play_script(alloc, script_with(alloc, script, line, end, then).so_far())
+}
+
+fn script_with(alloc: Global, script: &[u8], line: &[u8], end: &str, then: &str) -> Words {
     let mut whole = Words::new(alloc);
     whole.put_octets(script);
     whole.put_octets(line);
     whole.put(end);
     whole.put(then);
-    play_script(alloc, whole.so_far())
+    whole
 }
 
 /// Puts the line's own output: what follows the output of the script without it.
@@ -42,8 +53,8 @@ fn put_case(before: &[u8], ended: &Replay, page: &mut Words) {
     }
 }
 
-/// Whether a longer replay's output begins with the shorter one's, if that served all its lines; if
-/// not, whether both do the same.
+/// Whether a longer replay's output begins with the shorter one's, if the shorter one served all
+/// its lines; if not, whether both do the same.
 fn continues(ended: &Replay, more: &Replay) -> bool {
     if ended.end == ReplayEnd::Done {
         more.printed.starts_with(&ended.printed)

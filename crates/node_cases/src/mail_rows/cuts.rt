@@ -8,7 +8,7 @@ use case_lines::Words;
 use std::alloc::Global;
 
 /// Sends octets, given in the escape, to a session after a script. Puts what is printed, and
-/// whether it stays the same if they come one by one or in two pieces, cut at each place.
+/// whether it stays the same if they arrive one by one or in two pieces, cut at each place.
 pub fn put_pieces(alloc: Global, script: &[u8], session: &str, text: &str, page: &mut Words) {
     let Some(octets) = octets_of(alloc, text) else {
         page.put("-- not in the escape\n");
@@ -33,6 +33,17 @@ pub fn put_pieces(alloc: Global, script: &[u8], session: &str, text: &str, page:
             page.put("\n");
         }
     }
+}
+
+/// The script with a line after it that sends these octets, given in the escape, to a session; only
+/// the script if they aren't in the escape.
+pub fn with_send(alloc: Global, script: &[u8], session: &str, text: &str) -> Words {
+    let mut whole = Words::new(alloc);
+    whole.put_octets(script);
+    if let Some(octets) = octets_of(alloc, text) {
+        put_send(session, octets.as_bytes(), &mut whole);
+    }
+    whole
 }
 
 /// The first place at which octets can be cut so that the replay differs, if any.

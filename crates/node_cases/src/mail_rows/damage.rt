@@ -2,7 +2,7 @@
 
 ghost use Rattle.std.specs.Prelude.{◌<◌, length};
 
-use crate::mail_rows::replays::{Replay, play_script};
+use crate::mail_rows::replays::{Replay, count_line_ends, play_script};
 use case_lines::Words;
 use mail_audit::{AuditEnd, audit};
 use mail_replay::ReplayEnd;
@@ -17,14 +17,18 @@ const SHORT: usize = 2_000;
 /// How many octets at each end of a longer text are damaged in such rows.
 const EDGE: usize = 500;
 
-/// The most octets of a text that is damaged at its ends in such rows: one of ten thousand commands
-/// takes too long to be replayed for each place.
-const LONG: usize = 65_536;
+/// The most lines of a text that is damaged in such rows: a script of ten thousand commands takes
+/// too long to be replayed for each place.
+const MAX_LINES: usize = 5_000;
+
+/// The most octets of a text that is damaged in such rows unless each place counts.
+const MAX_SAMPLED: usize = 65_536;
 
 /// Which places of texts are damaged, and how many damaged texts were replayed and audited.
 #[derive(Clone, Copy)]
 pub struct Tried {
-    /// Each place is damaged whose number this divides, counted over all texts; none if it is 0.
+    /// Each place whose number this divides is damaged, counted over all texts; no place if it is
+    /// 0.
     every: u64,
     /// Whether places far from both ends of a long text are left out.
     near_edges: bool,
@@ -34,9 +38,9 @@ pub struct Tried {
 }
 
 impl Tried {
-    /// No text was damaged yet. Each place is to be damaged whose number `every` divides, and none
+    /// No text was damaged yet. Each place whose number `every` divides is to be damaged, and none
     /// if it is 0; in a text of more than 2,000 octets, only the first and the last 500 places
-    /// count, and in one of more than 65,536 none.
+    /// count, and in one of more than 5,000 lines none.
     pub fn near_edges(every: u64) -> Tried {
         Tried {
             every,
@@ -56,6 +60,15 @@ impl Tried {
             replayed: 0,
             audited: 0,
         }
+    }
+
+    /// Whether no place of the text is to be damaged, since it has more than 5,000 lines, or more
+    /// than 65,536 octets and not each place counts.
+    fn leaves_out(&self, text: &[u8]) -> bool {
+        if !self.near_edges {
+            return false;
+        }
+        count_line_ends(text) > MAX_LINES || self.every > 1 && text.len() > MAX_SAMPLED
     }
 
     /// Whether the next place, of a text of this length, is to be damaged.
@@ -94,18 +107,53 @@ impl Tried {
 
 /// Whether a place of a text of this length is damaged in rows that don't ask for it.
 fn is_near_edge(length: usize, place: usize) -> bool {
-    length <= SHORT || length <= LONG && (place < EDGE || length.saturating_sub(place) <= EDGE)
+    length <= SHORT || place < EDGE || length.saturating_sub(place) <= EDGE
 }
 
 /// Puts the first place where a script isn't replayed as it should be if it is cut there or its
-/// octet is replaced, and the first place where its transcript, damaged so, gets no answer from the
-/// audit; nothing if there is none.
+/// octet is replaced, and the first place where its transcript, damaged in the same way, gets no
+/// answer from the audit; nothing if there is no such place.
 pub fn put_first_wrong(alloc: Global, script: &[u8], tried: &mut Tried, page: &mut Words) {
-    if let Some(place) = first_wrong(alloc, script, tried) {
+    put_first_wrong_in(alloc, script, 0, tried, page);
+    let printed = play_script(alloc, script).printed;
+    put_first_unaudited_in(alloc, &printed, 0, tried, page);
+}
+
+/// Does what `put_first_wrong` does, but only for the places after the first `front` octets of the
+/// script, and for those of its transcript after the output of these octets.
+pub fn put_first_wrong_after(
+    alloc: Global,
+    script: &[u8],
+    front: usize,
+    tried: &mut Tried,
+    page: &mut Words,
+) {
+    put_first_wrong_in(alloc, script, front, tried, page);
+    let before = play_script(alloc, script.get(..front).unwrap_or(script));
+    let printed = play_script(alloc, script).printed;
+    put_first_unaudited_in(alloc, &printed, before.printed.len(), tried, page);
+}
+
+fn put_first_wrong_in(
+    alloc: Global,
+    script: &[u8],
+    front: usize,
+    tried: &mut Tried,
+    page: &mut Words,
+) {
+    if let Some(place) = first_wrong(alloc, script, front, tried) {
         put_wrong(place, page);
     }
-    let printed = play_script(alloc, script).printed;
-    if let Some(place) = first_unaudited(alloc, &printed, tried) {
+}
+
+fn put_first_unaudited_in(
+    alloc: Global,
+    printed: &[u8],
+    front: usize,
+    tried: &mut Tried,
+    page: &mut Words,
+) {
+    if let Some(place) = first_unaudited(alloc, printed, front, tried) {
         page.put_number("-- not audited where damaged after octet ", place as u64);
         page.put("\n");
     }
@@ -113,10 +161,10 @@ pub fn put_first_wrong(alloc: Global, script: &[u8], tried: &mut Tried, page: &m
 
 /// Replays a script, and puts what it prints. Then puts whether the script, cut at each place or
 /// with its octet replaced by 0, 10, 32, 126 or 255, prints what the lines before that place print,
-/// and after that whole lines of printable ASCII, and ends with Done or BadScript.
+/// then whole lines of printable ASCII, and ends with Done or BadScript.
 pub fn put_damage(alloc: Global, script: &[u8], page: &mut Words) {
     play_script(alloc, script).put_report(page);
-    match first_wrong(alloc, script, &mut Tried::everywhere()) {
+    match first_wrong(alloc, script, 0, &mut Tried::everywhere()) {
         None => {
             page.put_number("-- damaged at each of ", script.len() as u64);
             page.put(" octets: as it was before them\n");
@@ -130,10 +178,15 @@ fn put_wrong(place: usize, page: &mut Words) {
     page.put(": otherwise before it\n");
 }
 
-fn first_wrong(alloc: Global, script: &[u8], tried: &mut Tried) -> Option<usize> {
+/// The first place after the first `front` octets at which a damaged script isn't replayed as it
+/// should be.
+fn first_wrong(alloc: Global, script: &[u8], front: usize, tried: &mut Tried) -> Option<usize> {
+    if tried.leaves_out(script) {
+        return None;
+    }
     let mut line = 0;
     for place in 0..script.len() {
-        if tried.is_next(script.len(), place) {
+        if place >= front && tried.is_next(script.len(), place) {
             tried.note_replays();
             let lines_before = script.get(..line).unwrap_or(script);
             let before = play_script(alloc, lines_before);
@@ -184,11 +237,19 @@ fn is_lawful(replay: &Replay, before: &[u8]) -> bool {
             .all(|octet| *octet == b'\n' || (*octet >= 32 && *octet <= 126))
 }
 
-/// The first place at which a transcript can be cut, or have another octet, so that the audit gives
-/// none of its answers.
-fn first_unaudited(alloc: Global, printed: &[u8], tried: &mut Tried) -> Option<usize> {
+/// The first place after the first `front` octets at which a transcript can be cut, or have another
+/// octet, so that the audit gives none of its answers.
+fn first_unaudited(
+    alloc: Global,
+    printed: &[u8],
+    front: usize,
+    tried: &mut Tried,
+) -> Option<usize> {
+    if tried.leaves_out(printed) {
+        return None;
+    }
     for place in 0..printed.len() {
-        if tried.is_next(printed.len(), place) {
+        if place >= front && tried.is_next(printed.len(), place) {
             tried.note_audits();
             if !is_audited_damaged(alloc, printed, place) {
                 return Some(place);

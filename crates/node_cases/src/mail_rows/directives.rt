@@ -10,7 +10,7 @@ use std::alloc::Global;
 pub enum Way<'a> {
     /// It is replayed, and everything that it prints is put.
     Whole,
-    /// It is replayed, and the last lines are put, this many.
+    /// It is replayed, and this number of its last lines is put.
     Last(usize),
     /// It is replayed, and the number of printed lines that equal this one is put.
     Count(&'a str),
@@ -19,8 +19,8 @@ pub enum Way<'a> {
     /// It is replayed with octets, given in the escape, sent to a session in all ways of cutting
     /// them.
     Pieces { session: &'a str, text: &'a str },
-    /// Whether at least this many damaged scripts were replayed so far, and as many damaged
-    /// transcripts audited, is put.
+    /// Nothing is replayed: the row puts whether at least this number of damaged scripts were
+    /// replayed so far, and as many damaged transcripts audited.
     Tried(u64),
     /// It is replayed with each of the following lines at its end, and again with this line after
     /// that one.
@@ -103,7 +103,7 @@ fn pattern_of<'a>(rest: &'a str) -> Option<Pattern<'a>> {
     })
 }
 
-/// Adds the line with its gap filled: by the second word, as often as the first word says.
+/// Adds the line with its gap filled by the second word, repeated as often as the first word says.
 fn fill(pattern: &Pattern, script: &mut Words) -> bool {
     let Ok(count) = pattern.first.parse::<u32>() else {
         return false;

@@ -77,7 +77,7 @@ fn put_audit(printed: &[u8], page: &mut Words) {
 }
 
 /// The number of line ends in a text.
-fn count_line_ends(text: &[u8]) -> usize {
+pub fn count_line_ends(text: &[u8]) -> usize {
     text.iter().filter(|octet| **octet == b'\n').count()
 }
 

@@ -1,8 +1,8 @@
 //! Plays rows, line by line.
 
-use crate::mail_rows::cases::try_case;
-use crate::mail_rows::cuts::put_pieces;
-use crate::mail_rows::damage::{Tried, put_damage, put_first_wrong};
+use crate::mail_rows::cases::{damage_case, try_case};
+use crate::mail_rows::cuts::{put_pieces, with_send};
+use crate::mail_rows::damage::{Tried, put_damage, put_first_wrong, put_first_wrong_after};
 use crate::mail_rows::directives::{Way, build, cut, octets_of, way_of};
 use crate::mail_rows::replays::play_script;
 use case_lines::Words;
@@ -19,8 +19,8 @@ pub fn play(alloc: Global, text: &str) -> Result<Vec<u8>, AllocError> {
     page.finish()
 }
 
-/// The number after `% every ` before the first row: of all scripts and transcripts, each place
-/// whose number it divides is damaged. 0, for no place, if there is no such line.
+/// The number after `% every ` before the first row: each place whose number it divides is damaged,
+/// counted over all scripts and transcripts. 0, for no place, if there is no such line.
 fn every_of(text: &str) -> u64 {
     let (head, _) = text.split_once("\n== ").unwrap_or((text, ""));
     for line in head.lines() {
@@ -36,6 +36,7 @@ fn every_of(text: &str) -> u64 {
 struct Row<'a> {
     script: Words,
     way: Way<'a>,
+    tried: Tried,
 }
 
 fn play_row(alloc: Global, text: &str, tried: &mut Tried, page: &mut Words) {
@@ -46,14 +47,27 @@ fn play_row(alloc: Global, text: &str, tried: &mut Tried, page: &mut Words) {
     let mut row = Row {
         script: Words::new(alloc),
         way: Way::Whole,
+        tried: *tried,
     };
     for line in lines.split_terminator('\n') {
         take_line(alloc, line, &mut row, page);
     }
+    *tried = row.tried;
     end_row(alloc, row.script.so_far(), row.way, page);
-    match row.way {
-        Way::Tried(least) => tried.put_report(least, page),
-        _ => put_first_wrong(alloc, row.script.so_far(), tried, page),
+    damage_row(alloc, row.script.so_far(), row.way, tried, page);
+}
+
+/// Damages a row's script and transcript, and the line that sends its pieces; or puts how many
+/// texts were damaged, if the row asks for that.
+fn damage_row(alloc: Global, script: &[u8], way: Way, tried: &mut Tried, page: &mut Words) {
+    if let Way::Tried(least) = way {
+        tried.put_report(least, page);
+        return;
+    }
+    put_first_wrong(alloc, script, tried, page);
+    if let Way::Pieces { session, text } = way {
+        let whole = with_send(alloc, script, session, text);
+        put_first_wrong_after(alloc, whole.so_far(), script.len(), tried, page);
     }
 }
 
@@ -96,17 +110,20 @@ fn execute<'a>(
     true
 }
 
-/// Takes a case, if the row is one of cases, else octets of the script and then `end`.
+/// Takes a case if the row consists of cases; otherwise octets of the script, and then `end`.
 fn take_octets(alloc: Global, octets: &[u8], end: &[u8], row: &mut Row, page: &mut Words) {
     if let Way::Each(then) = row.way {
         try_case(alloc, row.script.so_far(), octets, then, page);
+        let mut tried = row.tried;
+        damage_case(alloc, row.script.so_far(), octets, &mut tried, page);
+        row.tried = tried;
     } else {
         row.script.put_octets(octets);
         row.script.put_octets(end);
     }
 }
 
-/// Does with a row's script what the row asks for.
+/// Plays a row's script in the way that the row asks for.
 fn end_row(alloc: Global, script: &[u8], way: Way, page: &mut Words) {
     match way {
         Way::Whole => play_script(alloc, script).put_report(page),

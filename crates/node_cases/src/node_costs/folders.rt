@@ -28,7 +28,7 @@ fn print_times(rt: &HostRuntime, node_session: &mut NodeSession, count: u32) -> 
     Ok(())
 }
 
-/// Creates the folder with this number; whether the node did so.
+/// Creates the folder with this number; returns whether the node did so.
 fn create(alloc: Global, node_session: &mut NodeSession, number: u32) -> io::Result<bool> {
     let create = format!(in alloc; "a CREATE f{number}\r\n")?;
     node_session.is_done(alloc, create.as_str())

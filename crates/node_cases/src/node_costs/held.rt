@@ -10,8 +10,8 @@ use std::time::Instant;
 /// How many deliveries are timed.
 const TIMED: u32 = 200;
 
-/// Has `count` operations held, which all wait for one. Prints how long the delivery of another
-/// waiting operation takes, and of one that waits for none.
+/// Has `count` operations held, all waiting for one. Prints how long the delivery of another
+/// waiting operation takes, and that of an operation that waits for none.
 pub fn times(rt: &HostRuntime, count: u32) -> io::Result<()> {
     let mut near = NodeSession::new(rt.alloc(), 1)?;
     let printed = times_at(rt, &mut near, count);
@@ -56,7 +56,8 @@ fn print_times(
     release(rt, near, far.node.op_list())
 }
 
-/// Delivers all but the first of the operations; the mean nanoseconds of one of the last ones.
+/// Delivers all but the first of the operations; returns the mean nanoseconds for one of the last
+/// ones.
 fn early_time(rt: &HostRuntime, near: &mut NodeSession, ops: &[SoundOp]) -> io::Result<u64> {
     let waiting = ops.get(1..).unwrap_or(&[]);
     let split = waiting.len().saturating_sub(TIMED as usize);
@@ -87,7 +88,7 @@ pub fn deliver_all(
     Ok(())
 }
 
-/// The mean nanoseconds of the delivery of one of the operations.
+/// The mean nanoseconds for the delivery of one of the operations.
 pub fn time_of(
     rt: &HostRuntime,
     node_session: &mut NodeSession,

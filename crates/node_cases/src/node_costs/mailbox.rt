@@ -18,7 +18,7 @@ struct Row {
     /// The untimed command before it.
     before: &'static str,
     /// The timed command. Each `#` is replaced by the number of a message in the middle of the
-    /// mailbox, which is also its UID; the next one each time.
+    /// mailbox, which is also its UID: each time that of the next message.
     timed: &'static str,
 }
 
@@ -169,7 +169,7 @@ fn print_stores(
     spans.print_spans(rt, "another replica's STORE delivered, none selected")
 }
 
-/// Delivers the last operation of the other replica; the nanoseconds that this takes.
+/// Delivers the last operation of the other replica; returns the nanoseconds that this takes.
 fn delivery_time(rt: &HostRuntime, near: &mut NodeSession, far: &NodeSession) -> io::Result<u64> {
     let made = far.node.op_list();
     let last = made.get(made.len().saturating_sub(1)..).unwrap_or(&[]);

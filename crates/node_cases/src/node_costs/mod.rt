@@ -14,7 +14,7 @@ use std::io;
 /// held, `memory 10000 1024` has two replicas store 10,000 messages of 1,024 octets. What was done
 /// goes to the standard output, and how long calls took, in nanoseconds, to the standard error.
 ///
-/// An error ends it after what was printed: a fault of the output or the clock, memory that runs
+/// An error ends it after the output so far: a fault of the output or the clock, memory that runs
 /// out, or a line of no known kind.
 pub fn play(rt: &HostRuntime, lines: &str) -> io::Result<()> {
     for line in lines.lines() {

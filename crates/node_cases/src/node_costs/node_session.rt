@@ -46,7 +46,7 @@ impl NodeSession {
 
     /// Issues the command; returns whether the node executed it.
     pub fn is_done(&mut self, alloc: Global, text: &str) -> io::Result<bool> {
-        if !self.node.is_open(self.session) {
+        if !self.node.is_open(self.session) || self.node.is_idling(self.session) {
             return Err(io::Error::other("not taken"));
         }
         let tagged = spelled(alloc, text)?;
@@ -56,9 +56,9 @@ impl NodeSession {
         Ok(has_executed(reply))
     }
 
-    /// Issues the command; the nanoseconds that it takes.
+    /// Issues the command; returns the nanoseconds that it takes.
     pub fn time_of(&mut self, rt: &HostRuntime, text: &str) -> io::Result<u64> {
-        if !self.node.is_open(self.session) {
+        if !self.node.is_open(self.session) || self.node.is_idling(self.session) {
             return Err(io::Error::other("not taken"));
         }
         let tagged = spelled(rt.alloc(), text)?;
@@ -77,7 +77,7 @@ impl NodeSession {
         }
     }
 
-    /// Polls the session, which idles; the nanoseconds that this takes.
+    /// Polls the session, which idles; returns the nanoseconds that this takes.
     pub fn poll_time(&mut self, rt: &HostRuntime) -> io::Result<u64> {
         let start = Instant::now(rt)?;
         self.poll(rt.alloc())?;
@@ -85,7 +85,7 @@ impl NodeSession {
     }
 
     fn poll(&mut self, alloc: Global) -> io::Result<()> {
-        if !self.node.is_open(self.session) {
+        if !self.node.is_idling(self.session) {
             return Err(io::Error::other("not taken"));
         }
         check_executed(self.node.poll(alloc, self.session))
@@ -121,7 +121,7 @@ fn check_executed(reply: Reply) -> io::Result<()> {
     }
 }
 
-/// Whether a node did what it was asked.
+/// Whether a node did what it was asked to do.
 fn has_executed(reply: Reply) -> bool {
     match reply {
         Reply::Done { .. } => true,

@@ -1,5 +1,5 @@
-//! Audits: inputs that come in pieces, readers and writers that fail, and the status with which an
-//! audit ends.
+//! Audits: inputs that arrive in pieces, readers and writers that fail, and the status with which
+//! an audit ends.
 
 use crate::programs::screen::Screen;
 use mail_audit::{AuditEnd, MAX_READS, audit};
@@ -287,8 +287,8 @@ fn reports_reads_that_fail(rt: HostRuntime) {
     assert!(rt; reports_each_fault(rt.alloc()));
 }
 
-/// Whether the audit of an input after `interruptions` interruptions ends so, writes this line, and
-/// makes as many reads as it may.
+/// Whether the audit of an input after `interruptions` interruptions has this end, writes this
+/// line, and makes as many reads as it may.
 fn ends_after(alloc: Global, interruptions: u64, end: AuditEnd, line: &str) -> bool {
     let mut reader = Waits {
         octets: b"settle: Ok\n",
@@ -308,8 +308,8 @@ fn reads_no_more_than_its_limit(rt: HostRuntime) {
     assert!(rt; reads_up_to_the_limit(rt.alloc()) && MAX_READS == 16_777_216);
 }
 
-/// How the audit of a case ends at a writer, and how many octets of its line that took; `None` if
-/// it took others.
+/// How the audit of a case ends at a writer, and how many octets of its line the writer took;
+/// `None` if the writer took other octets.
 fn written(alloc: Global, case: Case, pen: &mut Pen) -> (AuditEnd, Option<usize>) {
     let mut reader = case.input.as_bytes();
     let end = audit(alloc, &mut reader, pen);

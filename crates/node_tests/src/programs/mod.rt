@@ -1,4 +1,4 @@
-//! The programs' command lines, what the server prints of wrong ones, the line that ends a replay,
+//! The programs' command lines, the server's output about wrong ones, the line that ends a replay,
 //! and replays and audits of `mail_tool`: devices that fail, and a long script with late and
 //! repeated deliveries.
 

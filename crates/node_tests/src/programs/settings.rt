@@ -171,7 +171,8 @@ fn settings_text(alloc: Global, settings: &CommandLine<'_>) -> Result<String, Al
     )
 }
 
-/// The text that the program prints of a fault; `words` for faults of the words, which are clap's.
+/// The text that the program prints about a fault; `words` for faults of the words, which are
+/// clap's.
 fn fault_text(alloc: Global, fault: &SettingsFault<'_>) -> Result<String, AllocError> {
     match fault {
         SettingsFault::Words(_) => format!(in alloc; "words"),

@@ -1,4 +1,4 @@
-//! What the server prints of a command line that gives no settings, and its status.
+//! The server's output and status if a command line gives no settings.
 
 use crate::programs::screen::Screen;
 use server_settings::{print_fault, settings_or_status};
@@ -69,14 +69,14 @@ fn status_of(alloc: Global, screen: &Screen, line: &str) -> Option<u8> {
     }
 }
 
-/// Whether just this text is printed of a command line, and the status is 2.
+/// Whether just this text is printed about a command line, and the status is 2.
 fn is_refused(alloc: Global, line: &str, text: &str) -> bool {
     let screen = Screen::new(alloc, true);
     status_of(alloc, &screen, line) == Some(2) && screen.has_shown(text)
 }
 
-/// The place of the first command line of which another text is printed, or another status is
-/// given.
+/// The place of the first command line about which another text is printed, or whose status is
+/// another.
 fn first_wrong(alloc: Global, lines: &[(&str, &str)]) -> Option<usize> {
     lines
         .iter()

@@ -4,8 +4,8 @@ use crate::uids::setup::{Node, Setup, charts, folders, listing};
 use case_lines::{Words, long_number, name, number, parts_around};
 use imap_types::Name;
 use mailbox_rows::{Row, Rows};
-use modseq_index::{changed_since, highest};
 use std::alloc::AllocError;
+use uid_projection::{changed_since, highest};
 
 /// A question about a folder.
 #[derive(Clone, Copy)]

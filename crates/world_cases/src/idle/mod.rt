@@ -1,8 +1,8 @@
 //! Plays generated runs of two replicas. In each run a session idles at the first replica while
 //! another session there and one at the other replica work. At the end, the view that a plain
-//! client makes only of the idling session's untagged answers must be what a session sees that
-//! selects the mailbox then. For each hundred runs it reports whether all do so, and whether the
-//! received answers mattered.
+//! client makes only of the idling session's untagged answers must be the view of a session that
+//! then selects the mailbox. For each hundred runs it reports whether all such views agree, and
+//! whether the received answers mattered.
 
 mod random_commands;
 mod runs;

@@ -13,7 +13,7 @@ use std::alloc::Global;
 /// The result of a run.
 #[derive(Clone, Copy)]
 pub struct RunResult {
-    /// Whether the view made of the answers is what a session sees that selects the mailbox now.
+    /// Whether the view made of the answers is that of a session that selects the mailbox now.
     pub is_right: bool,
     /// Whether this holds of the view of a client that ignores EXPUNGE.
     pub without_expunge: bool,
@@ -175,7 +175,7 @@ fn deliver(alloc: Global, node: &mut Node, op: SoundOp) -> Result<(), Trouble> {
     }
 }
 
-/// Compares the clients' views with what a new session sees.
+/// Compares the clients' views with that of a new session.
 fn judged(
     alloc: Global,
     scene: &mut Scene,
@@ -188,8 +188,8 @@ fn judged(
     Ok(run_result)
 }
 
-/// Compares the clients' views with what a new session sees; with no messages, if the mailbox has
-/// another UIDVALIDITY now.
+/// Compares the clients' views with that of a new session; with one without messages, if the
+/// mailbox has another UIDVALIDITY now.
 fn compare_views(alloc: Global, watch: &Watch, fresh: &Client) -> RunResult {
     if fresh.validity() == watch.whole.validity() {
         return compare_with(watch, fresh, false);
@@ -210,8 +210,8 @@ fn compare_with(watch: &Watch, expected: &Client, has_ended: bool) -> RunResult 
     }
 }
 
-/// What a new session sees of the mailbox, with the UIDs and flags of all its messages; nothing if
-/// it doesn't exist.
+/// A new session's view of the mailbox, with the UIDs and flags of all its messages; nothing if it
+/// doesn't exist.
 fn fresh(alloc: Global, node: &mut Node, name: &str) -> Result<Client, Trouble> {
     let session = session(node)?;
     match selected(alloc, node, session, name)? {

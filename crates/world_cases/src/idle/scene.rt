@@ -1,4 +1,4 @@
-//! Two replicas and their sessions, and the calls that a run makes of them.
+//! Two replicas and their sessions, and the calls that a run makes to them.
 
 use crate::client::Client;
 use case_lines::Trouble;
@@ -20,14 +20,14 @@ pub struct Scene {
     pub sessions: Sessions,
 }
 
-/// The session that watches, and one at each replica that works.
+/// The watching session, and a working one at each replica.
 #[derive(Clone, Copy)]
 pub struct Sessions {
-    /// The session that watches, at `near`.
+    /// The watching session, at `near`.
     pub watcher: SessionNo,
-    /// The session at `near` that works.
+    /// The working session at `near`.
     pub near: SessionNo,
-    /// The session at `far` that works.
+    /// The working session at `far`.
     pub far: SessionNo,
 }
 
@@ -100,14 +100,14 @@ pub fn session(node: &mut Node) -> Result<SessionNo, Trouble> {
     }
 }
 
-/// The answers to a command; `None` if it is refused.
+/// The answers to a command of a session that doesn't idle; `None` if it is refused.
 pub fn command(
     alloc: Global,
     node: &mut Node,
     session: SessionNo,
     text: &str,
 ) -> Result<Option<Answers>, Trouble> {
-    if !node.is_open(session) {
+    if !node.is_open(session) || node.is_idling(session) {
         return Err(Trouble::NotACase);
     }
     let tagged = spelled(alloc, text)?;
@@ -152,25 +152,25 @@ pub fn poll(
     node: &mut Node,
     session: SessionNo,
 ) -> Result<Option<Answers>, Trouble> {
-    if !node.is_open(session) {
+    if !node.is_idling(session) {
         return Err(Trouble::NotACase);
     }
     Ok(answers_in(node.poll(alloc, session)))
 }
 
-/// The answers that an idling session is sent at the end of its IDLE.
+/// The answers that are sent to an idling session at the end of its IDLE.
 pub fn done(
     alloc: Global,
     node: &mut Node,
     session: SessionNo,
 ) -> Result<Option<Answers>, Trouble> {
-    if !node.is_open(session) {
+    if !node.is_idling(session) {
         return Err(Trouble::NotACase);
     }
     Ok(answers_in(node.done(alloc, session, IdleLine::Done)))
 }
 
-/// What a session sees that selects this mailbox; `None` if the mailbox doesn't exist.
+/// The view of a session that selects this mailbox; `None` if the mailbox doesn't exist.
 pub fn selected(
     alloc: Global,
     node: &mut Node,

@@ -19,30 +19,30 @@ or_cond : (b : Bool) (x : DatedText) (y : Option DatedText) → cond b (Some x) 
 or_cond true x y = refl
 or_cond false x y = refl
 
-abbrev Before : Op → Kind → List Op → Op → List (Vec ℕ × FolderTables) → Type 0
-Before op kind rest o old = HasRoomAt (λ n. cond (is_named n (target kind)) 1 0 + tags_added rest n) (λ i. cond (is_some_id i (origin_by op.id kind)) 1 0 + versions_added rest i) (origin_by o.id o.kind) (target o.kind) (λ n. find_folder n old)
+abbrev HasRoomBefore : Op → Kind → List Op → Op → List (Vec ℕ × FolderTables) → Type 0
+HasRoomBefore op kind rest o old = HasRoomAt (λ n. cond (is_named n (target kind)) 1 0 + tags_added rest n) (λ i. cond (is_some_id i (origin_by op.id kind)) 1 0 + versions_added rest i) (origin_by o.id o.kind) (target o.kind) (λ n. find_folder n old)
 
-abbrev Own : Op → Kind → List (Vec ℕ × FolderTables) → Type 0
-Own op kind old = HasRoomAt (λ n. cond (is_named n (target kind)) 1 0 + 0) (λ i. cond (is_some_id i (origin_by op.id kind)) 1 0 + 0) (origin_by op.id kind) (target kind) (λ n. find_folder n old)
+abbrev HasOwnRoom : Op → Kind → List (Vec ℕ × FolderTables) → Type 0
+HasOwnRoom op kind old = HasRoomAt (λ n. cond (is_named n (target kind)) 1 0 + 0) (λ i. cond (is_some_id i (origin_by op.id kind)) 1 0 + 0) (origin_by op.id kind) (target kind) (λ n. find_folder n old)
 
 pub put_tag-requires : goal.put_tag-requires
 put_tag-requires c =
-    let h = subst (λ (kind : Kind). Own c.args.op kind c.args.by_name.now.entries) c.in-Create.is c.requires.room in
+    let h = subst (λ (kind : Kind). HasOwnRoom c.args.op kind c.args.by_name.now.entries) c.in-Create.is c.requires.room in
     (h.0, h.1, place_one c.in-Create.folder h.0 None h.2)
 
-pub put_first-requires-clause-room : goal.put_first-requires-clause-room
-put_first-requires-clause-room c =
-    let h = subst (λ (kind : Kind). Own c.args.op kind c.args.by_name.now.entries) c.in-Append.is c.requires.room in
+pub put_append_tag-requires-clause-room : goal.put_append_tag-requires-clause-room
+put_append_tag-requires-clause-room c =
+    let h = subst (λ (kind : Kind). HasOwnRoom c.args.op kind c.args.by_name.now.entries) c.in-Append.is c.requires.room in
     (h.0, h.1, place_one c.in-Append.folder h.0 (Some c.args.op.id) h.2, version_one c.args.op.id h.0.messages h.3)
 
-pub put_first-requires-clause-list : goal.put_first-requires-clause-list
-put_first-requires-clause-list c =
+pub put_append_tag-requires-clause-list : goal.put_append_tag-requires-clause-list
+put_append_tag-requires-clause-list c =
     let h = subst (λ (kind : Kind). counts_of (λ i. cond (is_some_id i (origin_by c.args.op.id kind)) 1 0 + 0) (origin_by c.args.op.id kind) ≤ vec_capacity c.args.list) c.in-Append.is c.requires.list.1 in
     (c.requires.list.0, list_one c.args.op.id (vec_capacity c.args.list) h)
 
 pub put_message-requires-clause-room : goal.put_message-requires-clause-room
 put_message-requires-clause-room c =
-    let h = subst (λ (kind : Kind). Own c.args.op kind c.args.by_name.now.entries) c.in-Store.is c.requires.room in
+    let h = subst (λ (kind : Kind). HasOwnRoom c.args.op kind c.args.by_name.now.entries) c.in-Store.is c.requires.room in
     (h.0, h.1, place_one c.in-Store.folder h.0 (Some c.in-Store.origin) h.2, version_one c.in-Store.origin h.0.messages h.3)
 
 pub put_message-requires-clause-list : goal.put_message-requires-clause-list
@@ -52,7 +52,7 @@ put_message-requires-clause-list c =
 
 pub returns-in-Append-clause-tag_data : goal.returns-in-Append-clause-tag_data
 returns-in-Append-clause-tag_data c = λ f i.
-    c.put_first.ensures.tag_data f i
+    c.put_append_tag.ensures.tag_data f i
     ∙ sym (ap (λ (kind : Kind). cond (is_some_tag (MessageTag f i) (tag_added_by c.args.op.id kind)) (tag_data_by c.args.op.id kind) (tag_data_in (find_folder f c.args.by_name.now.entries) i)) c.in-Append.is)
 
 pub returns-in-Store-clause-tag_data : goal.returns-in-Store-clause-tag_data
@@ -70,26 +70,26 @@ returns-in-Append-clause-dated_texts c = λ i.
 pub returns-in-Create-clause-room : goal.returns-in-Create-clause-room
 returns-in-Create-clause-room c = λ rest o h w.
     c.put_tag.ensures.room (tags_added rest) (versions_added rest) (origin_by o.id o.kind) (target o.kind)
-    (subst (λ (kind : Kind). Before c.args.op kind rest o c.args.by_name.now.entries) c.in-Create.is h) (omega arith)
+    (subst (λ (kind : Kind). HasRoomBefore c.args.op kind rest o c.args.by_name.now.entries) c.in-Create.is h) (omega arith)
 
 pub returns-in-Expunge-clause-room : goal.returns-in-Expunge-clause-room
 returns-in-Expunge-clause-room c = λ rest o h w.
     c.put_tag-in-Expunge.ensures.room (tags_added rest) (versions_added rest) (origin_by o.id o.kind) (target o.kind)
-    (subst (λ (kind : Kind). Before c.args.op kind rest o c.args.by_name.now.entries) c.in-Expunge.is h) (omega arith)
+    (subst (λ (kind : Kind). HasRoomBefore c.args.op kind rest o c.args.by_name.now.entries) c.in-Expunge.is h) (omega arith)
 
 pub returns-in-Append-clause-room : goal.returns-in-Append-clause-room
 returns-in-Append-clause-room c = λ rest o h w.
-    c.put_first.ensures.room (tags_added rest) (versions_added rest) (origin_by o.id o.kind) (target o.kind)
-    (subst (λ (kind : Kind). Before c.args.op kind rest o c.args.by_name.now.entries) c.in-Append.is h)
+    c.put_append_tag.ensures.room (tags_added rest) (versions_added rest) (origin_by o.id o.kind) (target o.kind)
+    (subst (λ (kind : Kind). HasRoomBefore c.args.op kind rest o c.args.by_name.now.entries) c.in-Append.is h)
     (subst (λ (kind : Kind). counts_of (λ i. cond (is_some_id i (origin_by c.args.op.id kind)) 1 0 + versions_added rest i) (origin_by c.args.op.id kind) ≤ vec_capacity c.args.list) c.in-Append.is w)
 
 pub returns-in-Store-clause-room : goal.returns-in-Store-clause-room
 returns-in-Store-clause-room c = λ rest o h w.
     c.put_message.ensures.room (tags_added rest) (versions_added rest) (origin_by o.id o.kind) (target o.kind)
-    (subst (λ (kind : Kind). Before c.args.op kind rest o c.args.by_name.now.entries) c.in-Store.is h)
+    (subst (λ (kind : Kind). HasRoomBefore c.args.op kind rest o c.args.by_name.now.entries) c.in-Store.is h)
     (subst (λ (kind : Kind). counts_of (λ i. cond (is_some_id i (origin_by c.args.op.id kind)) 1 0 + versions_added rest i) (origin_by c.args.op.id kind) ≤ vec_capacity c.args.list) c.in-Store.is w)
 
-less : (op : Op) (rest : List Op) (o : Op) (old : List (Vec ℕ × FolderTables)) → Before op op.kind rest o old → HasRoomAt (tags_added rest) (versions_added rest) (origin_by o.id o.kind) (target o.kind) (λ n. find_folder n old)
+less : (op : Op) (rest : List Op) (o : Op) (old : List (Vec ℕ × FolderTables)) → HasRoomBefore op op.kind rest o old → HasRoomAt (tags_added rest) (versions_added rest) (origin_by o.id o.kind) (target o.kind) (λ n. find_folder n old)
 less op rest o old h = room_less (λ n. cond (is_named n (target op.kind)) 1 0) (tags_added rest) (λ i. cond (is_some_id i (origin_by op.id op.kind)) 1 0) (versions_added rest) (origin_by o.id o.kind) (target o.kind) (λ n. find_folder n old) h
 
 pub returns-in-Delete-clause-room : goal.returns-in-Delete-clause-room
@@ -100,7 +100,7 @@ returns-in-Subscribe-clause-room c = λ rest o h w. less c.args.op rest o c.args
 
 pub returns-in-Append-clause-tags : goal.returns-in-Append-clause-tags
 returns-in-Append-clause-tags c = λ f i.
-    c.put_first.ensures.tags f i
+    c.put_append_tag.ensures.tags f i
     ∙ sym (ap (λ (kind : Kind). is_some_tag (FolderTag f i) (tag_added_by c.args.op.id kind) || has_tag_in (find_folder f c.args.by_name.now.entries) i) c.in-Append.is)
 
 pub returns-in-Store-clause-tags : goal.returns-in-Store-clause-tags

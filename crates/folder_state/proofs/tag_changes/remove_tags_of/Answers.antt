@@ -11,40 +11,40 @@ use Rattle.folder_state.proofs.tag_changes.remove_tags_of.Goals as goal
 pub returns-in-Delete-clause-tags : goal.returns-in-Delete-clause-tags
 returns-in-Delete-clause-tags c = λ f i.
     let old = has_tag_in (find_folder f c.args.by_name.now.entries) i in
-    c.forget_both.ensures.tags f i
+    c.remove_both_kinds.ensures.tags f i
     ∙ ap (λ ids. not (is_among f i c.in-Delete.folder ids) && old) c.as_slice.ensures.ids
     ∙ ap (λ b. not b && old) (sym (ap (λ (kind : Kind). list_any (same_tag (FolderTag f i)) (tags_removed_by kind)) c.in-Delete.is ∙ delete_removes_folder_tags f c.in-Delete.folder i c.in-Delete.seen))
 
 pub returns-in-Delete-clause-tag_data : goal.returns-in-Delete-clause-tag_data
 returns-in-Delete-clause-tag_data c = λ f i.
     let old = tag_data_in (find_folder f c.args.by_name.now.entries) i in
-    c.forget_both.ensures.tag_data f i
+    c.remove_both_kinds.ensures.tag_data f i
     ∙ ap (λ ids. cond (is_among f i c.in-Delete.folder ids) None old) c.as_slice.ensures.ids
     ∙ ap (λ b. cond b None old) (sym (ap (λ (kind : Kind). list_any (same_tag (MessageTag f i)) (tags_removed_by kind)) c.in-Delete.is ∙ delete_removes_message_tags f c.in-Delete.folder i c.in-Delete.seen))
 
 pub returns-in-Expunge-clause-tags : goal.returns-in-Expunge-clause-tags
 returns-in-Expunge-clause-tags c = λ f i.
     let old = has_tag_in (find_folder f c.args.by_name.now.entries) i in
-    c.forget_messages.ensures.tags f i
+    c.remove_message_tags.ensures.tags f i
     ∙ ap (λ b. not b && old) (sym (ap (λ (kind : Kind). list_any (same_tag (FolderTag f i)) (tags_removed_by kind)) c.in-Expunge.is ∙ old_ids_keep_folder_tags f c.in-Expunge.folder i c.in-Expunge.old_ids))
 
 pub returns-in-Expunge-clause-tag_data : goal.returns-in-Expunge-clause-tag_data
 returns-in-Expunge-clause-tag_data c = λ f i.
     let old = tag_data_in (find_folder f c.args.by_name.now.entries) i in
-    c.forget_messages.ensures.tag_data f i
+    c.remove_message_tags.ensures.tag_data f i
     ∙ ap (λ ids. cond (is_among f i c.in-Expunge.folder ids) None old) c.as_slice-in-Expunge.ensures.ids
     ∙ ap (λ b. cond b None old) (sym (ap (λ (kind : Kind). list_any (same_tag (MessageTag f i)) (tags_removed_by kind)) c.in-Expunge.is ∙ old_ids_remove_message_tags f c.in-Expunge.folder i c.in-Expunge.old_ids))
 
 pub returns-in-Store-clause-tags : goal.returns-in-Store-clause-tags
 returns-in-Store-clause-tags c = λ f i.
     let old = has_tag_in (find_folder f c.args.by_name.now.entries) i in
-    c.forget_messages-in-Store.ensures.tags f i
+    c.remove_message_tags-in-Store.ensures.tags f i
     ∙ ap (λ b. not b && old) (sym (ap (λ (kind : Kind). list_any (same_tag (FolderTag f i)) (tags_removed_by kind)) c.in-Store.is ∙ old_ids_keep_folder_tags f c.in-Store.folder i c.in-Store.old_ids))
 
 pub returns-in-Store-clause-tag_data : goal.returns-in-Store-clause-tag_data
 returns-in-Store-clause-tag_data c = λ f i.
     let old = tag_data_in (find_folder f c.args.by_name.now.entries) i in
-    c.forget_messages-in-Store.ensures.tag_data f i
+    c.remove_message_tags-in-Store.ensures.tag_data f i
     ∙ ap (λ ids. cond (is_among f i c.in-Store.folder ids) None old) c.as_slice-in-Store.ensures.ids
     ∙ ap (λ b. cond b None old) (sym (ap (λ (kind : Kind). list_any (same_tag (MessageTag f i)) (tags_removed_by kind)) c.in-Store.is ∙ old_ids_remove_message_tags f c.in-Store.folder i c.in-Store.old_ids))
 

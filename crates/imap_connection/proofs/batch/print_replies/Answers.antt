@@ -1,11 +1,11 @@
-use Rattle.std.proofs.Common.{◌≡◌, ◌+◌, ◌++◌, ◌<◌, List, ℕ, length, take, sym, ap, ◌∙◌, append_assoc, append-nil, arith, subst}
+use Rattle.std.proofs.Common.{◌≡◌, ◌+◌, ◌++◌, ◌<◌, List, ℕ, length, take, refl, sym, ap, ◌∙◌, append_assoc, append-nil, arith, subst}
 use Rattle.std.proofs.lemmas.Grind.{common_steps}
 use Rattle.imap_answers.specs.declared.answer.Answer.{Answer}
 use Rattle.imap_connection.specs.Batches.{answers_by}
 use Rattle.imap_connection.specs.Conversation.{IsPrefixOf}
 use Rattle.imap_connection.specs.Replies.{answers_of}
 use Rattle.imap_connection.specs.Requests.{texts}
-use Rattle.imap_connection.proofs.BatchLemmas.{answers_first, answers_next, prefix_next, no_answers, texts-append}
+use Rattle.imap_connection.proofs.BatchLemmas.{answers_at, answers_next, no_answers, texts-append}
 use Rattle.imap_connection.proofs.batch.print_replies.Goals as goal
 
 pub loop-i-init : goal.loop-i-init
@@ -17,12 +17,17 @@ returns-in-Err-clause-err c =
     let replies = c.args.replies.now in
     let first = answers_by tags (take c.loop-i.i replies) in
     let within : c.loop-i.i < length tags = omega (arith, c.loop-i-test.true, c.requires) in
-    let next = answers_next tags replies c.loop-i.i c.index-tags-i.result c.index-replies-i.result within c.loop-i-test.true c.index-tags-i.is c.index-replies-i.is in
-    let h = c.in-Err.ensures.err in
-    let prefix = subst (λ (x : List Answer). IsPrefixOf x (answers_by tags replies)) next (answers_first tags replies (c.loop-i.i + 1)) in (
+    let at = answers_at tags replies c.loop-i.i c.index-tags-i.result c.index-replies-i.result within c.loop-i-test.true c.index-tags-i.is c.index-replies-i.is in
+    let h = c.in-Err.ensures.err in (
       first ++ h.0,
       h.1 ∙ ap (λ (x : List ℕ). x ++ texts h.0) c.loop-i.invariant ∙ append_assoc c.args.text.now.items (texts first) (texts h.0) ∙ ap (λ (x : List ℕ). c.args.text.now.items ++ x) (sym (texts-append first h.0)),
-      prefix_next first (answers_of c.index-tags-i.result c.index-replies-i.result) (answers_by tags replies) h.0 prefix h.2,
+      record {
+        whole = c.loop-i.i;
+        first = h.0;
+        within = c.loop-i-test.true;
+        answers_are = refl;
+        first_of_reply = subst (λ (xs : List Answer). IsPrefixOf h.0 xs) (sym at) h.2;
+      },
     )
 
 pub loop-i-preserved : goal.loop-i-preserved

@@ -9,11 +9,11 @@ pub returns-in-Err-clause-conversation : goal.returns-in-Err-clause-conversation
 returns-in-Err-clause-conversation g c =
     let fault = c.in-Err.fault in
     let none : c.new.result.items ≡ [] = search rules in
-    let written = c.write_last.ensures.written (ap failed_writes c.ended_by.ensures ∙ port_writes fault) in
+    let written = c.write_last.ensures.written (ap failed_writes c.end_reason_of.ensures ∙ port_writes fault) in
     let taken = g.K.Sink.taken c.args.sink.now in
     let after = g.K.Sink.taken c.write_last.new.sink in
     let P : Ended → List ℕ → Type 0 = λ ended text. IsWritten ended (text ++ bye_text_of ended) c.write_last.result taken after in
-    inl (fault, c.in-Err.ensures, refl, subst (λ (ended : Ended). P ended []) c.ended_by.ensures (subst (P c.ended_by.result) none written))
+    inl (fault, c.in-Err.ensures, refl, subst (λ (ended : Ended). P ended []) c.end_reason_of.ensures (subst (P c.end_reason_of.result) none written))
 
 pub returns-clause-conversation : goal.returns-clause-conversation
 returns-clause-conversation g c =

@@ -1,5 +1,5 @@
 use Rattle.std.proofs.Common.{◌≡◌, List, ℕ, [], inr, refl, false, subst}
-use Rattle.imap_connection.specs.Devices.{IsOutput, TookAllOrPart}
+use Rattle.imap_connection.specs.Devices.{IsOutput, TakesAllOrPart}
 use Rattle.imap_connection.specs.EndReasons.{bye_text_of}
 use Rattle.imap_connection.proofs.ConversationsLemmas.{output_part, took_less}
 use Rattle.imap_connection.proofs.conversations.write_last.Goals as goal
@@ -16,5 +16,5 @@ returns-then-not-write_bye-clause-written g c z =
     let bye = bye_text_of c.args.ended in
     let none : c.write_pending.new.text.items ≡ [] = c.if-not-write_pending.ensures.none in
     let output : IsOutput first c.args.text.now.items [] mid [] = subst (λ (t : List ℕ). IsOutput first c.args.text.now.items [] mid t) none c.if-not-write_pending.ensures.output in
-    let lost : TookAllOrPart false mid bye last = subst (λ (t : List ℕ). TookAllOrPart false mid t last) c.bye_text.ensures c.if-not-write_bye.ensures.octets in
+    let lost : TakesAllOrPart false mid bye last = subst (λ (t : List ℕ). TakesAllOrPart false mid t last) c.bye_text_of.ensures c.if-not-write_bye.ensures.octets in
     inr (refl, output_part first mid last c.args.text.now.items [] [] bye output lost)

@@ -9,7 +9,7 @@ use Rattle.imap_connection.proofs.request_steps.take_command.Goals as goal
 pub returns-in-Err-clause-err : goal.returns-in-Err-clause-err
 returns-in-Err-clause-err g c =
     refused g.P.Port.steps c.args.idling.now c.args.text.now.items c.args.text.now.items c.args.port.now c.command.new.self (requests.Command c.args.tagged) (asked.Command c.args.tagged)
-    c.in-Err.fault c.ended_by.result refl c.in-Err.ensures c.ended_by.ensures refl
+    c.in-Err.fault c.end_reason_of.result refl c.in-Err.ensures c.end_reason_of.ensures refl
 
 pub returns-in_default-print_reply-clause-err : goal.returns-in_default-print_reply-clause-err
 returns-in_default-print_reply-clause-err g c =

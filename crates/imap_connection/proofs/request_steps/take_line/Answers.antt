@@ -8,7 +8,7 @@ use Rattle.imap_connection.proofs.request_steps.take_line.Goals as goal
 pub returns-in-Err-clause-err : goal.returns-in-Err-clause-err
 returns-in-Err-clause-err g c =
     refused g.P.Port.steps c.args.idling.now c.args.text.now.items c.args.text.now.items c.args.port.now c.done.new.self (requests.Line c.args.tag c.args.line) (asked.Line c.args.line)
-    c.in-Err.fault c.ended_by.result refl c.in-Err.ensures c.ended_by.ensures refl
+    c.in-Err.fault c.end_reason_of.result refl c.in-Err.ensures c.end_reason_of.ensures refl
 
 pub returns-then-is_out_of_memory-clause-err : goal.returns-then-is_out_of_memory-clause-err
 returns-then-is_out_of_memory-clause-err g c =

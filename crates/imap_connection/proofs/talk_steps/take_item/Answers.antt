@@ -1,7 +1,13 @@
 use Rattle.std.proofs.Common.{ℕ, List, Option, subst}
 use Rattle.imap_connection.specs.RequestSteps.{IsRequest}
-use Rattle.imap_connection.proofs.RequestLemmas.{item_answered, item_broken}
+use Rattle.imap_connection.proofs.RequestLemmas.{item_answered, item_broken, request_awaited}
 use Rattle.imap_connection.proofs.talk_steps.take_item.Goals as goal
+
+pub take_request-requires-clause-awaited : goal.take_request-requires-clause-awaited
+take_request-requires-clause-awaited c =
+    let request = c.in-Ok-request_of.request in
+    let is = subst (λ (idling : Option (List ℕ)). IsRequest idling c.args.item.now request) c.tag_of_idling.ensures (c.in-Ok-request_of.ensures {u = tt}) in
+    request_awaited c.args.node.now.state c.args.session c.args.item.now request is
 
 pub returns-clause-ok : goal.returns-clause-ok
 returns-clause-ok c =

@@ -9,7 +9,8 @@ use Rattle.imap_connection.specs.declared.turn.Turn.{Turn}
 use Rattle.imap_connection.proofs.TalkLemmas.{ends_broken_off, ends_talk, items_before_fault, no_framing, stopped_early, timed_prefix}
 use Rattle.imap_connection.proofs.talk_steps.talk.Goals as goal
 
--- what is true of the items and turns, given what a call added to no turns
+-- a statement about items and turns, from the one about the turns that a call added to an empty
+-- list
 from_none : (P : List Item → List Turn → Type 0) (items slice : List Item) (none turns : List Turn) → slice ≡ items → none ≡ [] → ((more : List Turn) × (turns ≡ none ++ more) × P slice more) → P items turns
 from_none P items slice none turns e n t = subst (λ (ts : List Turn). P items ts) (sym (t.1 ∙ ap (λ ts. ts ++ t.0) n)) (subst (λ (xs : List Item). P xs t.0) e t.2)
 

@@ -5,11 +5,11 @@ use Rattle.imap_types.specs.DateTimes.{IsDateTime}
 use Rattle.imap_types.proofs.DateTimeLemmas.{date_time_from_test, test_from_date_time}
 use Rattle.imap_print.specs.Reading.{◌>>=◌}
 use Rattle.imap_print.specs.ReadingAnswers.{date_at}
-use Rattle.imap_print.proofs.ReadingLemmas.{counted-length}
+use Rattle.imap_print.proofs.ReadingLemmas.{octets_at-length}
 use Rattle.imap_print.proofs.item_readers.date.Goals as goal
 
 pub copy_from_slice-requires : goal.copy_from_slice-requires
-copy_from_slice-requires c = sym (counted-length 28 c.args.bytes.now c.in_ok-front.front.now c.in_ok-front.rest.now c.in_ok-front.ensures)
+copy_from_slice-requires c = sym (octets_at-length 28 c.args.bytes.now c.in_ok-front.front.now c.in_ok-front.rest.now c.in_ok-front.ensures)
 
 pub returns-in-None : goal.returns-in-None
 unfolding date_at

@@ -1,7 +1,7 @@
 use Rattle.std.proofs.Common.{◌≡◌, ◌∙◌, ◌∷◌, ◌++◌, [], true, ℕ, List, ap, append_assoc, sym, subst}
 use Rattle.server_settings.specs.Settings.{HavePeers, is_named, join_names_of}
 use Rattle.server_settings.specs.declared.settings.Join.{Join}
-use Rattle.server_settings.proofs.NameLemmas.{join_names_append, peers_more}
+use Rattle.server_settings.proofs.NameLemmas.{join_names_append, peers_append}
 use Rattle.server_settings.proofs.settings.joins_of.Goals as goal
 
 pub loop-text-preserved : goal.loop-text-preserved
@@ -16,5 +16,5 @@ loop-text-preserved c =
       names = c.in-Ok.ensures.names;
       same = more.1 ∙ ap (λ (xs : List ℕ). xs ++ name ∷ []) c.loop-text.invariant.same ∙ append_assoc first (join_names_of joins) (name ∷ [])
           ∙ ap (λ (xs : List ℕ). first ++ xs) (sym (join_names_append joins join)) ∙ ap (λ (js : List Join). first ++ join_names_of js) (sym more.3);
-      peers = subst (HavePeers first) (sym more.3) (peers_more first joins join c.loop-text.invariant.peers named);
+      peers = subst (HavePeers first) (sym more.3) (peers_append first joins join c.loop-text.invariant.peers named);
     }

@@ -1,12 +1,12 @@
 use Rattle.std.proofs.Common.{List, [], ◌∷◌, codes, subst}
 use Rattle.clap.specs.Words.{AddsArg, AddsInTurn, Rule}
 use Rattle.clap_laws.proofs.WordLemmas.{AreWords, added_in_turn}
-use Rattle.server_settings.specs.Options.{join_word, named_word, preauth_word, replica_word, stop_word}
+use Rattle.server_settings.specs.Options.{join_word, word_with_value, preauth_word, replica_word, stop_word}
 use Rattle.server_settings.proofs.settings.known_words.Goals as goal
 
 pub returns : goal.returns
 returns c = λ old new adds.
     let words = c.preauth.result ∷ c.word_with_value.result ∷ c.word_with_value-2.result ∷ c.stop_after.result ∷ c.joining.result ∷ c.replica.result ∷ [] in
-    let rules : List Rule = preauth_word ∷ named_word (codes "user") ∷ named_word (codes "pass") ∷ stop_word ∷ join_word ∷ replica_word ∷ [] in
+    let rules : List Rule = preauth_word ∷ word_with_value (codes "user") ∷ word_with_value (codes "pass") ∷ stop_word ∷ join_word ∷ replica_word ∷ [] in
     let are : AreWords words rules = (c.preauth.ensures, (c.word_with_value.ensures, (c.word_with_value-2.ensures, (c.stop_after.ensures, (c.joining.ensures, (c.replica.ensures, tt)))))) in
     added_in_turn old new words rules are (subst (λ l. AddsInTurn AddsArg old l new) c.in_ok-words.ensures.items adds)

@@ -1,4 +1,4 @@
-use Rattle.std.proofs.Common.{◌≡◌, ◌≤◌, List, take}
+use Rattle.std.proofs.Common.{◌≡◌, ◌+◌, ◌≤◌, List, length, take}
 use Rattle.crdt_ops.specs.declared.op.Op.{Op}
 use Rattle.folder_state.specs.Contents.{IsMadeBy}
 use Rattle.folder_state.specs.Tables.{contents_of}
@@ -14,5 +14,8 @@ invariant-loop-id l = record {
       → IsMadeBy (contents_of l.value) list
       → AreApart l.fn.entries.entries
       → l.entries.entries ≡ moved_entries (loses (origin_at l.versions.entries) (take l.id-index l.removed)) (λ g. has_version l.folder g list) l.modseq l.fn.entries.entries;
+  within : l.id-index ≤ length l.removed;
+  latest : l.entries.latest ≤ l.modseq;
   room : l.fn.entries.room ≤ l.entries.room;
+  modseq_room : l.fn.entries.modseq_room ≤ l.entries.modseq_room + l.id-index;
 }

@@ -14,6 +14,7 @@ pub loop-op-init : goal.loop-op-init
 loop-op-init c =
     let x = c.args.chart.now in
     record {
+      latest = c.requires;
       folder = refl;
       ahead = λ k h. h;
       shows = λ list k r s. subst (λ xs. IsChart c.args.charts.now.start c.args.folder.now xs x.uidnext x.highest x.entries.entries) (sym (append-nil list)) s;
@@ -32,6 +33,7 @@ loop-op-preserved c =
     let next = take_op ops i o o c.loop-op-test.true c.op-item.is refl in
     let y = c.advance_over_one.new.chart in
     record {
+      latest = b.latest;
       folder = c.advance_over_one.ensures.folder ∙ h.folder;
       ahead = λ k q.
           subst (λ w. IsAhead w c.advance_over_one.new.ahead) (sym (ap (after k) next ∙ fold_append effect_of k (take i ops) (o ∷ []))) (b.ahead (after k (take i ops)) (h.ahead k q));

@@ -1,4 +1,4 @@
-use Rattle.std.proofs.Common.{◌≡◌, ◌++◌, List, take}
+use Rattle.std.proofs.Common.{◌≡◌, ◌≤◌, ◌++◌, List, take}
 use Rattle.crdt_ops.specs.declared.op.Op.{Op}
 use Rattle.folder_state.specs.Contents.{Contents}
 use Rattle.folder_state.specs.AfterOps.{after}
@@ -9,6 +9,7 @@ use Rattle.uid_projection.proofs.chart_ahead.advance_over.Given as goal
 
 abbrev pub invariant-loop-op : goal.invariant-loop-op
 invariant-loop-op l = record {
+  latest : l.chart.entries.latest ≤ l.chart.highest;
   folder : (folder_of l.ahead) ≡ (folder_of l.fn.ahead);
   ahead : (c : Contents) → IsAhead c l.fn.ahead → IsAhead (after c (take l.op-index l.ops)) l.ahead;
   shows :

@@ -15,6 +15,9 @@ use Rattle.uid_projection.proofs.AheadLemmas.{made_after, on_ok, folder_exists_i
 use Rattle.uid_projection.proofs.Tables.{chart_as, chart_of_other}
 use Rattle.uid_projection.proofs.chart_ahead.advance_over_one.Goals as goal
 
+pub returns-then-not-names_folder-clause-latest : goal.returns-then-not-names_folder-clause-latest
+returns-then-not-names_folder-clause-latest c = on_ok c.step.result (λ q. c.requires) c.step.ensures.ahead
+
 pub returns-then-not-names_folder-clause-shows : goal.returns-then-not-names_folder-clause-shows
 returns-then-not-names_folder-clause-shows c = on_ok c.step.result (λ q list k r s.
     let x = c.args.chart.now in
@@ -27,7 +30,7 @@ returns-then-not-exists-clause-shows c = λ list k r s.
     let o = c.args.op.now in
     let mid = c.step-2.new.self in
     let own : (folder_of mid) ≡ n = c.step-2.ensures.folder ∙ r.own in
-    let w = c.in_ok-chart.ensures in
+    let w = c.in_ok-chart.ensures.shows in
     let present = folder_exists_is (effect_of k o) (list ++ o ∷ []) (folder_of mid) c.exists.result (made_after k list (o ∷ []) r.made r.applied) (c.exists.ensures (effect_of k o) (c.in_ok-step.ensures.ahead k r.is_ahead)) in
     let absent : folder_exists n (list ++ o ∷ []) ≡ false = sym (present ∙ ap (λ m. folder_exists m (list ++ o ∷ [])) own) ∙ c.if-not-exists.true in
     chart_as start n (list ++ o ∷ []) _ _ _ _ _ _ (w.0 ∙ c.first_of.ensures) w.1 (w.2 ∙ r.none) (chart_none start n (list ++ o ∷ []) absent)
@@ -57,4 +60,4 @@ returns-clause-shows c = on_ok c.advance.result (λ h list k r s.
     let before : IsChart start (folder_of mid) list x.uidnext x.highest x.entries.entries = subst (λ m. IsChart start m list x.uidnext x.highest x.entries.entries) (sym own) s in
     let present = folder_exists_is (effect_of k p) (list ++ p ∷ []) (folder_of mid) c.exists.result (made_after k list (p ∷ []) w.made w.applied) (c.exists.ensures (effect_of k p) w.is_ahead) in
     let is_chart = h start list k (sym present ∙ c.if-not-exists.false) w before in
-    subst (λ (q : Op). IsChart start n (list ++ q ∷ []) y.uidnext y.highest y.entries.entries) e (subst (λ m. IsChart start m (list ++ p ∷ []) y.uidnext y.highest y.entries.entries) own is_chart)) c.advance.ensures
+    subst (λ (q : Op). IsChart start n (list ++ q ∷ []) y.uidnext y.highest y.entries.entries) e (subst (λ m. IsChart start m (list ++ p ∷ []) y.uidnext y.highest y.entries.entries) own is_chart)) c.advance.ensures.shows

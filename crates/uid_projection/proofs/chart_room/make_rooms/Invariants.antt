@@ -10,5 +10,5 @@ use Rattle.uid_projection.proofs.chart_room.make_rooms.Given as goal
 abbrev pub invariant-loop-op : goal.invariant-loop-op
 invariant-loop-op l = record {
   table : (list : List Op) (k : ℕ) → IsTable l.start list k l.fn.charts.entries → IsTable l.start list k l.charts.entries;
-  done : (o : Op) → IsIn o (take l.op-index l.ops) → kind_names_folder (name_of o.kind) o.kind ≡ true → HasRooms (added_origin o) (length l.ops) (name_of o.kind) l.charts.entries;
+  done : (o : Op) → IsIn o (take l.op-index l.ops) → kind_names_folder (name_of o.kind) o.kind ≡ true → HasRooms (added_origin o) (length l.ops) l.modseqs (name_of o.kind) l.charts.entries;
 }

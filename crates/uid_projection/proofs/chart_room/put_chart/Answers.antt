@@ -18,7 +18,7 @@ returns-clause-table c = λ list k t.
     let d = c.make_room_in.new.chart in
     let w = c.absent_chart-chart.ensures in
     let post = given_ok c.insert.result (sym c.is_err.ensures.value ∙ c.if-is_err.false) c.insert.ensures.updates in
-    let up = same_up start n list a d c.make_room_in.ensures.same (absent_up start n list a (t.covers n c.requires) w.present (w.uidnext ∙ c.first_of.ensures) w.highest w.entries w.versions) in
+    let up = same_up start n list a d c.make_room_in.ensures.same (absent_up start n list a (t.covers n c.requires) w.present (w.uidnext ∙ c.first_of.ensures) w.highest w.entries w.versions w.latest) in
     table_unchanged key.items c.args.charts.now.entries c.insert.new.self.entries d post.3 post.1 start list k t (subst (λ m. IsUpTo start m list d) (sym e) up)
 
 pub returns-clause-rooms : goal.returns-clause-rooms
@@ -33,5 +33,5 @@ returns-clause-ok c =
     let key = c.in_ok-key.key in
     let e : key.items ≡ c.args.folder.now = search rules in
     let post = given_ok c.insert.result (sym c.is_err.ensures.value ∙ c.if-is_err.false) c.insert.ensures.updates in
-    subst (λ m. HasRooms c.args.origin.now c.args.more m c.insert.new.self.entries) e
-    (rooms_here key.items c.args.charts.now.entries c.insert.new.self.entries c.make_room_in.new.chart post.3 post.1 c.args.origin.now c.args.more c.in_ok-make_room_in.ensures.ok)
+    subst (λ m. HasRooms c.args.origin.now c.args.more c.args.modseqs m c.insert.new.self.entries) e
+    (rooms_here key.items c.args.charts.now.entries c.insert.new.self.entries c.make_room_in.new.chart post.3 post.1 c.args.origin.now c.args.more c.args.modseqs c.in_ok-make_room_in.ensures.ok)

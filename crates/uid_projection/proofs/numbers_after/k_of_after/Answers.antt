@@ -20,8 +20,8 @@ loop-at-preserved c =
     let n = c.args.folder.now in
     let next = take_op ops at c.index-ops-at.result o c.loop-at-test.true c.index-ops-at.is c.op.ensures.op in
     let k_next : (start : Counters) (list : List Op) → IsApplied (list ++ ops) → IsMadeBy (contents_of c.args.value.now) list → c.args.next_k ≡ start.k + count_all begins_incarnation list → c.next_k_after_op-next.result ≡ start.k + count_all begins_incarnation (list ++ take (at + 1) ops) = λ start list a m is.
-    next_k_is start list (take at ops) (take (at + 1) ops) o c.begins-starts.result c.loop-at.next c.next_k_after_op-next.result next
-    (c.begins-starts.ensures list next (applied_take list ops (at + 1) a) m) (c.loop-at.invariant.next start list a m is) c.next_k_after_op-next.ensures.next
+    next_k_is start list (take at ops) (take (at + 1) ops) o c.begins-begins_incarnation.result c.loop-at.next c.next_k_after_op-next.result next
+    (c.begins-begins_incarnation.ensures list next (applied_take list ops (at + 1) a) m) (c.loop-at.invariant.next start list a m is) c.next_k_after_op-next.ensures.next
     in
     record {
       next = k_next;

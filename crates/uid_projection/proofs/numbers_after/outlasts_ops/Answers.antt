@@ -1,8 +1,5 @@
-use Rattle.std.specs.List.{list_any}
-use Rattle.std.proofs.Common.{◌≡◌, inl, inr, true, false, not, ◌++◌, sym, ap, ◌∙◌}
+use Rattle.std.proofs.Common.{◌≡◌, inl, inr, false, not, sym, ap, ◌∙◌}
 use Rattle.std.proofs.lemmas.Bool.{cases_Bool, false≢true}
-use Rattle.crdt_ops.specs.declared.op.Op.{Op}
-use Rattle.uid_projection.specs.Incarnations.{deletes_folder}
 use Rattle.uid_projection.proofs.ExhaustionLemmas.{exists_as}
 use Rattle.uid_projection.proofs.ValidityLemmas.{validity_remains}
 use Rattle.uid_projection.proofs.numbers_after.outlasts_ops.Goals as goal

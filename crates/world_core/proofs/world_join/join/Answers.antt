@@ -11,14 +11,14 @@ returns-then-is_taken-clause-why c = (refl, subst (λ (ns : List NodeWithRoom). 
 pub returns-in_default-reserve-clause-why : goal.returns-in_default-reserve-clause-why
 returns-in_default-reserve-clause-why c = (
   subst (λ (ns : List NodeWithRoom). nodes_by_name (all_without_room ns) c.args.name ≡ None) c.deref.ensures.value (c.is_taken.ensures.no c.if-is_taken.false),
-  some_node c.args.nodes.now.items c.args.peer c.in-Some.place (subst (λ (ns : List NodeWithRoom). IsPlace ns c.args.peer c.in-Some.place) c.deref-2.ensures.value c.in-Some.ensures),
+  some_node c.args.nodes.now.items c.args.from c.in-Some.place (subst (λ (ns : List NodeWithRoom). IsPlace ns c.args.from c.in-Some.place) c.deref-2.ensures.value c.in-Some.ensures),
 )
 
 pub returns-in-Ok-with_operations_of-clause-ok : goal.returns-in-Ok-with_operations_of-clause-ok
 returns-in-Ok-with_operations_of-clause-ok c = (
   c.index.result.now.state,
-  node_at_place c.args.nodes.now.items c.reserve.new.self.items c.args.peer c.in-Some.place c.index.result.now
-      (subst (λ (ns : List NodeWithRoom). IsPlace ns c.args.peer c.in-Some.place) c.deref-2.ensures.value c.in-Some.ensures) c.reserve.ensures.items c.index.ensures,
+  node_at_place c.args.nodes.now.items c.reserve.new.self.items c.args.from c.in-Some.place c.index.result.now
+      (subst (λ (ns : List NodeWithRoom). IsPlace ns c.args.from c.in-Some.place) c.deref-2.ensures.value c.in-Some.ensures) c.reserve.ensures.items c.index.ensures,
   subst (λ (ns : List NodeWithRoom). nodes_by_name (all_without_room ns) c.args.name ≡ None) c.deref.ensures.value (c.is_taken.ensures.no c.if-is_taken.false),
   c.in-Ok-with_operations_of.ensures.1,
   without_room_append c.args.nodes.now.items c.reserve.new.self.items c.push_reserved.new.self.items c.in-Ok-with_operations_of.node _ c.reserve.ensures.items c.push_reserved.ensures.items c.in-Ok-with_operations_of.ensures.0,
@@ -29,8 +29,8 @@ returns-in-Err-Exhausted-clause-why c = (
   subst (λ (ns : List NodeWithRoom). nodes_by_name (all_without_room ns) c.args.name ≡ None) c.deref.ensures.value (c.is_taken.ensures.no c.if-is_taken.false),
   (
     c.index.result.now.state,
-    node_at_place c.args.nodes.now.items c.reserve.new.self.items c.args.peer c.in-Some.place c.index.result.now
-        (subst (λ (ns : List NodeWithRoom). IsPlace ns c.args.peer c.in-Some.place) c.deref-2.ensures.value c.in-Some.ensures) c.reserve.ensures.items c.index.ensures,
+    node_at_place c.args.nodes.now.items c.reserve.new.self.items c.args.from c.in-Some.place c.index.result.now
+        (subst (λ (ns : List NodeWithRoom). IsPlace ns c.args.from c.in-Some.place) c.deref-2.ensures.value c.in-Some.ensures) c.reserve.ensures.items c.index.ensures,
     c.in-Err-Exhausted.ensures c.in-Err-Exhausted.field-0-is,
   ),
 )
@@ -38,5 +38,5 @@ returns-in-Err-Exhausted-clause-why c = (
 pub returns-in-Err-NoMemory-clause-why : goal.returns-in-Err-NoMemory-clause-why
 returns-in-Err-NoMemory-clause-why c = (
   subst (λ (ns : List NodeWithRoom). nodes_by_name (all_without_room ns) c.args.name ≡ None) c.deref.ensures.value (c.is_taken.ensures.no c.if-is_taken.false),
-  some_node c.args.nodes.now.items c.args.peer c.in-Some.place (subst (λ (ns : List NodeWithRoom). IsPlace ns c.args.peer c.in-Some.place) c.deref-2.ensures.value c.in-Some.ensures),
+  some_node c.args.nodes.now.items c.args.from c.in-Some.place (subst (λ (ns : List NodeWithRoom). IsPlace ns c.args.from c.in-Some.place) c.deref-2.ensures.value c.in-Some.ensures),
 )

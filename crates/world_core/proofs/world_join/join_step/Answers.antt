@@ -8,5 +8,5 @@ use Rattle.world_core.proofs.world_join.join_step.Goals as goal
 
 pub returns : goal.returns
 returns c =
-    subst (λ (x : Outcome). Steps (nodes_by_name (all_without_room c.args.nodes.now.items)) (events.Join c.args.name c.args.peer) x (nodes_by_name (all_without_room c.join-answer.new.nodes.items))) (sym c.outcome_of_join.ensures)
-    (answers_step c.args.nodes.now.items c.join-answer.new.nodes.items c.args.name c.args.peer c.join-answer.result c.join-answer.ensures.ok c.join-answer.ensures.why c.join-answer.ensures.err)
+    subst (λ (x : Outcome). Steps (nodes_by_name (all_without_room c.args.nodes.now.items)) (events.Join c.args.name c.args.from) x (nodes_by_name (all_without_room c.join-answer.new.nodes.items))) (sym c.outcome_of_join.ensures)
+    (answers_step c.args.nodes.now.items c.join-answer.new.nodes.items c.args.name c.args.from c.join-answer.result c.join-answer.ensures.ok c.join-answer.ensures.why c.join-answer.ensures.err)

@@ -1,7 +1,7 @@
 use Rattle.std.proofs.Common.{[], subst, arith}
 use Rattle.std.proofs.lemmas.List.{take_all}
 use Rattle.causal_inbox.specs.Inbox.{AreHeldStill}
-use Rattle.causal_inbox.proofs.Ascending.{held_still_more}
+use Rattle.causal_inbox.proofs.AscendingLemmas.{held_still_step}
 use Rattle.causal_inbox.proofs.CauseCountLemmas.{fewer_apart}
 use Rattle.causal_inbox.proofs.held_store.HeldStore.discard_all.Goals as goal
 
@@ -20,7 +20,7 @@ pub loop-op-preserved : goal.loop-op-preserved
 loop-op-preserved g c =
     let h = c.loop-op.invariant in
     record {
-      remaining = held_still_more g.O.Caused.id c.args.ops.now c.loop-op.op-index c.op-item.result c.id.result c.args.self.now.list c.loop-op.self.list c.discard.new.self.list c.loop-op-test.true c.op-item.is c.id.ensures h.remaining c.discard.ensures.others;
+      remaining = held_still_step g.O.Caused.id c.args.ops.now c.loop-op.op-index c.op-item.result c.id.result c.args.self.now.list c.loop-op.self.list c.discard.new.self.list c.loop-op-test.true c.op-item.is c.id.ensures h.remaining c.discard.ensures.others;
       count = let a = c.discard.ensures.count in let b = h.count in omega (arith, a, b);
       indexed = λ woken applied f. c.discard.ensures.indexed woken applied (h.indexed woken applied f);
     }

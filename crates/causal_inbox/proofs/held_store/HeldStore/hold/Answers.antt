@@ -37,5 +37,5 @@ pub returns-clause-indexed : goal.returns-clause-indexed
 returns-clause-indexed g c = λ applied k n indexed.
     let o = g.O.Caused in
     subst (λ entries. AreIndexed o.id o.clock [] applied c.insert.new.self entries) (sym (put g c))
-    (indexed_more o.id o.clock [] applied c.self.inside.list c.insert.new.self c.self.inside.entries c.place_of-to.result c.entry_of-entry.result c.args.op c.self.invariant.entries (more g c).2 (new g c) c.entry_of-entry.ensures.id (c.entry_of-entry.ensures.under applied k n)
+    (indexed_more o.id o.clock [] applied c.self.inside.list c.insert.new.self c.self.inside.entries c.place_of-to.result c.entry_of-entry.result c.args.op c.self.invariant.entries (more g c).2 (new g c) c.entry_of-entry.ensures.id (c.entry_of-entry.ensures.indexed applied k n)
     (subst (λ (h : HeldState _). AreIndexed o.id o.clock [] applied h.list h.entries) (sym c.self.view_is) indexed))

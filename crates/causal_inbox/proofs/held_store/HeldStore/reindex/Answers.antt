@@ -44,7 +44,7 @@ returns-clause-entries g c =
       op = c.in-Some.op.now;
       is_held = member.0;
       op_id = sym c.entry_of.ensures.id;
-      under = c.entry_of.ensures.under;
+      under = c.entry_of.ensures.indexed;
     })
 
 pub invariant_of-self : goal.invariant_of-self
@@ -59,15 +59,15 @@ invariant_of-self g c =
     let rest : c.take-slot.new.self ≡ remove entries c.args.at = c.take-slot.ensures.others in
     let entry : c.item-2.result.now ≡ e = c.item-2.ensures ∙ c.replace.ensures in
     let same : e.id ≡ f.id = c.entry_of.ensures.id ∙ (c.in-Some.ensures {u = tt}).1 ∙ ap (λ (y : CauseEntry). y.id) c.item.ensures in
-    let never : ¬ IsIn e (remove entries c.args.at) = new_entry o.id list entries c.args.at f e c.self.invariant.entries at_f same in
+    let not_in_rest : ¬ IsIn e (remove entries c.args.at) = new_entry o.id list entries c.args.at f e c.self.invariant.entries at_f same in
     let ordered : AreOrdered IsIndexedBefore (insert (remove entries c.args.at) to e) =
     subst (λ (xs : List CauseEntry). AreOrdered IsIndexedBefore (insert xs to e)) rest
     (subst (λ (x : CauseEntry). AreOrdered IsIndexedBefore (insert c.take-slot.new.self to x)) entry
-    (c.place_of-to.ensures.place (subst (λ (x : CauseEntry). ¬ IsIn x c.take-slot.new.self) (sym entry) (subst (λ (xs : List CauseEntry). ¬ IsIn e xs) (sym rest) never)))) in
-    let made : c.put.new.self ≡ insert (remove entries c.args.at) to e = c.put.ensures ∙ ap (insert c.take-slot.new.self to) c.replace.ensures ∙ ap (λ (xs : List CauseEntry). insert xs to e) rest in
+    (c.place_of-to.ensures.place (subst (λ (x : CauseEntry). ¬ IsIn x c.take-slot.new.self) (sym entry) (subst (λ (xs : List CauseEntry). ¬ IsIn e xs) (sym rest) not_in_rest)))) in
+    let entries_after : c.put.new.self ≡ insert (remove entries c.args.at) to e = c.put.ensures ∙ ap (insert c.take-slot.new.self to) c.replace.ensures ∙ ap (λ (xs : List CauseEntry). insert xs to e) rest in
     let within : to ≤ length (remove entries c.args.at) = subst (λ (xs : List CauseEntry). to ≤ length xs) rest c.place_of-to.ensures.within in
     record {
       ascending = c.self.invariant.ascending;
-      count = omega (arith, ap length made, length-insert (remove entries c.args.at) to e within, length-remove entries c.args.at (slice_get_within entries c.args.at f at_f), c.self.invariant.count);
-      entries = subst (IsCauseIndex o.id list) (sym made) (index_moved o.id list entries c.args.at to f e c.self.invariant.ascending c.self.invariant.entries at_f same ordered);
+      count = omega (arith, ap length entries_after, length-insert (remove entries c.args.at) to e within, length-remove entries c.args.at (slice_get_within entries c.args.at f at_f), c.self.invariant.count);
+      entries = subst (IsCauseIndex o.id list) (sym entries_after) (index_moved o.id list entries c.args.at to f e c.self.invariant.ascending c.self.invariant.entries at_f same ordered);
     }

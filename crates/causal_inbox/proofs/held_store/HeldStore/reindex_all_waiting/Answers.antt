@@ -2,7 +2,7 @@ use Rattle.std.proofs.Common.{◌≡◌, ◌+◌, [], ◌∷◌, List, drop, map
 use Rattle.tags_clocks.specs.declared.id.OpId.{OpId}
 use Rattle.merge_laws.specs.Orders.{HasId}
 use Rattle.causal_inbox.specs.CauseIndex.{AreApart, AreIndexed}
-use Rattle.causal_inbox.proofs.Ascending.{in_at}
+use Rattle.causal_inbox.proofs.AscendingLemmas.{element_is_in}
 use Rattle.causal_inbox.proofs.Places.{drop_next}
 use Rattle.causal_inbox.proofs.CauseCountLemmas.{drop_past_end}
 use Rattle.causal_inbox.proofs.held_store.HeldStore.reindex_all_waiting.Goals as goal
@@ -21,7 +21,7 @@ loop-op-preserved g c =
       indexed = λ applied k m p f.
           let woken = map o.id (drop (i + 1) ops) in
           c.reindex_waiting.ensures.indexed woken applied k
-          (subst (HasId o.id applied) (sym c.id.ensures) (m op (in_at ops i op c.loop-op-test.true c.op-item.is)))
+          (subst (HasId o.id applied) (sym c.id.ensures) (m op (element_is_in ops i op c.loop-op-test.true c.op-item.is)))
           (subst (λ xs. AreApart o.id xs applied) (sym inv.list) p)
           (subst (λ (j : OpId). AreIndexed o.id o.clock (j ∷ woken) applied s.list s.entries) (sym c.id.ensures)
           (subst (λ xs. AreIndexed o.id o.clock (map o.id xs) applied s.list s.entries) rest (inv.indexed applied k m p f)));

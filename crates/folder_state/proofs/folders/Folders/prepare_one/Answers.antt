@@ -24,13 +24,13 @@ returns-clause-prepared c =
     let list = c.in_ok-list.list in
     let low = at_most_one_version op (origin_by op.id op.kind) in
     let places = (c.in_ok-list.ensures {u = tt}).exact in
-    let here : HasRoomFor (op ∷ []) op (λ n. find_folder n folders) =
+    let has_room : HasRoomFor (op ∷ []) op (λ n. find_folder n folders) =
     subst (λ (o : Op). HasRoomFor (o ∷ []) o (λ n. find_folder n folders)) c.op.ensures.op (c.in_ok-reserve_one.ensures {u = tt}).room in
     record {
       copies = ([], (c.in_ok-push_back-2.ensures {u = tt}).items ∙ (λ k. c.clear-2.ensures.items k ++ c.in_ok-copy.ensures {u = tt} k ∷ []));
       lists = subst (HaveLists (op ∷ [])) (sym ((c.in_ok-push_back.ensures {u = tt}).items ∙ ap (λ (ls : List (Vec Version)). ls ++ list ∷ []) c.clear.ensures.items)) ((c.in_ok-list.ensures {u = tt}).items, omega (arith, low, places), tt);
       rooms = λ o h. elim h [
-        | inl e ↦ subst (λ (p : Op). HasRoomFor (op ∷ []) p (λ n. find_folder n folders)) e here
+        | inl e ↦ subst (λ (p : Op). HasRoomFor (op ∷ []) p (λ n. find_folder n folders)) e has_room
         | inr n ↦ absurd n
       ];
       dated_texts = (c.in_ok-reserve.ensures {u = tt}).ok;

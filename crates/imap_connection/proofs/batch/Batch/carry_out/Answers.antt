@@ -1,7 +1,7 @@
 use Rattle.std.proofs.Common.{◌≡◌, ◌≤◌, ◌∙◌, List, ℕ, inr, refl, sym, ap, subst, length}
 use Rattle.imap_node.specs.declared.reply.Reply.{Reply}
 use Rattle.imap_syntax.specs.declared.command.Tagged.{Tagged}
-use Rattle.imap_connection.specs.Batches.{CarriesCommands, answers_by, tags_of}
+use Rattle.imap_connection.specs.Batches.{CarriesCommands, EndsInReply, tags_of}
 use Rattle.imap_connection.proofs.BatchLemmas.{carries_fit}
 use Rattle.imap_connection.proofs.batch.Batch.carry_out.Goals as goal
 
@@ -16,8 +16,10 @@ returns-in_default-print_replies-clause-err g c =
     let h = c.in_default-print_replies.ensures.err in
     let whole : c.tags.inside.commands.items ≡ c.args.self.now = c.tags.view_is ∙ c.replace.ensures.value in
     let carries = subst (λ (all : List Tagged). CarriesCommands g.P.Port.steps c.args.port.now all c.commands-given.new.replies.items c.commands-given.result c.commands-given.new.self) whole c.commands-given.ensures in
-    let same = ap (λ (ts : List (List ℕ)). answers_by ts c.deref-2.result.now) (c.deref.ensures.value ∙ c.tags.invariant.tags ∙ ap tags_of whole) ∙ ap (λ (rs : List Reply). answers_by (tags_of c.args.self.now) rs) c.deref-2.ensures.value in (
+    let tags = c.deref.ensures.value ∙ c.tags.invariant.tags ∙ ap tags_of whole in
+    let of_tags = subst (λ (ts : List (List ℕ)). EndsInReply ts c.deref-2.result.now h.0) tags h.2 in
+    let ends = subst (λ (rs : List Reply). EndsInReply (tags_of c.args.self.now) rs h.0) c.deref-2.ensures.value of_tags in (
       h.0,
-      inr (c.commands-given.new.replies.items, c.commands-given.result, carries, inr (refl, (h.2.0, sym same ∙ h.2.1))),
+      inr (c.commands-given.new.replies.items, c.commands-given.result, carries, inr (refl, ends)),
       h.1,
     )

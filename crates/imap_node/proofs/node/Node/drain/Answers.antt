@@ -1,27 +1,27 @@
-use Rattle.std.proofs.Common.{◌≤◌, List, length, take, refl, ap, ◌∙◌, arith}
-use Rattle.causal_inbox.proofs.Union.{releases_grow, releases_start}
-use Rattle.crdt_ops.specs.declared.op.Op.{Op}
-use Rattle.imap_node.specs.Nodes.{replica_received}
-use Rattle.uid_projection.specs.Exhaustion.{Exhausts}
-use Rattle.imap_node.proofs.SessionChangeLemmas.{grown_long, grown_take, noted_as}
-use Rattle.imap_node.proofs.node.Node.drain.Goals as goal
+use Rattle.std.proofs.Common.{◌∙◌, subst, sym, refl, arith, add-one, IsTrue}
+use Rattle.causal_inbox.specs.Inbox.{AreReleasedInTurn}
+use Rattle.causal_inbox.specs.Releases.{Releases}
+use Rattle.causal_inbox.proofs.ReleasesLemmas.{refused_stalls}
 use Rattle.crdt_ops.specs.Ops.{clock_of, id_of}
+use Rattle.imap_node.specs.Deliveries.{HoldsRipe}
+use Rattle.imap_node.specs.Nodes.{received_ops}
+use Rattle.uid_projection.specs.Exhaustion.{Exhausts}
+use Rattle.imap_node.proofs.node.Node.drain.Goals as goal
 
-pub note_since-requires : goal.note_since-requires
-note_since-requires c =
-    let old = c.self.inside.replica in
-    let new = c.drain-drained.new.self in
-    let grown = releases_grow id_of clock_of Exhausts c.drain-drained.result.applied (replica_received old) (replica_received new) c.drain-drained.ensures.released in
-    let e = ap (λ (ops : List Op). length ops) c.op_list-count.ensures.applied in
-    let l = grown_long old.applied new.applied grown in
-    omega (arith, e, l)
+pub returns-in-Err-clause-stalled : goal.returns-in-Err-clause-stalled
+returns-in-Err-clause-stalled c =
+    (λ t. subst HoldsRipe (sym c.in-Err.ensures.err) (refused_stalls id_of clock_of Exhausts (received_ops c.loop-applied.self.state) c.in-Err.field-0 c.in-Err.ensures.answer), λ t. refl)
 
-pub invariant_of-self : goal.invariant_of-self
-invariant_of-self c =
-    let old = c.self.inside.replica in
-    let new = c.drain-drained.new.self in
-    let grown = releases_grow id_of clock_of Exhausts c.drain-drained.result.applied (replica_received old) (replica_received new) c.drain-drained.ensures.released in
-    let same = releases_start id_of clock_of Exhausts c.drain-drained.result.applied (replica_received old) (replica_received new) c.drain-drained.ensures.released in
-    let front = ap (λ (ops : List Op). take (length ops) new.applied) c.op_list-count.ensures.applied ∙ grown_take old.applied new.applied grown in
-    c.note_since.ensures new.start
-    (noted_as old.start new.start old.applied (take (length c.op_list-count.result.now) new.applied) c.self.inside.sessions c.self.inside.sessions c.self.inside.feeds c.self.inside.feeds same front refl (λ n. refl) c.self.invariant)
+pub loop-applied-preserved : goal.loop-applied-preserved
+loop-applied-preserved c =
+    let h = c.loop-applied.invariant in
+    let old = received_ops c.loop-applied.self.state in
+    let new = received_ops c.release_next.new.self.state in
+    let one = subst (λ b. Releases id_of clock_of Exhausts old b new) c.in-Ok-true.field-0-test c.in-Ok-true.ensures.answer in
+    record {
+      released = record {
+        sessions = c.in-Ok-true.ensures.sessions ∙ h.released.sessions;
+        released = subst (λ n. AreReleasedInTurn id_of clock_of Exhausts n (received_ops c.args.self.now.state) new) (sym (add-one c.loop-applied.applied)) (old, h.released.released, one);
+      };
+      count = let a = h.count in let b = c.in-Ok-true.ensures.count (subst IsTrue (sym c.in-Ok-true.field-0-test) refl) in omega arith;
+    }

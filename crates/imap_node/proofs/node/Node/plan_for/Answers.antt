@@ -4,7 +4,8 @@ use Rattle.imap_node.specs.Nodes.{NodeWithRoom, NodeState}
 use Rattle.imap_node.specs.Plans.{IsPlanned, IsPlanOf}
 use Rattle.imap_node.specs.Sessions.{IsOpen, Places, session_at}
 use Rattle.imap_node.proofs.SessionChangeLemmas.{noted_as}
-use Rattle.imap_node.proofs.PlanLemmas.{plan_planned_after, plan_responds}
+use Rattle.imap_node.proofs.SessionLemmas.{awaits_open}
+use Rattle.imap_node.proofs.PlanLemmas.{plan_by_planned_after, plan_responds}
 use Rattle.imap_node.proofs.node.Node.plan_for.Goals as goal
 
 pub returns-clause-planned : goal.returns-clause-planned
@@ -13,9 +14,9 @@ returns-clause-planned c =
     let done = c.prepare_for-outcome in
     let replica = done.new.replica in
     let node : NodeWithRoom = record { state = record { start = replica.start; applied = replica.applied; held = replica.held; sessions = done.new.sessions }; room = replica.room } in
-    let opened : IsOpen old.sessions c.args.session = subst (λ (k : NodeWithRoom). IsOpen k.state.sessions c.args.session) (sym c.self.view_is) c.requires in
+    let opened : IsOpen old.sessions c.args.session = subst (λ (k : NodeWithRoom). IsOpen k.state.sessions c.args.session) (sym c.self.view_is) (awaits_open c.args.self.now.state c.args.session c.args.input.now c.requires) in
     subst (λ (plan : Plan). IsPlanned node plan) (sym c.plan_by.ensures)
-    (plan_planned_after old.replica.start old.replica.applied old.sessions node c.args.session c.in-Some.entry.now.state c.args.input.now done.result done.ensures.start done.ensures.applied done.ensures.sessions opened
+    (plan_by_planned_after old.replica.start old.replica.applied old.sessions node c.args.session c.in-Some.entry.now.state c.args.input.now done.result done.ensures.start done.ensures.applied done.ensures.sessions opened
     done.ensures.issued done.ensures.room done.ensures.changes done.ensures.can)
 
 pub returns-clause-responds : goal.returns-clause-responds

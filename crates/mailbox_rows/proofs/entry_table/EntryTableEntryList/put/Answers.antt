@@ -1,8 +1,10 @@
-use Rattle.std.proofs.Common.{ap, refl, sym, subst}
-use Rattle.mailbox_rows.specs.ModSeqLog.{AreLogged}
-use Rattle.mailbox_rows.specs.ListingEntries.{AreBelow, AreIndexed, AreRising, Lacks, is_id, indexed_value}
-use Rattle.mailbox_rows.proofs.ChangedEntryLemmas.{are_noted_more, noted_put}
-use Rattle.mailbox_rows.proofs.IndexLemmas.{indexed_others, indexed_put, is_id_same, pick_else, pick_then, rising_put}
+use Rattle.std.proofs.Common.{◌≤◌, ◌∙◌, ◌++◌, ◌∷◌, [], ap, sym, subst}
+use Rattle.mailbox_rows.specs.ChangedEntries.{AreNoted}
+use Rattle.modseq_index.specs.ModSeqIndex.{latest}
+use Rattle.modseq_index.specs.declared.index.ModSeqEntry.{ModSeqEntry}
+use Rattle.mailbox_rows.specs.ListingEntries.{AreBelow, AreRising, IsUidIndex, Lacks, indexed_value}
+use Rattle.mailbox_rows.proofs.ChangedEntryLemmas.{latest_put, noted_own, noted_put, noted_still}
+use Rattle.mailbox_rows.proofs.IndexLemmas.{rising_put, uid_index_put}
 use Rattle.mailbox_rows.proofs.entry_table.EntryTableEntryList.put.Goals as goal
 
 pub invariant_of-self : goal.invariant_of-self
@@ -15,12 +17,16 @@ invariant_of-self c =
     let h = indexed_value c.note.new.uids.entries in
     let lacks = subst (Lacks x.origin) (sym same) c.requires.fresh in
     let below = subst (AreBelow x.uid) (sym same) c.requires.beyond in
-    let indexed = indexed_others f h x.origin es lacks (λ i apart. pick_else (is_id x.origin i) _ _ _ apart (c.note.ensures.lookups i)) c.self.invariant.1 in
-    let own = pick_then (is_id x.origin x.origin) _ _ _ (is_id_same x.origin) (c.note.ensures.lookups x.origin) in (
+    let own : ModSeqEntry = record { modseq = x.modseq; uid = x.uid } in
+    let old = t.modseqs.entries in (
       subst (AreRising 1) (sym c.push_reserved.ensures.items) (rising_put 1 es x c.requires.first below c.self.invariant.0),
-      subst (AreIndexed h) (sym c.push_reserved.ensures.items) (indexed_put h es x indexed own),
-      λ whole.
-          let was = c.note-2.ensures.others whole in
-          let now = c.note-2.new.self.list in
-          subst (AreLogged now) (sym c.push_reserved.ensures.items) (noted_put now es x (c.note-2.ensures.own whole x refl refl) (are_noted_more t.changes.list now es was.1 (c.self.invariant.2 was.0))),
+      subst (IsUidIndex h) (sym c.push_reserved.ensures.items) (uid_index_put f h es x c.note.ensures.lookups lacks c.self.invariant.1),
+      subst (λ now. AreNoted now c.push_reserved.new.self.items) (sym c.note-2.ensures.entries) (subst (AreNoted (old ++ own ∷ [])) (sym c.push_reserved.ensures.items) (noted_put (old ++ own ∷ []) es x (noted_own [] old x) (noted_still [] old own es c.self.invariant.2))),
     )
+
+pub returns-clause-latest : goal.returns-clause-latest
+returns-clause-latest c =
+    let x : ModSeqEntry = record { modseq = c.args.entry.modseq; uid = c.args.entry.uid } in
+    let old = c.self.inside.modseqs.entries in
+    let last : latest old ≤ x.modseq = subst (λ n. n ≤ x.modseq) (sym (ap (λ s. s.latest) c.self.view_is)) c.requires.order in
+    ap latest c.note-2.ensures.entries ∙ latest_put old x last

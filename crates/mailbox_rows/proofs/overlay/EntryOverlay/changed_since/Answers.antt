@@ -1,8 +1,9 @@
 use Rattle.std.proofs.Common.{◌≡◌, ◌∙◌, ◌++◌, ◌&&◌, ℕ, List, true, nat_eq, ap, sym, subst, arith, rules}
 use Rattle.std.specs.List.{list_any}
 use Rattle.std.proofs.lemmas.List.Sorted.{IsNonDecreasingBy-from_sort_by_key, list_any-IsPermutation}
-use Rattle.mailbox_rows.specs.ModSeqLog.{AreAmong, AreAscending, uids_above}
-use Rattle.mailbox_rows.proofs.ChangedEntryLemmas.{above_over, all_among, ascending_from, both}
+use Rattle.modseq_index.specs.ModSeqIndex.{uids_above}
+use Rattle.mailbox_rows.specs.ChangedEntries.{AreAmong, AreAscending}
+use Rattle.mailbox_rows.proofs.ChangedEntryLemmas.{above_over, all_among, ascending_from}
 use Rattle.mailbox_rows.proofs.overlay.EntryOverlay.changed_since.Goals as goal
 
 pub changed_entries_among-requires-clause-ascending : goal.changed_entries_among-requires-clause-ascending
@@ -14,10 +15,9 @@ pub changed_entries_among-requires-clause-among : goal.changed_entries_among-req
 changed_entries_among-requires-clause-among c =
     let o = c.self.inside in
     let m = c.args.modseq in
-    let stored = o.stored_changes.now in
-    let own = o.own_changes in
-    let whole : (stored.is_whole && own.is_whole) ≡ true = both stored.is_whole own.is_whole (sym c.is_whole.ensures ∙ c.if-not-is_whole.false) (sym c.is_whole-else-not-is_whole.ensures ∙ c.if-not-is_whole-2.false) in
-    let all : c.push_uids-2.new.uids.items ≡ uids_above m (stored.list ++ own.list) =
-    c.in_ok-push_uids-2.ensures {u = tt} ∙ ap (λ (us : List ℕ). us ++ uids_above m own.list) (c.in_ok-push_uids.ensures {u = tt} ∙ ap (λ (us : List ℕ). us ++ uids_above m stored.list) c.new-uids.ensures.items) ∙ above_over m stored.list own.list in
+    let stored = o.stored_modseqs.now.entries in
+    let own = o.own_modseqs.entries in
+    let all : c.push_uids-2.new.uids.items ≡ uids_above m (stored ++ own) =
+    c.in_ok-push_uids-2.ensures {u = tt} ∙ ap (λ (us : List ℕ). us ++ uids_above m own) (c.in_ok-push_uids.ensures {u = tt} ∙ ap (λ (us : List ℕ). us ++ uids_above m stored) c.new-uids.ensures.items) ∙ above_over m stored own in
     let same = λ (w : ℕ). sym (list_any-IsPermutation (λ u. nat_eq u w) c.push_uids-2.new.uids.items c.sort_by_key.new.self.items c.sort_by_key.ensures.permutation) ∙ ap (list_any (λ u. nat_eq u w)) all in
-    subst (λ (us : List ℕ). AreAmong m us o.list.items) (sym c.deref.ensures.value) (all_among m (stored.list ++ own.list) c.sort_by_key.new.self.items o.list.items same (c.self.invariant.2 whole))
+    subst (λ (us : List ℕ). AreAmong m us o.list.items) (sym c.deref.ensures.value) (all_among m (stored ++ own) c.sort_by_key.new.self.items o.list.items same c.self.invariant.2)

@@ -5,7 +5,7 @@ use Rattle.uid_projection.proofs.charts.Charts.highest_after.Goals as goal
 
 pub returns-clause-after : goal.returns-clause-after
 returns-clause-after c = λ list f m a.
-    c.modseq_within.ensures ∙ ap (λ n. min n 18446744073709551615) (c.highest_after.ensures list a m (c.highest.ensures list f))
+    c.modseq_in_64_bits.ensures ∙ ap (λ n. min n 18446744073709551615) (c.highest_after.ensures list a m (c.highest.ensures list f))
 
 pub returns-clause-ready : goal.returns-clause-ready
 returns-clause-ready c = λ list f m r.

@@ -11,5 +11,5 @@ returns-clause-follows c = record {
   first = c.requires;
   applied = record { sound = λ o h. absurd h; causal = λ front o back e. absurd (no_cut front o back e) };
   table = c.in_ok-charts.ensures c.requires;
-  nothing = c.new.ensures;
+  nothing = c.new.ensures.entries;
 }

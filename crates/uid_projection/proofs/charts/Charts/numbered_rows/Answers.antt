@@ -14,7 +14,7 @@ returns-clause-rows c = λ list f m.
     let n = c.args.name.now in
     let x = c.in_ok-entries.field-0 in
     let data_at : OpId → Option MessageData = stored_message_data c.mailbox.result in
-    let chart = c.in_ok-entries.ensures list s.next_k f.table c.chart_of-chart.ensures f.nothing in
+    let chart = c.in_ok-entries.ensures.shows list s.next_k f.table c.chart_of-chart.ensures f.nothing in
     c.of_window.ensures ∙ c.new-window.ensures
     ∙ (λ i. rows_by (c.new.ensures.empty i) c.mailbox.result x.entries.entries)
     ∙ rows_by_data s.start n list (contents_of c.args.value.now) m data_at (λ g present. c.mailbox.ensures.contents g) x.uidnext x.highest x.entries.entries chart

@@ -29,6 +29,6 @@ returns c = λ list f m a not_exhausted.
     let other = sym c.is_inbox.ensures ∙ c.if-is_inbox.false in
     let present = sym (exists_as n now c.exists_after.result (c.exists_after.ensures.set list m a.sound a.causal)) ∙ c.if-not-exists_after.false in
     let apart : n ≡ inbox → ⊥ = λ e. false≢true (sym other ∙ (bytes_eq-Decides n inbox).1 e) in
-    let k = c.k_of_after.ensures s.start list a m f.table.is_k (c.k_in-now.ensures s.start list f.table) in
+    let k = c.k_of_after.ensures s.start list a m f.table.is_k (c.k_of-now.ensures s.start list f.table) in
     let small = k_within_after s.start n apart ops list a (k_within_table s.start n apart list s.next_k s.charts.entries f.table) not_exhausted present in
-    c.uidvalidity_with.ensures (omega (arith, k, small)) ∙ validity_present s.start now n other present c.k_of_after.result k
+    c.uidvalidity_of_k.ensures (omega (arith, k, small)) ∙ validity_present s.start now n other present c.k_of_after.result k

@@ -1,11 +1,12 @@
-use Rattle.std.proofs.Common.{◌≡◌, ◌++◌, ◌∷◌, [], ◌+◌, false, refl, sym, subst, ◌∙◌, arith}
+use Rattle.std.proofs.Common.{◌≡◌, ℕ, List, Option, ◌++◌, ◌∷◌, [], ◌+◌, false, refl, sym, subst, ◌∙◌, arith}
+use Rattle.tags_clocks.specs.declared.id.OpId.{OpId}
 use Rattle.crdt_ops.specs.declared.op.Op.{Op}
 use Rattle.crdt_ops.specs.Tags.{name_of}
 use Rattle.folder_state.specs.Tables.{contents_of}
 use Rattle.uid_projection.specs.UidsAndModSeqs.{kind_names_folder}
 use Rattle.uid_projection.specs.Readiness.{less_room}
-use Rattle.uid_projection.specs.ChartTable.{IsTable}
-use Rattle.uid_projection.proofs.NextOpLemmas.{made_by, next_on, others_ready, unmoved}
+use Rattle.uid_projection.specs.ChartTable.{HasRooms, IsTable, modseqs_by}
+use Rattle.uid_projection.proofs.NextOpLemmas.{made_by, next_on, next_rooms, others_ready, unmoved}
 use Rattle.uid_projection.proofs.charts.ChartsFollowerFolders.note.Goals as goal
 
 pub note_on-requires-clause-next : goal.note_on-requires-clause-next
@@ -28,9 +29,14 @@ returns-then-names_folder-clause-follows c = λ list f r d m.
       nothing = f.nothing;
     }
 
+pub note_on-requires-clause-rooms : goal.note_on-requires-clause-rooms
+note_on-requires-clause-rooms c =
+    let (list, f, r, d, m) = c.requires in
+    next_rooms c.args.self.now list c.args.op.now c.op-op.result.now c.op-op.ensures.op r (sym c.names_folder.ensures ∙ c.if-names_folder.true)
+
 pub returns-then-names_folder-clause-others : goal.returns-then-names_folder-clause-others
 returns-then-names_folder-clause-others c = λ list rest f r d m.
-    others_ready c.args.self.now (record { start = c.args.self.now.start; next_k = c.note_on.new.next_k; charts = c.note_on.new.charts; nothing = c.args.self.now.nothing }) list c.args.op.now rest refl c.note_on.ensures.rooms r
+    others_ready c.args.self.now (record { start = c.args.self.now.start; next_k = c.note_on.new.next_k; charts = c.note_on.new.charts; nothing = c.args.self.now.nothing }) list c.args.op.now rest refl (subst (λ (q : Op). (g : Option OpId) (n k : ℕ) (folder : List ℕ) → HasRooms g (n + 1) (k + modseqs_by q) folder c.args.self.now.charts.entries → HasRooms g n k folder c.note_on.new.charts.entries) c.op-op.ensures.op c.note_on.ensures.rooms) r
 
 pub returns-else-names_folder-clause-follows : goal.returns-else-names_folder-clause-follows
 returns-else-names_folder-clause-follows c = λ list f r d m.
@@ -38,4 +44,4 @@ returns-else-names_folder-clause-follows c = λ list f r d m.
 
 pub returns-else-names_folder-clause-others : goal.returns-else-names_folder-clause-others
 returns-else-names_folder-clause-others c = λ list rest f r d m.
-    others_ready c.args.self.now c.args.self.now list c.args.op.now rest refl (λ g n folder. less_room g n (n + 1) folder c.args.self.now.charts.entries (omega arith)) r
+    others_ready c.args.self.now c.args.self.now list c.args.op.now rest refl (λ g n k folder. less_room g n (n + 1) k (k + modseqs_by c.args.op.now) folder c.args.self.now.charts.entries (omega arith) (omega arith)) r

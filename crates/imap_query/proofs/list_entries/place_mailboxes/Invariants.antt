@@ -1,6 +1,0 @@
-use Rattle.std.proofs.Common.{◌≡◌, drop}
-use Rattle.imap_query.specs.Placing.{insert_all, shown_mailboxes}
-use Rattle.imap_query.proofs.list_entries.place_mailboxes.Given as goal
-
-abbrev pub invariant-loop-folder : goal.invariant-loop-folder
-invariant-loop-folder l = insert_all (shown_mailboxes l.pattern (drop l.folder-index l.folders)) l.entries.items ≡ insert_all (shown_mailboxes l.pattern l.folders) l.initial.entries.items
