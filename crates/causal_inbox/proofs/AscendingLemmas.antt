@@ -6,7 +6,7 @@ use Rattle.std.proofs.Math.Seq.{drop-cons}
 use Rattle.tags_clocks.specs.declared.id.OpId.{OpId}
 use Rattle.merge_laws.specs.Orders.{IsIn, HasId, HaveSameElements}
 use Rattle.merge_laws.proofs.Lists.{in_middle, in_rest, in_cases, in_parts, in_back, id_of_element, id_in_parts, id_in_front, id_in_back}
-use Rattle.causal_inbox.specs.Inbox.{IsLess, AreAscending, AreHeldStill}
+use Rattle.causal_inbox.specs.Inbox.{IsLess, AreAscending, AreRemainingHeld}
 use Rattle.causal_inbox.proofs.Places.{take_next}
 
 -- the order of ids
@@ -190,7 +190,7 @@ module _ {O : Type 0} (id : O → OpId) where
   )
 
   -- the ids of one further operation
-  pub held_still_step : (ops : List O) (i : ℕ) (x : O) (j : OpId) (old now new : List O) → i < length ops → x ≡ get_or ops i x → j ≡ id x → AreHeldStill id (take i ops) old now → ((o : O) → IsIn o new ↔ (IsIn o now × (id o ≢ j))) → AreHeldStill id (take (i + 1) ops) old new
+  pub held_still_step : (ops : List O) (i : ℕ) (x : O) (j : OpId) (old now new : List O) → i < length ops → x ≡ get_or ops i x → j ≡ id x → AreRemainingHeld id (take i ops) old now → ((o : O) → IsIn o new ↔ (IsIn o now × (id o ≢ j))) → AreRemainingHeld id (take (i + 1) ops) old new
   held_still_step ops i x j old now new l is e remaining others o =
       let more : take (i + 1) ops ≡ take i ops ++ x ∷ [] = take_next ops i x l is in (
         λ h. let k = (others o).0 h in let m = (remaining o).0 k.0 in (

@@ -85,8 +85,8 @@ module _ {O : Type 0} (id : O → OpId) (clock : O → List (ℕ × ℕ)) where
   not_under applied o i (Some j) h u e = let k : j ≡ i = cc in u.missing (subst (HasId id applied) (sym k) h)
 
   pub moved_indexed : (now : List (ℕ × ℕ)) (woken : List OpId) (applied held : List O) (at : ℕ) (old new : List CauseEntry) → AreAscending id held → IsCauseIndex id held old → IsReindexed id clock now held at old new → IsClockOf id applied now → AreApart id held applied → AreIndexed id clock woken applied held old → AreIndexed id clock woken applied held new
-  moved_indexed now woken applied held at old new a is m k apart indexed = λ f o h j e.
-      let under = m.under applied k (apart (id m.op) (id_of_element id m.op held m.is_held)) in
+  moved_indexed now woken applied held at old new a is m k disjoint indexed = λ f o h j e.
+      let under = m.under applied k (disjoint (id m.op) (id_of_element id m.op held m.is_held)) in
       elim ((inserted_same (remove old at) m.to m.entry f).0 (subst (IsIn f) m.moved h)) [
         | inl q ↦
             let one : m.op ≡ o = ascending_determines id held m.op o a m.is_held j (m.op_id ∙ ap (λ (y : CauseEntry). y.id) q ∙ sym e) in
@@ -95,8 +95,8 @@ module _ {O : Type 0} (id : O → OpId) (clock : O → List (ℕ × ℕ)) where
       ]
 
   pub moved_count : (now : List (ℕ × ℕ)) (i : OpId) (applied held : List O) (at : ℕ) (old new : List CauseEntry) → IsReindexed id clock now held at old new → IsClockOf id applied now → AreApart id held applied → HasId id applied i → ((f : CauseEntry) → slice_get old at ≡ Some f → f.cause ≡ Some i) → under_count (Some i) new + 1 ≡ under_count (Some i) old
-  moved_count now i applied held at old new m k apart h under_i =
-      let under = m.under applied k (apart (id m.op) (id_of_element id m.op held m.is_held)) in
+  moved_count now i applied held at old new m k disjoint h under_i =
+      let under = m.under applied k (disjoint (id m.op) (id_of_element id m.op held m.is_held)) in
       let a = count_inserted (Some i) (remove old at) m.to m.entry (not_under applied m.op i m.entry.cause h under) in
       let b = count_removed (Some i) old at m.before m.taken (under_i m.before m.taken) in
       let w = ap (under_count (Some i)) m.moved in
@@ -123,8 +123,8 @@ module _ {O : Type 0} (id : O → OpId) (clock : O → List (ℕ × ℕ)) where
   nowhere (Some i) h = h
 
   pub grown : (applied ops held : List O) (entries : List CauseEntry) → AreApart id held (applied ++ ops) → AreIndexed id clock [] applied held entries → AreIndexed id clock (map id ops) (applied ++ ops) held entries
-  grown applied ops held entries apart indexed = λ f o h k e. elim (indexed f o h k e) [
-    | inl u ↦ under_grown applied ops o f.cause (apart (id o) (id_of_element id o held k)) u
+  grown applied ops held entries disjoint indexed = λ f o h k e. elim (indexed f o h k e) [
+    | inl u ↦ under_grown applied ops o f.cause (disjoint (id o) (id_of_element id o held k)) u
     | inr w ↦ absurd (nowhere f.cause w)
   ]
 
@@ -135,6 +135,6 @@ drop_past_end zero (x ∷ xs) l = absurd (omega (arith, l))
 drop_past_end (suc i) (x ∷ xs) l = drop_past_end i xs (omega (arith, l))
 
 pub fewer_apart : {O : Type 0} (id : O → OpId) (held fewer applied : List O) → ((o : O) → IsIn o fewer → IsIn o held) → AreApart id held applied → AreApart id fewer applied
-fewer_apart id held fewer applied f apart i h =
+fewer_apart id held fewer applied f disjoint i h =
     let x = element_of_id id i fewer h in
-    apart i (subst (HasId id held) x.2 (id_of_element id x.0 held (f x.0 x.1)))
+    disjoint i (subst (HasId id held) x.2 (id_of_element id x.0 held (f x.0 x.1)))

@@ -67,8 +67,8 @@ module _ {O : Type 0} (id : O → OpId) where
       }
 
   -- the index with one further entry
-  pub index_more : (held more : List O) (entries : List CauseEntry) (n : ℕ) (e : CauseEntry) (op : O) → IsCauseIndex id held entries → HaveSameElements more (op ∷ held) → ¬ HasId id held (id op) → e.id ≡ id op → AreOrdered IsIndexedBefore (insert entries n e) → IsCauseIndex id more (insert entries n e)
-  index_more held more entries n e op is same new eid ordered =
+  pub index_insert : (held more : List O) (entries : List CauseEntry) (n : ℕ) (e : CauseEntry) (op : O) → IsCauseIndex id held entries → HaveSameElements more (op ∷ held) → ¬ HasId id held (id op) → e.id ≡ id op → AreOrdered IsIndexedBefore (insert entries n e) → IsCauseIndex id more (insert entries n e)
+  index_insert held more entries n e op is same new eid ordered =
       let ins = inserted_same entries n e in
       let never : (g : CauseEntry) → IsIn g entries → g.id ≡ id op → ⊥ = λ g h q. let x = is.of g h in new (subst (HasId id held) (x.2 ∙ q) (id_of_element id x.0 held x.1)) in
       record {
@@ -106,7 +106,7 @@ module _ {O : Type 0} (id : O → OpId) where
       let p = in_place held op x.1 in
       let others = λ (o : O). removed_others id held p.0 op o p.1 p.2 a in
       let rest = remove held p.0 in
-      index_more rest held (remove entries at) n e op (index_taken held rest entries at f op is at_f (sym x.2) others)
+      index_insert rest held (remove entries at) n e op (index_taken held rest entries at f op is at_f (sym x.2) others)
       (λ o. (
         λ h. elim (decide_id op o) [ inl q ↦ inl (determined op o x.1 h q) | inr n ↦ inr ((others o).1 (h, λ q. n (sym q))) ],
         λ h. elim h [ inl q ↦ subst (λ (y : O). IsIn y held) q x.1 | inr t ↦ ((others o).0 t).0 ],
@@ -126,8 +126,8 @@ module _ {O : Type 0} (id : O → OpId) where
     indexed_taken woken applied held rest entries fewer f h indexed = λ g o i j q. indexed g o (f g i) (h o j) q
 
     -- the index of one further operation
-    pub indexed_more : (woken : List OpId) (applied held more : List O) (entries : List CauseEntry) (n : ℕ) (e : CauseEntry) (op : O) → IsCauseIndex id held entries → HaveSameElements more (op ∷ held) → ¬ HasId id held (id op) → e.id ≡ id op → IsIndexedUnder id clock applied op e.cause → AreIndexed id clock woken applied held entries → AreIndexed id clock woken applied more (insert entries n e)
-    indexed_more woken applied held more entries n e op is same new eid under indexed = λ g o i j q.
+    pub indexed_insert : (woken : List OpId) (applied held more : List O) (entries : List CauseEntry) (n : ℕ) (e : CauseEntry) (op : O) → IsCauseIndex id held entries → HaveSameElements more (op ∷ held) → ¬ HasId id held (id op) → e.id ≡ id op → IsIndexedUnder id clock applied op e.cause → AreIndexed id clock woken applied held entries → AreIndexed id clock woken applied more (insert entries n e)
+    indexed_insert woken applied held more entries n e op is same new eid under indexed = λ g o i j q.
         elim ((inserted_same entries n e g).0 i) [
           | inl a ↦ elim ((same o).0 j) [
             | inl b ↦ inl (subst (λ (c : Option OpId). IsIndexedUnder id clock applied o c) (ap (λ (y : CauseEntry). y.cause) a) (subst (λ (x : O). IsIndexedUnder id clock applied x e.cause) b under))
@@ -236,7 +236,7 @@ module _ {O : Type 0} (id : O → OpId) where
       let x = length-insert held at op inside in
       let y = length-insert entries to e within in (
         omega (arith, a, b, x, y, count),
-        subst (IsCauseIndex id more) (sym l) (index_more id held more entries to e op is elements new same ordered),
+        subst (IsCauseIndex id more) (sym l) (index_insert id held more entries to e op is elements new same ordered),
         elements,
       )
 
@@ -264,9 +264,9 @@ module _ {O : Type 0} (id : O → OpId) where
       indexed
 
   pub entry_place : (clock : O → List (ℕ × ℕ)) (applied held : List O) (entries : List CauseEntry) (at entry_at : ℕ) (e : CauseEntry) (op : O) → slice_get held at ≡ Some op → IsCauseIndex id held entries → AreIndexed id clock [] applied held entries → AreApart id held applied → e.id ≡ id op → (¬ HasId id applied (id op) → IsIndexedUnder id clock applied op e.cause) → (IsIn e entries → slice_get entries entry_at ≡ Some e) → slice_get entries entry_at ≡ Some e
-  entry_place clock applied held entries at entry_at e op is_op is indexed apart same under member =
+  entry_place clock applied held entries at entry_at e op is_op is indexed disjoint same under member =
       let h : IsIn op held = in_of_get held at op is_op in
-      member (has_entry id clock applied held entries op e is indexed h same (under (apart (id op) (id_of_element id op held h))))
+      member (has_entry id clock applied held entries op e is indexed h same (under (disjoint (id op) (id_of_element id op held h))))
 
 pub none_cause : {X : Type 0} (c : Option X) → is_some c ≡ false → c ≡ None
 none_cause None e = refl

@@ -11,11 +11,11 @@ use Rattle.tags_clocks.specs.Clock.{IsCause, count_of}
 use Rattle.merge_laws.specs.Orders.{IsIn, HasId, AreSound, IsCausal}
 use Rattle.merge_laws.proofs.Causal.{causal_front}
 use Rattle.merge_laws.proofs.Lists.{id_in_front, id_of_element, in_front, split_at}
-use Rattle.causal_inbox.specs.InboxState.{IsNextOf, LacksNext, id_numbers}
+use Rattle.causal_inbox.specs.InboxState.{IsNextId, LacksNextId, id_numbers}
 use Rattle.causal_inbox.specs.Inbox.{IsClockOf, is_cause, uncovered_ops}
 use Rattle.causal_inbox.proofs.IdNumberLemmas.{any_in, is_pair, number_in, pair_is, pairs_equal}
 use Rattle.causal_inbox.proofs.Ordered.{in_take_at}
-use Rattle.causal_inbox.proofs.Places.{all_more}
+use Rattle.causal_inbox.proofs.Places.{all_take_next}
 
 -- ---- the first elements of a list
 
@@ -41,32 +41,32 @@ not_in_front n m keys at e member h =
     absurd (cc (fails, passes))
 
 -- the id at the place of a replica's next number
-pub next_of_position : (clock keys : List (ℕ × ℕ)) (at : ℕ) (n id : ℕ × ℕ) → position (is_pair n) keys ≡ Some at → slice_get keys at ≡ Some id → IsNextOf clock n → IsNextOf clock id
+pub next_of_position : (clock keys : List (ℕ × ℕ)) (at : ℕ) (n id : ℕ × ℕ) → position (is_pair n) keys ≡ Some at → slice_get keys at ≡ Some id → IsNextId clock n → IsNextId clock id
 next_of_position clock keys at n id e member next =
     let p = position-Some (is_pair n) keys at id e in
     let q : get_or keys at id ≡ id = get_or_from_slice_get keys at id id member in
     let same : n ≡ id = pairs_equal n id (subst (λ k. is_pair n k ≡ true) q p.1) in
-    subst (IsNextOf clock) same next
+    subst (IsNextId clock) same next
 
 -- ---- the least of several places
 
-pub next_of_less : (clock keys : List (ℕ × ℕ)) (first next new : ℕ) → new ≡ min first next → ((id : ℕ × ℕ) → slice_get keys first ≡ Some id → IsNextOf clock id) → ((id : ℕ × ℕ) → slice_get keys next ≡ Some id → IsNextOf clock id) → (id : ℕ × ℕ) → slice_get keys new ≡ Some id → IsNextOf clock id
+pub next_of_less : (clock keys : List (ℕ × ℕ)) (first next new : ℕ) → new ≡ min first next → ((id : ℕ × ℕ) → slice_get keys first ≡ Some id → IsNextId clock id) → ((id : ℕ × ℕ) → slice_get keys next ≡ Some id → IsNextId clock id) → (id : ℕ × ℕ) → slice_get keys new ≡ Some id → IsNextId clock id
 next_of_less clock keys first next new least before here id member = elim (cases_lt first next) [
   | inl l ↦ let e : new ≡ first = omega (arith, least, l) in before id (subst (λ (n : ℕ). slice_get keys n ≡ Some id) e member)
   | inr m ↦ let e : new ≡ next = omega (arith, least, m) in here id (subst (λ (n : ℕ). slice_get keys n ≡ Some id) e member)
 ]
 
-lacks_shorter : (clock keys : List (ℕ × ℕ)) (m n : ℕ) (e : ℕ × ℕ) → m ≤ n → LacksNext clock (take n keys) e → LacksNext clock (take m keys) e
+lacks_shorter : (clock keys : List (ℕ × ℕ)) (m n : ℕ) (e : ℕ × ℕ) → m ≤ n → LacksNextId clock (take n keys) e → LacksNextId clock (take m keys) e
 lacks_shorter clock keys m n e l h = elim h [
   | inl few ↦ inl few
   | inr none ↦ inr (λ t. none (in_longer (e.0, count_of clock e.0 + 1) m n keys l t))
 ]
 
-pub lacks_more : (clock keys entries : List (ℕ × ℕ)) (i first next new : ℕ) (e : ℕ × ℕ) → i < length entries → e ≡ get_or entries i e → new ≡ min first next → ((x : ℕ × ℕ) → IsIn x (take i entries) → LacksNext clock (take first keys) x) → LacksNext clock (take next keys) e → (x : ℕ × ℕ) → IsIn x (take (i + 1) entries) → LacksNext clock (take new keys) x
-lacks_more clock keys entries i first next new e l is least before here =
+pub lacks_take_next : (clock keys entries : List (ℕ × ℕ)) (i first next new : ℕ) (e : ℕ × ℕ) → i < length entries → e ≡ get_or entries i e → new ≡ min first next → ((x : ℕ × ℕ) → IsIn x (take i entries) → LacksNextId clock (take first keys) x) → LacksNextId clock (take next keys) e → (x : ℕ × ℕ) → IsIn x (take (i + 1) entries) → LacksNextId clock (take new keys) x
+lacks_take_next clock keys entries i first next new e l is least before here =
     let low : new ≤ first = omega arith in
     let below : new ≤ next = omega arith in
-    all_more (LacksNext clock (take new keys)) entries i e l is (λ x t. lacks_shorter clock keys new first x low (before x t)) (lacks_shorter clock keys new next e below here)
+    all_take_next (LacksNextId clock (take new keys)) entries i e l is (λ x t. lacks_shorter clock keys new first x low (before x t)) (lacks_shorter clock keys new next e below here)
 
 -- ---- the operations that a clock covers
 
@@ -116,7 +116,7 @@ module _ {O : Type 0} (id : O → OpId) (clock : O → List (ℕ × ℕ)) where
       ]
 
 module _ {O : Type 0} (id : O → OpId) (clock : O → List (ℕ × ℕ)) (is_sound : O → Type 0) (next : (o : O) → is_sound o → count_of (clock o) (id o).replica + 1 ≡ (id o).number) where
-  one_covered : (os : List O) (keys now other : List (ℕ × ℕ)) (first : ℕ) (o : O) → IsCausal id clock os → AreSound is_sound os → IsClockOf id os now → keys ≡ map (id_numbers id) os → ((e : ℕ × ℕ) → IsIn e now → LacksNext other (take first keys) e) → IsIn o (take first os) → IsCause other (id o)
+  one_covered : (os : List O) (keys now other : List (ℕ × ℕ)) (first : ℕ) (o : O) → IsCausal id clock os → AreSound is_sound os → IsClockOf id os now → keys ≡ map (id_numbers id) os → ((e : ℕ × ℕ) → IsIn e now → LacksNextId other (take first keys) e) → IsIn o (take first os) → IsCause other (id o)
   one_covered os keys now other first o causal sound counts is lacks h =
       let whole : IsIn o os = in_take o first os h in
       let number : count_of (clock o) (id o).replica + 1 ≡ (id o).number = next o (sound o whole) in
@@ -143,5 +143,5 @@ module _ {O : Type 0} (id : O → OpId) (clock : O → List (ℕ × ℕ)) (is_so
 
   -- if no replica's first uncovered operation is among the first ones of the list, the clock covers
   -- these
-  pub front_covered : (os : List O) (keys now other : List (ℕ × ℕ)) (first : ℕ) → IsCausal id clock os → AreSound is_sound os → IsClockOf id os now → keys ≡ map (id_numbers id) os → ((e : ℕ × ℕ) → IsIn e now → LacksNext other (take first keys) e) → uncovered_ops id other (take first os) ≡ []
+  pub front_covered : (os : List O) (keys now other : List (ℕ × ℕ)) (first : ℕ) → IsCausal id clock os → AreSound is_sound os → IsClockOf id os now → keys ≡ map (id_numbers id) os → ((e : ℕ × ℕ) → IsIn e now → LacksNextId other (take first keys) e) → uncovered_ops id other (take first os) ≡ []
   front_covered os keys now other first causal sound counts is lacks = none_uncovered id other (take first os) (λ o h. one_covered os keys now other first o causal sound counts is lacks h)

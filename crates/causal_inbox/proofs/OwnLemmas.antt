@@ -6,11 +6,11 @@ use Rattle.merge_laws.proofs.Lists.{id_in_back, id_in_front, id_in_parts}
 use Rattle.causal_inbox.specs.Inbox.{IsLess}
 use Rattle.causal_inbox.specs.OwnIds.{IsLesserOwn, IsLeastOwn, IsOwn}
 
-not_itself : (i : OpId) → ¬ IsLess i i
-not_itself i h = elim h [ inl t ↦ omega (arith, t) | inr t ↦ let k = t.1 in omega (arith, k) ]
+less_irreflexive : (i : OpId) → ¬ IsLess i i
+less_irreflexive i h = elim h [ inl t ↦ omega (arith, t) | inr t ↦ let k = t.1 in omega (arith, k) ]
 
-less_then : (i j k : OpId) → IsLess i j → IsLess j k → IsLess i k
-less_then i j k h t = elim h [
+less_trans : (i j k : OpId) → IsLess i j → IsLess j k → IsLess i k
+less_trans i j k h t = elim h [
   | inl a ↦ elim t [ inl b ↦ inl (omega (arith, a, b)) | inr b ↦ let e = b.0 in inl (omega (arith, a, e)) ]
   | inr a ↦ elim t [ inl b ↦ let e = a.0 in inl (omega (arith, b, e)) | inr b ↦ let m = a.1 in let n = b.1 in inr (a.0 ∙ b.0, omega (arith, m, n)) ]
 ]
@@ -29,7 +29,7 @@ module _ {O : Type 0} (id_of : O → OpId) (name : ℕ) where
       (id_in_back id_of (id_of op) front (op ∷ []) (inl refl), t.0),
       λ other own less. elim (own_parts front op other own) [
         | inl u ↦ least other u
-        | inr u ↦ not_itself other (subst (λ (i : OpId). IsLess other i) u.0 less)
+        | inr u ↦ less_irreflexive other (subst (λ (i : OpId). IsLess other i) u.0 less)
       ],
     )
     | inr t ↦ subst (IsLeastOwn id_of name (front ++ op ∷ [])) (sym t.1) (λ i own. elim (own_parts front op i own) [
@@ -41,8 +41,8 @@ module _ {O : Type 0} (id_of : O → OpId) (name : ℕ) where
     | inl t ↦ subst (IsLeastOwn id_of name (front ++ op ∷ [])) (sym t.1) (
       (id_in_back id_of (id_of op) front (op ∷ []) (inl refl), t.0.0),
       λ other own less. elim (own_parts front op other own) [
-        | inl u ↦ least.1 other u (less_then other (id_of op) best less t.0.1)
-        | inr u ↦ not_itself other (subst (λ (i : OpId). IsLess other i) u.0 less)
+        | inl u ↦ least.1 other u (less_trans other (id_of op) best less t.0.1)
+        | inr u ↦ less_irreflexive other (subst (λ (i : OpId). IsLess other i) u.0 less)
       ],
     )
     | inr t ↦ subst (IsLeastOwn id_of name (front ++ op ∷ [])) (sym t.1) (

@@ -9,11 +9,11 @@ use Rattle.causal_inbox.proofs.AscendingLemmas.{less_irreflexive, less_trans, as
 
 -- no operation that is still held has the id of one applied now
 pub remaining_apart : {O : Type 0} (id : O → OpId) (applied ops all old new : List O) → all ≡ applied ++ ops → ((i : OpId) → HasId id old i → ¬ HasId id applied i) → ((o : O) → IsIn o new → IsIn o old × ¬ HasId id ops (id o)) → (i : OpId) → HasId id new i → ¬ HasId id all i
-remaining_apart id applied ops all old new e apart remaining i h k =
+remaining_apart id applied ops all old new e disjoint remaining i h k =
     let x = element_of_id id i new h in
     let received = remaining x.0 x.1 in
     elim (id_in_parts id i applied ops (subst (λ xs. HasId id xs i) e k)) [
-      | inl t ↦ apart i (subst (HasId id old) x.2 (id_of_element id x.0 old received.0)) t
+      | inl t ↦ disjoint i (subst (HasId id old) x.2 (id_of_element id x.0 old received.0)) t
       | inr t ↦ received.1 (subst (HasId id ops) (sym x.2) t)
     ]
 
@@ -27,11 +27,11 @@ removed_length xs at l =
 
 -- one more operation is held, and no applied operation has its id
 pub held_apart : {O : Type 0} (id : O → OpId) (applied old new : List O) (op : O) → HaveSameElements new (op ∷ old) → ((i : OpId) → HasId id old i → ¬ HasId id applied i) → ¬ HasId id applied (id op) → (i : OpId) → HasId id new i → ¬ HasId id applied i
-held_apart id applied old new op same apart none i h k =
+held_apart id applied old new op same disjoint none i h k =
     let x = element_of_id id i new h in
     elim ((same x.0).0 x.1) [
       | inl e ↦ none (subst (HasId id applied) (sym x.2 ∙ ap id (sym e)) k)
-      | inr t ↦ apart i (subst (HasId id old) x.2 (id_of_element id x.0 old t)) k
+      | inr t ↦ disjoint i (subst (HasId id old) x.2 (id_of_element id x.0 old t)) k
     ]
 
 pub held_sound : {O : Type 0} (sound : O → Type 0) (old new : List O) (op : O) → HaveSameElements new (op ∷ old) → AreSound sound old → sound op → AreSound sound new
@@ -42,16 +42,16 @@ only_id id op o n h = elim h [ inl e ↦ n (sym e) | inr f ↦ f ]
 
 module _ {S O : Type 0} (id : O → OpId) (clock : O → List (ℕ × ℕ)) where
   pub lawful_from : (s : ReceivedOps S O) → IsCausal id clock s.applied → ((i : OpId) → HasId id s.held i → ¬ HasId id s.applied i) → AreAscending id s.held → length s.held ≤ held_limit → IsLawfulInbox id clock s
-  lawful_from s causal apart ascending limited = record {
+  lawful_from s causal disjoint ascending limited = record {
     causal = causal;
-    apart = apart;
+    disjoint = disjoint;
     determined = λ a b h k same. elim (in_parts a s.applied s.held h) [
       | inl p ↦ elim (in_parts b s.applied s.held k) [
         | inl q ↦ causal_determines id clock s.applied a b causal p q same
-        | inr q ↦ absurd (apart (id b) (id_of_element id b s.held q) (subst (HasId id s.applied) same (id_of_element id a s.applied p)))
+        | inr q ↦ absurd (disjoint (id b) (id_of_element id b s.held q) (subst (HasId id s.applied) same (id_of_element id a s.applied p)))
       ]
       | inr p ↦ elim (in_parts b s.applied s.held k) [
-        | inl q ↦ absurd (apart (id a) (id_of_element id a s.held p) (subst (HasId id s.applied) (sym same) (id_of_element id b s.applied q)))
+        | inl q ↦ absurd (disjoint (id a) (id_of_element id a s.held p) (subst (HasId id s.applied) (sym same) (id_of_element id b s.applied q)))
         | inr q ↦ ascending_determines id s.held a b ascending p q same
       ]
     ];
@@ -123,7 +123,7 @@ module _ {S O : Type 0} (id : O → OpId) (clock : O → List (ℕ × ℕ)) wher
       record {
         op = op;
         next = next_released old at op least is;
-        in_reach = reach;
+        not_exhausted = reach;
         start = start;
         applied = applied;
         held = λ o. (

@@ -6,7 +6,7 @@ use Rattle.tags_clocks.specs.declared.id.OpId.{OpId}
 use Rattle.merge_laws.specs.declared.follower.NotReady.{NotReady}
 use Rattle.merge_laws.specs.declared.follower.NotReady.TheVariants.{Exhausted as RanOut, NoMemory}
 use Rattle.causal_inbox.specs.declared.delivery.Arrival.TheVariants.{Applied}
-use Rattle.causal_inbox.specs.Delivery.{Arrives}
+use Rattle.causal_inbox.specs.Delivery.{IsArrival}
 use Rattle.causal_inbox.specs.Inbox.{ReceivedOps, IsLess, IsLawfulInbox, IsStalled, IsNextReleased, IsReleased, AreReleasedInTurn}
 use Rattle.causal_inbox.specs.Releases.{RefusesRelease}
 use Rattle.causal_inbox.proofs.AscendingLemmas.{ascending_determines}
@@ -46,11 +46,11 @@ module _ {S O : Type 0} (id : O → OpId) (clock : O → List (ℕ × ℕ)) (exh
   none_released (suc m) old new e h = absurd (omega arith)
 
   -- a delivery that applies one operation
-  pub one_applied : (old new : ReceivedOps S O) (op : O) (n : ℕ) → Arrives id clock exhausts old op (Applied n) new → n ≡ 1 → new ≡ record old { applied = old.applied ++ op ∷ [] }
+  pub one_applied : (old new : ReceivedOps S O) (op : O) (n : ℕ) → IsArrival id clock exhausts old op (Applied n) new → n ≡ 1 → new ≡ record old { applied = old.applied ++ op ∷ [] }
   one_applied old new op n h one = let first = h.2 in none_released first.0 (record old { applied = old.applied ++ op ∷ [] }) new (sym first.1 ∙ one) first.2
 
   -- the delivered operation is applied, and then held ones are released
-  pub applied_and_released : (old mid new : ReceivedOps S O) (op : O) (n count : ℕ) → Arrives id clock exhausts old op (Applied n) mid → n ≡ 1 → AreReleasedInTurn id clock exhausts count mid new → Arrives id clock exhausts old op (Applied (count + 1)) new
+  pub applied_and_released : (old mid new : ReceivedOps S O) (op : O) (n count : ℕ) → IsArrival id clock exhausts old op (Applied n) mid → n ≡ 1 → AreReleasedInTurn id clock exhausts count mid new → IsArrival id clock exhausts old op (Applied (count + 1)) new
   applied_and_released old mid new op n count h one released = (
     h.0,
     h.1,

@@ -9,7 +9,7 @@ use Rattle.tags_clocks.specs.Clock.{IsCause, IsRaised, count_of}
 use Rattle.merge_laws.specs.Orders.{IsIn, HasId, IsCausal}
 use Rattle.merge_laws.proofs.Causal.{causal_front}
 use Rattle.merge_laws.proofs.Lists.{id_in_back, split_at}
-use Rattle.causal_inbox.specs.InboxState.{IsNextOf, id_numbers}
+use Rattle.causal_inbox.specs.InboxState.{IsNextId, id_numbers}
 use Rattle.causal_inbox.specs.Inbox.{is_cause, uncovered_ops}
 use Rattle.causal_inbox.proofs.Gapless.{cause_test, in_take, left_out, none_uncovered, same_ids}
 
@@ -144,7 +144,7 @@ module _ {O : Type 0} (id : O → OpId) (clock : O → List (ℕ × ℕ)) where
   uncovered_front covered front o none h = cause_of_test covered (id o) (not_true _ (none_passes (λ (p : O). not (is_cause covered (id p))) front o none h))
 
   -- the clock raised by its first uncovered operation leaves the others uncovered
-  pub uncovered_raised : (applied : List O) (covered next : List (ℕ × ℕ)) (at within : ℕ) (o : O) → IsCausal id clock applied → at < within → slice_get applied at ≡ Some o → uncovered_ops id covered (take at applied) ≡ [] → IsNextOf covered (id_numbers id o) → IsRaised covered (id o).replica (id o).number next → uncovered_ops id covered (take within applied) ≡ o ∷ uncovered_ops id next (take within applied)
+  pub uncovered_raised : (applied : List O) (covered next : List (ℕ × ℕ)) (at within : ℕ) (o : O) → IsCausal id clock applied → at < within → slice_get applied at ≡ Some o → uncovered_ops id covered (take at applied) ≡ [] → IsNextId covered (id_numbers id o) → IsRaised covered (id o).replica (id o).number next → uncovered_ops id covered (take within applied) ≡ o ∷ uncovered_ops id next (take within applied)
   uncovered_raised applied covered next at within o causal l member none number raised =
       let all = take within applied in
       let test = λ (p : O). not (is_cause covered (id p)) in
@@ -182,7 +182,7 @@ module _ {O : Type 0} (id : O → OpId) (clock : O → List (ℕ × ℕ)) where
       none_uncovered id covered (take within applied) (λ p h. uncovered_front covered (take at applied) p none (subst (IsIn p) (sym (take_all at applied l)) (in_take p within applied h)))
 
   -- the copies made so far, with the next one, and the operations still uncovered
-  pub copies_next : (applied copies : List O) (clock_then covered next : List (ℕ × ℕ)) (at within limit counter : ℕ) (o : O) → IsCausal id clock applied → at < within → slice_get applied at ≡ Some o → uncovered_ops id covered (take at applied) ≡ [] → IsNextOf covered (id_numbers id o) → IsRaised covered (id o).replica (id o).number next → counter < limit → copies ++ take (limit - counter) (uncovered_ops id covered (take within applied)) ≡ take limit (uncovered_ops id clock_then (take within applied)) → (copies ++ o ∷ []) ++ take (limit - (counter + 1)) (uncovered_ops id next (take within applied)) ≡ take limit (uncovered_ops id clock_then (take within applied))
+  pub copies_next : (applied copies : List O) (clock_then covered next : List (ℕ × ℕ)) (at within limit counter : ℕ) (o : O) → IsCausal id clock applied → at < within → slice_get applied at ≡ Some o → uncovered_ops id covered (take at applied) ≡ [] → IsNextId covered (id_numbers id o) → IsRaised covered (id o).replica (id o).number next → counter < limit → copies ++ take (limit - counter) (uncovered_ops id covered (take within applied)) ≡ take limit (uncovered_ops id clock_then (take within applied)) → (copies ++ o ∷ []) ++ take (limit - (counter + 1)) (uncovered_ops id next (take within applied)) ≡ take limit (uncovered_ops id clock_then (take within applied))
   copies_next applied copies clock_then covered next at within limit counter o causal l member none number raised below rest =
       let more = uncovered_ops id next (take within applied) in
       let step : uncovered_ops id covered (take within applied) ≡ o ∷ more = uncovered_raised applied covered next at within o causal l member none number raised in

@@ -43,7 +43,7 @@ pub record IsLawfulInbox {S O : Type 0} (id : O → OpId) (clock : O → List (�
   -- the applied list is causal
   pub causal : IsCausal id clock s.applied
   -- no id is in both lists
-  pub apart : (i : OpId) → HasId id s.held i → ¬ HasId id s.applied i
+  pub disjoint : (i : OpId) → HasId id s.held i → ¬ HasId id s.applied i
   -- among all received operations, an id determines the operation
   pub determined : IdsDetermine id (s.applied ++ s.held)
   pub ascending : AreAscending id s.held
@@ -68,12 +68,12 @@ pub record IsNextReleased {S O : Type 0} (id : O → OpId) (clock : O → List (
   pub ripe : IsRipe id clock s.applied op
   pub least : (o : O) → IsIn o s.held → IsRipe id clock s.applied o → ¬ IsLess (id o) (id op)
 
--- The ripe held operation with the least id was applied. The counters had the numbers it needs.
+-- The ripe held operation with the least id was applied. The counters had the numbers it needed.
 pub record IsReleased {S O : Type 0} (id : O → OpId) (clock : O → List (ℕ × ℕ))
     (exhausts : S → List O → List O → Type 0) (old new : ReceivedOps S O) : Type 0 where
   pub op : O
   pub next : IsNextReleased id clock old op
-  pub in_reach : ¬ exhausts old.start old.applied (op ∷ [])
+  pub not_exhausted : ¬ exhausts old.start old.applied (op ∷ [])
   pub start : new.start ≡ old.start
   pub applied : new.applied ≡ old.applied ++ op ∷ []
   pub held : HaveSameElements old.held (op ∷ new.held)
@@ -107,8 +107,8 @@ AreIssued {O} id clock applied ops =
     → IsIssued id clock (applied ++ front) o
 
 -- The new held operations are the old ones, without those whose id was issued.
-abbrev pub AreHeldStill : {O : Type 0} → (O → OpId) → List O → List O → List O → Type 0
-AreHeldStill {O} id ops old new = (o : O) → IsIn o new ↔ (IsIn o old × ¬ HasId id ops (id o))
+abbrev pub AreRemainingHeld : {O : Type 0} → (O → OpId) → List O → List O → List O → Type 0
+AreRemainingHeld {O} id ops old new = (o : O) → IsIn o new ↔ (IsIn o old × ¬ HasId id ops (id o))
 
 -- The held operation at this place is ripe, and no ripe one has a lesser id.
 abbrev pub IsLeastRipe : {S O : Type 0} → (O → OpId) → (O → List (ℕ × ℕ)) → ReceivedOps S O → ℕ

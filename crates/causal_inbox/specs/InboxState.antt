@@ -40,12 +40,12 @@ pub record HistoryState (S R F O : Type 0) : Type 0 where
 abbrev pub id_numbers : {O : Type 0} → (O → OpId) → O → ℕ × ℕ
 id_numbers id o = ((id o).replica, (id o).number)
 
--- The numbers are those of the id of a replica's next operation after those that the clock counts.
-abbrev pub IsNextOf : List (ℕ × ℕ) → ℕ × ℕ → Type 0
-IsNextOf clock id = id.1 ≡ count_of clock id.0 + 1
+-- The numbers are the id of a replica's next operation after those that the clock covers.
+abbrev pub IsNextId : List (ℕ × ℕ) → ℕ × ℕ → Type 0
+IsNextId clock id = id.1 ≡ count_of clock id.0 + 1
 
 -- The entry counts a replica's operations. Either the clock covers that number of them, or `keys`
 -- lacks the first number that it doesn't cover.
-abbrev pub LacksNext : List (ℕ × ℕ) → List (ℕ × ℕ) → ℕ × ℕ → Type 0
-LacksNext clock keys entry =
+abbrev pub LacksNextId : List (ℕ × ℕ) → List (ℕ × ℕ) → ℕ × ℕ → Type 0
+LacksNextId clock keys entry =
     (entry.1 ≤ count_of clock entry.0) ⊎ (¬ IsIn (entry.0, count_of clock entry.0 + 1) keys)

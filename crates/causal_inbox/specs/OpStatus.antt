@@ -3,18 +3,18 @@
 use Rattle.std.specs.Prelude.{ℕ, List, ◌++◌}
 use Rattle.tags_clocks.specs.declared.id.OpId.{OpId}
 use Rattle.merge_laws.specs.Orders.{HasId, IsRipe}
-use Rattle.causal_inbox.specs.declared.delivery.Known.{Known}
-use Rattle.causal_inbox.specs.declared.delivery.Known.TheVariants.{Same, Other, New}
+use Rattle.causal_inbox.specs.declared.delivery.OpKnowledge.{OpKnowledge}
+use Rattle.causal_inbox.specs.declared.delivery.OpKnowledge.TheVariants.{Same, Other, New}
 use Rattle.causal_inbox.specs.declared.inbox.OpStatus.{OpStatus}
 use Rattle.causal_inbox.specs.declared.inbox.OpStatus.TheVariants.{Received, Conflicting, Ripe}
 use Rattle.causal_inbox.specs.declared.inbox.OpStatus.TheVariants.{Early}
 use Rattle.causal_inbox.specs.Inbox.{ReceivedOps, IsReceived, IsNew}
 
 -- What an inbox knows of an operation: it was received, or another with its id was, or neither was.
-abbrev pub KnowsAs : {S O : Type 0} → (O → OpId) → ReceivedOps S O → O → Known → Type 0
-KnowsAs id s o Same = IsReceived s o
-KnowsAs id s o Other = (¬ IsReceived s o) × HasId id (s.applied ++ s.held) (id o)
-KnowsAs id s o New = IsNew id s o
+abbrev pub IsKnowledgeOf : {S O : Type 0} → (O → OpId) → ReceivedOps S O → O → OpKnowledge → Type 0
+IsKnowledgeOf id s o Same = IsReceived s o
+IsKnowledgeOf id s o Other = (¬ IsReceived s o) × HasId id (s.applied ++ s.held) (id o)
+IsKnowledgeOf id s o New = IsNew id s o
 
 -- What a delivery does with an operation depends on this: it was received, or another with its id
 -- was; or neither was, and it is ripe or early.

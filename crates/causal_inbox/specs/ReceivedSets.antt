@@ -33,7 +33,7 @@ ReceivedTakesIssued {S} {O} id old ops new =
 pub record IsConsistent {S O : Type 0} (id : O → OpId) (clock : O → List (ℕ × ℕ))
     (s : ReceivedOps S O) : Type 0 where
   pub causal : IsCausal id clock s.applied
-  pub apart : (i : OpId) → HasId id s.held i → ¬ HasId id s.applied i
+  pub disjoint : (i : OpId) → HasId id s.held i → ¬ HasId id s.applied i
   pub determined : IdsDetermine id (s.applied ++ s.held)
 
 -- The list contains each received operation whose causes are all in the list.

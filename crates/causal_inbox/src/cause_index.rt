@@ -82,7 +82,10 @@ pub fn place_of(entries: &TreeList<CauseEntry>, entry: &CauseEntry) -> usize
 }
 
 /// The place of the first entry under `cause`, or `None` if there is none.
-pub fn first_waiting_for(entries: &TreeList<CauseEntry>, cause: &Option<OpId>) -> Option<usize>
+pub fn first_entry_under_cause(
+    entries: &TreeList<CauseEntry>,
+    cause: &Option<OpId>,
+) -> Option<usize>
     requires { AreOrdered IsIndexedBefore entries.now }
     ensures { MatchOption result ((f : CauseEntry) → IsIn f entries.now → f.cause ≢ cause.now)
         (λ at. (at < length entries.now)

@@ -5,11 +5,11 @@ ghost use Rattle.std.specs.Prelude.{drop, insert, length, map, take, IsTrue, Mat
 ghost use Rattle.std.specs.Prelude.{OnErr, remove, slice_get, slice_index_or};
 ghost use Rattle.tags_clocks.specs.declared.id.OpId.{OpId};
 ghost use Rattle.merge_laws.specs.Orders.{IsIn, HasId, HaveSameElements, IsRipe};
-ghost use Rattle.causal_inbox.specs.Inbox.{AreAscending, AreHeldStill, IsClockOf, IsLess};
+ghost use Rattle.causal_inbox.specs.Inbox.{AreAscending, AreRemainingHeld, IsClockOf, IsLess};
 ghost use Rattle.causal_inbox.specs.Inbox.{held_limit};
 ghost use Rattle.causal_inbox.specs.CauseIndex.{AreApart, AreIndexed, IsReindexed};
 
-use crate::cause_index::{CauseEntry, entry_of, first_waiting_for, place_of};
+use crate::cause_index::{CauseEntry, entry_of, first_entry_under_cause, place_of};
 use crate::op_cell::OpCell;
 use merge_laws::Caused;
 use std::alloc::{AllocError, Global};
@@ -189,7 +189,7 @@ impl<O: Caused + Drop> HeldStore<O> {
             × IsClockOf O.id applied clock.now
             × AreApart O.id self.old.list applied
             × AreIndexed O.id O.clock [] applied self.old.list self.old.entries }
-        ensures remaining { AreHeldStill O.id ops.now self.old.list self.new.list }
+        ensures remaining { AreRemainingHeld O.id ops.now self.old.list self.new.list }
         ensures count { length self.new.list ≤ length self.old.list }
         ensures indexed { (woken : List OpId) (applied : List O)
             → AreIndexed O.id O.clock woken applied self.old.list self.old.entries
@@ -228,7 +228,7 @@ impl<O: Caused + Drop> HeldStore<O> {
     {
         let cause = Some(id);
         for _ in 0..self.entries.len() {
-            match first_waiting_for(&self.entries, &cause) {
+            match first_entry_under_cause(&self.entries, &cause) {
                 None => return,
                 Some(at) => self.reindex(clock, at),
             }

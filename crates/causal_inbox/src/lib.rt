@@ -48,12 +48,12 @@ mod op_cell;
 mod own_ids;
 mod search;
 
-pub use delivery::{Arrival, DeliverFault, Delivered, Drained, IssueFault, Known, Stall};
+pub use delivery::{Arrival, DeliverFault, Delivered, Drained, IssueFault, OpKnowledge, Stall};
 pub use held_ops::{HeldIter, HeldOps};
 pub use inbox::{HELD_LIMIT, Inbox};
 pub use laws::{
-    delivery_is_received, indexed_by_least_missing_cause, issue_is_received, nothing_ripe_is_left,
-    release_loses_nothing, what_is_received_is_consistent,
+    applied_ops_are_the_least_set, delivery_is_received, indexed_by_least_missing_cause,
+    issue_is_received, received_ops_are_consistent, release_loses_nothing,
 };
 pub use own_ids::least_own;
 pub use search::find_in;

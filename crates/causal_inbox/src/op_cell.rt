@@ -18,13 +18,13 @@ pub struct OpCell<O: Caused> {
 
 impl<O: Caused> Model for OpCell<O> {
     ghost use Rattle.std.specs.Prelude.{◌≡◌};
-    ghost use Rattle.causal_inbox.specs.OpCells.{only};
+    ghost use Rattle.causal_inbox.specs.OpCells.{only_item};
 
     ghost Value = { O };
 
-    ghost view = { λ c. only c.ops.items c.one };
+    ghost view = { λ c. only_item c.ops.items c.one };
 
-    ghost invariant = { λ c. c.id ≡ O.id (only c.ops.items c.one) };
+    ghost invariant = { λ c. c.id ≡ O.id (only_item c.ops.items c.one) };
 }
 
 impl<O: Caused + Drop> OpCell<O> {

@@ -3,7 +3,7 @@ use Rattle.std.proofs.Common.{◌≡◌, ℕ, suc, ◌+◌, ◌-◌, ◌*◌, �
 use Rattle.std.proofs.Math.Numerals.{add-one}
 use Rattle.std.proofs.lemmas.Bool.{cases_lt, cases_order}
 use Rattle.std.proofs.lemmas.List.{set_split, drop_all, drop_at, drop-drop, drop_more, get_or_at, length-take-le, take-append-drop, take-take, take_at, take_more}
-use Rattle.chunk_list.specs.Chunks.{AreChunks, AreDense, AreNearlyDense, FillOne, FitOne, free_at_end, items_of, with_one_less}
+use Rattle.chunk_list.specs.Chunks.{AreChunks, AreDense, AreNearlyDense, FillOneChunk, FitOneChunk, free_at_end, items_of, with_one_less}
 use Rattle.chunk_list.specs.declared.chunks.Chunk.{Chunk}
 use Rattle.chunk_list.specs.declared.chunks.TheConstants.{CHUNK}
 use Rattle.chunk_list.proofs.FreePlaceLemmas.{free_append}
@@ -23,18 +23,18 @@ dense_joined free [] ys front back = back
 dense_joined free (c ∷ xs) ys front back = (front.0, dense_joined (CHUNK - length c.items.items) xs ys front.1 back)
 
 -- Chunks are dense after fewer free places too.
-pub dense_less : {T : Type 0} (few many : ℕ) (cs : List (Chunk T)) → few ≤ many → AreDense many cs → AreDense few cs
-dense_less few many [] h d = tt
-dense_less few many (c ∷ cs) h d = (omega (arith, h, d.0), d.1)
+pub dense_with_fewer_free : {T : Type 0} (few many : ℕ) (cs : List (Chunk T)) → few ≤ many → AreDense many cs → AreDense few cs
+dense_with_fewer_free few many [] h d = tt
+dense_with_fewer_free few many (c ∷ cs) h d = (omega (arith, h, d.0), d.1)
 
 pub dense_down : {T : Type 0} (free : ℕ) (cs : List (Chunk T)) → AreDense free cs → AreDense free (map with_one_less cs)
 dense_down free [] h = tt
 dense_down free (c ∷ cs) h = (h.0, dense_down (CHUNK - length c.items.items) cs h.1)
 
 -- The number of dense chunks is limited by that of their items.
-pub dense_few : {T : Type 0} (free before : ℕ) (cs : List (Chunk T)) → free ≤ CHUNK → AreChunks before cs → AreDense free cs → CHUNK * length cs + free ≤ 2 * length (items_of cs) + CHUNK
-dense_few free before [] h k d = omega (arith, h)
-dense_few free before (c ∷ cs) h k d = omega (arith, k.0.most, d.0, dense_few (CHUNK - length c.items.items) (before + length c.items.items) cs (omega arith) k.1 d.1, length-append c.items.items (items_of cs))
+pub count_of_dense : {T : Type 0} (free before : ℕ) (cs : List (Chunk T)) → free ≤ CHUNK → AreChunks before cs → AreDense free cs → CHUNK * length cs + free ≤ 2 * length (items_of cs) + CHUNK
+count_of_dense free before [] h k d = omega (arith, h)
+count_of_dense free before (c ∷ cs) h k d = omega (arith, k.0.most, d.0, count_of_dense (CHUNK - length c.items.items) (before + length c.items.items) cs (omega arith) k.1 d.1, length-append c.items.items (items_of cs))
 
 -- Dense chunks, divided at one of them.
 module _ {T : Type 0} (cs : List (Chunk T)) (i : ℕ) (d : Chunk T) (inside : i < length cs) (h : AreDense 0 cs) where
@@ -46,7 +46,7 @@ module _ {T : Type 0} (cs : List (Chunk T)) (i : ℕ) (d : Chunk T) (inside : i 
 
   -- A chunk is replaced by one with at least as many items.
   pub dense_with : (c : Chunk T) → length (get_or cs i d).items.items ≤ length c.items.items → AreDense 0 (set cs i c)
-  dense_with c more = subst (AreDense 0) (sym (set_split cs i c inside)) (dense_joined 0 (take i cs) (c ∷ drop (suc i) cs) dense_before (omega (arith, more, dense_from.0), dense_less _ _ (drop (suc i) cs) (omega (arith, more)) dense_from.1))
+  dense_with c more = subst (AreDense 0) (sym (set_split cs i c inside)) (dense_joined 0 (take i cs) (c ∷ drop (suc i) cs) dense_before (omega (arith, more, dense_from.0), dense_with_fewer_free _ _ (drop (suc i) cs) (omega (arith, more)) dense_from.1))
 
 -- The free places of the chunk at a place.
 free_through : {T : Type 0} (cs : List (Chunk T)) (i : ℕ) (d : Chunk T) → i < length cs → free_at_end 0 (take (i + 1) cs) ≡ CHUNK - length (get_or cs i d).items.items
@@ -70,11 +70,11 @@ dense_lost cs i d inside h c many =
     loose_between (take i cs) c (map with_one_less (drop (suc i) cs)) i (length-take-le i cs (omega (arith, inside))) (dense_before cs i d inside h) (omega (arith, many, from.0)) (dense_down _ (drop (suc i) cs) (subst (λ n. AreDense (CHUNK - n) (drop (suc i) cs)) (sym many) from.1))
 
 -- The chunks if the one that has lost an item is to be joined with the next or the previous one.
-filled_next : {T : Type 0} (d : Chunk T) (cs : List (Chunk T)) (at : ℕ) → AreNearlyDense cs at → at + 1 < length cs → ((e : Chunk T) → length (get_or cs at e).items.items + length (get_or cs (at + 1) e).items.items ≤ CHUNK) → FillOne cs at
+filled_next : {T : Type 0} (d : Chunk T) (cs : List (Chunk T)) (at : ℕ) → AreNearlyDense cs at → at + 1 < length cs → ((e : Chunk T) → length (get_or cs at e).items.items + length (get_or cs (at + 1) e).items.items ≤ CHUNK) → FillOneChunk cs at
 filled_next d cs at loose inside fits = record {
   front = loose.front;
   full = λ e. omega (arith, fits e, (next e).0);
-  tail = subst (λ j. AreDense 0 (drop j cs)) far (dense_less 0 _ (drop (at + 1 + 1) cs) (omega arith) (next d).1);
+  tail = subst (λ j. AreDense 0 (drop j cs)) far (dense_with_fewer_free 0 _ (drop (at + 1 + 1) cs) (omega arith) (next d).1);
 }
   where
     far : at + 1 + 1 ≡ at + 2
@@ -83,21 +83,21 @@ filled_next d cs at loose inside fits = record {
     next : (e : _) → AreDense (CHUNK - (length (get_or cs at e).items.items + 1)) (get_or cs (at + 1) e ∷ drop (at + 1 + 1) cs)
     next e = subst (AreDense _) (drop_more cs (at + 1) e inside) (loose.tail e)
 
-pub fill_next : {T : Type 0} (cs : List (Chunk T)) (at : ℕ) → AreNearlyDense cs at → at + 1 < length cs → ((e : Chunk T) → length (get_or cs at e).items.items + length (get_or cs (at + 1) e).items.items ≤ CHUNK) → FillOne cs at
+pub fill_next : {T : Type 0} (cs : List (Chunk T)) (at : ℕ) → AreNearlyDense cs at → at + 1 < length cs → ((e : Chunk T) → length (get_or cs at e).items.items + length (get_or cs (at + 1) e).items.items ≤ CHUNK) → FillOneChunk cs at
 fill_next [] at loose inside fits = absurd (omega (arith, inside))
 fill_next (c ∷ cs) at loose inside fits = filled_next c (c ∷ cs) at loose inside fits
 
-filled_front : {T : Type 0} (d : Chunk T) (cs : List (Chunk T)) (i : ℕ) → AreNearlyDense cs (i + 1) → i + 1 < length cs → ((e : Chunk T) → length (get_or cs i e).items.items + length (get_or cs (i + 1) e).items.items ≤ CHUNK) → FillOne cs i
+filled_front : {T : Type 0} (d : Chunk T) (cs : List (Chunk T)) (i : ℕ) → AreNearlyDense cs (i + 1) → i + 1 < length cs → ((e : Chunk T) → length (get_or cs i e).items.items + length (get_or cs (i + 1) e).items.items ≤ CHUNK) → FillOneChunk cs i
 filled_front d cs i loose inside fits =
     let far : i + 1 + 1 ≡ i + 2 = omega arith in
     let front : take i (take (i + 1) cs) ≡ take i cs = take-take i (i + 1) cs (omega arith) in
     record {
       front = subst (AreDense 0) front (dense_front 0 (take i (take (i + 1) cs)) (drop i (take (i + 1) cs)) (subst (AreDense 0) (sym (take-append-drop i (take (i + 1) cs))) loose.front));
       full = λ e. omega (arith, fits e, loose.here e, free_through cs i e (omega (arith, inside)));
-      tail = subst (λ j. AreDense 0 (drop j cs)) far (dense_less 0 _ (drop (i + 1 + 1) cs) (omega arith) (loose.tail d));
+      tail = subst (λ j. AreDense 0 (drop j cs)) far (dense_with_fewer_free 0 _ (drop (i + 1 + 1) cs) (omega arith) (loose.tail d));
     }
 
-pub fill_front : {T : Type 0} (cs : List (Chunk T)) (at : ℕ) → AreNearlyDense cs at → 0 < at → at < length cs → ((e : Chunk T) → length (get_or cs (at - 1) e).items.items + length (get_or cs at e).items.items ≤ CHUNK) → FillOne cs (at - 1)
+pub fill_front : {T : Type 0} (cs : List (Chunk T)) (at : ℕ) → AreNearlyDense cs at → 0 < at → at < length cs → ((e : Chunk T) → length (get_or cs (at - 1) e).items.items + length (get_or cs at e).items.items ≤ CHUNK) → FillOneChunk cs (at - 1)
 fill_front [] at loose some inside fits = absurd (omega (arith, inside))
 fill_front (c ∷ cs) at loose some inside fits =
     let back : at ≡ at - 1 + 1 = omega (arith, some) in
@@ -132,22 +132,22 @@ module _ {T : Type 0} (d : Chunk T) (cs : List (Chunk T)) (at : ℕ) (h : AreChu
   densely : AreDense 0 cs
   densely = subst (AreDense 0) (sym (parts_around cs at d inside)) (dense_joined 0 (take at cs) (get_or cs at d ∷ drop (suc at) cs) loose.front (more_here, subst (λ j. AreDense (CHUNK - length (get_or cs at d).items.items) (drop j cs)) (add-one at) dense_next))
 
-pub dense_alone : {T : Type 0} (cs : List (Chunk T)) (at : ℕ) → AreChunks 0 cs → AreNearlyDense cs at → at < length cs → ((d : Chunk T) → 0 < at → length (get_or cs (at - 1) d).items.items + length (get_or cs at d).items.items ≤ CHUNK → ⊥) → ((d : Chunk T) → at + 1 < length cs → length (get_or cs at d).items.items + length (get_or cs (at + 1) d).items.items ≤ CHUNK → ⊥) → AreDense 0 cs
-dense_alone [] at h loose inside alone apart = tt
-dense_alone (c ∷ cs) at h loose inside alone apart = densely c (c ∷ cs) at h loose inside (alone c) (apart c)
+pub dense_if_unjoined : {T : Type 0} (cs : List (Chunk T)) (at : ℕ) → AreChunks 0 cs → AreNearlyDense cs at → at < length cs → ((d : Chunk T) → 0 < at → length (get_or cs (at - 1) d).items.items + length (get_or cs at d).items.items ≤ CHUNK → ⊥) → ((d : Chunk T) → at + 1 < length cs → length (get_or cs at d).items.items + length (get_or cs (at + 1) d).items.items ≤ CHUNK → ⊥) → AreDense 0 cs
+dense_if_unjoined [] at h loose inside alone apart = tt
+dense_if_unjoined (c ∷ cs) at h loose inside alone apart = densely c (c ∷ cs) at h loose inside (alone c) (apart c)
 
 -- These facts, given the results of the code's tests of two neighbours.
-pub fill_next_by_test : {T : Type 0} (cs xs : List (Chunk T)) (at : ℕ) (r : Bool) → xs ≡ cs → AreNearlyDense cs at → (IsTrue r → (0 < at + 1) × (at + 1 < length xs)) → ((d : Chunk T) → IsTrue r ↔ FitOne xs (at + 1) d) → IsTrue r → FillOne cs at
+pub fill_next_by_test : {T : Type 0} (cs xs : List (Chunk T)) (at : ℕ) (r : Bool) → xs ≡ cs → AreNearlyDense cs at → (IsTrue r → (0 < at + 1) × (at + 1 < length xs)) → ((d : Chunk T) → IsTrue r ↔ FitOneChunk xs (at + 1) d) → IsTrue r → FillOneChunk cs at
 fill_next_by_test cs xs at r is loose both test_is t =
     let back : at + 1 - 1 ≡ at = omega arith in
-    fill_next cs at loose (subst (λ ys. at + 1 < length ys) is (both t).1) (λ e. subst (λ j. length (get_or cs j e).items.items + length (get_or cs (at + 1) e).items.items ≤ CHUNK) back (subst (λ ys. FitOne ys (at + 1) e) is ((test_is e).0 t)).2)
+    fill_next cs at loose (subst (λ ys. at + 1 < length ys) is (both t).1) (λ e. subst (λ j. length (get_or cs j e).items.items + length (get_or cs (at + 1) e).items.items ≤ CHUNK) back (subst (λ ys. FitOneChunk ys (at + 1) e) is ((test_is e).0 t)).2)
 
-pub fill_front_by_test : {T : Type 0} (cs xs : List (Chunk T)) (at : ℕ) (r : Bool) → xs ≡ cs → AreNearlyDense cs at → (IsTrue r → (0 < at) × (at < length xs)) → ((d : Chunk T) → IsTrue r ↔ FitOne xs at d) → IsTrue r → FillOne cs (at - 1)
-fill_front_by_test cs xs at r is loose both test_is t = fill_front cs at loose (both t).0 (subst (λ ys. at < length ys) is (both t).1) (λ e. (subst (λ ys. FitOne ys at e) is ((test_is e).0 t)).2)
+pub fill_front_by_test : {T : Type 0} (cs xs : List (Chunk T)) (at : ℕ) (r : Bool) → xs ≡ cs → AreNearlyDense cs at → (IsTrue r → (0 < at) × (at < length xs)) → ((d : Chunk T) → IsTrue r ↔ FitOneChunk xs at d) → IsTrue r → FillOneChunk cs (at - 1)
+fill_front_by_test cs xs at r is loose both test_is t = fill_front cs at loose (both t).0 (subst (λ ys. at < length ys) is (both t).1) (λ e. (subst (λ ys. FitOneChunk ys at e) is ((test_is e).0 t)).2)
 
-pub dense_by_tests : {T : Type 0} (cs xs ys : List (Chunk T)) (at : ℕ) (r s : Bool) → xs ≡ cs → ys ≡ cs → AreChunks 0 cs → AreNearlyDense cs at → at < length cs → ((d : Chunk T) → IsTrue r ↔ FitOne xs (at + 1) d) → (IsTrue r → ⊥) → ((d : Chunk T) → IsTrue s ↔ FitOne ys at d) → (IsTrue s → ⊥) → AreDense 0 cs
+pub dense_by_tests : {T : Type 0} (cs xs ys : List (Chunk T)) (at : ℕ) (r s : Bool) → xs ≡ cs → ys ≡ cs → AreChunks 0 cs → AreNearlyDense cs at → at < length cs → ((d : Chunk T) → IsTrue r ↔ FitOneChunk xs (at + 1) d) → (IsTrue r → ⊥) → ((d : Chunk T) → IsTrue s ↔ FitOneChunk ys at d) → (IsTrue s → ⊥) → AreDense 0 cs
 dense_by_tests cs xs ys at r s is same h loose inside next apart front alone =
     let back : at + 1 - 1 ≡ at = omega arith in
-    dense_alone cs at h loose inside
-    (λ d above fits. alone ((front d).1 (subst (λ zs. FitOne zs at d) (sym same) (above, inside, fits))))
-    (λ d more fits. apart ((next d).1 (subst (λ zs. FitOne zs (at + 1) d) (sym is) (omega arith, more, subst (λ j. length (get_or cs j d).items.items + length (get_or cs (at + 1) d).items.items ≤ CHUNK) (sym back) fits))))
+    dense_if_unjoined cs at h loose inside
+    (λ d above fits. alone ((front d).1 (subst (λ zs. FitOneChunk zs at d) (sym same) (above, inside, fits))))
+    (λ d more fits. apart ((next d).1 (subst (λ zs. FitOneChunk zs (at + 1) d) (sym is) (omega arith, more, subst (λ j. length (get_or cs j d).items.items + length (get_or cs (at + 1) d).items.items ≤ CHUNK) (sym back) fits))))

@@ -10,7 +10,7 @@ use Rattle.chunk_list.specs.declared.chunks.TheConstants.{CHUNK}
 use Rattle.chunk_list.specs.Chunks.{AreChunks, IsInChunk, free_at_end, items_of, with_one_less}
 use Rattle.chunk_list.proofs.FreePlaceLemmas.{free_append, free_at, free_monotone, free_last, free_set}
 use Rattle.chunk_list.proofs.PlaceLemmas.{get_between, slice_get_between, remove_between, set_between}
-use Rattle.chunk_list.proofs.SplitLemmas.{chunk_is, chunks_with, down_chunks, down_free, down_items, from_at, front_at, items_around, items_with, joined}
+use Rattle.chunk_list.proofs.SplitLemmas.{chunk_is, chunks_with, down_chunks, down_free, down_items, chunks_from_place, chunks_before_place, items_around, items_with, joined}
 
 module _ {T : Type 0} (cs : List (Chunk T)) (index at : ℕ) (d : Chunk T) (h : AreChunks 0 cs) (place : IsInChunk cs index at) where
   -- The start of the chunk.
@@ -48,7 +48,7 @@ module _ {T : Type 0} (cs : List (Chunk T)) (index at : ℕ) (d : Chunk T) (h : 
   pub same_chunks : (c : Chunk T) → c.start ≡ (get_or cs at d).start → length c.items.items ≡ length (get_or cs at d).items.items → vec_capacity c.items ≡ vec_capacity (get_or cs at d).items → AreChunks 0 (set cs at c)
   same_chunks c start len_is room =
       let here = chunk_is cs at d place.within h in
-      chunks_with cs at d c place.within h (record { start = start ∙ starts; some = omega (arith, len_is, here.some); most = omega (arith, len_is, here.most); room = omega (arith, room, here.room) }) (subst (λ k. AreChunks (length (items_of (take at cs)) + k) (drop (suc at) cs)) (sym len_is) (from_at cs at d place.within h).1)
+      chunks_with cs at d c place.within h (record { start = start ∙ starts; some = omega (arith, len_is, here.some); most = omega (arith, len_is, here.most); room = omega (arith, room, here.room) }) (subst (λ k. AreChunks (length (items_of (take at cs)) + k) (drop (suc at) cs)) (sym len_is) (chunks_from_place cs at d place.within h).1)
 
   pub same_free : (c : Chunk T) → length c.items.items ≡ length (get_or cs at d).items.items → free_at_end 0 (set cs at c) ≡ free_at_end 0 cs
   same_free c len_is = free_set 0 cs at c place.within ∙ ap (λ k. free_at_end (CHUNK - k) (drop (suc at) cs)) len_is ∙ sym (free_at 0 cs at d place.within)
@@ -64,7 +64,7 @@ module _ {T : Type 0} (cs : List (Chunk T)) (index at : ℕ) (d : Chunk T) (h : 
   pub lost_chunks : (c : Chunk T) → c.start ≡ (get_or cs at d).start → length c.items.items + 1 ≡ length (get_or cs at d).items.items → 0 < length c.items.items → vec_capacity c.items ≡ vec_capacity (get_or cs at d).items → AreChunks 0 (take at cs ++ c ∷ map with_one_less (drop (suc at) cs))
   lost_chunks c start len_is some room =
       let here = chunk_is cs at d place.within h in
-      joined 0 _ (take at cs) (c ∷ map with_one_less (drop (suc at) cs)) (omega arith) (front_at cs at place.within h) (record { start = start ∙ starts; some = some; most = omega (arith, len_is, here.most); room = omega (arith, room, here.room) }, down_chunks _ _ (drop (suc at) cs) (omega (arith, len_is)) (from_at cs at d place.within h).1)
+      joined 0 _ (take at cs) (c ∷ map with_one_less (drop (suc at) cs)) (omega arith) (chunks_before_place cs at place.within h) (record { start = start ∙ starts; some = some; most = omega (arith, len_is, here.most); room = omega (arith, room, here.room) }, down_chunks _ _ (drop (suc at) cs) (omega (arith, len_is)) (chunks_from_place cs at d place.within h).1)
 
   pub lost_free : (c : Chunk T) → length c.items.items + 1 ≡ length (get_or cs at d).items.items → free_at_end 0 cs ≤ free_at_end 0 (take at cs ++ c ∷ map with_one_less (drop (suc at) cs))
   lost_free c len_is =
@@ -150,6 +150,6 @@ module _ {T : Type 0} (cs : List (Chunk T)) (i : ℕ) (d c : Chunk T) (h : AreCh
       let n = length (items_of (take i cs)) in
       let chunk = chunk_is cs i d here h in
       let len_is : length c.items.items ≡ length (get_or cs i d).items.items + length (get_or cs (suc i) d).items.items = ap (λ xs. length xs) both ∙ length-append (get_or cs i d).items.items (get_or cs (suc i) d).items.items in
-      let rest = (subst (AreChunks (n + length (get_or cs i d).items.items)) next (from_at cs i d here h).1).1 in
+      let rest = (subst (AreChunks (n + length (get_or cs i d).items.items)) next (chunks_from_place cs i d here h).1).1 in
       let same : n + length (get_or cs i d).items.items + length (get_or cs (suc i) d).items.items ≡ n + length c.items.items = omega (arith, len_is) in
-      joined 0 n (take i cs) (c ∷ drop (suc (suc i)) cs) (omega arith) (front_at cs i here h) (record { start = start ∙ chunk.start; some = omega (arith, len_is, chunk.some); most = omega (arith, len_is, fits); room = omega (arith, room, chunk.room) }, subst (λ m. AreChunks m (drop (suc (suc i)) cs)) same rest)
+      joined 0 n (take i cs) (c ∷ drop (suc (suc i)) cs) (omega arith) (chunks_before_place cs i here h) (record { start = start ∙ chunk.start; some = omega (arith, len_is, chunk.some); most = omega (arith, len_is, fits); room = omega (arith, room, chunk.room) }, subst (λ m. AreChunks m (drop (suc (suc i)) cs)) same rest)

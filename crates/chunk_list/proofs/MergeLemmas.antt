@@ -6,12 +6,12 @@ use Rattle.std.proofs.lemmas.List.{get_or_default}
 use Rattle.std.proofs.lemmas.List.Edits.{get_or-remove_below}
 use Rattle.chunk_list.specs.declared.chunks.Chunk.{Chunk}
 use Rattle.chunk_list.specs.declared.chunks.TheConstants.{CHUNK}
-use Rattle.chunk_list.specs.Chunks.{AreChunks, AreDense, FillOne, items_of}
+use Rattle.chunk_list.specs.Chunks.{AreChunks, AreDense, FillOneChunk, items_of}
 use Rattle.chunk_list.specs.Room.{IsSpare}
-use Rattle.chunk_list.proofs.DensityLemmas.{dense_joined, dense_less}
+use Rattle.chunk_list.proofs.DensityLemmas.{dense_joined, dense_with_fewer_free}
 use Rattle.chunk_list.proofs.EditLemmas.{both_chunks, both_items, set_removed}
 use Rattle.chunk_list.proofs.FreePlaceLemmas.{free_below_chunk}
-use Rattle.chunk_list.proofs.SplitLemmas.{chunk_is, front_at}
+use Rattle.chunk_list.proofs.SplitLemmas.{chunk_is, chunks_before_place}
 
 -- The result if nothing failed.
 pub on_ok : {X U E : Type 0} (r : Result U E) (xs here there : List X) → IsOk r → xs ≡ (if is_ok r then here else there) → xs ≡ here
@@ -24,7 +24,7 @@ pub record IsMerged {T U E : Type 0} (cs left : List (Chunk T)) (at : ℕ) (firs
   pub gone : left ≡ remove cs (at + 1)
   pub here : first ≡ get_or left at first
   pub next : second ≡ get_or cs (at + 1) second
-  pub full : FillOne cs at
+  pub full : FillOneChunk cs at
   pub succeeds : vec_len first.items + vec_len second.items ≤ vec_capacity first.items → IsOk r
   pub items : both.items ≡ (if is_ok r then first.items.items ++ second.items.items else first.items.items)
   pub room : vec_capacity first.items ≤ vec_capacity both
@@ -62,9 +62,9 @@ module _ {T U E : Type 0} (cs left : List (Chunk T)) (at : ℕ) (first second : 
   pub merged_dense : AreDense 0 (set left at (record { start = first.start; items = both }))
   merged_dense =
       let many : length both.items ≡ CHUNK = ap (λ xs. length xs) whole ∙ length-append (get_or cs at first).items.items (get_or cs (suc at) first).items.items ∙ ap (λ k. length (get_or cs at first).items.items + length (get_or cs k first).items.items) (sym (add-one at)) ∙ m.full.full first in
-      let free = free_below_chunk 0 0 (take at cs) (omega arith) (front_at cs at (omega (arith, inside)) m.valid) in
+      let free = free_below_chunk 0 0 (take at cs) (omega arith) (chunks_before_place cs at (omega (arith, inside)) m.valid) in
       let far : at + 2 ≡ suc (suc at) = omega arith in
-      subst (AreDense 0) (sym list) (dense_joined 0 (take at cs) (record { start = first.start; items = both } ∷ drop (suc (suc at)) cs) m.full.front (omega (arith, many, free), dense_less _ 0 (drop (suc (suc at)) cs) (omega (arith, many)) (subst (λ j. AreDense 0 (drop j cs)) far m.full.tail)))
+      subst (AreDense 0) (sym list) (dense_joined 0 (take at cs) (record { start = first.start; items = both } ∷ drop (suc (suc at)) cs) m.full.front (omega (arith, many, free), dense_with_fewer_free _ 0 (drop (suc (suc at)) cs) (omega (arith, many)) (subst (λ j. AreDense 0 (drop j cs)) far m.full.tail)))
 
   pub merged_spare : IsSpare rest
   merged_spare = record {

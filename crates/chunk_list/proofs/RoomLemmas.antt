@@ -11,12 +11,12 @@ use Rattle.chunk_list.specs.declared.chunks.Chunk.{Chunk}
 use Rattle.chunk_list.specs.declared.chunks.TheConstants.{CHUNK}
 use Rattle.chunk_list.specs.Chunks.{AreChunks, AreDense, IsChunk, IsInChunk, free_at_end, items_of, with_one_less}
 use Rattle.chunk_list.specs.Room.{IsChunkList, IsReady, IsSpare, most_items}
-use Rattle.chunk_list.proofs.DensityLemmas.{dense_before, dense_down, dense_few, dense_from, dense_joined, dense_less}
+use Rattle.chunk_list.proofs.DensityLemmas.{dense_before, dense_down, count_of_dense, dense_from, dense_joined, dense_with_fewer_free}
 use Rattle.chunk_list.proofs.EditLemmas.{get_or_in}
 use Rattle.chunk_list.proofs.FreePlaceLemmas.{free_append, free_at_most_chunk}
 use Rattle.chunk_list.proofs.MergeLemmas.{on_ok}
 use Rattle.chunk_list.proofs.PlaceLemmas.{remove_between}
-use Rattle.chunk_list.proofs.SplitLemmas.{chunk_is, few_chunks, down_chunks, down_items, few_items, from_at, front_at, items_around, joined}
+use Rattle.chunk_list.proofs.SplitLemmas.{chunk_is, few_chunks, down_chunks, down_items, few_items, chunks_from_place, chunks_before_place, items_around, joined}
 
 -- A chunk of one item was made from a spare.
 pub record IsOpened {T X Y Z : Type 0} (held new : Vec (Chunk T) X) (empty left : Vec (Vec T Y) Z) (count : ℕ) (x : T) (c : Chunk T) (spare : Vec T Y) : Type 0 where
@@ -107,13 +107,13 @@ module _ {T X Z : Type 0} (held new : Vec (Chunk T) X) (empty more : Vec (Vec T 
   pub closed_valid : IsChunkList new more (count - 1)
   closed_valid =
       let k = o.valid in
-      let tail : AreChunks (length (items_of (take at held.items)) + length (get_or held.items at d).items.items) (drop (at + 1) held.items) = subst (λ j. AreChunks (length (items_of (take at held.items)) + length (get_or held.items at d).items.items) (drop j held.items)) (sym (add-one at)) (from_at held.items at d o.place.within k.chunks).1 in
+      let tail : AreChunks (length (items_of (take at held.items)) + length (get_or held.items at d).items.items) (drop (at + 1) held.items) = subst (λ j. AreChunks (length (items_of (take at held.items)) + length (get_or held.items at d).items.items) (drop j held.items)) (sym (add-one at)) (chunks_from_place held.items at d o.place.within k.chunks).1 in
       let len_is : length (get_or held.items at d).items.items ≡ 1 = ap (λ xs. length xs) single in
       let from = dense_from held.items at d o.place.within k.dense in
       let within : index < length (items_of held.items) = omega (arith, here.start, o.place.end d, ap (λ xs. length xs) (items_around held.items at d o.place.within), length-append (items_of (take at held.items)) ((get_or held.items at d).items.items ++ items_of (drop (suc at) held.items)), length-append (get_or held.items at d).items.items (items_of (drop (suc at) held.items))) in
       record {
-        chunks = subst (AreChunks 0) (sym o.put) (joined 0 (length (items_of (take at held.items))) (take at held.items) (map with_one_less (drop (at + 1) held.items)) (omega arith) (front_at held.items at o.place.within k.chunks) (down_chunks (length (items_of (take at held.items))) _ (drop (at + 1) held.items) (omega (arith, len_is)) tail));
-        dense = subst (AreDense 0) (sym o.put) (dense_joined 0 (take at held.items) (map with_one_less (drop (at + 1) held.items)) (dense_before held.items at d o.place.within k.dense) (dense_down _ (drop (at + 1) held.items) (dense_less _ _ (drop (at + 1) held.items) (omega (arith, from.0, len_is)) (subst (λ j. AreDense (CHUNK - length (get_or held.items at d).items.items) (drop j held.items)) (sym (add-one at)) from.1))));
+        chunks = subst (AreChunks 0) (sym o.put) (joined 0 (length (items_of (take at held.items))) (take at held.items) (map with_one_less (drop (at + 1) held.items)) (omega arith) (chunks_before_place held.items at o.place.within k.chunks) (down_chunks (length (items_of (take at held.items))) _ (drop (at + 1) held.items) (omega (arith, len_is)) tail));
+        dense = subst (AreDense 0) (sym o.put) (dense_joined 0 (take at held.items) (map with_one_less (drop (at + 1) held.items)) (dense_before held.items at d o.place.within k.dense) (dense_down _ (drop (at + 1) held.items) (dense_with_fewer_free _ _ (drop (at + 1) held.items) (omega (arith, from.0, len_is)) (subst (λ j. AreDense (CHUNK - length (get_or held.items at d).items.items) (drop j held.items)) (sym (add-one at)) from.1))));
         spares = subst (λ vs. (i : ℕ) (v : Vec T Global) → i < length vs → IsSpare (get_or vs i v)) (sym o.back) (All-push IsSpare empty.items spare k.spares (record { none = none; room = omega (arith, o.last_room, ap (λ v. vec_capacity v) o.items, here.room) }));
         chunk_places = omega (arith, k.chunk_places, o.put_len, o.put_room, o.back_len);
         spare_places = omega (arith, k.spare_places, o.put_len, o.back_room, o.back_len);
@@ -136,7 +136,7 @@ pub record IsMoved {T X Y Z U E : Type 0} (held places new : Vec (Chunk T) X) (e
 module _ {T X Y Z U E : Type 0} (held places new : Vec (Chunk T) X) (empty : Vec (Vec T Y) Z) (spares : Vec (Vec T Y) Z) (count : ℕ) (r : Result U E) (m : IsMoved held places new empty spares count r) where
   -- The vector has a place for each chunk and spare.
   few : vec_len held + vec_len spares ≤ vec_capacity places
-  few = omega (arith, m.reached, dense_few 0 0 held.items (omega arith) m.valid.chunks m.valid.dense, held.ok.0, m.ready.chunk_places, few_chunks 0 held.items m.valid.chunks)
+  few = omega (arith, m.reached, count_of_dense 0 0 held.items (omega arith) m.valid.chunks m.valid.dense, held.ok.0, m.ready.chunk_places, few_chunks 0 held.items m.valid.chunks)
 
   same : new.items ≡ held.items
   same =

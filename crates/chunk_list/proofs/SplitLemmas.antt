@@ -35,18 +35,18 @@ joined n m [] ys e front back = let same : m ≡ n = omega (arith, e) in subst (
 joined n m (c ∷ xs) ys e front back = (front.0, joined (n + length c.items.items) m xs ys (omega (arith, e, length-append c.items.items (items_of xs))) front.1 back)
 
 -- The chunks before one, that chunk, and the chunks after it.
-pub front_at : {T : Type 0} (cs : List (Chunk T)) (i : ℕ) → i < length cs → AreChunks 0 cs → AreChunks 0 (take i cs)
-front_at cs i inside h = front_of 0 (take i cs) (drop i cs) (subst (AreChunks 0) (sym (take-append-drop i cs)) h)
+pub chunks_before_place : {T : Type 0} (cs : List (Chunk T)) (i : ℕ) → i < length cs → AreChunks 0 cs → AreChunks 0 (take i cs)
+chunks_before_place cs i inside h = front_of 0 (take i cs) (drop i cs) (subst (AreChunks 0) (sym (take-append-drop i cs)) h)
 
-pub from_at : {T : Type 0} (cs : List (Chunk T)) (i : ℕ) (d : Chunk T) → i < length cs → AreChunks 0 cs → AreChunks (length (items_of (take i cs))) (get_or cs i d ∷ drop (suc i) cs)
-from_at cs i d inside h = back_of 0 _ (take i cs) (get_or cs i d ∷ drop (suc i) cs) (omega arith) (subst (AreChunks 0) (parts_around cs i d inside) h)
+pub chunks_from_place : {T : Type 0} (cs : List (Chunk T)) (i : ℕ) (d : Chunk T) → i < length cs → AreChunks 0 cs → AreChunks (length (items_of (take i cs))) (get_or cs i d ∷ drop (suc i) cs)
+chunks_from_place cs i d inside h = back_of 0 _ (take i cs) (get_or cs i d ∷ drop (suc i) cs) (omega arith) (subst (AreChunks 0) (parts_around cs i d inside) h)
 
 pub chunk_is : {T : Type 0} (cs : List (Chunk T)) (i : ℕ) (d : Chunk T) → i < length cs → AreChunks 0 cs → IsChunk (length (items_of (take i cs))) (get_or cs i d)
-chunk_is cs i d inside h = (from_at cs i d inside h).0
+chunk_is cs i d inside h = (chunks_from_place cs i d inside h).0
 
 -- A chunk was replaced by one with the same number of items.
 pub chunks_with : {T : Type 0} (cs : List (Chunk T)) (i : ℕ) (d c : Chunk T) → i < length cs → AreChunks 0 cs → IsChunk (length (items_of (take i cs))) c → AreChunks (length (items_of (take i cs)) + length c.items.items) (drop (suc i) cs) → AreChunks 0 (set cs i c)
-chunks_with cs i d c inside h chunk tail = subst (AreChunks 0) (sym (set_split cs i c inside)) (joined 0 _ (take i cs) (c ∷ drop (suc i) cs) (omega arith) (front_at cs i inside h) (chunk, tail))
+chunks_with cs i d c inside h chunk tail = subst (AreChunks 0) (sym (set_split cs i c inside)) (joined 0 _ (take i cs) (c ∷ drop (suc i) cs) (omega arith) (chunks_before_place cs i inside h) (chunk, tail))
 
 -- The start of the next chunk.
 pub next_start : {T : Type 0} (cs : List (Chunk T)) (i : ℕ) (d : Chunk T) → i + 1 < length cs → AreChunks 0 cs → (get_or cs (i + 1) d).start ≡ (get_or cs i d).start + length (get_or cs i d).items.items
@@ -91,10 +91,10 @@ down_free free [] = refl
 down_free free (c ∷ cs) = down_free (CHUNK - length c.items.items) cs
 
 -- After some items, no chunk starts at 0.
-pub starts_late : {T : Type 0} (n : ℕ) (cs : List (Chunk T)) → AreChunks n cs → 0 < n → (k : ℕ) (d : Chunk T) → k < length cs → 0 < (get_or cs k d).start
-starts_late n [] h some k d inside = absurd (omega (arith, inside))
-starts_late n (c ∷ cs) h some zero d inside = omega (arith, h.0.start, some)
-starts_late n (c ∷ cs) h some (suc k) d inside = starts_late (n + length c.items.items) cs h.1 (omega (arith, some)) k d (omega (arith, inside))
+pub start_positive_after : {T : Type 0} (n : ℕ) (cs : List (Chunk T)) → AreChunks n cs → 0 < n → (k : ℕ) (d : Chunk T) → k < length cs → 0 < (get_or cs k d).start
+start_positive_after n [] h some k d inside = absurd (omega (arith, inside))
+start_positive_after n (c ∷ cs) h some zero d inside = omega (arith, h.0.start, some)
+start_positive_after n (c ∷ cs) h some (suc k) d inside = start_positive_after (n + length c.items.items) cs h.1 (omega (arith, some)) k d (omega (arith, inside))
 
 -- A list has at most as many items as its chunks have places.
 pub few_items : {T : Type 0} (n : ℕ) (cs : List (Chunk T)) → AreChunks n cs → length (items_of cs) ≤ CHUNK * length cs
@@ -107,10 +107,10 @@ few_chunks n [] h = omega arith
 few_chunks n (c ∷ cs) h = omega (arith, h.0.some, few_chunks (n + length c.items.items) cs h.1, length-append c.items.items (items_of cs))
 
 -- Each chunk but the first starts after 0.
-pub late_starts : {T : Type 0} (cs : List (Chunk T)) → AreChunks 0 cs → (k : ℕ) (d : Chunk T) → 0 < k → k < length cs → 0 < (get_or cs k d).start
-late_starts [] h k d late inside = absurd (omega (arith, inside))
-late_starts (c ∷ cs) h zero d late inside = absurd (omega (arith, late))
-late_starts (c ∷ cs) h (suc k) d late inside = starts_late (0 + length c.items.items) cs h.1 (omega (arith, h.0.some)) k d (omega (arith, inside))
+pub start_positive_at : {T : Type 0} (cs : List (Chunk T)) → AreChunks 0 cs → (k : ℕ) (d : Chunk T) → 0 < k → k < length cs → 0 < (get_or cs k d).start
+start_positive_at [] h k d late inside = absurd (omega (arith, inside))
+start_positive_at (c ∷ cs) h zero d late inside = absurd (omega (arith, late))
+start_positive_at (c ∷ cs) h (suc k) d late inside = start_positive_after (0 + length c.items.items) cs h.1 (omega (arith, h.0.some)) k d (omega (arith, inside))
 
 pub some_chunks : {T : Type 0} (n : ℕ) (cs : List (Chunk T)) → AreChunks n cs → AreSome cs
 some_chunks n [] h = tt
@@ -118,7 +118,7 @@ some_chunks n (c ∷ cs) h = (h.0.some, some_chunks (n + length c.items.items) c
 
 -- No chunk after another is empty.
 pub some_after : {T : Type 0} (cs : List (Chunk T)) (i : ℕ) (d : Chunk T) → AreChunks 0 cs → i < length cs → AreSome (drop (i + 1) cs)
-some_after cs i d h inside = subst (λ j. AreSome (drop j cs)) (sym (add-one i)) (some_chunks _ (drop (suc i) cs) (from_at cs i d inside h).1)
+some_after cs i d h inside = subst (λ j. AreSome (drop j cs)) (sym (add-one i)) (some_chunks _ (drop (suc i) cs) (chunks_from_place cs i d inside h).1)
 
 -- No chunk ends after the end of the list.
 pub chunk_end : {T : Type 0} (cs : List (Chunk T)) (i : ℕ) (k : Chunk T) → AreChunks 0 cs → i < length cs → k ≡ get_or cs i k → k.start + length k.items.items ≤ length (items_of cs)

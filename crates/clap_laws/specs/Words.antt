@@ -11,6 +11,6 @@ pub record IsWord (argument : Arg) (word : Rule) : Type 0 where
   pub own : argument.global ≡ false
 
 -- Adding these arguments one after another adds the same words as the function.
-abbrev pub Add : List Arg → (App → App) → Type 0
-Add arguments more =
+abbrev pub AddWords : List Arg → (App → App) → Type 0
+AddWords arguments more =
     (old new : Command) → AddsInTurn AddsArg old arguments new → app_of new ≡ more (app_of old)

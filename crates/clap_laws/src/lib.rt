@@ -3,7 +3,7 @@
 //!
 //! The crate has no code, only definitions and lemmas, for the proofs of programs that read a
 //! command line with `clap`. `specs/Words` says which word an argument adds (`IsWord`), and what a
-//! list of arguments adds together (`Add`). The lemmas follow these through `Command::arg` and
+//! list of arguments adds together (`AddWords`). The lemmas follow these through `Command::arg` and
 //! `Command::args`, and turn clap's own definition of its matches into the presence and the values
 //! of each word, if the known words are such that clap's matches are known.
 #![tactic(auto)]

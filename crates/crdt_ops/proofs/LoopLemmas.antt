@@ -12,8 +12,8 @@ use Rattle.crdt_ops.proofs.PartLemmas.{all_taken}
 -- The state of a loop after some elements of a list.
 
 -- a further element
-pub taken_more : {X : Type 0} (xs : List X) (i : ℕ) (x : X) → i < length xs → x ≡ get_or xs i x → take i xs ++ x ∷ [] ≡ take (i + 1) xs
-taken_more xs i x l e =
+pub take_append_next : {X : Type 0} (xs : List X) (i : ℕ) (x : X) → i < length xs → x ≡ get_or xs i x → take i xs ++ x ∷ [] ≡ take (i + 1) xs
+take_append_next xs i x l e =
     ap (λ y. take i xs ++ y ∷ []) e ∙ sym (next_taken xs i x l) ∙ ap (λ n. take n xs) (sym (add-one i))
   where
     next_taken : {X : Type 0} (xs : List X) (i : ℕ) (d : X) → i < length xs → take (suc i) xs ≡ take i xs ++ get_or xs i d ∷ []
@@ -21,12 +21,12 @@ taken_more xs i x l e =
     next_taken (x ∷ xs) zero d l = refl
     next_taken (x ∷ xs) (suc i) d l = ap (λ ys. x ∷ ys) (next_taken xs i d (omega arith))
 
-pub field_more : (front words : List (List ℕ)) (i : ℕ) (word : List ℕ) → i < length words → word ≡ get_or words i word → (front ++ take i words) ++ word ∷ [] ≡ front ++ take (i + 1) words
-field_more front words i word l e = append_assoc front (take i words) (word ∷ []) ∙ ap (λ xs. front ++ xs) (taken_more words i word l e)
+pub fields_append : (front words : List (List ℕ)) (i : ℕ) (word : List ℕ) → i < length words → word ≡ get_or words i word → (front ++ take i words) ++ word ∷ [] ≡ front ++ take (i + 1) words
+fields_append front words i word l e = append_assoc front (take i words) (word ∷ []) ∙ ap (λ xs. front ++ xs) (take_append_next words i word l e)
 
 -- a further text after a comma (44)
-pub listed_more : {X : Type 0} (text : X → List ℕ) (xs : List X) (i : ℕ) (x : X) (before old mid new : List ℕ) → i < length xs → x ≡ get_or xs i x → old ≡ before ++ flat_map (λ next. 44 ∷ next) (map text (take i xs)) → mid ≡ old ++ 44 ∷ [] → new ≡ mid ++ text x → new ≡ before ++ flat_map (λ next. 44 ∷ next) (map text (take (i + 1) xs))
-listed_more text xs i x before old mid new l e o m n =
+pub listed_append : {X : Type 0} (text : X → List ℕ) (xs : List X) (i : ℕ) (x : X) (before old mid new : List ℕ) → i < length xs → x ≡ get_or xs i x → old ≡ before ++ flat_map (λ next. 44 ∷ next) (map text (take i xs)) → mid ≡ old ++ 44 ∷ [] → new ≡ mid ++ text x → new ≡ before ++ flat_map (λ next. 44 ∷ next) (map text (take (i + 1) xs))
+listed_append text xs i x before old mid new l e o m n =
     let join_by_commas = flat_map (λ next. 44 ∷ next) (map text (take i xs)) in
     n ∙ ap (λ ys. ys ++ text x) (m ∙ ap (λ ys. ys ++ 44 ∷ []) o)
     ∙ append_assoc (before ++ join_by_commas) (44 ∷ []) (text x)
@@ -34,7 +34,7 @@ listed_more text xs i x before old mid new l e o m n =
     ∙ ap (λ ys. before ++ ys) (
     ap (λ ys. join_by_commas ++ ys) (sym (append-nil (44 ∷ text x)))
     ∙ sym (flat_map-append (λ next. 44 ∷ next) (map text (take i xs)) (text x ∷ []))
-    ∙ ap (flat_map (λ next. 44 ∷ next)) (sym (map-append text (take i xs) (x ∷ [])) ∙ ap (map text) (taken_more xs i x l e))
+    ∙ ap (flat_map (λ next. 44 ∷ next)) (sym (map-append text (take i xs) (x ∷ [])) ∙ ap (map text) (take_append_next xs i x l e))
     )
 
 -- one further part, and the value read from it

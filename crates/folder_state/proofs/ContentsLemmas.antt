@@ -16,7 +16,7 @@ use Rattle.crdt_ops.specs.SortedSets.{IsListOf, id_order, sorted_set, same_id}
 use Rattle.crdt_ops.specs.Sets.{tag_data_by, tag_data_from, delete_set_of, first_some, folder_of_tag, folder_tag_or_message_tag_id, folder_tag_id, folder_tags_of, folders_of}
 use Rattle.crdt_ops.specs.Tags.{MessageTag, adds, is_present, present_tags, removes}
 use Rattle.crdt_ops.proofs.Members.{any_in, first_some_in, in_filter_map}
-use Rattle.crdt_ops.proofs.OrderLemmas.{id_order_same, id_order_total, in_order_lists, listed_in_order, lists_by, names_same, names_total}
+use Rattle.crdt_ops.proofs.OrderLemmas.{id_order_same, id_order_total, in_order_lists, listed_in_order, is_list_of_sorted, names_same, names_total}
 use Rattle.crdt_ops.proofs.SetLemmas.{delete_set_in, folder_tags_in, folders_in}
 use Rattle.folder_state.specs.Contents.{Contents, HasTag, IsFolder, IsMadeBy, contents_by}
 use Rattle.folder_state.specs.FolderTables.{HasTagIn, IsIndexedFolder, FolderTables, tag_data_at, tag_data_in, folder_contents, folder_ids, name_if_tagged, has_ids, has_tag_in, folder_tag_data}
@@ -65,8 +65,8 @@ present_data ops n i = (
       (given (is_present ops (MessageTag n i)) (first_some (tag_data_from n i) ops) ((first_some_in (tag_data_from n i) ops).1 (w.0, w.1, here))).1 h,
 )
 
-folders_by : (ops : List Op) (n : List ℕ) → IsFolder (contents_by ops) n ↔ IsIn n (inbox ∷ filter_map folder_of_tag (present_tags ops))
-folders_by ops n =
+folders_of_set : (ops : List Op) (n : List ℕ) → IsFolder (contents_by ops) n ↔ IsIn n (inbox ∷ filter_map folder_of_tag (present_tags ops))
+folders_of_set ops n =
     let at = folders_in ops n in (
       λ h. elim h [
         | inl k ↦ inl (sym k)
@@ -82,13 +82,13 @@ pub exists_by_set : (v : Contents) (ops : List Op) (n : List ℕ) (result : Bool
 exists_by_set v ops n result m h =
     let k = subst (λ (w : Contents). (result ≡ true) ↔ IsFolder w n) (contents_made v ops m) h in
     let o = (in_order_lists names_total names_same (inbox ∷ filter_map folder_of_tag (present_tags ops))).1 n in
-    let e = folders_by ops n in
+    let e = folders_of_set ops n in
     (λ t. o.1 (e.0 (k.0 t)), λ t. k.1 (e.1 (o.0 t)))
 
 pub names_by_set : (v : Contents) (ops : List Op) (names : List (List ℕ)) → IsMadeBy v ops → IsListOf octet_order (IsFolder v) names → names ≡ folders_of ops
 names_by_set v ops names m h =
     listed_in_order names_total names_same (IsFolder (contents_by ops)) names (inbox ∷ filter_map folder_of_tag (present_tags ops))
-    (subst (λ (w : Contents). IsListOf octet_order (IsFolder w) names) (contents_made v ops m) h) (folders_by ops)
+    (subst (λ (w : Contents). IsListOf octet_order (IsFolder w) names) (contents_made v ops m) h) (folders_of_set ops)
 
 pub tags_by_set : (v : Contents) (ops : List Op) (n : List ℕ) (ids : List OpId) → IsMadeBy v ops → IsListOf id_order (λ i. v.tags n i ≡ true) ids → ids ≡ folder_tags_of ops n
 tags_by_set v ops n ids m h =
@@ -168,7 +168,7 @@ module _ (c : Contents) (es : List (Vec ℕ × FolderTables)) (tags : (n : List 
 
   pub names_by_tables : (names : List (List ℕ)) → names ≡ sorted_set octet_order (inbox ∷ filter_map name_if_tagged es) → IsListOf octet_order (IsFolder c) names
   names_by_tables names e =
-      lists_by names_total names_same (IsFolder c) names (inbox ∷ filter_map name_if_tagged es) e (λ n. (
+      is_list_of_sorted names_total names_same (IsFolder c) names (inbox ∷ filter_map name_if_tagged es) e (λ n. (
         λ h. elim h [ inl k ↦ inl (sym k) | inr w ↦ inr ((has_tag_iff_named n).0 w) ],
         λ h. elim h [ inl k ↦ inl (sym k) | inr t ↦ inr ((has_tag_iff_named n).1 t) ],
       ))

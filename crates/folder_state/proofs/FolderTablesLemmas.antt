@@ -15,7 +15,7 @@ use Rattle.crdt_ops.specs.Sets.{MessageTagData}
 use Rattle.crdt_ops.proofs.Members.{any_in}
 use Rattle.imap_types.specs.declared.version.Version.{Version}
 use Rattle.imap_types.specs.Unions.{version_ids}
-use Rattle.folder_state.specs.FolderTables.{AreIndexed, AreVersionsOf, HasTagIn, FolderContents, IsPutIn, IsTakenOut, FolderTables, tag_data_at, by_id, flags_among, folder_contents, folder_ids, has_ids, versions_or_none, versions_at, without}
+use Rattle.folder_state.specs.FolderTables.{AreIndexed, AreVersionsOf, HasTagIn, FolderContents, IsPutIn, IsTakenOut, FolderTables, tag_data_at, by_id, flags_among, folder_contents, folder_ids, has_ids, versions_or_none, versions_at, without_version}
 use Rattle.folder_state.proofs.Versions.{ascending_with, ascending_without, flags_own, flags_some, flags_with, flags_without, id_is, id_not, ids_with, ids_without, not_id, own_id, own_placed, placed_long}
 
 -- ---- lookups
@@ -121,20 +121,20 @@ cond_none true x y h = absurd (let k = h in cc)
 cond_none false x y h = (refl, h)
 
 module _ (o id : OpId) (old new : List (OpId × Vec Version)) (taken : IsTakenOut o id old new) where
-  taken_at : (p : OpId) → versions_at new p ≡ cond (same_id p o) (without id (versions_at old p)) (versions_at old p)
-  taken_at p = split_at new old o (without id) taken.here taken.others p
+  taken_at : (p : OpId) → versions_at new p ≡ cond (same_id p o) (without_version id (versions_at old p)) (versions_at old p)
+  taken_at p = split_at new old o (without_version id) taken.here taken.others p
 
   taken_ids : (p i : OpId) → IsIn i (version_ids (versions_at new p)) ↔ (IsIn i (version_ids (versions_at old p)) × (same_id p o ≡ true → same_id i id ≡ false))
   taken_ids p i = subst (λ xs. IsIn i (version_ids xs) ↔ (IsIn i (version_ids (versions_at old p)) × (same_id p o ≡ true → same_id i id ≡ false))) (sym (taken_at p)) (at (same_id p o))
     where
-      at : (b : Bool) → IsIn i (version_ids (cond b (without id (versions_at old p)) (versions_at old p))) ↔ (IsIn i (version_ids (versions_at old p)) × (b ≡ true → same_id i id ≡ false))
+      at : (b : Bool) → IsIn i (version_ids (cond b (without_version id (versions_at old p)) (versions_at old p))) ↔ (IsIn i (version_ids (versions_at old p)) × (b ≡ true → same_id i id ≡ false))
       at true = let w = ids_without id (versions_at old p) i in (λ h. let k = w.0 h in (k.0, λ t. k.1), λ h. w.1 (h.0, h.1 refl))
       at false = (λ h. (h, λ t. absurd (false≢true t)), λ h. h.0)
 
   taken_flags : (p i : OpId) → same_id i id ≡ false → flags_among (versions_at new p) i ≡ flags_among (versions_at old p) i
   taken_flags p i f = ap (λ xs. flags_among xs i) (taken_at p) ∙ at (same_id p o)
     where
-      at : (b : Bool) → flags_among (cond b (without id (versions_at old p)) (versions_at old p)) i ≡ flags_among (versions_at old p) i
+      at : (b : Bool) → flags_among (cond b (without_version id (versions_at old p)) (versions_at old p)) i ≡ flags_among (versions_at old p) i
       at true = flags_without id i f (versions_at old p)
       at false = refl
 
@@ -160,7 +160,7 @@ module _ (o id : OpId) (old new : List (OpId × Vec Version)) (taken : IsTakenOu
       );
     }
       where
-        at : (p : OpId) (b : Bool) → IsAscending id_order (version_ids (cond b (without id (versions_at old p)) (versions_at old p)))
+        at : (p : OpId) (b : Bool) → IsAscending id_order (version_ids (cond b (without_version id (versions_at old p)) (versions_at old p)))
         at p true = ascending_without id (versions_at old p) (indexed.ascending p)
         at p false = indexed.ascending p
 

@@ -26,8 +26,8 @@ same_turned a b =
 
 -- ---- loops over ids
 
-pub any_more : {X : Type 0} (P : X → Bool) (xs : List X) (n : ℕ) (x : X) → n < length xs → x ≡ get_or xs n x → list_any P (take (n + 1) xs) ≡ (list_any P (take n xs) || P x)
-any_more P xs n x l e =
+pub any_take_next : {X : Type 0} (P : X → Bool) (xs : List X) (n : ℕ) (x : X) → n < length xs → x ≡ get_or xs n x → list_any P (take (n + 1) xs) ≡ (list_any P (take n xs) || P x)
+any_take_next P xs n x l e =
     ap (λ m. list_any P (take m xs)) (add-one n)
     ∙ ap (list_any P) (take-suc xs n x l)
     ∙ list_any-append P (take n xs) (get_or xs n x ∷ [])

@@ -49,10 +49,10 @@ module _ {X : Type 0} where
         or-true true = refl
         or-true false = refl
 
-    pub none_more : (xs : List X) (i : ℕ) (x : X) → slice_get xs i ≡ Some x → P x ≡ false → list_any P (take i xs) ≡ false → list_any P (take (suc i) xs) ≡ false
-    none_more [] i x h t n = absurd (let k : ◌≡◌ {A = Option X} None (Some x) = h in cc)
-    none_more (y ∷ ys) zero x h t n = let k : y ≡ x = cc in ap (λ b. b || false) (ap P k ∙ t)
-    none_more (y ∷ ys) (suc i) x h t n = at (P y) (none_more ys i x h t) n
+    pub none_take_next : (xs : List X) (i : ℕ) (x : X) → slice_get xs i ≡ Some x → P x ≡ false → list_any P (take i xs) ≡ false → list_any P (take (suc i) xs) ≡ false
+    none_take_next [] i x h t n = absurd (let k : ◌≡◌ {A = Option X} None (Some x) = h in cc)
+    none_take_next (y ∷ ys) zero x h t n = let k : y ≡ x = cc in ap (λ b. b || false) (ap P k ∙ t)
+    none_take_next (y ∷ ys) (suc i) x h t n = at (P y) (none_take_next ys i x h t) n
       where
         at : (b : Bool) → (list_any P (take i ys) ≡ false → list_any P (take (suc i) ys) ≡ false) → (b || list_any P (take i ys)) ≡ false → (b || list_any P (take (suc i) ys)) ≡ false
         at true k m = absurd (false≢true (sym m))
@@ -71,13 +71,13 @@ module _ {X : Type 0} where
       where
         at : (o : Option X) → slice_get xs i ≡ o → MatchOption o (b ≡ false) (λ x. b ≡ P x) → list_any P (take (suc i) xs) ≡ false
         at None e m = absurd (let k = none_at xs i e in omega (arith, k, l))
-        at (Some x) e m = none_more xs i x e (sym m ∙ f) n
+        at (Some x) e m = none_take_next xs i x e (sym m ∙ f) n
 
     pub passed_all : (xs : List X) (i : ℕ) → length xs ≤ i → list_any P (take i xs) ≡ false → list_any P xs ≡ false
     passed_all xs i l n = ap (list_any P) (sym (take_all i xs l)) ∙ n
 
-pub first_some_more : {X : Type 0} (xs : List X) (i : ℕ) → take (i + 1) xs ≡ take i xs ++ cons_option (slice_get xs i) []
-first_some_more xs i = ap (λ j. take j xs) (add-one i) ∙ at xs i
+pub take_next_some : {X : Type 0} (xs : List X) (i : ℕ) → take (i + 1) xs ≡ take i xs ++ cons_option (slice_get xs i) []
+take_next_some xs i = ap (λ j. take j xs) (add-one i) ∙ at xs i
   where
     at : {X : Type 0} (xs : List X) (i : ℕ) → take (suc i) xs ≡ take i xs ++ cons_option (slice_get xs i) []
     at [] zero = refl
@@ -90,8 +90,8 @@ first_some_more xs i = ap (λ j. take j xs) (add-one i) ∙ at xs i
 abbrev names_put : List (List ℕ) → List (List ℕ) → List (List ℕ)
 names_put names more = fold (λ done name. insert_ordered octet_order name done) names more
 
-pub names_more : (es : List (Vec ℕ × FolderTables)) (i : ℕ) (names new : List (List ℕ)) → i < length es → MatchOption (slice_get es i) (new ≡ names) (λ e. new ≡ names_put names (cons_option (name_if_tagged e) [])) → names_put new (filter_map name_if_tagged (drop (i + 1) es)) ≡ names_put names (filter_map name_if_tagged (drop i es))
-names_more es i names new l h = at (slice_get es i) refl h
+pub names_drop_next : (es : List (Vec ℕ × FolderTables)) (i : ℕ) (names new : List (List ℕ)) → i < length es → MatchOption (slice_get es i) (new ≡ names) (λ e. new ≡ names_put names (cons_option (name_if_tagged e) [])) → names_put new (filter_map name_if_tagged (drop (i + 1) es)) ≡ names_put names (filter_map name_if_tagged (drop i es))
+names_drop_next es i names new l h = at (slice_get es i) refl h
   where
     one : (x : Option (List ℕ)) (rest : List (List ℕ)) → names_put (names_put names (cons_option x [])) rest ≡ names_put names (cons_option x rest)
     one None rest = refl
@@ -109,8 +109,8 @@ pub names_done : (es : List (Vec ℕ × FolderTables)) (i : ℕ) (names all : Li
 names_done es i names all l h = sym (ap (λ xs. names_put names (filter_map name_if_tagged xs)) (drop_all i es l)) ∙ h
 
 -- a list of the ids with a property is a list of those with an equivalent one
-pub listed_so : (P Q : OpId → Type 0) (ids : List OpId) → IsListOf id_order P ids → ((i : OpId) → P i ↔ Q i) → IsListOf id_order Q ids
-listed_so P Q ids h e = (h.0, λ i. (λ t. (e i).0 ((h.1 i).0 t), λ t. (h.1 i).1 ((e i).1 t)))
+pub list_of_equivalent : (P Q : OpId → Type 0) (ids : List OpId) → IsListOf id_order P ids → ((i : OpId) → P i ↔ Q i) → IsListOf id_order Q ids
+list_of_equivalent P Q ids h e = (h.0, λ i. (λ t. (e i).0 ((h.1 i).0 t), λ t. (h.1 i).1 ((e i).1 t)))
 
 pub ids_done : (versions : List Version) (i : ℕ) (ids : List OpId) → length versions ≤ i → ids ++ version_ids (drop i versions) ≡ version_ids versions → ids ≡ version_ids versions
 ids_done versions i ids l h = sym (ap (λ vs. ids ++ version_ids vs) (drop_all i versions l) ∙ append-nil ids) ∙ h

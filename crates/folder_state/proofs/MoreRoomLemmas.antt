@@ -157,8 +157,8 @@ room_preserved old new roomier tags versions o (Some n) h =
     at None k = tt
     at (Some q) k = room_roomier h.0.messages (places_roomier (find_folder n old) (find_folder n new) (roomier n) h.0 h.1).0.messages (places_roomier (find_folder n old) (find_folder n new) (roomier n) h.0 h.1).2.versions q (versions q) k
 
-pub in_more : {X : Type 0} (xs : List X) (n : ℕ) (x y : X) → n < length xs → x ≡ get_or xs n x → IsIn y (take (n + 1) xs) → IsIn y (take n xs) ⊎ (x ≡ y)
-in_more xs n x y l e h =
+pub in_take_next : {X : Type 0} (xs : List X) (n : ℕ) (x y : X) → n < length xs → x ≡ get_or xs n x → IsIn y (take (n + 1) xs) → IsIn y (take n xs) ⊎ (x ≡ y)
+in_take_next xs n x y l e h =
     elim (in_parts y (take n xs) (x ∷ []) (subst (IsIn y) (ap (λ m. take m xs) (add-one n) ∙ take-suc xs n x l ∙ ap (λ z. take n xs ++ z ∷ []) (sym e)) h)) [
       | inl t ↦ inl t
       | inr t ↦ elim t [ inl k ↦ inr k | inr k ↦ absurd k ]

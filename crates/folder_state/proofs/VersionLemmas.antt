@@ -23,7 +23,7 @@ use Rattle.mailbox_rows.specs.declared.folder_messages.DatedText.{DatedText as S
 use Rattle.mailbox_rows.specs.MessageData.{message_data_of, versions_in}
 use Rattle.folder_state.specs.Contents.{AreMessages, AreVersions, Contents, HasVersion, IsMadeBy, IsMessage, IsMessageOf, IsVersion, contents_by, effect_of, flags_in, message_in}
 use Rattle.folder_state.specs.FolderTables.{AreIndexed, AreIndexedIn, AreVersionsOf, FolderContents, FolderTables, tag_data_in, folder_contents, versions_or_none, versions_at}
-use Rattle.folder_state.specs.AfterOps.{after}
+use Rattle.folder_state.specs.AfterOps.{contents_after}
 use Rattle.folder_state.specs.MessageRefs.{stored_dated_text, stored_message, message_of_data}
 use Rattle.folder_state.proofs.FolderTablesLemmas.{carried_by, message_tag_data, key_iff_lookup, no_versions, versions_by}
 use Rattle.folder_state.proofs.SetLemmas.{contents_made}
@@ -35,18 +35,18 @@ pub cond_some : {Y : Type 0} (b : Bool) (x : Option Y) (y : Y) → cond b x None
 cond_some true x y h = refl
 cond_some false x y h = absurd cc
 
-carried_from : (a r : Bool) (x y : Option MessageTagData) (b : MessageTagData) → cond a x (cond r None y) ≡ Some b → (y ≡ Some b) ⊎ (cond a x None ≡ Some b)
-carried_from true r x y b h = inr h
-carried_from false true x y b h = absurd cc
-carried_from false false x y b h = inl h
+data_source_by_tests : (a r : Bool) (x y : Option MessageTagData) (b : MessageTagData) → cond a x (cond r None y) ≡ Some b → (y ≡ Some b) ⊎ (cond a x None ≡ Some b)
+data_source_by_tests true r x y b h = inr h
+data_source_by_tests false true x y b h = absurd cc
+data_source_by_tests false false x y b h = inl h
 
 -- the data was present before, or one of the operations adds it
-pub data_source : (ops : List Op) (c : Contents) (f : List ℕ) (i : OpId) (b : MessageTagData) → (after c ops).tag_data f i ≡ Some b → (c.tag_data f i ≡ Some b) ⊎ ((o : Op) × IsIn o ops × (tag_data_from f i o ≡ Some b))
+pub data_source : (ops : List Op) (c : Contents) (f : List ℕ) (i : OpId) (b : MessageTagData) → (contents_after c ops).tag_data f i ≡ Some b → (c.tag_data f i ≡ Some b) ⊎ ((o : Op) × IsIn o ops × (tag_data_from f i o ≡ Some b))
 data_source [] c f i b h = inl h
 data_source (o ∷ ops) c f i b h =
     elim (data_source ops (effect_of c o) f i b h) [
       | inr w ↦ inr (w.0, inr w.1, w.2)
-      | inl k ↦ elim (carried_from (adds (MessageTag f i) o) (removes (MessageTag f i) o) (tag_data_by o.id o.kind) (c.tag_data f i) b k) [
+      | inl k ↦ elim (data_source_by_tests (adds (MessageTag f i) o) (removes (MessageTag f i) o) (tag_data_by o.id o.kind) (c.tag_data f i) b k) [
         | inl t ↦ inl t
         | inr t ↦ inr (o, inl refl, t)
       ]

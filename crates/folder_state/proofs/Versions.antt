@@ -17,7 +17,7 @@ use Rattle.crdt_ops.proofs.Members.{in_filter, in_map}
 use Rattle.crdt_ops.proofs.OrderLemmas.{ascending-placed, ascending_filtered, id_order_same, id_order_total}
 use Rattle.imap_types.specs.declared.version.Version.{Version}
 use Rattle.imap_types.specs.Unions.{version_ids}
-use Rattle.folder_state.specs.FolderTables.{by_id, flags_among, without}
+use Rattle.folder_state.specs.FolderTables.{by_id, flags_among, without_version}
 
 pub own_id : (i : OpId) → same_id i i ≡ true
 own_id i = (ids_decide i i).1 refl
@@ -78,18 +78,18 @@ flags_first : (b : Bool) (i : OpId) (w : Version) (ws : List Version) → flags_
 flags_first true i w ws = refl
 flags_first false i w ws = refl
 
-pub flags_without : (id i : OpId) → same_id i id ≡ false → (vs : List Version) → flags_among (without id vs) i ≡ flags_among vs i
+pub flags_without : (id i : OpId) → same_id i id ≡ false → (vs : List Version) → flags_among (without_version id vs) i ≡ flags_among vs i
 flags_without id i f [] = refl
 flags_without id i f (w ∷ ws) =
-    flags_first (not (same_id id w.id)) i w (without id ws)
+    flags_first (not (same_id id w.id)) i w (without_version id ws)
     ∙ elim (cases_Bool (same_id id w.id)) [
       | inl t ↦
           let apart : same_id i w.id ≡ false = subst (λ z. same_id i z ≡ false) (id_is id w.id t) f in
-          (λ k. cond (not (t k)) (option_or (cond (same_id i w.id) (Some w.flags) None) (flags_among (without id ws) i)) (flags_among (without id ws) i))
+          (λ k. cond (not (t k)) (option_or (cond (same_id i w.id) (Some w.flags) None) (flags_among (without_version id ws) i)) (flags_among (without_version id ws) i))
           ∙ flags_without id i f ws
           ∙ sym (ap (λ b. option_or (cond b (Some w.flags) None) (flags_among ws i)) apart)
       | inr g ↦
-          (λ k. cond (not (g k)) (option_or (cond (same_id i w.id) (Some w.flags) None) (flags_among (without id ws) i)) (flags_among (without id ws) i))
+          (λ k. cond (not (g k)) (option_or (cond (same_id i w.id) (Some w.flags) None) (flags_among (without_version id ws) i)) (flags_among (without_version id ws) i))
           ∙ ap (option_or (cond (same_id i w.id) (Some w.flags) None)) (flags_without id i f ws)
     ]
 
@@ -97,17 +97,17 @@ not-true : (b : Bool) → not b ≡ true → b ≡ false
 not-true true h = absurd (false≢true h)
 not-true false h = refl
 
-pub ids_without : (id : OpId) (vs : List Version) (i : OpId) → IsIn i (version_ids (without id vs)) ↔ (IsIn i (version_ids vs) × (same_id i id ≡ false))
+pub ids_without : (id : OpId) (vs : List Version) (i : OpId) → IsIn i (version_ids (without_version id vs)) ↔ (IsIn i (version_ids vs) × (same_id i id ≡ false))
 ids_without id vs i = (
   λ h.
-      let w = (in_map (λ (v : Version). v.id) (without id vs) i).0 h in
+      let w = (in_map (λ (v : Version). v.id) (without_version id vs) i).0 h in
       let p = (in_filter (λ (v : Version). not (same_id id v.id)) vs w.0).0 w.1 in
       let apart : same_id id w.0.id ≡ false = not-true (same_id id w.0.id) p.1 in
       ((in_map (λ (v : Version). v.id) vs i).1 (w.0, p.0, w.2), id_not i id (λ e. not_id id w.0.id apart (sym (w.2 ∙ e)))),
   λ h.
       let w = (in_map (λ (v : Version). v.id) vs i).0 h.0 in
       let apart : same_id id w.0.id ≡ false = id_not id w.0.id (λ e. not_id i id h.1 (sym (e ∙ w.2))) in
-      (in_map (λ (v : Version). v.id) (without id vs) i).1 (w.0, (in_filter (λ (v : Version). not (same_id id v.id)) vs w.0).1 (w.1, ap not apart), w.2),
+      (in_map (λ (v : Version). v.id) (without_version id vs) i).1 (w.0, (in_filter (λ (v : Version). not (same_id id v.id)) vs w.0).1 (w.1, ap not apart), w.2),
 )
 
 filter_mapped : {X Y : Type 0} (g : X → Y) (p : X → Bool) (q : Y → Bool) → ((x : X) → q (g x) ≡ p x) → (xs : List X) → map g (filter p xs) ≡ filter q (map g xs)
@@ -120,14 +120,14 @@ filter_mapped g p q h (x ∷ xs) =
     at true g x zs = refl
     at false g x zs = refl
 
-pub ascending_without : (id : OpId) (vs : List Version) → IsAscending id_order (version_ids vs) → IsAscending id_order (version_ids (without id vs))
+pub ascending_without : (id : OpId) (vs : List Version) → IsAscending id_order (version_ids vs) → IsAscending id_order (version_ids (without_version id vs))
 ascending_without id vs h =
     subst (IsAscending id_order) (sym (filter_mapped (λ (v : Version). v.id) (λ (v : Version). not (same_id id v.id)) (λ i. not (same_id id i)) (λ v. refl) vs))
     (ascending_filtered id_order_total id_order_same (λ i. not (same_id id i)) (version_ids vs) h)
 
-pub shorter_without : (id : OpId) (vs : List Version) → length (without id vs) ≤ length vs
+pub shorter_without : (id : OpId) (vs : List Version) → length (without_version id vs) ≤ length vs
 shorter_without id [] = omega arith
-shorter_without id (x ∷ xs) = at (not (same_id id x.id)) (without id xs) (shorter_without id xs)
+shorter_without id (x ∷ xs) = at (not (same_id id x.id)) (without_version id xs) (shorter_without id xs)
   where
     at : (b : Bool) (zs : List Version) → length zs ≤ length xs → length (cond b (x ∷ zs) zs) ≤ length (x ∷ xs)
     at true zs h = omega (arith, h)

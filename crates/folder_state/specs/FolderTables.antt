@@ -117,7 +117,7 @@ pub record AreVersionsOf (folder : FolderContents) (origin : OpId) (versions : L
   pub carried : (v : Version) → IsIn v versions
       → folder.tag_data v.id ≡ Some (record { flags = v.flags; origin = origin })
 
--- Each message has a version, its versions ascend by id, and an id has an origin exactly if that
+-- Each message has a version, its versions ascend by id, and an id has an origin exactly when that
 -- origin has a version with this id.
 pub record AreIndexed (messages : List (OpId × Vec Version)) (origins : List (OpId × OpId)) :
     Type 0 where
@@ -139,13 +139,13 @@ abbrev pub by_id : Version → Version → Ordering
 by_id a b = id_order a.id b.id
 
 -- The versions without the one with this id.
-abbrev pub without : OpId → List Version → List Version
-without id versions = filter (λ version. not (same_id id version.id)) versions
+abbrev pub without_version : OpId → List Version → List Version
+without_version id versions = filter (λ version. not (same_id id version.id)) versions
 
 -- The version with this id was taken out of the message of this origin, and the message with it if
 -- it had no other; other messages stay.
 pub record IsTakenOut (origin id : OpId) (old new : List (OpId × Vec Version)) : Type 0 where
-  pub here : versions_at new origin ≡ without id (versions_at old origin)
+  pub here : versions_at new origin ≡ without_version id (versions_at old origin)
   pub others : (o : OpId) → same_id o origin ≡ false
       → lookup (same_id o) new ≡ lookup (same_id o) old
   pub some : (vs : Vec Version) → lookup (same_id origin) new ≡ Some vs → 0 < length vs.items

@@ -28,23 +28,25 @@ target (Subscribe name) = None
 target (Unsubscribe name seen) = None
 
 -- The origin of the version that an operation of this id and kind adds.
-abbrev pub origin_by : OpId → Kind → Option OpId
-origin_by id kind = option_map (λ content. content.origin) (tag_data_by id kind)
+abbrev pub origin_of_op : OpId → Kind → Option OpId
+origin_of_op id kind = option_map (λ content. content.origin) (tag_data_by id kind)
 
 abbrev pub is_named : List ℕ → Option (List ℕ) → Bool
 is_named name None = false
 is_named name (Some other) = bytes_eq name other
 
 -- The number of operations that add a tag of this folder.
-abbrev pub tags_added : List Op → List ℕ → ℕ
-tags_added [] name = 0
-tags_added (op ∷ ops) name = (if is_named name (target op.kind) then 1 else 0) + tags_added ops name
+abbrev pub added_tag_count : List Op → List ℕ → ℕ
+added_tag_count [] name = 0
+added_tag_count (op ∷ ops) name =
+    (if is_named name (target op.kind) then 1 else 0) + added_tag_count ops name
 
 -- The number of operations that add a version of this origin, in any folder.
-abbrev pub versions_added : List Op → OpId → ℕ
-versions_added [] origin = 0
-versions_added (op ∷ ops) origin =
-    (if is_some_id origin (origin_by op.id op.kind) then 1 else 0) + versions_added ops origin
+abbrev pub added_version_count : List Op → OpId → ℕ
+added_version_count [] origin = 0
+added_version_count (op ∷ ops) origin =
+    (if is_some_id origin (origin_of_op op.id op.kind) then 1 else 0)
+    + added_version_count ops origin
 
 -- The number of versions of the origin, if there is one; else 0.
 abbrev pub counts_of : (OpId → ℕ) → Option OpId → ℕ
@@ -57,8 +59,8 @@ pub record TagCounts : Type 0 where
   pub versions : List (OpId × ℕ)
 
 -- The count under a name, and the count under an id.
-abbrev pub count_under : List ℕ → List (Vec ℕ × ℕ) → ℕ
-count_under name counts = unwrap_or (lookup (λ (key : Vec ℕ). bytes_eq name key.items) counts) 0
+abbrev pub count_of_name : List ℕ → List (Vec ℕ × ℕ) → ℕ
+count_of_name name counts = unwrap_or (lookup (λ (key : Vec ℕ). bytes_eq name key.items) counts) 0
 
 abbrev pub count_at : OpId → List (OpId × ℕ) → ℕ
 count_at id counts = unwrap_or (lookup (same_id id) counts) 0
@@ -100,7 +102,8 @@ HasRoomAt tags versions origin (Some name) folders =
 -- add.
 abbrev pub HasRoomFor : List Op → Op → (List ℕ → Option FolderTables) → Type 0
 HasRoomFor ops op folders =
-    HasRoomAt (tags_added ops) (versions_added ops) (origin_by op.id op.kind) (target op.kind)
+    HasRoomAt (added_tag_count ops) (added_version_count ops) (origin_of_op op.id op.kind)
+    (target op.kind)
     folders
 
 -- Each operation that adds a version has an empty list, with room for the versions of its origin
@@ -110,7 +113,7 @@ HaveLists [] lists = Unit {0}
 HaveLists (op ∷ ops) [] = ⊥
 HaveLists (op ∷ ops) (list ∷ lists) =
     (list.items ≡ [])
-    × (counts_of (versions_added (op ∷ ops)) (origin_by op.id op.kind) ≤ vec_capacity list)
+    × (counts_of (added_version_count (op ∷ ops)) (origin_of_op op.id op.kind) ≤ vec_capacity list)
     × HaveLists ops lists
 
 -- ---- changes of room
@@ -181,5 +184,5 @@ abbrev pub LeavesRoomAfter : Op → ℕ → (List ℕ → Option FolderTables)
 LeavesRoomAfter op places old new =
     (rest : List Op) (o : Op)
     → HasRoomFor (op ∷ rest) o old
-    → counts_of (versions_added (op ∷ rest)) (origin_by op.id op.kind) ≤ places
+    → counts_of (added_version_count (op ∷ rest)) (origin_of_op op.id op.kind) ≤ places
     → HasRoomFor rest o new

@@ -14,9 +14,9 @@ ghost use Rattle.folder_state.specs.Contents.{Contents, origin_in};
 ghost use Rattle.folder_state.specs.Keys.{is_among, is_at};
 ghost use Rattle.folder_state.specs.FolderTables.{HasTagIn, tag_data_in, has_tag_in};
 ghost use Rattle.folder_state.specs.FolderTables.{folder_tag_data, ids_in, versions_in};
-ghost use Rattle.folder_state.specs.AfterOps.{after, alone, has_tag_after, is_added_and_left};
-ghost use Rattle.folder_state.specs.AfterOps.{is_version};
-ghost use Rattle.folder_state.specs.OpRoom.{origin_by};
+ghost use Rattle.folder_state.specs.AfterOps.{contents_after, contents_of_folder, has_tag_after};
+ghost use Rattle.folder_state.specs.AfterOps.{is_version, op_adds_lasting_version};
+ghost use Rattle.folder_state.specs.OpRoom.{origin_of_op};
 
 use crate::folder::Folder;
 use crdt_ops::{Kind, Op, SoundOp};
@@ -123,7 +123,7 @@ fn tag_after_op(op: &Op, folder: &Name, id: &OpId, before: bool) -> bool
 fn tag_after(ops: &[SoundOp], folder: &Name, id: &OpId, now: bool) -> bool
     ensures { (c : Contents)
         → c.tags folder.now id.now ≡ now
-        → result ≡ (after c ops.now).tags folder.now id.now }
+        → result ≡ (contents_after c ops.now).tags folder.now id.now }
 {
     let mut present = now;
     for op in ops {
@@ -135,11 +135,11 @@ fn tag_after(ops: &[SoundOp], folder: &Name, id: &OpId, now: bool) -> bool
 /// The origin of the message tag after the operation, given its origin before; None if absent.
 fn origin_after_op(op: &Op, folder: &Name, id: &OpId, before: Option<OpId>) -> Option<OpId>
     ensures { result
-        ≡ (if adds (MessageTag folder.now id.now) op.now then origin_by op.now.id op.now.kind
+        ≡ (if adds (MessageTag folder.now id.now) op.now then origin_of_op op.now.id op.now.kind
         else (if removes (MessageTag folder.now id.now) op.now then None else before)) }
 {
     if adds_message(op, folder, *id) {
-        return origin_by(op);
+        return origin_of_op(op);
     }
     if removes_message(op, folder, *id) {
         return None;
@@ -148,8 +148,8 @@ fn origin_after_op(op: &Op, folder: &Name, id: &OpId, before: Option<OpId>) -> O
 }
 
 /// The origin of the version that the operation adds, if it adds one.
-pub fn origin_by(op: &Op) -> Option<OpId>
-    ensures { result ≡ origin_by op.now.id op.now.kind }
+pub fn origin_of_op(op: &Op) -> Option<OpId>
+    ensures { result ≡ origin_of_op op.now.id op.now.kind }
 {
     match &op.kind {
         Kind::Append { .. } => Some(op.id),
@@ -162,7 +162,7 @@ pub fn origin_by(op: &Op) -> Option<OpId>
 fn origin_after(ops: &[SoundOp], folder: &Name, id: &OpId, now: Option<OpId>) -> Option<OpId>
     ensures { (c : Contents)
         → origin_in c folder.now id.now ≡ now
-        → result ≡ origin_in (after c ops.now) folder.now id.now }
+        → result ≡ origin_in (contents_after c ops.now) folder.now id.now }
 {
     let mut origin = now;
     for op in ops {
@@ -193,7 +193,7 @@ fn origin_at(table: Option<&Folder>, id: &OpId) -> Option<OpId>
 }
 
 /// The number of the folder's tags, of both kinds.
-fn count_in(table: Option<&Folder>) -> usize
+fn count_of_tags(table: Option<&Folder>) -> usize
     ensures count { result ≡ length (ids_in (option_copied table.entry)) }
     ensures ids { (i : OpId)
         → IsIn i (ids_in (option_copied table.entry))
@@ -217,7 +217,8 @@ fn id_in(table: Option<&Folder>, place: usize) -> Option<OpId>
 
 /// Whether the folder has a tag with this id after these operations.
 fn has_tag_after(table: Option<&Folder>, folder: &Name, id: &OpId, ops: &[SoundOp]) -> bool
-    ensures { result ≡ has_tag_after (alone (option_copied table.entry)) ops.now folder.now id.now }
+    ensures { result
+        ≡ has_tag_after (contents_of_folder (option_copied table.entry)) ops.now folder.now id.now }
 {
     tag_after(ops, folder, id, has_tag_at(table, id))
         || origin_after(ops, folder, id, origin_at(table, id)).is_some()
@@ -230,10 +231,12 @@ pub fn has_tag_after_all(table: Option<&Folder>, folder: &Name, ops: &[SoundOp])
         → IsIn i (ids_in (option_copied table.entry))
         ↔ HasTagIn (folder_tag_data (option_copied table.entry)) i }
     ensures left { result
-        ≡ (list_any (λ i. has_tag_after (alone (option_copied table.entry)) ops.now folder.now i)
+        ≡ (list_any
+        (λ i. has_tag_after (contents_of_folder (option_copied table.entry)) ops.now folder.now i)
         (ids_in (option_copied table.entry))
-        || list_any (λ o. has_tag_after (alone (option_copied table.entry)) ops.now folder.now o.id)
-        ops.now) }
+        || list_any
+        (λ o. has_tag_after (contents_of_folder (option_copied table.entry)) ops.now folder.now
+        o.id) ops.now) }
 {
     any_stored_left(table, folder, ops) || any_added_left(table, folder, ops)
 }
@@ -244,10 +247,11 @@ fn any_stored_left(table: Option<&Folder>, folder: &Name, ops: &[SoundOp]) -> bo
         → IsIn i (ids_in (option_copied table.entry))
         ↔ HasTagIn (folder_tag_data (option_copied table.entry)) i }
     ensures left { result
-        ≡ list_any (λ i. has_tag_after (alone (option_copied table.entry)) ops.now folder.now i)
+        ≡ list_any
+        (λ i. has_tag_after (contents_of_folder (option_copied table.entry)) ops.now folder.now i)
         (ids_in (option_copied table.entry)) }
 {
-    let count = count_in(table);
+    let count = count_of_tags(table);
     for place in 0..count {
         if is_left_at(table, folder, ops, place) {
             return true;
@@ -259,7 +263,8 @@ fn any_stored_left(table: Option<&Folder>, folder: &Name, ops: &[SoundOp]) -> bo
 /// Whether a tag with the id of the present tag at `place` remains.
 fn is_left_at(table: Option<&Folder>, folder: &Name, ops: &[SoundOp], place: usize) -> bool
     ensures { MatchOption (slice_get (ids_in (option_copied table.entry)) place) (result ≡ false)
-        (λ i. result ≡ has_tag_after (alone (option_copied table.entry)) ops.now folder.now i) }
+        (λ i. result
+        ≡ has_tag_after (contents_of_folder (option_copied table.entry)) ops.now folder.now i) }
 {
     match id_in(table, place) {
         Some(id) => has_tag_after(table, folder, &id, ops),
@@ -270,8 +275,9 @@ fn is_left_at(table: Option<&Folder>, folder: &Name, ops: &[SoundOp], place: usi
 /// Whether a tag of the folder with the id of one of these operations remains.
 fn any_added_left(table: Option<&Folder>, folder: &Name, ops: &[SoundOp]) -> bool
     ensures { result
-        ≡ list_any (λ o. has_tag_after (alone (option_copied table.entry)) ops.now folder.now o.id)
-        ops.now }
+        ≡ list_any
+        (λ o. has_tag_after (contents_of_folder (option_copied table.entry)) ops.now folder.now
+        o.id) ops.now }
 {
     for op in ops {
         if has_tag_after(table, folder, &op.op().id, ops) {
@@ -290,8 +296,8 @@ fn is_version_after(
     ops: &[SoundOp],
 ) -> bool
     ensures { result
-        ≡ is_version (after (alone (option_copied table.entry)) ops.now) folder.now origin.now
-        id.now }
+        ≡ is_version (contents_after (contents_of_folder (option_copied table.entry)) ops.now)
+        folder.now origin.now id.now }
 {
     is_id(origin, origin_after(ops, folder, id, origin_at(table, id)))
 }
@@ -320,23 +326,32 @@ pub fn has_version_after_all(
         ≡ Some origin.now) }
     ensures left { result
         ≡ (list_any
-        (λ version. is_version (after (alone (option_copied table.entry)) ops.now) folder.now
+        (λ version. is_version
+        (contents_after (contents_of_folder (option_copied table.entry)) ops.now) folder.now
         origin.now version.id) (versions_in (option_copied table.entry) origin.now)
-        || list_any (is_added_and_left (option_copied table.entry) ops.now folder.now origin.now)
+        || list_any
+        (op_adds_lasting_version (option_copied table.entry) ops.now folder.now origin.now)
         ops.now) }
 {
-    has_version_left(table, folder, origin, ops) || adds_lasting_version(table, folder, origin, ops)
+    has_lasting_version(table, folder, origin, ops)
+        || adds_lasting_version(table, folder, origin, ops)
 }
 
 /// Whether one of the origin's present versions remains.
-fn has_version_left(table: Option<&Folder>, folder: &Name, origin: &OpId, ops: &[SoundOp]) -> bool
+fn has_lasting_version(
+    table: Option<&Folder>,
+    folder: &Name,
+    origin: &OpId,
+    ops: &[SoundOp],
+) -> bool
     ensures versions { (i : OpId)
         → IsIn i (version_ids (versions_in (option_copied table.entry) origin.now))
         ↔ (option_map (λ content. content.origin) (tag_data_in (option_copied table.entry) i)
         ≡ Some origin.now) }
     ensures left { result
         ≡ list_any
-        (λ version. is_version (after (alone (option_copied table.entry)) ops.now) folder.now
+        (λ version. is_version
+        (contents_after (contents_of_folder (option_copied table.entry)) ops.now) folder.now
         origin.now version.id) (versions_in (option_copied table.entry) origin.now) }
 {
     match table {
@@ -355,7 +370,8 @@ fn any_left(
 ) -> bool
     ensures { result
         ≡ list_any
-        (λ version. is_version (after (alone (option_copied table.entry)) ops.now) folder.now
+        (λ version. is_version
+        (contents_after (contents_of_folder (option_copied table.entry)) ops.now) folder.now
         origin.now version.id) versions.now }
 {
     for version in versions {
@@ -374,11 +390,12 @@ fn adds_lasting_version(
     ops: &[SoundOp],
 ) -> bool
     ensures { result
-        ≡ list_any (is_added_and_left (option_copied table.entry) ops.now folder.now origin.now)
+        ≡ list_any
+        (op_adds_lasting_version (option_copied table.entry) ops.now folder.now origin.now)
         ops.now }
 {
     for op in ops {
-        if is_added_and_left(table, folder, origin, op.op(), ops) {
+        if op_adds_lasting_version(table, folder, origin, op.op(), ops) {
             return true;
         }
     }
@@ -386,7 +403,7 @@ fn adds_lasting_version(
 }
 
 /// Whether this operation adds a version of the origin that remains after all operations.
-fn is_added_and_left(
+fn op_adds_lasting_version(
     table: Option<&Folder>,
     folder: &Name,
     origin: &OpId,
@@ -394,9 +411,9 @@ fn is_added_and_left(
     ops: &[SoundOp],
 ) -> bool
     ensures { result
-        ≡ is_added_and_left (option_copied table.entry) ops.now folder.now origin.now op.now }
+        ≡ op_adds_lasting_version (option_copied table.entry) ops.now folder.now origin.now op.now }
 {
-    is_id(origin, origin_by(op)) && is_version_after(table, folder, origin, &op.id, ops)
+    is_id(origin, origin_of_op(op)) && is_version_after(table, folder, origin, &op.id, ops)
 }
 
 /// Whether a tag's folder and id are these.

@@ -49,7 +49,7 @@ impl Folders {
     ghost use Rattle.std.specs.Prelude.{◌++◌};
     ghost use Rattle.merge_laws.specs.Orders.{AreSound, IsCausal, IsIn};
     ghost use Rattle.crdt_ops.specs.Sound.{IsSound};
-    ghost use Rattle.folder_state.specs.AfterOps.{after};
+    ghost use Rattle.folder_state.specs.AfterOps.{contents_after};
     ghost use Rattle.folder_state.specs.FolderTables.{tag_data_in, has_tag_in};
     ghost use Rattle.folder_state.specs.MessageRefs.{message_ref, stored_dated_text};
     ghost use Rattle.folder_state.specs.MessageRefs.{message_of_data};
@@ -122,7 +122,7 @@ impl Folders {
     /// operations together.
     pub fn exists_after(&self, name: &Name, ops: &[SoundOp]) -> bool
         ensures contents { IsTrue result
-            ↔ IsFolder (after (contents_of self.now) ops.now) name.now }
+            ↔ IsFolder (contents_after (contents_of self.now) ops.now) name.now }
         ensures set { (list : List Op)
             → IsMadeBy (contents_of self.now) list
             → AreSound IsSound (list ++ ops.now)
@@ -146,7 +146,7 @@ impl Folders {
     /// order. Takes no memory.
     pub fn has_version_after(&self, folder: &Name, origin: &OpId, ops: &[SoundOp]) -> bool
         ensures contents { IsTrue result
-            ↔ HasVersion (after (contents_of self.now) ops.now) folder.now origin.now }
+            ↔ HasVersion (contents_after (contents_of self.now) ops.now) folder.now origin.now }
         ensures set { (list : List Op)
             → IsMadeBy (contents_of self.now) list
             → AreSound IsSound (list ++ ops.now)

@@ -9,10 +9,11 @@ ghost use Rattle.crdt_ops.specs.declared.op.Op.{Op};
 ghost use Rattle.folder_state.specs.FolderTables.{FolderTables, find_folder};
 ghost use Rattle.folder_state.specs.OpRoom.{AreRoomier, AreRoomierLists, HasPlaces, HasRoomAt};
 ghost use Rattle.folder_state.specs.OpRoom.{HasRoomFor, HasVersionPlaces, HasVersionRoom};
-ghost use Rattle.folder_state.specs.OpRoom.{HaveLists, IsRoomier, count_at, count_under, origin_by};
-ghost use Rattle.folder_state.specs.OpRoom.{tags_added, target, versions_added, counts_of};
+ghost use Rattle.folder_state.specs.OpRoom.{HaveLists, IsRoomier, count_at, count_of_name};
+ghost use Rattle.folder_state.specs.OpRoom.{origin_of_op, added_tag_count, target};
+ghost use Rattle.folder_state.specs.OpRoom.{added_version_count, counts_of};
 
-use crate::after_ops::origin_by;
+use crate::after_ops::origin_of_op;
 use crate::folder::Folder;
 use crate::tag_counts::{TagCounts, target};
 use crdt_ops::{Op, SoundOp};
@@ -22,7 +23,7 @@ use std::alloc::{AllocError, Global};
 use std::collections::VecDeque;
 use tags_clocks::OpId;
 
-/// For each operation an empty list, with room for the versions of its origin that all of the
+/// An empty list for each operation, with room for the versions of its origin that all of the
 /// operations add; `Err` if memory runs out.
 pub fn empty_lists(
     alloc: Global,
@@ -30,7 +31,7 @@ pub fn empty_lists(
     tag_counts: &TagCounts,
 ) -> Result<VecDeque<Vec<Version>>, AllocError>
     requires { (origin : OpId)
-        → count_at origin tag_counts.now.versions ≡ versions_added ops.now origin }
+        → count_at origin tag_counts.now.versions ≡ added_version_count ops.now origin }
     ensures { IfOk result (λ lists. HaveLists ops.now lists.items) }
 {
     let mut lists = VecDeque::new(alloc);
@@ -45,15 +46,15 @@ pub fn empty_lists(
 fn empty_list(alloc: Global, op: &Op, tag_counts: &TagCounts) -> Result<Vec<Version>, AllocError>
     ensures items { IfOk result (λ list. list.items ≡ []) }
     ensures capacity { IfOk result (λ list. counts_of (λ o. count_at o tag_counts.now.versions)
-        (origin_by op.now.id op.now.kind) ≤ vec_capacity list) }
+        (origin_of_op op.now.id op.now.kind) ≤ vec_capacity list) }
 {
-    let list = Vec::with_capacity(alloc, tag_counts.versions_of(&origin_by(op)))?;
+    let list = Vec::with_capacity(alloc, tag_counts.versions_of(&origin_of_op(op)))?;
     Ok(list)
 }
 
 /// Makes room in each folder for the tags that the operations add to it, and in each of its
-/// messages for the versions. A new folder gets a table. `Err` if memory runs out: all tags stay.
-/// Cost: some look-ups for each operation.
+/// messages for the versions. A new folder gets a table. `Err` if memory runs out; no tag changes.
+/// Cost: a few look-ups per operation.
 pub fn reserve_folders(
     alloc: Global,
     by_name: &mut IndexMap<Vec<u8>, Folder>,
@@ -61,9 +62,9 @@ pub fn reserve_folders(
     tag_counts: &TagCounts,
 ) -> Result<(), AllocError>
     requires tags { (name : List ℕ)
-        → count_under name tag_counts.now.tags ≡ tags_added ops.now name }
+        → count_of_name name tag_counts.now.tags ≡ added_tag_count ops.now name }
     requires versions { (origin : OpId)
-        → count_at origin tag_counts.now.versions ≡ versions_added ops.now origin }
+        → count_at origin tag_counts.now.versions ≡ added_version_count ops.now origin }
     ensures roomier { AreRoomier by_name.old.entries by_name.new.entries }
     ensures rooms { OnOk result ((o : Op) → IsIn o ops.now
         → HasRoomFor ops.now o (λ name. find_folder name by_name.new.entries)) }
@@ -85,12 +86,12 @@ pub fn reserve_one(
         (HasRoomFor (op.now ∷ []) op.now (λ name. find_folder name by_name.new.entries)) }
 {
     match target(op) {
-        Some(name) => reserve_in(alloc, by_name, name.as_bytes(), 1, &origin_by(op), 1),
+        Some(name) => reserve_in(alloc, by_name, name.as_bytes(), 1, &origin_of_op(op), 1),
         None => Ok(()),
     }
 }
 
-/// Makes the counted room in the folder of the operation's tag, and in its message.
+/// Makes the room that `tag_counts` counts, in the folder of the operation's tag and its message.
 fn reserve_for(
     alloc: Global,
     by_name: &mut IndexMap<Vec<u8>, Folder>,
@@ -98,11 +99,11 @@ fn reserve_for(
     tag_counts: &TagCounts,
 ) -> Result<(), AllocError>
     ensures roomier { AreRoomier by_name.old.entries by_name.new.entries }
-    ensures ok { OnOk result (HasRoomAt (λ n. count_under n tag_counts.now.tags)
-        (λ o. count_at o tag_counts.now.versions) (origin_by op.now.id op.now.kind)
+    ensures ok { OnOk result (HasRoomAt (λ n. count_of_name n tag_counts.now.tags)
+        (λ o. count_at o tag_counts.now.versions) (origin_of_op op.now.id op.now.kind)
         (target op.now.kind) (λ name. find_folder name by_name.new.entries)) }
 {
-    let origin = origin_by(op);
+    let origin = origin_of_op(op);
     match target(op) {
         Some(name) => reserve_in(
             alloc,
@@ -175,7 +176,7 @@ impl Folder {
 
     /// Makes room for `tags` further tags and, if there is an origin, for as many messages, and for
     /// `versions` further versions in the origin's message, if it exists. `Err` if memory runs out:
-    /// all tags stay.
+    /// no tag changes.
     fn reserve(
         &mut self,
         tags: usize,

@@ -14,8 +14,8 @@ ghost use Rattle.folder_state.specs.Keys.{is_among, is_at};
 ghost use Rattle.folder_state.specs.FolderTables.{FolderTables, tag_data_in, find_folder};
 ghost use Rattle.folder_state.specs.FolderTables.{has_tag_in};
 ghost use Rattle.folder_state.specs.OpRoom.{AreNoFuller, HasPlaces, HasRoomFor, HasVersionRoom};
-ghost use Rattle.folder_state.specs.OpRoom.{LeavesRoom, LeavesRoomAfter, origin_by};
-ghost use Rattle.folder_state.specs.OpRoom.{versions_added, counts_of};
+ghost use Rattle.folder_state.specs.OpRoom.{LeavesRoom, LeavesRoomAfter, origin_of_op};
+ghost use Rattle.folder_state.specs.OpRoom.{added_version_count, counts_of};
 ghost use Rattle.folder_state.specs.MessageRefs.{stored_dated_text};
 
 use crate::folder::Folder;
@@ -102,7 +102,8 @@ pub fn add_tag_of(
     requires room { HasRoomFor (op ∷ []) op (λ name. find_folder name by_name.old.entries) }
     requires dated_texts { 0 < spare dated_texts.old }
     requires list { (list.items ≡ [])
-        × (counts_of (versions_added (op ∷ [])) (origin_by op.id op.kind) ≤ vec_capacity list) }
+        × (counts_of (added_version_count (op ∷ [])) (origin_of_op op.id op.kind)
+        ≤ vec_capacity list) }
     ensures tags { (f : List ℕ) (i : OpId)
         → has_tag_in (find_folder f by_name.new.entries) i
         ≡ (adds (FolderTag f i) op || has_tag_in (find_folder f by_name.old.entries) i) }

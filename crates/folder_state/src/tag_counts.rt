@@ -5,10 +5,11 @@ ghost use Rattle.std.specs.Option.{option_copied};
 ghost use Rattle.tags_clocks.specs.declared.id.OpId.{OpId};
 ghost use Rattle.crdt_ops.specs.SortedSets.{is_some_id, same_id};
 ghost use Rattle.std.specs.Str.{bytes_eq};
-ghost use Rattle.folder_state.specs.OpRoom.{count_at, count_under, is_named, origin_by, tags_added};
-ghost use Rattle.folder_state.specs.OpRoom.{target, versions_added, counts_of};
+ghost use Rattle.folder_state.specs.OpRoom.{count_at, count_of_name, is_named, origin_of_op};
+ghost use Rattle.folder_state.specs.OpRoom.{added_tag_count, target, added_version_count};
+ghost use Rattle.folder_state.specs.OpRoom.{counts_of};
 
-use crate::after_ops::origin_by;
+use crate::after_ops::origin_of_op;
 use crdt_ops::{Kind, Op, SoundOp};
 use imap_types::Name;
 use indexmap::IndexMap;
@@ -44,9 +45,10 @@ impl TagCounts {
     /// What these operations add; `Err` if memory runs out. Cost: at most two look-ups for each.
     pub fn of_ops(alloc: Global, ops: &[SoundOp]) -> Result<TagCounts, AllocError>
         ensures tags { IfOk result (λ tag_counts. (name : List ℕ)
-            → count_under name tag_counts.tags ≡ tags_added ops.now name) }
+            → count_of_name name tag_counts.tags ≡ added_tag_count ops.now name) }
         ensures versions { IfOk result (λ tag_counts.
-            (origin : OpId) → count_at origin tag_counts.versions ≡ versions_added ops.now origin) }
+            (origin : OpId) → count_at origin tag_counts.versions
+            ≡ added_version_count ops.now origin) }
     {
         let tags = tags_by(alloc, ops)?;
         let versions = versions_by(alloc, ops)?;
@@ -55,9 +57,9 @@ impl TagCounts {
 
     /// How many tags the operations add to the folder.
     pub fn tags_of(&self, name: &Name) -> usize
-        ensures { result ≡ count_under name.now self.now.tags }
+        ensures { result ≡ count_of_name name.now self.now.tags }
     {
-        count_under(&self.tags, name.as_bytes())
+        count_of_name(&self.tags, name.as_bytes())
     }
 
     /// How many versions of the origin the operations add; 0 if there is no origin.
@@ -85,8 +87,8 @@ pub fn target(op: &Op) -> Option<&Name>
 }
 
 /// The count under a name; 0 if there is none.
-fn count_under(counts: &IndexMap<Vec<u8>, usize>, name: &[u8]) -> usize
-    ensures { result ≡ count_under name.now counts.now.entries }
+fn count_of_name(counts: &IndexMap<Vec<u8>, usize>, name: &[u8]) -> usize
+    ensures { result ≡ count_of_name name.now counts.now.entries }
 {
     counts.get(name).copied().unwrap_or(0)
 }
@@ -100,7 +102,8 @@ fn count_at(counts: &IndexMap<OpId, usize>, id: &OpId) -> usize
 
 fn tags_by(alloc: Global, ops: &[SoundOp]) -> Result<IndexMap<Vec<u8>, usize>, AllocError>
     ensures { IfOk result
-        (λ counts. (name : List ℕ) → count_under name counts.entries ≡ tags_added ops.now name) }
+        (λ counts. (name : List ℕ) → count_of_name name counts.entries
+        ≡ added_tag_count ops.now name) }
 {
     let mut counts = IndexMap::new(alloc);
     for op in ops {
@@ -115,9 +118,9 @@ fn count_tag(
     op: &Op,
 ) -> Result<(), AllocError>
     ensures { OnOk result ((name : List ℕ)
-        → count_under name counts.new.entries
+        → count_of_name name counts.new.entries
         ≡ (if is_named name (target op.now.kind) then 1 else 0)
-        + count_under name counts.old.entries) }
+        + count_of_name name counts.old.entries) }
 {
     match target(op) {
         Some(name) => count_name(alloc, counts, name.as_bytes()),
@@ -131,10 +134,10 @@ fn count_name(
     name: &[u8],
 ) -> Result<(), AllocError>
     ensures { OnOk result ((n : List ℕ)
-        → count_under n counts.new.entries
-        ≡ (if bytes_eq n name.now then 1 else 0) + count_under n counts.old.entries) }
+        → count_of_name n counts.new.entries
+        ≡ (if bytes_eq n name.now then 1 else 0) + count_of_name n counts.old.entries) }
 {
-    match count_under(counts, name).checked_add(1) {
+    match count_of_name(counts, name).checked_add(1) {
         Some(more) => put_name(alloc, counts, name, more),
         None => Err(AllocError),
     }
@@ -147,8 +150,8 @@ fn put_name(
     count: usize,
 ) -> Result<(), AllocError>
     ensures { OnOk result ((n : List ℕ)
-        → count_under n counts.new.entries
-        ≡ (if bytes_eq n name.now then count else count_under n counts.old.entries)) }
+        → count_of_name n counts.new.entries
+        ≡ (if bytes_eq n name.now then count else count_of_name n counts.old.entries)) }
 {
     let key = name.to_vec(alloc)?;
     if counts.insert(key, count).is_err() {
@@ -159,7 +162,7 @@ fn put_name(
 
 fn versions_by(alloc: Global, ops: &[SoundOp]) -> Result<IndexMap<OpId, usize>, AllocError>
     ensures { IfOk result (λ counts. (origin : OpId)
-        → count_at origin counts.entries ≡ versions_added ops.now origin) }
+        → count_at origin counts.entries ≡ added_version_count ops.now origin) }
 {
     let mut counts = IndexMap::new(alloc);
     for op in ops {
@@ -171,10 +174,10 @@ fn versions_by(alloc: Global, ops: &[SoundOp]) -> Result<IndexMap<OpId, usize>, 
 fn count_version(counts: &mut IndexMap<OpId, usize>, op: &Op) -> Result<(), AllocError>
     ensures { OnOk result ((origin : OpId)
         → count_at origin counts.new.entries
-        ≡ (if is_some_id origin (origin_by op.now.id op.now.kind) then 1 else 0)
+        ≡ (if is_some_id origin (origin_of_op op.now.id op.now.kind) then 1 else 0)
         + count_at origin counts.old.entries) }
 {
-    match origin_by(op) {
+    match origin_of_op(op) {
         Some(origin) => count_id(counts, &origin),
         None => Ok(()),
     }

@@ -12,7 +12,7 @@ ghost use Rattle.tags_clocks.specs.declared.id.OpId.{OpId};
 ghost use Rattle.crdt_ops.specs.SortedSets.{same_id};
 ghost use Rattle.imap_types.specs.declared.version.Version.{Version};
 ghost use Rattle.folder_state.specs.FolderTables.{IsTakenOut, folder_contents, versions_at};
-ghost use Rattle.folder_state.specs.FolderTables.{without};
+ghost use Rattle.folder_state.specs.FolderTables.{without_version};
 ghost use Rattle.folder_state.specs.OpRoom.{IsNoFuller};
 
 use crate::folder::Folder;
@@ -110,7 +110,7 @@ fn remove_version(messages: &mut IndexMap<OpId, Vec<Version>>, origin: &OpId, id
         → lookup (same_id origin.now) messages.new.entries ≡ Some vs
         → 0 < length vs.items }
     ensures here { versions_at messages.new.entries origin.now
-        ≡ without id.now (versions_at messages.old.entries origin.now) }
+        ≡ without_version id.now (versions_at messages.old.entries origin.now) }
     ensures others { (o : OpId)
         → same_id o origin.now ≡ false
         → lookup (same_id o) messages.new.entries ≡ lookup (same_id o) messages.old.entries }
@@ -130,7 +130,7 @@ fn remove_version(messages: &mut IndexMap<OpId, Vec<Version>>, origin: &OpId, id
 
 /// Removes the version with this id, and returns whether none is left.
 fn forget_version(versions: &mut Vec<Version>, id: &OpId) -> bool
-    ensures items { versions.new.items ≡ without id.now versions.old.items }
+    ensures items { versions.new.items ≡ without_version id.now versions.old.items }
     ensures capacity { vec_capacity versions.new ≡ vec_capacity versions.old }
     ensures none { result ≡ (length versions.new.items == 0) }
 {

@@ -17,11 +17,11 @@ use Rattle.session_view.proofs.LawLemmas.{ended_empties, ended_stays}
 some_other : (n : ℕ) → (None ≡ Some n) → ⊥
 some_other n e = absurd cc
 
-pub emptied : (view : List ViewEntry) → view_after_sync Full [] view ≡ []
-emptied view = ended_empties 0 None [] view (some_other 0)
+pub full_sync_of_none : (view : List ViewEntry) → view_after_sync Full [] view ≡ []
+full_sync_of_none view = ended_empties 0 None [] view (some_other 0)
 
-pub kept : (view : List ViewEntry) → view_after_sync Partial [] view ≡ view
-kept view = ended_stays 0 None [] view (some_other 0)
+pub partial_sync_of_none : (view : List ViewEntry) → view_after_sync Partial [] view ≡ view
+partial_sync_of_none view = ended_stays 0 None [] view (some_other 0)
 
 none_listed : (view : List ViewEntry) → filter (is_listed []) view ≡ []
 none_listed [] = refl
@@ -36,11 +36,11 @@ no_exists n =
     let none : nat_lt n (n + 0) ≡ false = grind (arith, nat_tests) in
     rw none refl
 
-pub answers_of_emptied : (modseq : Bool) (view : List ViewEntry) → sync_answers Full modseq [] view ≡ expunges [] 1 view
-answers_of_emptied modseq view = rw (none_listed view) (append-nil (expunges [] 1 view))
+pub answers_of_full_sync : (modseq : Bool) (view : List ViewEntry) → sync_answers Full modseq [] view ≡ expunges [] 1 view
+answers_of_full_sync modseq view = rw (none_listed view) (append-nil (expunges [] 1 view))
 
-pub answers_of_kept : (modseq : Bool) (view : List ViewEntry) → sync_answers Partial modseq [] view ≡ []
-answers_of_kept modseq view = rw (no_exists (length view), no_fetches modseq 1 view) refl
+pub answers_of_partial_sync : (modseq : Bool) (view : List ViewEntry) → sync_answers Partial modseq [] view ≡ []
+answers_of_partial_sync modseq view = rw (no_exists (length view), no_fetches modseq 1 view) refl
 
 with_length : (view : List ViewEntry) (k : ℕ) (flags : Flags) → length (with_flags_at view k flags) ≡ length view
 with_length [] k flags = refl
@@ -51,6 +51,6 @@ silent_length view [] = refl
 silent_length view (s ∷ silents) = silent_length (with_flags_at view s.number s.flags) silents ∙ with_length view s.number s.flags
 
 -- EXPUNGE of the message at place k comes after those of the later messages
-pub one_more : (view : List ViewEntry) (m k : ℕ) → k < length view → expunges [] m (drop k view) ≡ expunges [] (m + 1) (drop (k + 1) view) ++ Expunge m ∷ []
-one_more [] m k l = absurd (omega (arith, l))
-one_more (e ∷ view) m k l = ap (expunges [] m) (drop_more (e ∷ view) k e l)
+pub expunges_drop : (view : List ViewEntry) (m k : ℕ) → k < length view → expunges [] m (drop k view) ≡ expunges [] (m + 1) (drop (k + 1) view) ++ Expunge m ∷ []
+expunges_drop [] m k l = absurd (omega (arith, l))
+expunges_drop (e ∷ view) m k l = ap (expunges [] m) (drop_more (e ∷ view) k e l)

@@ -7,8 +7,8 @@
 //! The contract of a feed says that taking its notes gives all that were added since the last time,
 //! or a resync if and only if some were missed. [`plan`] plans a sync of the view by its feed and
 //! takes all memory for it; it leaves view and feed unchanged. Its answers are those of a sync by
-//! comparison. [`commit`] then carries the sync out in place without memory, and the notes that it
-//! leaves in the feed name all that still differs.
+//! comparison. [`commit`] then carries the sync out in place without allocating, and the notes that
+//! it leaves in the feed name all that still differs.
 #![tactic(auto)]
 
 mod feed;

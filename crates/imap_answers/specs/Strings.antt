@@ -19,7 +19,7 @@ separated_by between [] = []
 separated_by between (text ∷ texts) = text ++ flat_map (λ next. between ∷ next) texts
 
 -- Whether a string can be printed without quotes: it isn't empty, all its octets may be in an
--- astring, and it isn't NIL in any case (RFC 9051, section 9, astring and nil).
+-- astring, and it isn't NIL in any letter case (RFC 9051, section 9, astring and nil).
 abbrev pub is_plain : List ℕ → Bool
 is_plain string =
     not (length string == 0) && list_all is_astring_octet string

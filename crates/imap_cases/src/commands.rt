@@ -73,16 +73,16 @@ fn put_longest(words: &mut Words, command: &Command) {
             put_date(words, &append.date);
             words.put_text(" text ", append.text.as_bytes());
         }
-        _ => put_of_messages(words, command),
+        _ => put_message_command(words, command),
     }
 }
 
-fn put_of_messages(words: &mut Words, command: &Command) {
+fn put_message_command(words: &mut Words, command: &Command) {
     match command {
         Command::UidExpunge { uids } => put_messages(words, true, "expunge", uids),
         Command::Copy(transfer) => put_transfer(words, "copy", transfer),
         Command::Move(transfer) => put_transfer(words, "move", transfer),
-        _ => put_of_more(words, command),
+        _ => put_other_command(words, command),
     }
 }
 
@@ -92,7 +92,7 @@ fn put_transfer(words: &mut Words, word: &str, transfer: &Transfer) {
     words.put_text(" ", transfer.name.as_bytes());
 }
 
-fn put_of_more(words: &mut Words, command: &Command) {
+fn put_other_command(words: &mut Words, command: &Command) {
     match command {
         Command::Search(search) => {
             words.put_if(search.by_uid, "uid-");

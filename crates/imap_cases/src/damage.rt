@@ -41,14 +41,16 @@ pub fn put_failing(
 pub fn first_failing(alloc: Global, words: &mut Words, demand: Demand, text: &[u8]) -> Option<u64> {
     for place in 0..text.len() {
         let (front, _) = text.split_at(place);
-        if !holds_cut(alloc, demand, front) || !holds_at(alloc, words, demand, text, place) {
+        if !is_met_in_prefix(alloc, demand, front)
+            || !is_met_at(alloc, words, demand, text, place)
+        {
             return Some(place as u64);
         }
     }
     None
 }
 
-fn holds_cut(alloc: Global, demand: Demand, front: &[u8]) -> bool {
+fn is_met_in_prefix(alloc: Global, demand: Demand, front: &[u8]) -> bool {
     match demand {
         Demand::Answered => is_answered(alloc, front),
         _ => true,
@@ -56,11 +58,11 @@ fn holds_cut(alloc: Global, demand: Demand, front: &[u8]) -> bool {
 }
 
 /// Whether the demand is met with each damage at this place.
-fn holds_at(alloc: Global, words: &mut Words, demand: Demand, text: &[u8], place: usize) -> bool {
+fn is_met_at(alloc: Global, words: &mut Words, demand: Demand, text: &[u8], place: usize) -> bool {
     for octet in DAMAGES {
         match with_octet(alloc, text, place, octet) {
             Ok(damaged) => {
-                if !holds(alloc, words, demand, &damaged) {
+                if !is_met(alloc, words, demand, &damaged) {
                     return false;
                 }
             }
@@ -70,7 +72,7 @@ fn holds_at(alloc: Global, words: &mut Words, demand: Demand, text: &[u8], place
     true
 }
 
-fn holds(alloc: Global, words: &mut Words, demand: Demand, text: &[u8]) -> bool {
+fn is_met(alloc: Global, words: &mut Words, demand: Demand, text: &[u8]) -> bool {
     match demand {
         Demand::Answered => is_answered(alloc, text),
         Demand::SameInPieces(limits) => is_same_in_pieces(alloc, words, limits, text),

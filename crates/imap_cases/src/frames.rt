@@ -53,7 +53,7 @@ pub fn put_damaged(alloc: Global, words: &mut Words, frame: &[u8]) {
 }
 
 /// Whether a frame is answered by a command or by a fault of its own. The fault `NoTag` is right
-/// exactly if the frame has no tag.
+/// exactly when the frame has no tag.
 pub fn is_answered(alloc: Global, frame: &[u8]) -> bool {
     let has_tag = tag_of(frame).is_some();
     match parse(alloc, frame) {

@@ -2,7 +2,7 @@
 //! views. The program `node_cases` plays them, and must print its stored output.
 //!
 //! A case is a line, `KIND INPUT => ANSWER`. It is printed again with the answer that the code
-//! gives now, so a text is printed unchanged exactly if every answer is right. Comments and empty
+//! gives now, so a text is printed unchanged exactly when every answer is right. Comments and empty
 //! lines are printed as they are. The head of the cases in `crates/node_cases/stdin` lists the
 //! kinds and says how inputs and answers are written.
 //!

@@ -15,8 +15,8 @@ pub fn put_read(alloc: Global, words: &mut Words, text: &[u8]) {
     match read(alloc, text) {
         Ok(Some((answer, length))) => {
             put_answer(words, &answer);
-            let amiss = amiss(alloc, words, &answer, length, text);
-            words.put(amiss);
+            let fault = fault_of_answer(alloc, words, &answer, length, text);
+            words.put(fault);
             drop(answer);
         }
         Ok(None) => words.put("none"),
@@ -52,7 +52,7 @@ pub fn is_front_printed(alloc: Global, words: &mut Words, text: &[u8]) -> bool {
 /// The fault, if any. Printing the answer must append the text, whatever precedes it. Reading must
 /// give the answer, whatever follows the text, and none from a shorter prefix of it. A copy of the
 /// answer must be the same answer.
-fn amiss(
+fn fault_of_answer(
     alloc: Global,
     words: &mut Words,
     answer: &Answer,

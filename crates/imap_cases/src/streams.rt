@@ -49,7 +49,7 @@ fn put_other_cuts(alloc: Global, words: &mut Words, limits: Limits, stream: &[u8
 /// Whether a stream gives the same in one piece and octet by octet.
 pub fn is_same_in_pieces(alloc: Global, words: &mut Words, limits: Limits, stream: &[u8]) -> bool {
     match in_pieces(alloc, limits, b"", stream, SHORT) {
-        Ok(whole) => gives(alloc, words, limits, b"", stream, 1, &whole),
+        Ok(whole) => has_output(alloc, words, limits, b"", stream, 1, &whole),
         Err(AllocError) => {
             words.give_up();
             false
@@ -66,7 +66,7 @@ fn other_size(
     given: &[u8],
 ) -> Option<u64> {
     for size in SIZES {
-        if !gives(alloc, words, limits, b"", stream, size, given) {
+        if !has_output(alloc, words, limits, b"", stream, size, given) {
             return Some(size as u64);
         }
     }
@@ -83,7 +83,7 @@ fn other_cut(
 ) -> Option<u64> {
     for first in 0..stream.len().min(SHORT) {
         let (front, back) = stream.split_at(first);
-        if !gives(alloc, words, limits, front, back, SHORT, given) {
+        if !has_output(alloc, words, limits, front, back, SHORT, given) {
             return Some(first as u64);
         }
     }
@@ -92,7 +92,7 @@ fn other_cut(
 
 /// Whether a stream gives this if its first part arrives in one piece and the rest in pieces of
 /// `size` octets.
-fn gives(
+fn has_output(
     alloc: Global,
     words: &mut Words,
     limits: Limits,

@@ -8,8 +8,8 @@ use Rattle.imap_commands.specs.Mailboxes.{created_name}
 created_drops_one : created_name (codes "a/") ≡ codes "a"
 created_drops_one = refl
 
-created_drops_no_more : created_name (codes "a//") ≡ codes "a/"
-created_drops_no_more = refl
+created_drops_only_one : created_name (codes "a//") ≡ codes "a/"
+created_drops_only_one = refl
 
 created_folds_inbox : created_name (codes "inbox/") ≡ codes "INBOX"
 created_folds_inbox = refl

@@ -6,7 +6,7 @@ use Rattle.std.proofs.lemmas.Cmp.{nat_list_cmp_total}
 use Rattle.imap_types.specs.Ascending.{AreAscending, IsBefore}
 use Rattle.imap_types.specs.Keywords.{AreKeywords, are_keywords, has_keyword, is_lower_case}
 use Rattle.imap_types.proofs.KeywordLemmas.{test_from_keywords}
-use Rattle.imap_commands.specs.FlagChange.{remaining}
+use Rattle.imap_commands.specs.FlagChange.{remaining_keywords}
 
 -- ---- the remaining keywords
 
@@ -48,7 +48,7 @@ pub never_none : (b : Bool) (words : List (List ℕ)) (made : Option (List (List
 never_none true words made t m e = let k : Some words ≡ None = sym m ∙ e in cc
 never_none false words made t m e = cc
 
-pub remaining_are_keywords : (given keywords : List (List ℕ)) → AreKeywords keywords → are_keywords (remaining given keywords) ≡ true
+pub remaining_are_keywords : (given keywords : List (List ℕ)) → AreKeywords keywords → are_keywords (remaining_keywords given keywords) ≡ true
 remaining_are_keywords given keywords h =
     let test = λ (keyword : List ℕ). not (has_keyword keyword given) in
-    test_from_keywords (remaining given keywords) (all_filtered is_lower_case test keywords h.0, filtered test keywords h.1)
+    test_from_keywords (remaining_keywords given keywords) (all_filtered is_lower_case test keywords h.0, filtered test keywords h.1)

@@ -14,7 +14,7 @@ use Rattle.imap_types.specs.Keywords.{AreKeywords, has_keyword, is_lower_case, t
 use Rattle.imap_types.specs.declared.flags.Flags.{Flags}
 use Rattle.imap_types.proofs.KeywordLemmas.{keywords_from_test, keywords_with}
 use Rattle.merge_laws.specs.Orders.{IsIn}
-use Rattle.imap_commands.specs.FlagChange.{changed_flags, remaining}
+use Rattle.imap_commands.specs.FlagChange.{changed_flags, remaining_keywords}
 use Rattle.imap_commands.proofs.ListedKeywordLemmas.{text_has, text_old, text_new, united}
 use Rattle.imap_commands.proofs.FlagChangeLemmas.{remaining_are_keywords}
 
@@ -83,7 +83,7 @@ lowered_in (first ∷ words) word h i =
       | inr t ↦ lowered_in words word parts.1 t
     ]
 
--- the test for a word among keywords in lower case succeeds exactly if it is one of them
+-- the test for a word among keywords in lower case succeeds exactly when it is one of them
 has_keyword_is : (word : List ℕ) (given : List (List ℕ)) → to_lower_case word ≡ word → list_all is_lower_case given ≡ true → (has_keyword word given ≡ true) ↔ IsIn word given
 has_keyword_is word given l all =
     let same = λ (other : List ℕ). bytes_eq (to_lower_case other) (to_lower_case word) in (
@@ -98,7 +98,7 @@ not_is : (b : Bool) → (not b ≡ true) ↔ ((b ≡ true) → ⊥)
 not_is true = (λ h e. false≢true h, λ h. absurd (h refl))
 not_is false = (λ h e. false≢true e, λ h. refl)
 
-left_is : (word : List ℕ) (given keywords : List (List ℕ)) → AreKeywords keywords → AreKeywords given → IsIn word (remaining given keywords) ↔ (IsIn word keywords × (IsIn word given → ⊥))
+left_is : (word : List ℕ) (given keywords : List (List ℕ)) → AreKeywords keywords → AreKeywords given → IsIn word (remaining_keywords given keywords) ↔ (IsIn word keywords × (IsIn word given → ⊥))
 left_is word given keywords k g =
     let test = λ (keyword : List ℕ). not (has_keyword keyword given) in
     let filtered = in_filter test keywords word in (
@@ -129,4 +129,4 @@ pub changed_spelled : (mode : StoreMode) (old given : Flags) → AreKeywords old
 unfolding changed_flags
 changed_spelled Replace old given k g = g
 changed_spelled Add old given k g = united_spelled given.keywords old.keywords g.0 k
-changed_spelled Remove old given k g = keywords_from_test (remaining given.keywords old.keywords) (remaining_are_keywords given.keywords old.keywords k)
+changed_spelled Remove old given k g = keywords_from_test (remaining_keywords given.keywords old.keywords) (remaining_are_keywords given.keywords old.keywords k)

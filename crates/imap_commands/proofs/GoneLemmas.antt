@@ -10,7 +10,7 @@ use Rattle.imap_query.specs.declared.viewed_message.ViewedMessage.{ViewedMessage
 use Rattle.mailbox_rows.specs.ListedMessage.{ListedMessage}
 use Rattle.mailbox_rows.specs.RowViews.{row_of}
 use Rattle.session_view.specs.declared.view_entry.ViewEntry.{ViewEntry}
-use Rattle.imap_commands.specs.FetchCommand.{shown_at, shown_of}
+use Rattle.imap_commands.specs.FetchCommand.{viewed_message_at, viewed_messages_at}
 use Rattle.imap_commands.specs.Report.{are_some_gone, entry_at, is_gone, message_at, row_for}
 
 -- 1 for true, 0 for false.
@@ -33,7 +33,7 @@ one_answer items mode shown (Some old) (Some row) =
     ]
 
 -- A number has at most one answer, and none if its message is gone.
-numbered : (items : List FetchItem) (mode : FetchMode) (before after : List ListedMessage) (n : ℕ) (e : Option ViewEntry) → length (fetch_answers items mode before after (shown_at n e)) + one_if (is_gone (row_for before e)) ≤ 1
+numbered : (items : List FetchItem) (mode : FetchMode) (before after : List ListedMessage) (n : ℕ) (e : Option ViewEntry) → length (fetch_answers items mode before after (viewed_message_at n e)) + one_if (is_gone (row_for before e)) ≤ 1
 numbered items mode before after n None = omega arith
 numbered items mode before after n (Some e) =
     let shown : ViewedMessage = record { number = n; uid = e.uid } in
@@ -41,13 +41,13 @@ numbered items mode before after n (Some e) =
     omega (arith, length-append (answer_of items mode shown (row_of e.uid before) (row_of e.uid after)) [], one)
 
 -- If some messages are gone, there are fewer answers than numbers.
-fewer : (items : List FetchItem) (mode : FetchMode) (before after : List ListedMessage) (view : List ViewEntry) (numbers : List ℕ) → length (fetch_answers items mode before after (shown_of view numbers)) + one_if (are_some_gone before view numbers) ≤ length numbers
+fewer : (items : List FetchItem) (mode : FetchMode) (before after : List ListedMessage) (view : List ViewEntry) (numbers : List ℕ) → length (fetch_answers items mode before after (viewed_messages_at view numbers)) + one_if (are_some_gone before view numbers) ≤ length numbers
 fewer items mode before after view [] = omega arith
 fewer items mode before after view (n ∷ numbers) =
     let answers : ViewedMessage → List Answer = λ shown. answer_of items mode shown (row_of shown.uid before) (row_of shown.uid after) in
-    let first = shown_at n (entry_at view n) in
-    let parts_around = ap length (flat_map-append answers first (shown_of view numbers)) in
-    let both = length-append (fetch_answers items mode before after first) (fetch_answers items mode before after (shown_of view numbers)) in
+    let first = viewed_message_at n (entry_at view n) in
+    let parts_around = ap length (flat_map-append answers first (viewed_messages_at view numbers)) in
+    let both = length-append (fetch_answers items mode before after first) (fetch_answers items mode before after (viewed_messages_at view numbers)) in
     let one = numbered items mode before after n (entry_at view n) in
     let rest = fewer items mode before after view numbers in
     let some = one_or (is_gone (message_at before view n)) (are_some_gone before view numbers) in
@@ -58,5 +58,5 @@ none_so true count all h e = absurd (omega (arith, h, e))
 none_so false count all h e = refl
 
 -- If there are as many answers as numbers, no message is gone.
-pub none_gone : (items : List FetchItem) (mode : FetchMode) (before after : List ListedMessage) (view : List ViewEntry) (numbers : List ℕ) → length (fetch_answers items mode before after (shown_of view numbers)) ≡ length numbers → are_some_gone before view numbers ≡ false
+pub none_gone : (items : List FetchItem) (mode : FetchMode) (before after : List ListedMessage) (view : List ViewEntry) (numbers : List ℕ) → length (fetch_answers items mode before after (viewed_messages_at view numbers)) ≡ length numbers → are_some_gone before view numbers ≡ false
 none_gone items mode before after view numbers e = none_so _ _ _ (fewer items mode before after view numbers) e

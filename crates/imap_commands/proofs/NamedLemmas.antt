@@ -13,7 +13,7 @@ use Rattle.session_view.specs.Sets.{number_or_uid as set_name}
 use Rattle.session_view.specs.Views.{AreRising}
 use Rattle.session_view.specs.declared.view_entry.ViewEntry.{ViewEntry}
 use Rattle.imap_commands.specs.MessageNames.{name_at, names_of, uid_in}
-use Rattle.imap_commands.specs.SearchCommand.{shown_from}
+use Rattle.imap_commands.specs.SearchCommand.{viewed_messages_from}
 use Rattle.imap_commands.specs.Report.{entry_at}
 
 -- ---- rising names
@@ -83,15 +83,15 @@ chosen_rising name_uid by_uid set test view entries numbers chosen s h c n =
     subst (λ (ns : List ℕ). AreRisingFrom 1 ns) (sym ((λ i. names_of name_uid (s i) (c i)) ∙ ap (λ (ns : List ℕ). names_of name_uid view (filter test ns)) n)) (names_rising name_uid by_uid set test view h)
 
 -- The names of a view's messages ascend.
-pub shown_rising : (by_uid : Bool) (n low : ℕ) (view : List ViewEntry) → AreRising low view → AreRisingFrom (least by_uid n low) (map (shown_name by_uid) (shown_from n view))
+pub shown_rising : (by_uid : Bool) (n low : ℕ) (view : List ViewEntry) → AreRising low view → AreRisingFrom (least by_uid n low) (map (shown_name by_uid) (viewed_messages_from n view))
 shown_rising true n low [] h = tt
 shown_rising false n low [] h = tt
 shown_rising true n low (e ∷ es) h = (h.0, shown_rising true (n + 1) (e.uid + 1) es h.1)
 shown_rising false n low (e ∷ es) h = (omega arith, shown_rising false (n + 1) (e.uid + 1) es h.1)
 
-pub all_shown_rising : (by_uid : Bool) (view : List ViewEntry) → AreRising 1 view → AreRisingFrom 1 (map (shown_name by_uid) (shown_from 1 view))
-all_shown_rising true view h = shown_rising true 1 1 view h
-all_shown_rising false view h = shown_rising false 1 1 view h
+pub all_viewed_messages_rising : (by_uid : Bool) (view : List ViewEntry) → AreRising 1 view → AreRisingFrom 1 (map (shown_name by_uid) (viewed_messages_from 1 view))
+all_viewed_messages_rising true view h = shown_rising true 1 1 view h
+all_viewed_messages_rising false view h = shown_rising false 1 1 view h
 
 -- The UIDs of a listing above a UID ascend.
 pub rows_after_rising : (uid low : ℕ) (rows : List ListedMessage) → AreRisingRows low rows → AreRisingFrom low (map (λ (row : ListedMessage). row.uid) (rows_after_uid uid rows))

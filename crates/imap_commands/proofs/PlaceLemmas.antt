@@ -21,9 +21,9 @@ expunges_from folder (row ∷ rows) zero = refl
 expunges_from folder (row ∷ rows) (suc k) = let e : suc k + 1 ≡ suc (k + 1) = omega arith in rw e (expunges_from folder rows k)
 
 -- one further message
-pub expunges_more : (folder : List ℕ) (rows : List ListedMessage) (k : ℕ) (old new total : List Kind) → new ≡ old ++ expunge_at folder (slice_get rows k) → old ++ flat_map (expunge_of folder) (drop k rows) ≡ total
+pub expunges_step : (folder : List ℕ) (rows : List ListedMessage) (k : ℕ) (old new total : List Kind) → new ≡ old ++ expunge_at folder (slice_get rows k) → old ++ flat_map (expunge_of folder) (drop k rows) ≡ total
     → new ++ flat_map (expunge_of folder) (drop (k + 1) rows) ≡ total
-expunges_more folder rows k old new total n t =
+expunges_step folder rows k old new total n t =
     let rest = flat_map (expunge_of folder) (drop (k + 1) rows) in
     ap (λ ks. ks ++ rest) n
     ∙ append_assoc old (expunge_at folder (slice_get rows k)) rest
@@ -41,8 +41,8 @@ uids_from [] (suc k) = let e : suc k + 1 ≡ suc (k + 1) = omega arith in rw e r
 uids_from (row ∷ rows) zero = refl
 uids_from (row ∷ rows) (suc k) = let e : suc k + 1 ≡ suc (k + 1) = omega arith in rw e (uids_from rows k)
 
-pub uids_more : (rows : List ListedMessage) (k : ℕ) (old new total : List ℕ) → new ≡ old ++ uids_of (option_to_list (slice_get rows k)) → old ++ uids_of (drop k rows) ≡ total → new ++ uids_of (drop (k + 1) rows) ≡ total
-uids_more rows k old new total n t =
+pub uids_step : (rows : List ListedMessage) (k : ℕ) (old new total : List ℕ) → new ≡ old ++ uids_of (option_to_list (slice_get rows k)) → old ++ uids_of (drop k rows) ≡ total → new ++ uids_of (drop (k + 1) rows) ≡ total
+uids_step rows k old new total n t =
     ap (λ us. us ++ uids_of (drop (k + 1) rows)) n
     ∙ append_assoc old (uids_of (option_to_list (slice_get rows k))) (uids_of (drop (k + 1) rows))
     ∙ ap (λ us. old ++ us) (sym (uids_from rows k))

@@ -17,13 +17,13 @@ use Rattle.imap_types.specs.declared.section.Section.TheVariants as section
 use Rattle.mailbox_rows.specs.ListedMessage.{ListedMessage}
 use Rattle.mailbox_rows.specs.RowViews.{row_of}
 use Rattle.mail_text.specs.HeaderFields.{asked_fields_in, empty_line, field_lines, fields_in, fields_of, first_asked, is_continuation}
-use Rattle.mail_text.specs.HeaderFields.{is_asked_field as asks_field}
+use Rattle.mail_text.specs.HeaderFields.{is_requested_field as asks_field}
 use Rattle.mail_text.specs.TextLines.{body_lines, header_lines, in_first, is_empty_line, lines_of}
 use Rattle.mail_text.proofs.LineLemmas.{lines-joined}
 use Rattle.session_view.specs.Sets.{numbers_in_set}
 use Rattle.session_view.specs.declared.view_entry.ViewEntry.{ViewEntry}
 use Rattle.imap_commands.specs.Arguments.{FetchArgs, OpenMailbox}
-use Rattle.imap_commands.specs.FetchCommand.{fetch_report, mode_of, shown_at, shown_of}
+use Rattle.imap_commands.specs.FetchCommand.{fetch_report, mode_of, viewed_message_at, viewed_messages_at}
 use Rattle.imap_commands.specs.Printing.{AreShowable, AreAnswerableItems, IsNumbered, IsPrintableReport, IsShowable, IsAnswerableItem}
 use Rattle.imap_commands.specs.Report.{are_some_gone, entry_at, gone_code}
 use Rattle.imap_commands.proofs.PrintSelectLemmas.{each_append}
@@ -236,7 +236,7 @@ answer_printable items mode shown (Some old) (Some row) t n h =
 abbrev IsNumberNonzero : ViewedMessage → Type 0
 IsNumberNonzero shown = IsNonzero shown.number
 
-shown_nonzero : (n : ℕ) (e : Option ViewEntry) → IsNonzero n → Each IsNumberNonzero (shown_at n e)
+shown_nonzero : (n : ℕ) (e : Option ViewEntry) → IsNonzero n → Each IsNumberNonzero (viewed_message_at n e)
 shown_nonzero n None h = tt
 shown_nonzero n (Some e) h = (h, tt)
 
@@ -252,8 +252,8 @@ fetch_printable mailbox after condstore request r v t =
     let mode = mode_of mailbox condstore request in
     record {
       own =
-          each_flat IsNumberNonzero IsPrintable (λ shown. answer_of items mode shown (row_of shown.uid before) (row_of shown.uid after)) (shown_of view numbers)
+          each_flat IsNumberNonzero IsPrintable (λ shown. answer_of items mode shown (row_of shown.uid before) (row_of shown.uid after)) (viewed_messages_at view numbers)
           (λ shown n. answer_printable items mode shown (row_of shown.uid before) (row_of shown.uid after) t n (row_showable shown.uid after r.each))
-          (each_flat IsNonzero IsNumberNonzero (λ n. shown_at n (entry_at view n)) numbers (λ n h. shown_nonzero n (entry_at view n) h) (numbers_nonzero by_uid set view v));
+          (each_flat IsNonzero IsNumberNonzero (λ n. viewed_message_at n (entry_at view n)) numbers (λ n h. shown_nonzero n (entry_at view n) h) (numbers_nonzero by_uid set view v));
       code = gone_printable before view numbers;
     }

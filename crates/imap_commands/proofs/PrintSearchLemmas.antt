@@ -17,7 +17,7 @@ use Rattle.session_view.specs.Views.{AreRising}
 use Rattle.session_view.specs.declared.view_entry.ViewEntry.{ViewEntry}
 use Rattle.imap_commands.specs.Arguments.{OpenMailbox, SearchArgs}
 use Rattle.imap_commands.specs.Printing.{AreShowable, IsNumbered, IsPrintableReport, IsShowable}
-use Rattle.imap_commands.specs.SearchCommand.{IsSearchReport, shown_from}
+use Rattle.imap_commands.specs.SearchCommand.{IsSearchReport, viewed_messages_from}
 use Rattle.imap_commands.specs.Report.{CommandReport, report_of_answers}
 use Rattle.imap_commands.proofs.NamedLemmas.{least, least_first, least_lower, least_next, rising_lower}
 use Rattle.imap_commands.proofs.PrintReportLemmas.{only_printable}
@@ -53,7 +53,7 @@ IsPrintableHit hit = IsNonzero hit.number × IsModSeq hit.modseq
 abbrev IsBoth : ViewedMessage → Type 0
 IsBoth shown = IsNonzero shown.number × IsNonzero shown.uid
 
-all_both : (n low : ℕ) (view : List ViewEntry) → 0 < n → 0 < low → n + length view ≤ 4294967296 → AreRising low view → AreSmall view → Each IsBoth (shown_from n view)
+all_both : (n low : ℕ) (view : List ViewEntry) → 0 < n → 0 < low → n + length view ≤ 4294967296 → AreRising low view → AreSmall view → Each IsBoth (viewed_messages_from n view)
 all_both n low [] p q l r s = tt
 all_both n low (e ∷ es) p q l r s =
     let first : low ≤ e.uid = r.0 in
@@ -97,11 +97,11 @@ front_rising by_uid n low uid matches rest l one r =
           rw (h.1) (least_first by_uid n low uid hit.number h.2 l, subst (λ k. AreRisingFrom k (map number_at rest)) (least_next by_uid n uid hit.number h.2) r)
     ]
 
-hits_rising : (by_uid : Bool) (key : Key) (last : ViewedMessage) (rows : List ListedMessage) (n low : ℕ) (view : List ViewEntry) → AreRising low view → AreRisingFrom (least by_uid n low) (map number_at (hits_of_rows by_uid key last rows (shown_from n view)))
+hits_rising : (by_uid : Bool) (key : Key) (last : ViewedMessage) (rows : List ListedMessage) (n low : ℕ) (view : List ViewEntry) → AreRising low view → AreRisingFrom (least by_uid n low) (map number_at (hits_of_rows by_uid key last rows (viewed_messages_from n view)))
 hits_rising by_uid key last rows n low [] h = tt
 hits_rising by_uid key last rows n low (e ∷ es) h =
     let shown : ViewedMessage = record { number = n; uid = e.uid } in
-    front_rising by_uid n low e.uid (hit_of by_uid key last shown (row_of e.uid rows)) (hits_of_rows by_uid key last rows (shown_from (n + 1) es)) h.0 (one_hit by_uid key last shown (row_of e.uid rows))
+    front_rising by_uid n low e.uid (hit_of by_uid key last shown (row_of e.uid rows)) (hits_of_rows by_uid key last rows (viewed_messages_from (n + 1) es)) h.0 (one_hit by_uid key last shown (row_of e.uid rows))
     (hits_rising by_uid key last rows (n + 1) (e.uid + 1) es h.1)
 
 from_one : (by_uid : Bool) (numbers : List ℕ) → AreRisingFrom (least by_uid 1 1) numbers → AreRisingFrom 1 numbers
@@ -222,7 +222,7 @@ search_printable mailbox tag request printable t r v s =
     let view = mailbox.view in
     let by_uid = request.by_uid in
     let options = request.options in
-    let shown = shown_from 1 view in
+    let shown = viewed_messages_from 1 view in
     let matches = hits_in by_uid s.finds.key rows shown in
     let l = view_small view v in
     let both = all_both 1 1 view (omega arith) (omega arith) (omega (arith, l)) v.rising v.small in

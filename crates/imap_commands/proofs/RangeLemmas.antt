@@ -11,7 +11,7 @@ and_all : (a : Bool) → (a && true) ≡ a
 and_all true = refl
 and_all false = refl
 
--- the steps of a key are in range exactly if the key is
+-- the steps of a key are in range exactly when the key is
 pub key_in_range : (view : List ViewEntry) (key : Key) → list_all (step_is_in_range view) (steps_of key) ≡ key_is_in_range view key
 key_in_range view (Asks test) = and_all (key_is_in_range view (Asks test))
 key_in_range view (Lacks key) =

@@ -8,11 +8,11 @@ use Rattle.std.specs.List.{filter, list_any}
 use Rattle.std.specs.Str.{bytes_eq}
 use Rattle.imap_answers.specs.declared.answer.Answer.TheVariants.{Enabled as EnabledAnswer}
 use Rattle.imap_answers.specs.declared.fixed_words.EnabledExtensions.{EnabledExtensions}
-use Rattle.imap_answers.specs.declared.fixed_words.EnabledExtensions.TheVariants.{Nothing}
 use Rattle.imap_answers.specs.declared.fixed_words.EnabledExtensions.TheVariants.{Condstore}
-use Rattle.imap_answers.specs.declared.fixed_words.EnabledExtensions.TheVariants.{Imap4Rev2}
 use Rattle.imap_answers.specs.declared.fixed_words.EnabledExtensions.TheVariants.{CondstoreImap4Rev2}
+use Rattle.imap_answers.specs.declared.fixed_words.EnabledExtensions.TheVariants.{Imap4Rev2}
 use Rattle.imap_answers.specs.declared.fixed_words.EnabledExtensions.TheVariants.{Imap4Rev2Condstore}
+use Rattle.imap_answers.specs.declared.fixed_words.EnabledExtensions.TheVariants.{Nothing}
 use Rattle.imap_syntax.specs.declared.fetch.FetchItem.{FetchItem}
 use Rattle.imap_syntax.specs.declared.fetch.FetchItem.TheVariants.{Body, Flags, InternalDate}
 use Rattle.imap_syntax.specs.declared.fetch.FetchItem.TheVariants.{ModSeq, Size, Uid}
@@ -25,11 +25,11 @@ use Rattle.imap_commands.specs.Report.{CommandReport, report_of_answers}
 
 -- ---- ENABLE (RFC 9051, section 6.3.1)
 
--- Whether a name is CONDSTORE, in any case.
+-- Whether a name is CONDSTORE, in any letter case.
 abbrev pub is_condstore : List ℕ → Bool
 is_condstore name = bytes_eq (map to_ascii_lowercase name) (codes "condstore")
 
--- Whether a name is IMAP4rev2, in any case.
+-- Whether a name is IMAP4rev2, in any letter case.
 abbrev pub is_imap4rev2 : List ℕ → Bool
 is_imap4rev2 name = bytes_eq (map to_ascii_lowercase name) (codes "imap4rev2")
 
@@ -52,17 +52,18 @@ asks_condstore_first names =
     begins_with_condstore (filter (λ name. is_condstore name || is_imap4rev2 name) names)
 
 -- The enabled extensions, given which of the two were requested and whether CONDSTORE was first.
-abbrev pub extensions_by : Bool → Bool → Bool → EnabledExtensions
-extensions_by false false first = Nothing
-extensions_by true false first = Condstore
-extensions_by false true first = Imap4Rev2
-extensions_by true true true = CondstoreImap4Rev2
-extensions_by true true false = Imap4Rev2Condstore
+abbrev pub extensions_of_requests : Bool → Bool → Bool → EnabledExtensions
+extensions_of_requests false false first = Nothing
+extensions_of_requests true false first = Condstore
+extensions_of_requests false true first = Imap4Rev2
+extensions_of_requests true true true = CondstoreImap4Rev2
+extensions_of_requests true true false = Imap4Rev2Condstore
 
 -- The extensions that ENABLE enables, in the order of their first requests.
 abbrev pub enabled_extensions : List (List ℕ) → EnabledExtensions
 enabled_extensions names =
-    extensions_by (asks_condstore names) (asks_imap4rev2 names) (asks_condstore_first names)
+    extensions_of_requests (asks_condstore names) (asks_imap4rev2 names)
+    (asks_condstore_first names)
 
 -- The report of ENABLE.
 abbrev pub enable_report : List (List ℕ) → CommandReport
@@ -88,6 +89,6 @@ abbrev pub fetch_asks_modseq : List FetchItem → Option ℕ → Bool
 fetch_asks_modseq items changed_since = list_any is_modseq_item items || is_some changed_since
 
 -- Whether the steps of a SEARCH have a MODSEQ test; by the law `searches_are_by_keys` they have one
--- exactly if its key does.
+-- exactly when its key does.
 abbrev pub search_asks_modseq : List SearchStep → Bool
 search_asks_modseq steps = list_any step_names_modseq steps

@@ -58,13 +58,13 @@ fetch_intent mailbox request =
     (seen_stores mailbox request (numbers_in_set request.by_uid request.messages mailbox.view))
 
 -- A message of a view, in the form that queries take.
-abbrev pub shown_at : ℕ → Option ViewEntry → List ViewedMessage
-shown_at n None = []
-shown_at n (Some e) = record { number = n; uid = e.uid } ∷ []
+abbrev pub viewed_message_at : ℕ → Option ViewEntry → List ViewedMessage
+viewed_message_at n None = []
+viewed_message_at n (Some e) = record { number = n; uid = e.uid } ∷ []
 
 -- The view's messages with these numbers, in the form that queries take.
-abbrev pub shown_of : List ViewEntry → List ℕ → List ViewedMessage
-shown_of view numbers = flat_map (λ n. shown_at n (entry_at view n)) numbers
+abbrev pub viewed_messages_at : List ViewEntry → List ℕ → List ViewedMessage
+viewed_messages_at view numbers = flat_map (λ n. viewed_message_at n (entry_at view n)) numbers
 
 -- The report of FETCH, from the mailbox before it, the listing after it and whether CONDSTORE is
 -- on.
@@ -74,7 +74,7 @@ fetch_report mailbox after condstore request =
     record {
       own =
           fetch_answers request.items (mode_of mailbox condstore request) mailbox.rows after
-          (shown_of mailbox.view numbers);
+          (viewed_messages_at mailbox.view numbers);
       silent = [];
       code = gone_code mailbox.rows mailbox.view numbers;
     }

@@ -9,8 +9,8 @@ use Rattle.imap_types.specs.declared.flags.Flags.{Flags}
 use Rattle.imap_types.specs.Unions.{with_flags}
 
 -- These keywords without the given ones.
-abbrev pub remaining : List (List ℕ) → List (List ℕ) → List (List ℕ)
-remaining given keywords = filter (λ keyword. not (has_keyword keyword given)) keywords
+abbrev pub remaining_keywords : List (List ℕ) → List (List ℕ) → List (List ℕ)
+remaining_keywords given keywords = filter (λ keyword. not (has_keyword keyword given)) keywords
 
 -- The old flags without the given ones.
 abbrev pub removed_flags : Flags → Flags → Flags
@@ -20,7 +20,7 @@ removed_flags old given = record {
   deleted = old.deleted && not given.deleted;
   seen = old.seen && not given.seen;
   draft = old.draft && not given.draft;
-  keywords = remaining given.keywords old.keywords;
+  keywords = remaining_keywords given.keywords old.keywords;
 }
 
 -- A message's flags after STORE, from its old flags and those given (RFC 9051, section 6.4.6). The

@@ -61,9 +61,10 @@ search_intent view steps =
     if list_all (step_is_in_range view) steps then Ok [] else Err NoSuchMessage
 
 -- The messages of a view in the form that queries take, numbered from n.
-abbrev pub shown_from : ℕ → List ViewEntry → List ViewedMessage
-shown_from n [] = []
-shown_from n (e ∷ es) = record { number = n; uid = e.uid } ∷ shown_from (n + 1) es
+abbrev pub viewed_messages_from : ℕ → List ViewEntry → List ViewedMessage
+viewed_messages_from n [] = []
+viewed_messages_from n (e ∷ es) =
+    record { number = n; uid = e.uid } ∷ viewed_messages_from (n + 1) es
 
 -- The results of SEARCH in a mailbox, by the key whose steps are given (RFC 9051, section 6.4.4;
 -- RFC 7162, section 3.1.5).
@@ -73,7 +74,7 @@ pub record IsSearchResult (mailbox : OpenMailbox) (request : SearchArgs) (result
   pub steps_are : request.steps ≡ steps_of key
   pub results_are : results
       ≡ results_of request.options (asks_modseq key)
-      (hits_in request.by_uid key mailbox.rows (shown_from 1 mailbox.view))
+      (hits_in request.by_uid key mailbox.rows (viewed_messages_from 1 mailbox.view))
 
 -- The report of SEARCH, which its arguments determine: a single answer with its results.
 pub record IsSearchReport (mailbox : OpenMailbox) (tag : List ℕ) (request : SearchArgs)

@@ -106,16 +106,16 @@ stored_answers after view condstore request taken =
     else flat_map (λ n. stored_answer condstore request n (message_at after view n)) taken
 
 -- The view's flags of a message, changed as STORE asks.
-abbrev pub silent_at : StoreMode → Flags → ℕ → Option ViewEntry → List SilentFlags
-silent_at mode given n None = []
-silent_at mode given n (Some e) =
+abbrev pub silent_flags_at : StoreMode → Flags → ℕ → Option ViewEntry → List SilentFlags
+silent_flags_at mode given n None = []
+silent_flags_at mode given n (Some e) =
     record { number = n; flags = changed_flags mode e.flags given } ∷ []
 
 -- The flags that the session sets itself if STORE is silent.
-abbrev pub silents_of : List ViewEntry → StoreArgs → List ℕ → List SilentFlags
-silents_of view request taken =
+abbrev pub silent_flags_of : List ViewEntry → StoreArgs → List ℕ → List SilentFlags
+silent_flags_of view request taken =
     if request.action.silent
-    then flat_map (λ n. silent_at request.action.mode request.flags n (entry_at view n)) taken
+    then flat_map (λ n. silent_flags_at request.action.mode request.flags n (entry_at view n)) taken
     else []
 
 -- The code of a STORE: MODIFIED with the refused messages, or `code` if there are none.
@@ -132,7 +132,7 @@ store_report mailbox after condstore request =
     let refused = refused_messages mailbox.rows mailbox.view request.unchanged_since numbers in
     record {
       own = stored_answers after mailbox.view condstore request taken;
-      silent = silents_of mailbox.view request taken;
+      silent = silent_flags_of mailbox.view request taken;
       code =
           modified_code (names_of request.by_uid mailbox.view refused)
           (gone_code mailbox.rows mailbox.view numbers);

@@ -126,7 +126,7 @@ fn push_append(
     };
     let folder = destination.copy(alloc)?;
     let flags = row.versions.flags(alloc)?;
-    let text = row.copied_text(alloc)?;
+    let text = row.copy_text(alloc)?;
     kinds.push(Kind::Append {
         folder,
         flags,
@@ -251,7 +251,7 @@ fn copied_uids(
 fn copies_in(alloc: Global, uidnext: u32, target_rows: &Rows<'_>) -> Result<NumberSet, AllocError>
     ensures { IfOk result (λ copies. copies ≡ copies_in uidnext target_rows.now) }
 {
-    let uids = uids_beyond(alloc, uidnext.saturating_sub(1), target_rows)?;
+    let uids = uids_above(alloc, uidnext.saturating_sub(1), target_rows)?;
     set_of(alloc, &uids)
 }
 
@@ -298,7 +298,7 @@ fn moved_answers(
 }
 
 /// The listing's UIDs above this one.
-fn uids_beyond(alloc: Global, uid: u32, rows: &Rows<'_>) -> Result<Vec<u32>, AllocError>
+fn uids_above(alloc: Global, uid: u32, rows: &Rows<'_>) -> Result<Vec<u32>, AllocError>
     ensures uids { IfOk result
         (λ uids. uids.items ≡ map (λ row. row.uid) (rows_after_uid uid rows.now)) }
     ensures rising { IfOk result (λ uids. AreRisingFrom 1 uids.items) }

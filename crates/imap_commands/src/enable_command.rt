@@ -1,11 +1,11 @@
-//! ENABLE (RFC 9051, section 6.3.1), and the other commands that turn mod-sequences on (RFC 7162,
+//! ENABLE (RFC 9051, section 6.3.1), and the other commands that turn CONDSTORE on (RFC 7162,
 //! section 3.1).
 
 ghost use Rattle.std.specs.Prelude.{◌≡◌, IfOk, false};
 ghost use Rattle.std.specs.List.{filter, list_any};
 ghost use Rattle.imap_commands.specs.EnableCommand.{asks_condstore, asks_condstore_first};
 ghost use Rattle.imap_commands.specs.EnableCommand.{asks_imap4rev2, begins_with_condstore};
-ghost use Rattle.imap_commands.specs.EnableCommand.{enable_report, extensions_by};
+ghost use Rattle.imap_commands.specs.EnableCommand.{enable_report, extensions_of_requests};
 ghost use Rattle.imap_commands.specs.EnableCommand.{enabled_extensions};
 ghost use Rattle.imap_commands.specs.EnableCommand.{fetch_asks_modseq, is_condstore, is_imap4rev2};
 ghost use Rattle.imap_commands.specs.EnableCommand.{is_modseq_item, search_asks_modseq};
@@ -19,8 +19,8 @@ use imap_syntax::{FetchItem, SearchStep, SearchTest, StatusItem};
 use imap_types::Octets;
 use std::alloc::{AllocError, Global};
 
-/// The report of ENABLE: which of CONDSTORE and IMAP4rev2 were requested, in any case, in the order
-/// of their first requests (RFC 9051, section 6.3.1). `Err` if memory runs out.
+/// The report of ENABLE: which of CONDSTORE and IMAP4rev2 were requested, in any letter case, in
+/// the order of their first requests (RFC 9051, section 6.3.1). `Err` if memory runs out.
 pub fn enable_report(alloc: Global, names: &[Octets]) -> Result<CommandReport, AllocError>
     ensures { IfOk result (λ report. report ≡ enable_report names.now) }
 {
@@ -31,15 +31,19 @@ pub fn enable_report(alloc: Global, names: &[Octets]) -> Result<CommandReport, A
 fn enabled_extensions(names: &[Octets]) -> EnabledExtensions
     ensures { result ≡ enabled_extensions names.now }
 {
-    extensions_by(
+    extensions_of_requests(
         asks_condstore(names),
         asks_imap4rev2(names),
         asks_condstore_first(names),
     )
 }
 
-fn extensions_by(condstore: bool, imap4rev2: bool, condstore_first: bool) -> EnabledExtensions
-    ensures { result ≡ extensions_by condstore imap4rev2 condstore_first }
+fn extensions_of_requests(
+    condstore: bool,
+    imap4rev2: bool,
+    condstore_first: bool,
+) -> EnabledExtensions
+    ensures { result ≡ extensions_of_requests condstore imap4rev2 condstore_first }
 {
     match (condstore, imap4rev2, condstore_first) {
         (false, false, _) => EnabledExtensions::Nothing,
@@ -50,7 +54,7 @@ fn extensions_by(condstore: bool, imap4rev2: bool, condstore_first: bool) -> Ena
     }
 }
 
-/// Whether one of the names is CONDSTORE in any case (RFC 7162, section 3.1).
+/// Whether one of the names is CONDSTORE in any letter case (RFC 7162, section 3.1).
 pub fn asks_condstore(names: &[Octets]) -> bool
     ensures { result ≡ asks_condstore names.now }
 {
@@ -144,14 +148,14 @@ pub fn search_asks_modseq(steps: &[SearchStep]) -> bool
     ensures { result ≡ search_asks_modseq steps.now }
 {
     for step in steps {
-        if names_modseq(step) {
+        if step_names_modseq(step) {
             return true;
         }
     }
     false
 }
 
-fn names_modseq(step: &SearchStep) -> bool
+fn step_names_modseq(step: &SearchStep) -> bool
     ensures { result ≡ step_names_modseq step.now }
 {
     match step {

@@ -5,7 +5,8 @@ ghost use Rattle.std.specs.Option.{option_map, unwrap_or};
 ghost use Rattle.imap_query.specs.FetchCommand.{fetch_answers};
 ghost use Rattle.imap_types.specs.Unions.{united_flags};
 ghost use Rattle.imap_commands.specs.FetchCommand.{fetch_report, fetch_intent, mode_of, seen_flags};
-ghost use Rattle.imap_commands.specs.FetchCommand.{seen_store, seen_stores, shown_at, shown_of};
+ghost use Rattle.imap_commands.specs.FetchCommand.{seen_store, seen_stores, viewed_message_at};
+ghost use Rattle.imap_commands.specs.FetchCommand.{viewed_messages_at};
 ghost use Rattle.imap_commands.specs.NamedMessages.{messages_named_by};
 ghost use Rattle.imap_commands.specs.MemoryFaults.{EqualsOrLacksMemory};
 ghost use Rattle.imap_commands.specs.Report.{are_some_gone, entry_at, gone_code, message_at};
@@ -141,7 +142,7 @@ pub fn fetch_report(
     let before = &mailbox.rows;
     let view = mailbox.view.entries();
     let numbers = named.numbers();
-    let shown = shown_of(alloc, view, numbers)?;
+    let shown = viewed_messages_at(alloc, view, numbers)?;
     let mode = mode_of(mailbox, condstore, request);
     let own = fetch_answers_of(alloc, &shown, before, after, request.items, mode)?;
     let code = code_for_answers(&own, before, view, numbers);
@@ -185,12 +186,12 @@ fn fetch_answers_of(
 }
 
 /// The view's messages with these numbers, in the form that `imap_query` takes.
-fn shown_of(
+fn viewed_messages_at(
     alloc: Global,
     view: &ViewEntries,
     numbers: &[u32],
 ) -> Result<Vec<ViewedMessage>, AllocError>
-    ensures { IfOk result (λ shown. shown.items ≡ shown_of view.now.items numbers.now) }
+    ensures { IfOk result (λ shown. shown.items ≡ viewed_messages_at view.now.items numbers.now) }
 {
     let mut shown = Vec::with_capacity(alloc, numbers.len())?;
     for number in numbers {
@@ -205,7 +206,8 @@ fn push_shown(
     shown: &mut Vec<ViewedMessage>,
 ) -> Result<(), AllocError>
     ensures { OnOk result
-        (shown.new.items ≡ shown.old.items ++ shown_at number (entry_at view.now.items number)) }
+        (shown.new.items ≡ shown.old.items
+        ++ viewed_message_at number (entry_at view.now.items number)) }
 {
     if let Some(entry) = entry_at(view, number) {
         make_room(shown)?;

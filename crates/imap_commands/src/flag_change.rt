@@ -1,7 +1,7 @@
 //! How STORE changes flags (RFC 9051, section 6.4.6).
 
 ghost use Rattle.std.specs.Prelude.{◌≡◌, IfOk};
-ghost use Rattle.imap_commands.specs.FlagChange.{changed_flags, remaining, removed_flags};
+ghost use Rattle.imap_commands.specs.FlagChange.{changed_flags, remaining_keywords, removed_flags};
 ghost use Rattle.imap_types.specs.Unions.{with_flags};
 
 use imap_syntax::StoreMode;
@@ -45,23 +45,31 @@ fn with_flags_removed(alloc: Global, old: &Flags, given: &Flags) -> Result<Flags
         deleted: old.deleted && !given.deleted,
         seen: old.seen && !given.seen,
         draft: old.draft && !given.draft,
-        keywords: remaining(alloc, &given.keywords, &old.keywords)?,
+        keywords: remaining_keywords(alloc, &given.keywords, &old.keywords)?,
     })
 }
 
 /// These keywords without the given ones.
-fn remaining(alloc: Global, given: &Keywords, keywords: &Keywords) -> Result<Keywords, AllocError>
-    ensures { IfOk result (λ left. left ≡ remaining given.now keywords.now) }
+fn remaining_keywords(
+    alloc: Global,
+    given: &Keywords,
+    keywords: &Keywords,
+) -> Result<Keywords, AllocError>
+    ensures { IfOk result (λ left. left ≡ remaining_keywords given.now keywords.now) }
 {
-    match Keywords::new(left_of(alloc, given, keywords.as_slice())?) {
+    match Keywords::new(remaining_words(alloc, given, keywords.as_slice())?) {
         Some(left) => Ok(left),
         None => unreachable!(),
     }
 }
 
 /// Those of these keywords that aren't among the given ones.
-fn left_of(alloc: Global, given: &Keywords, keywords: &[Octets]) -> Result<Vec<Octets>, AllocError>
-    ensures { IfOk result (λ left. left.items ≡ remaining given.now keywords.now) }
+fn remaining_words(
+    alloc: Global,
+    given: &Keywords,
+    keywords: &[Octets],
+) -> Result<Vec<Octets>, AllocError>
+    ensures { IfOk result (λ left. left.items ≡ remaining_keywords given.now keywords.now) }
 {
     let mut left = Vec::new(alloc);
     for keyword in keywords {

@@ -5,7 +5,8 @@ ghost use Rattle.std.specs.List.{list_all};
 ghost use Rattle.session_view.specs.Views.{AreRising};
 ghost use Rattle.imap_commands.specs.MemoryFaults.{EqualsOrLacksMemory};
 ghost use Rattle.imap_commands.specs.SearchCommand.{IsSearchResult, IsSearchReport, search_intent};
-ghost use Rattle.imap_commands.specs.SearchCommand.{shown_from, step_is_in_range, test_is_in_range};
+ghost use Rattle.imap_commands.specs.SearchCommand.{step_is_in_range, test_is_in_range};
+ghost use Rattle.imap_commands.specs.SearchCommand.{viewed_messages_from};
 
 use crate::command_args::{OpenMailbox, SearchArgs};
 use crate::report::CommandReport;
@@ -89,7 +90,7 @@ fn search_results_of(
 ) -> Result<SearchResults, AllocError>
     ensures { IfOk result (λ results. IsSearchResult mailbox.now request.now results) }
 {
-    let shown = all_shown(alloc, mailbox.view.entries())?;
+    let shown = all_viewed_messages(alloc, mailbox.view.entries())?;
     let steps = request.steps.as_slice();
     search(
         alloc,
@@ -102,9 +103,9 @@ fn search_results_of(
 }
 
 /// All messages of a view, in the form that `imap_query` takes.
-fn all_shown(alloc: Global, view: &ViewEntries) -> Result<Vec<ViewedMessage>, AllocError>
+fn all_viewed_messages(alloc: Global, view: &ViewEntries) -> Result<Vec<ViewedMessage>, AllocError>
     requires { AreRising 1 view.now.items }
-    ensures { IfOk result (λ shown. shown.items ≡ shown_from 1 view.now.items) }
+    ensures { IfOk result (λ shown. shown.items ≡ viewed_messages_from 1 view.now.items) }
 {
     let _count = count_of(view);
     let mut shown = Vec::with_capacity(alloc, view.len())?;

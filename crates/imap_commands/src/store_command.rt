@@ -12,8 +12,8 @@ ghost use Rattle.imap_commands.specs.NamedMessages.{messages_stored_by};
 ghost use Rattle.imap_commands.specs.MemoryFaults.{EqualsOrLacksMemory};
 ghost use Rattle.imap_commands.specs.MessageNames.{names_of};
 ghost use Rattle.imap_commands.specs.StoreCommand.{has_unlawful_keyword, is_refused, is_taken};
-ghost use Rattle.imap_commands.specs.StoreCommand.{is_unchanged, modified_code, silent_at};
-ghost use Rattle.imap_commands.specs.StoreCommand.{silents_of};
+ghost use Rattle.imap_commands.specs.StoreCommand.{is_unchanged, modified_code, silent_flags_at};
+ghost use Rattle.imap_commands.specs.StoreCommand.{silent_flags_of};
 ghost use Rattle.imap_commands.specs.StoreCommand.{store_of, store_report, store_intent};
 ghost use Rattle.imap_commands.specs.StoreCommand.{stored_answer};
 ghost use Rattle.imap_commands.specs.StoreCommand.{stored_answers, stores_of, refused_messages};
@@ -231,7 +231,7 @@ pub fn store_report(
     let refused = refused_messages(alloc, before, view, request.unchanged_since, numbers)?;
     let code = store_code(alloc, before, view, request.by_uid, &refused, numbers)?;
     let own = stored_answers(alloc, after, view, condstore, request, named.stored())?;
-    let silent = silents_of(alloc, view, request, named.stored())?;
+    let silent = silent_flags_of(alloc, view, request, named.stored())?;
     Ok(CommandReport::new(own, silent, code))
 }
 
@@ -351,37 +351,38 @@ fn flags_if_reported(
 }
 
 /// The flags that the session sets itself if STORE is silent.
-fn silents_of(
+fn silent_flags_of(
     alloc: Global,
     view: &ViewEntries,
     request: &StoreArgs<'_>,
     taken: &[u32],
 ) -> Result<Vec<SilentFlags>, AllocError>
-    ensures { IfOk result
-        (λ silents. silents.items ≡ silents_of view.now.items request.now taken.now) }
+    ensures { IfOk result (λ silent_flags. silent_flags.items
+        ≡ silent_flags_of view.now.items request.now taken.now) }
 {
     if !request.action.silent {
         return Ok(Vec::new(alloc));
     }
-    silents(alloc, view, request, taken)
+    silent_flags(alloc, view, request, taken)
 }
 
-fn silents(
+fn silent_flags(
     alloc: Global,
     view: &ViewEntries,
     request: &StoreArgs<'_>,
     taken: &[u32],
 ) -> Result<Vec<SilentFlags>, AllocError>
-    ensures { IfOk result (λ silents. silents.items
+    ensures { IfOk result (λ silent_flags. silent_flags.items
         ≡ flat_map
-        (λ n. silent_at request.now.action.mode request.now.flags n (entry_at view.now.items n))
+        (λ n. silent_flags_at request.now.action.mode request.now.flags n
+        (entry_at view.now.items n))
         taken.now) }
 {
-    let mut silents = Vec::new(alloc);
+    let mut silent_flags = Vec::new(alloc);
     for number in taken {
-        push_silent(alloc, view, request, *number, &mut silents)?;
+        push_silent(alloc, view, request, *number, &mut silent_flags)?;
     }
-    Ok(silents)
+    Ok(silent_flags)
 }
 
 /// Adds the view's flags of a message, changed as STORE asks.
@@ -390,17 +391,17 @@ fn push_silent(
     view: &ViewEntries,
     request: &StoreArgs<'_>,
     number: u32,
-    silents: &mut Vec<SilentFlags>,
+    silent_flags: &mut Vec<SilentFlags>,
 ) -> Result<(), AllocError>
-    ensures { OnOk result (silents.new.items
-        ≡ silents.old.items
-        ++ silent_at request.now.action.mode request.now.flags number
+    ensures { OnOk result (silent_flags.new.items
+        ≡ silent_flags.old.items
+        ++ silent_flags_at request.now.action.mode request.now.flags number
         (entry_at view.now.items number)) }
 {
     let Some(entry) = entry_at(view, number) else {
         return Ok(());
     };
-    silents.push(SilentFlags {
+    silent_flags.push(SilentFlags {
         number,
         flags: changed_flags(alloc, request.action.mode, &entry.flags, request.flags)?,
     })?;

@@ -18,7 +18,7 @@ use Rattle.imap_connection.specs.Conversations.{EndsAtItem, Converses, HasTaken,
 use Rattle.imap_connection.specs.EndReasons.{end_reason_of}
 use Rattle.imap_connection.specs.RequestSteps.{IsRequest}
 use Rattle.imap_connection.specs.Replies.{answers_of}
-use Rattle.imap_connection.specs.Requests.{StopsAt, Takes, is_done, is_logout, texts}
+use Rattle.imap_connection.specs.Requests.{AnswersItem, StopsAt, is_done, is_logout, texts}
 use Rattle.imap_connection.specs.declared.end_reason.Ended.{Ended}
 use Rattle.imap_connection.specs.declared.end_reason.Ended.TheVariants.{NoMemory}
 use Rattle.imap_connection.specs.declared.fault.PortFault.{PortFault}
@@ -119,7 +119,7 @@ module _ {S : Type 0} (steps : S → PortCall → Result Reply PortFault → S �
   carries_fit (tagged ∷ all) (reply ∷ replies) given old new c = let rest = carries_fit all replies given c.0 new c.2 in omega (arith, rest)
 
   brief_taken : (old new : S) (item : Item) (tagged : Tagged) (reply : Reply) → IsRequest None item (requests.Command tagged) → is_brief tagged.command ≡ true → steps old (asked.Command tagged) (Ok reply) new
-      → Takes steps old None item (answers_of tagged.tag reply) new None false
+      → AnswersItem steps old None item (answers_of tagged.tag reply) new None false
   brief_taken old new item tagged reply i b s = (
     requests.Command tagged,
     i,
@@ -317,8 +317,8 @@ module _ {S : Type 0} (steps : S → PortCall → Result Reply PortFault → S �
         subst (λ (xs : List Item). EndsOverItems steps old idling xs ended (output ++ texts answers) next) (sym g.items_are) (ends_over_items_append steps old idling g.front g.back ended output new between (texts answers) next g.answered now)
 
     -- items after the one at which the conversation ended don't matter
-    pub leaves_more : (items : List Item) (item : Item) (ended : Ended) (output : List ℕ) (new : S) → EndsOverItems steps old idling items ended output new → EndsOverItems steps old idling (items ++ item ∷ []) ended output new
-    leaves_more items item ended output new h = leaves_first steps old idling items (items ++ item ∷ []) ended output new (item ∷ [], refl) h
+    pub leaves_append : (items : List Item) (item : Item) (ended : Ended) (output : List ℕ) (new : S) → EndsOverItems steps old idling items ended output new → EndsOverItems steps old idling (items ++ item ∷ []) ended output new
+    leaves_append items item ended output new h = leaves_first steps old idling items (items ++ item ∷ []) ended output new (item ∷ [], refl) h
 
     unasked_first : (front waiting : List Item) (item : Item) (items : List Item) (output : List ℕ) (new : S) (between : Option (List ℕ)) → items ≡ front ++ (waiting ++ item ∷ []) → Converses steps old idling front output new between
         → EndsAtItem steps old idling items NoMemory (output ++ []) new
@@ -334,7 +334,7 @@ module _ {S : Type 0} (steps : S → PortCall → Result Reply PortFault → S �
 
     -- an item was answered at once
     pub taken_item : (items : List Item) (output : List ℕ) (new : S) (between : Option (List ℕ)) (item : Item) (given : List Answer) (next : S) (after : Option (List ℕ))
-        → Converses steps old idling items output new between → Takes steps new between item given next after false → HasTaken steps old idling (items ++ item ∷ []) (output ++ texts given) next after []
+        → Converses steps old idling items output new between → AnswersItem steps new between item given next after false → HasTaken steps old idling (items ++ item ∷ []) (output ++ texts given) next after []
     taken_item items output new between item given next after c t =
         let one : Converses steps new between (item ∷ []) (texts given) next after = (given, next, after, [], t, sym (append-nil (texts given)), (refl, refl, refl)) in
         record {

@@ -10,12 +10,12 @@ use Rattle.imap_connection.specs.declared.fault.PortFault.{PortFault}
 
 module _ {S : Type 0} (steps : S → PortCall → Result Reply PortFault → S → Type 0) where
   -- one further command
-  pub carries_more : (all : List Tagged) (replies : List Reply) (old mid new : S) (one : Tagged) (reply : Reply) → CarriesCommands steps old all replies (Ok tt) mid → steps mid (asked.Command one) (Ok reply) new
+  pub carries_append : (all : List Tagged) (replies : List Reply) (old mid new : S) (one : Tagged) (reply : Reply) → CarriesCommands steps old all replies (Ok tt) mid → steps mid (asked.Command one) (Ok reply) new
       → CarriesCommands steps old (all ++ one ∷ []) (replies ++ reply ∷ []) (Ok tt) new
-  carries_more [] [] old mid new one reply c s = (new, subst (λ (from : S). steps from (asked.Command one) (Ok reply) new) c s, refl)
-  carries_more [] (r ∷ replies) old mid new one reply c s = absurd c
-  carries_more (a ∷ all) [] old mid new one reply c s = absurd c
-  carries_more (a ∷ all) (r ∷ replies) old mid new one reply c s = (c.0, c.1, carries_more all replies c.0 mid new one reply c.2 s)
+  carries_append [] [] old mid new one reply c s = (new, subst (λ (from : S). steps from (asked.Command one) (Ok reply) new) c s, refl)
+  carries_append [] (r ∷ replies) old mid new one reply c s = absurd c
+  carries_append (a ∷ all) [] old mid new one reply c s = absurd c
+  carries_append (a ∷ all) (r ∷ replies) old mid new one reply c s = (c.0, c.1, carries_append all replies c.0 mid new one reply c.2 s)
 
   -- a fault at the next command
   pub carries_fault : (all rest : List Tagged) (replies : List Reply) (old mid new : S) (one : Tagged) (fault : PortFault) → CarriesCommands steps old all replies (Ok tt) mid → steps mid (asked.Command one) (Err fault) new

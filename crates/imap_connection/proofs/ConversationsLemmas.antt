@@ -23,7 +23,7 @@ use Rattle.imap_connection.specs.PortCalls.{PortCall}
 use Rattle.imap_connection.specs.Devices.{GivesOctets, IsOutput, TakesOctets, TakesAllOrPart}
 use Rattle.imap_connection.specs.PortCalls as asked
 use Rattle.imap_connection.specs.EndReasons.{IsLastOutput, end_reason_of, failed_writes}
-use Rattle.imap_connection.specs.Requests.{Fails, Handles, StopsAt, Takes, call_of, texts}
+use Rattle.imap_connection.specs.Requests.{AnswersItem, FailsRequest, HandlesRequest, StopsAt, call_of, texts}
 use Rattle.imap_connection.specs.Conversations.{EndsAtItem, Converses, EndsOverOctets, HasAnswered, HasAnsweredSome, HasTaken, EndsOverCut, IsCut, IsWritten, EndsOverItems, LacksAnswers}
 use Rattle.imap_connection.specs.declared.end_reason.Ended.{Ended}
 use Rattle.imap_connection.specs.declared.end_reason.Ended.TheVariants.{Logout, PeerClosed, TooManySessions, Framing, NoMemory, ReadFailed, Torn, WriteFailed}
@@ -70,8 +70,8 @@ output_part (Some old) l m held output mid more h g =
 pub output_then_written : (k l m : Option (List ℕ)) (held output mid left : List ℕ) → IsOutput k held output l mid → IsOutput l mid [] m left → IsOutput k held output m left
 output_then_written k l m held output mid left h g = subst (λ (t : List ℕ). IsOutput k held t m left) (append-nil output) (output-append k l m held output mid [] left h g)
 
-pub lost_now : (k l m : Option (List ℕ)) (held output mid : List ℕ) → IsOutput k held output l mid → TakesAllOrPart false l mid m → TakesAllOrPart false k (held ++ output) m
-lost_now k l m held output mid h g =
+pub takes_part_of_output : (k l m : Option (List ℕ)) (held output mid : List ℕ) → IsOutput k held output l mid → TakesAllOrPart false l mid m → TakesAllOrPart false k (held ++ output) m
+takes_part_of_output k l m held output mid h g =
     subst (λ (t : List ℕ). TakesAllOrPart false k (held ++ t) m) (append-nil output) (output_part k l m held output mid [] h (subst (λ (t : List ℕ). TakesAllOrPart false l t m) (sym (append-nil mid)) g))
 
 -- all the text was taken
@@ -82,8 +82,8 @@ output_taken (Some old) l m held output mid more h g =
     let e : held ++ (output ++ more) ≡ h.0 ++ (mid ++ more) = sym (append_assoc held output more) ∙ ap (λ x. x ++ more) h.2 ∙ append_assoc h.0 mid more in
     t ∙ ap Some (append_assoc old h.0 (mid ++ more) ∙ ap (λ x. old ++ x) (sym e))
 
-pub took_less : (a b : Option (List ℕ)) (x y : List ℕ) → TakesAllOrPart false a x b → TakesAllOrPart false a (x ++ y) b
-took_less a b x y h = (h.0, h.1 ++ y, ap (λ t. t ++ y) h.2 ∙ append_assoc h.0 h.1 y, h.3)
+pub takes_part_append : (a b : Option (List ℕ)) (x y : List ℕ) → TakesAllOrPart false a x b → TakesAllOrPart false a (x ++ y) b
+takes_part_append a b x y h = (h.0, h.1 ++ y, ap (λ t. t ++ y) h.2 ∙ append_assoc h.0 h.1 y, h.3)
 
 pub not_failed : (ended : Ended) → failed_writes ended ≡ 0 → (ended ≡ WriteFailed) → ⊥
 not_failed ended f e = let k : failed_writes WriteFailed ≡ 0 = subst (λ (x : Ended). failed_writes x ≡ 0) e f in cc
@@ -123,7 +123,7 @@ all_written ended result k l m output left bye h w f =
     elim h [
       | inl lost ↦ (
           let r = f lost.0 in
-          inr (r.0, subst (λ (o : Option (List ℕ)). TakesAllOrPart false k (output ++ bye) o) (sym r.1) (took_less k l output bye lost.1))
+          inr (r.0, subst (λ (o : Option (List ℕ)). TakesAllOrPart false k (output ++ bye) o) (sym r.1) (takes_part_append k l output bye lost.1))
           )
       | inr all ↦ elim (w (none_failed ended all.0)) [
         | inl done ↦ inl (done.0, output_taken k l m [] output left bye all.1 done.1)
@@ -325,17 +325,17 @@ module _ {S : Type 0} (steps : S → PortCall → Result Reply PortFault → S �
   answered_cut old idling items cut output new after e c = record { after = after; answered = subst (λ (xs : List Item). Converses steps old idling xs output new after) (sym e) c }
 
   -- all items of a piece were taken, and the framer failed
-  cut_now : (why : FrameFaultKind) (old : S) (idling : Option (List ℕ)) (items : List Item) (state now : Result FrameProgress FrameFaultKind) (cut : Cut) (output : List ℕ) (new : S) (after : Option (List ℕ))
+  cut_at_end : (why : FrameFaultKind) (old : S) (idling : Option (List ℕ)) (items : List Item) (state now : Result FrameProgress FrameFaultKind) (cut : Cut) (output : List ℕ) (new : S) (after : Option (List ℕ))
       → IsOk state → FaultsNow why items state now cut → Converses steps old idling items output new after → IsCut steps old idling cut why output new
-  cut_now Memory old idling items state now cut output new after o f c = record { front = items; first = f.2; answered_front = record { after = after; answered = c } }
-  cut_now LineTooLong old idling items state now cut output new after o f c = (ap (λ (k : Cut). k.1) f.2, answered_cut old idling items cut output new after (ap (λ (k : Cut). k.0) f.2) c)
-  cut_now LiteralTooLong old idling items state now cut output new after o f c = (ap (λ (k : Cut). k.1) f.2, answered_cut old idling items cut output new after (ap (λ (k : Cut). k.0) f.2) c)
-  cut_now NulByte old idling items state now cut output new after o f c = (ap (λ (k : Cut). k.1) f.2, answered_cut old idling items cut output new after (ap (λ (k : Cut). k.0) f.2) c)
-  cut_now Failed old idling items state now cut output new after o f c = absurd (ok_or_err state o f.0)
+  cut_at_end Memory old idling items state now cut output new after o f c = record { front = items; first = f.2; answered_front = record { after = after; answered = c } }
+  cut_at_end LineTooLong old idling items state now cut output new after o f c = (ap (λ (k : Cut). k.1) f.2, answered_cut old idling items cut output new after (ap (λ (k : Cut). k.0) f.2) c)
+  cut_at_end LiteralTooLong old idling items state now cut output new after o f c = (ap (λ (k : Cut). k.1) f.2, answered_cut old idling items cut output new after (ap (λ (k : Cut). k.0) f.2) c)
+  cut_at_end NulByte old idling items state now cut output new after o f c = (ap (λ (k : Cut). k.1) f.2, answered_cut old idling items cut output new after (ap (λ (k : Cut). k.0) f.2) c)
+  cut_at_end Failed old idling items state now cut output new after o f c = absurd (ok_or_err state o f.0)
 
   pub halts_cut : (why : FrameFaultKind) (old : S) (idling : Option (List ℕ)) (items : List Item) (state now : Result FrameProgress FrameFaultKind) (cut : Cut) (output : List ℕ) (new : S) (after : Option (List ℕ))
       → IsOk state → FaultsNow why items state now cut → Converses steps old idling items output new after → EndsOverCut steps old idling cut (Framing why) output new
-  halts_cut why old idling items state now cut output new after o f c = inl (why, refl, cut_now why old idling items state now cut output new after o f c)
+  halts_cut why old idling items state now cut output new after o f c = inl (why, refl, cut_at_end why old idling items state now cut output new after o f c)
 
   -- the conversation ended at an item of a piece whose octets can't be cut any further
   pub halts_before : (why : FrameFaultKind) (old : S) (idling : Option (List ℕ)) (items : List Item) (state now : Result FrameProgress FrameFaultKind) (cut : Cut) (ended : Ended) (output : List ℕ) (new : S)
@@ -378,11 +378,11 @@ module _ {S : Type 0} (steps : S → PortCall → Result Reply PortFault → S �
         }
 
     -- further octets, and the conversation continues
-    pub underway_on : (mid new : S) (idling after rest further now then : Option (List ℕ)) (text more_text piece output : List ℕ) (state next : Result FrameProgress FrameFaultKind)
+    pub underway_next : (mid new : S) (idling after rest further now then : Option (List ℕ)) (text more_text piece output : List ℕ) (state next : Result FrameProgress FrameFaultKind)
         → Underway limits old left taken held mid idling rest now text state → GivesOctets rest piece further
         → Converses steps mid idling (cut_from limits state piece).0 output new after → IsOutput now text output then more_text → (next ≡ (cut_from limits state piece).1) × IsOk next
         → Underway limits old left taken held new after further then more_text next
-    underway_on mid new idling after rest further now then text more_text piece output state next u g c s n =
+    underway_next mid new idling after rest further now then text more_text piece output state next u g c s n =
         let cut = cut_from limits (Ok start) u.octets in
         let whole = cut_of-append limits (Ok start) u.octets piece in
         let here : Converses steps mid idling (cut_from limits cut.1 piece).0 output new after = subst (λ (r : Result FrameProgress FrameFaultKind). Converses steps mid idling (cut_from limits r piece).0 output new after) u.state_is c in
@@ -445,40 +445,40 @@ module _ {S : Type 0} (steps : S → PortCall → Result Reply PortFault → S �
 module _ {S : Type 0} (steps : S → PortCall → Result Reply PortFault → S → Type 0) (idling : Option (List ℕ)) (before after : List ℕ) where
   -- an item that is answered at once
   pub printed_ok : {T E : Type 0} (r : Result T E) (p : S) (answer : Answer) → OnOk r (after ≡ before ++ texts (answer ∷ []))
-      → OnOk r ((given : List Answer) × Handles steps p idling (Immediate answer) given p idling false × (after ≡ before ++ texts given))
+      → OnOk r ((given : List Answer) × HandlesRequest steps p idling (Immediate answer) given p idling false × (after ≡ before ++ texts given))
   printed_ok (Err e) p answer o = tt
   printed_ok (Ok x) p answer o = (answer ∷ [], (refl, refl, refl, refl), o)
 
   pub printed_err : {T : Type 0} (r : Result T Ended) (p : S) (answer : Answer) → IfErr r (λ ended. (ended ≡ NoMemory) × (after ≡ before))
-      → IfErr r (λ ended. (given : List Answer) × Fails steps p idling (Immediate answer) ended given p × (after ≡ before ++ texts given))
+      → IfErr r (λ ended. (given : List Answer) × FailsRequest steps p idling (Immediate answer) ended given p × (after ≡ before ++ texts given))
   printed_err (Ok x) p answer o = tt
   printed_err (Err e) p answer o = ([], inl (o.0, refl, refl), o.1 ∙ sym (append-nil before))
 
   -- the port gives no reply
   pub refused : (old new : S) (request : Request) (call : PortCall) (fault : PortFault) (ended : Ended) → call_of request ≡ Some call → steps old call (Err fault) new → ended ≡ end_reason_of fault → after ≡ before
-      → (given : List Answer) × Fails steps old idling request ended given new × (after ≡ before ++ texts given)
+      → (given : List Answer) × FailsRequest steps old idling request ended given new × (after ≡ before ++ texts given)
   refused old new request call fault ended c s e t = ([], inr (inr (inr (inr (call, fault, c, s, e, refl)))), t ∙ sym (append-nil before))
 
   -- memory ran out during the answers
-  pub broken : (old new : S) (request : Request) (all : List Answer) (idling_after : Option (List ℕ)) (out : Bool) → Handles steps old idling request all new idling_after out
+  pub broken : (old new : S) (request : Request) (all : List Answer) (idling_after : Option (List ℕ)) (out : Bool) → HandlesRequest steps old idling request all new idling_after out
       → ((front : List Answer) × (after ≡ before ++ texts front) × IsPrefixOf front all)
-      → (given : List Answer) × Fails steps old idling request NoMemory given new × (after ≡ before ++ texts given)
+      → (given : List Answer) × FailsRequest steps old idling request NoMemory given new × (after ≡ before ++ texts given)
   broken old new request all idling_after out h f = (f.0, inr (inr (inl (refl, (all, idling_after, out, h, f.2)))), f.1)
 
   -- a line is refused because memory ran out
   pub line_refused : (old new : S) (tag : List ℕ) (line : IdleLine) (reply : Reply) → steps old (asked.Line line) (Ok reply) new → is_out_of_memory reply ≡ true → after ≡ before
-      → (given : List Answer) × Fails steps old idling (Line tag line) NoMemory given new × (after ≡ before ++ texts given)
+      → (given : List Answer) × FailsRequest steps old idling (Line tag line) NoMemory given new × (after ≡ before ++ texts given)
   line_refused old new tag line reply s m t = ([], inr (inr (inr (inl (line, reply, refl, s, m, refl, refl)))), t ∙ sym (append-nil before))
 
   -- the item of a request
   pub item_ok : {T E : Type 0} (r : Result T E) (old new : S) (idling_after : Option (List ℕ)) (item : Item) (request : Request) → IsRequest idling item request
-      → OnOk r ((given : List Answer) × Handles steps old idling request given new idling_after false × (after ≡ before ++ texts given))
-      → OnOk r ((given : List Answer) × Takes steps old idling item given new idling_after false × (after ≡ before ++ texts given))
+      → OnOk r ((given : List Answer) × HandlesRequest steps old idling request given new idling_after false × (after ≡ before ++ texts given))
+      → OnOk r ((given : List Answer) × AnswersItem steps old idling item given new idling_after false × (after ≡ before ++ texts given))
   item_ok (Err e) old new idling_after item request i o = tt
   item_ok (Ok x) old new idling_after item request i o = (o.0, (request, i, o.1), o.2)
 
   pub item_err : {T : Type 0} (r : Result T Ended) (old new : S) (item : Item) (request : Request) → IsRequest idling item request
-      → IfErr r (λ ended. (given : List Answer) × Fails steps old idling request ended given new × (after ≡ before ++ texts given))
+      → IfErr r (λ ended. (given : List Answer) × FailsRequest steps old idling request ended given new × (after ≡ before ++ texts given))
       → IfErr r (λ ended. (given : List Answer) × StopsAt steps old idling item ended given new × (after ≡ before ++ texts given))
   item_err (Ok x) old new item request i o = tt
   item_err (Err e) old new item request i o = (o.0, elim o.1 [ inl n ↦ inl n | inr s ↦ inr (request, i, s) ], o.2)

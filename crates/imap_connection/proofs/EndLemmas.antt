@@ -16,17 +16,17 @@ use Rattle.imap_connection.specs.declared.turn.TalkFaultKind.TheVariants as kind
 use Rattle.imap_connection.specs.declared.turn.Turn.{Turn}
 use Rattle.imap_connection.proofs.BetweenOthersLemmas.{state_to_end, talks_between_others, last_talk_between_others, piece_at_node}
 use Rattle.imap_connection.proofs.PlaceLemmas.{closed_stops}
-use Rattle.imap_connection.proofs.StreamLemmas.{converses_on, items_more, state_more, talks_joined, untimed_whole}
+use Rattle.imap_connection.proofs.StreamLemmas.{converses_append, items_append, state_append, talks_joined, untimed_whole}
 use Rattle.imap_connection.proofs.TurnLemmas.{prefix_append}
 
 -- a conversation that continues, and after it one that is broken off
-breaks_on : (why : TalkFaultKind) (old mid new : NodeState) (session : ℕ) (items more : List TimedItem) (turns rest : List Turn) → IsActive mid session → Converses old session items turns mid → BreaksOff why mid session more rest new
+breaks_off_append : (why : TalkFaultKind) (old mid new : NodeState) (session : ℕ) (items more : List TimedItem) (turns rest : List Turn) → IsActive mid session → Converses old session items turns mid → BreaksOff why mid session more rest new
     → BreaksOff why old session (items ++ more) (turns ++ rest) new
-breaks_on why old mid new session [] more turns rest active c d =
+breaks_off_append why old mid new session [] more turns rest active c d =
     subst (λ (ts : List Turn). BreaksOff why old session more (ts ++ rest) new) (sym c.0) (subst (λ (n : NodeState). BreaksOff why n session more rest new) c.1 d)
-breaks_on why old mid new session (item ∷ items) more turns rest active c d =
+breaks_off_append why old mid new session (item ∷ items) more turns rest active c d =
     elim c.3 [
-      | inl on ↦ inr (c.0, c.1, c.2, on.0, (on.1.0 ++ rest, ap (λ ts. ts ++ rest) on.1.1 ∙ append_assoc (turns_of item.item c.0) on.1.0 rest, breaks_on why c.1 mid new session items more on.1.0 rest active on.1.2 d))
+      | inl on ↦ inr (c.0, c.1, c.2, on.0, (on.1.0 ++ rest, ap (λ ts. ts ++ rest) on.1.1 ∙ append_assoc (turns_of item.item c.0) on.1.0 rest, breaks_off_append why c.1 mid new session items more on.1.0 rest active on.1.2 d))
       | inr out ↦ absurd (closed_stops c.1 session (subst (λ (n : NodeState). IsActive n session) out.2 active))
     ]
 
@@ -77,11 +77,11 @@ module _ (old mid new : NodeState) (session : ℕ) (limits : Limits) (state betw
   named_fault_after : (why : FrameFaultKind) → AreTalks old session limits state pieces turns mid between → EndsAtNamedFault why mid session (cut_by limits between piece) more new → EndsAtNamedFault why old session whole (turns ++ more) new
   named_fault_after why t e =
       let before = talks_joined old mid session limits state between pieces turns t in (
-        state_more limits piece state between pieces before.1 ∙ e.0,
+        state_append limits piece state between pieces before.1 ∙ e.0,
         e.1,
         turns ++ e.2,
-        subst (λ (items : List TimedItem). Converses old session items (turns ++ e.2) e.1) (sym (items_more limits piece state between pieces before.1))
-            (converses_on old mid e.1 session (items_of limits state pieces) (cut_by limits between piece).0 turns e.2 active before.0 e.3),
+        subst (λ (items : List TimedItem). Converses old session items (turns ++ e.2) e.1) (sym (items_append limits piece state between pieces before.1))
+            (converses_append old mid e.1 session (items_of limits state pieces) (cut_by limits between piece).0 turns e.2 active before.0 e.3),
         e.4,
         turns_append turns more e.2 why e.5,
         e.6,
@@ -90,7 +90,7 @@ module _ (old mid new : NodeState) (session : ℕ) (limits : Limits) (state betw
   -- an initial part of the last piece's items, after those of the earlier pieces
   cut_prefix : (items : List TimedItem) → between ≡ (cut_from limits state (octets_in pieces)).1 → IsPrefixOf items (cut_by limits between piece).0 → IsPrefixOf (items_of limits state pieces ++ items) whole.0
   cut_prefix items e p =
-      subst (λ (all : List TimedItem). IsPrefixOf (items_of limits state pieces ++ items) all) (sym (items_more limits piece state between pieces e)) (prefix_append _ items _ p)
+      subst (λ (all : List TimedItem). IsPrefixOf (items_of limits state pieces ++ items) all) (sym (items_append limits piece state between pieces e)) (prefix_append _ items _ p)
 
   -- a conversation that is broken off
   ends_broken : (why : TalkFaultKind) → AreTalks old session limits state pieces turns mid between
@@ -98,26 +98,26 @@ module _ (old mid new : NodeState) (session : ℕ) (limits : Limits) (state betw
       → (items : List TimedItem) × IsPrefixOf items whole.0 × BreaksOff why old session items (turns ++ more) new
   ends_broken why t e =
       let before = talks_joined old mid session limits state between pieces turns t in
-      (items_of limits state pieces ++ e.0, cut_prefix e.0 before.1 e.1, breaks_on why old mid new session (items_of limits state pieces) e.0 turns more active before.0 e.2)
+      (items_of limits state pieces ++ e.0, cut_prefix e.0 before.1 e.1, breaks_off_append why old mid new session (items_of limits state pieces) e.0 turns more active before.0 e.2)
 
   -- the whole conversation ends as its last piece does
-  pub ends_on : (why : TalkFaultKind) → AreTalks old session limits state pieces turns mid between → EndsTalk why mid session between (cut_by limits between piece) more new
+  pub ends_append : (why : TalkFaultKind) → AreTalks old session limits state pieces turns mid between → EndsTalk why mid session between (cut_by limits between piece) more new
       → EndsTalk why old session state (cut_of_pieces limits state (pieces ++ piece ∷ [])) (turns ++ more) new
-  ends_on kinds.NoMemory t e = ends_broken kinds.NoMemory t e
-  ends_on kinds.LineRefused t e = ends_broken kinds.LineRefused t e
-  ends_on (kinds.Framing NoMemory) t e =
+  ends_append kinds.NoMemory t e = ends_broken kinds.NoMemory t e
+  ends_append kinds.LineRefused t e = ends_broken kinds.LineRefused t e
+  ends_append (kinds.Framing NoMemory) t e =
       let before = talks_joined old mid session limits state between pieces turns t in (
         items_of limits state pieces ++ e.0,
         e.1,
         cut_prefix e.0 before.1 e.2,
-        converses_on old mid e.1 session (items_of limits state pieces) e.0 turns more active before.0 e.3,
+        converses_append old mid e.1 session (items_of limits state pieces) e.0 turns more active before.0 e.3,
         e.4,
         e.5,
       )
-  ends_on (kinds.Framing Failed) t e = failed_at_first old mid new session limits state between pieces turns more t e.0 e.1 e.2
-  ends_on (kinds.Framing LineTooLong) t e = named_fault_after LineTooLong t e
-  ends_on (kinds.Framing LiteralTooLong) t e = named_fault_after LiteralTooLong t e
-  ends_on (kinds.Framing NulByte) t e = named_fault_after NulByte t e
+  ends_append (kinds.Framing Failed) t e = failed_at_first old mid new session limits state between pieces turns more t e.0 e.1 e.2
+  ends_append (kinds.Framing LineTooLong) t e = named_fault_after LineTooLong t e
+  ends_append (kinds.Framing LiteralTooLong) t e = named_fault_after LiteralTooLong t e
+  ends_append (kinds.Framing NulByte) t e = named_fault_after NulByte t e
 
 -- a fault that a BYE names, with deliveries between the pieces
 pub ends_between_others : (old mid new : NodeState) (session : ℕ) (limits : Limits) (state between : Result FrameProgress FrameFaultKind) (pieces_at : List PieceAt) (piece : Piece) (turns more : List Turn) (why : FrameFaultKind) (bye : Answer)

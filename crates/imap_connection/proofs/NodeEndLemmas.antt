@@ -12,7 +12,7 @@ use Rattle.imap_lex.specs.declared.fault.FrameFaultKind.TheVariants.{LineTooLong
 use Rattle.imap_lex.specs.declared.item.Item.{Item}
 use Rattle.imap_lex.specs.declared.limits.Limits.{Limits}
 use Rattle.imap_node.specs.Nodes.{HasLoggedOut, IsActive, NodeState, with_session_closed}
-use Rattle.imap_node.specs.Sessions.{Opens, Places, new_session, session_at}
+use Rattle.imap_node.specs.Sessions.{OpensSession, Places, new_session, session_at}
 use Rattle.imap_node.specs.declared.sessions.Auth.{Auth}
 use Rattle.imap_node.specs.declared.sessions.Auth.TheVariants.{Preauth, Password}
 use Rattle.imap_connection.specs.Conversation.{turns_of}
@@ -21,9 +21,9 @@ use Rattle.imap_connection.specs.Streams.{ConversesBetweenOthers, SomeOtherSteps
 use Rattle.imap_connection.specs.declared.turn.Turn.{Turn}
 use Rattle.imap_connection.specs.Devices.{GivesOctets, TakesOctets}
 use Rattle.imap_connection.specs.EndReasons.{bye_text_of, end_reason_of}
-use Rattle.imap_connection.specs.NodePorts.{HasNoSession, NodeCloses, NodeOpens, NodeSession, NodeSteps, login_by}
+use Rattle.imap_connection.specs.NodePorts.{HasNoSession, NodeCloses, NodeOpens, NodeSession, NodeSteps, login_of}
 use Rattle.imap_connection.specs.NodeTalks.{ItemAt, ClosesAfter, IsWhole, IsOpenSession, TalksAtNode, items_at_each_one, items_of, text_sent}
-use Rattle.imap_connection.specs.Requests.{Takes, texts}
+use Rattle.imap_connection.specs.Requests.{AnswersItem, texts}
 use Rattle.imap_connection.specs.Conversations.{EndsAtItem, Converses, EndsOverOctets, HasAnswered, HoldsConversation, IsCut, IsWritten, IsConversation}
 use Rattle.imap_connection.specs.declared.end_reason.Ended.{Ended}
 use Rattle.imap_connection.specs.declared.end_reason.Ended.TheVariants.{Logout, PeerClosed, TooManySessions, Framing, ReadFailed, WriteFailed, NoMemory, Torn}
@@ -111,7 +111,7 @@ module _ {O : Type 0} (takes_turn : O → ℕ → NodeState → ℕ → NodeStat
     ]
   ]
 
-  pub takes_logout : (b : EndsAtItem (NodeSteps takes_turn) old None cut.0 Logout output last) → (after : Option (List ℕ)) × Takes (NodeSteps takes_turn) b.mid b.between b.item b.given last after true
+  pub takes_logout : (b : EndsAtItem (NodeSteps takes_turn) old None cut.0 Logout output last) → (after : Option (List ℕ)) × AnswersItem (NodeSteps takes_turn) b.mid b.between b.item b.given last after true
   takes_logout b = elim b.stops [
     | inl unasked ↦ absurd (logout_differs NoMemory (λ x. x) unasked.0)
     | inr asked ↦ elim asked.2 [
@@ -137,7 +137,7 @@ dropped_items node [] = refl
 dropped_items node (item ∷ items) = ap (λ (is : List Item). item ∷ is) (dropped_items node items)
 
 module _ {O : Type 0} (takes_turn : O → ℕ → NodeState → ℕ → NodeState → O → Type 0) (front back : List Item) (item : Item) (old mid last : NodeSession O) (n : ℕ) (between after : Option (List ℕ)) (before : List ℕ)
-    (given : List Answer) (st : IsOpenSession old n None) (h : Converses (NodeSteps takes_turn) old None front before mid between) (t : Takes (NodeSteps takes_turn) mid between item given last after true) where
+    (given : List Answer) (st : IsOpenSession old n None) (h : Converses (NodeSteps takes_turn) old None front before mid between) (t : AnswersItem (NodeSteps takes_turn) mid between item given last after true) where
   run : HasConversed takes_turn old mid n front between before
   run = has_conversed takes_turn front old mid n None between before st h
 
@@ -201,7 +201,7 @@ idling_of_new_session : (auth : Auth) → (new_session auth).idling ≡ None
 idling_of_new_session Preauth = refl
 idling_of_new_session (Password credentials) = refl
 
-first_is_open : {O : Type 0} (first : NodeSession O) (auth : Auth) (n : ℕ) (places : Places) → first.session ≡ Some n → Opens places auth n first.node.sessions → IsOpenSession first n None
+first_is_open : {O : Type 0} (first : NodeSession O) (auth : Auth) (n : ℕ) (places : Places) → first.session ≡ Some n → OpensSession places auth n first.node.sessions → IsOpenSession first n None
 first_is_open first auth n places session o =
     record { session = session; active = (new_session auth, o.open_now, new_session_active auth); idles = ap tag_of_idling o.open_now ∙ idling_of_new_session auth }
 
@@ -258,7 +258,7 @@ module _ {O : Type 0} (takes_turn : O → ℕ → NodeState → ℕ → NodeStat
           items = k.2;
           turns = k.1;
           closes = k.3;
-          output_is = ap (λ x. x ++ bye_text_of ended) (greeted ∙ ap (λ l. text_of_answer (Greeting l) ++ more) o.2 ∙ ap (λ x. text_of_answer (Greeting (login_by o.0)) ++ x) (sym k.4));
+          output_is = ap (λ x. x ++ bye_text_of ended) (greeted ∙ ap (λ l. text_of_answer (Greeting l) ++ more) o.2 ∙ ap (λ x. text_of_answer (Greeting (login_of o.0)) ++ x) (sym k.4));
         }
 
   gave_rest : (octets : List ℕ) → GivesOctets (Some left) octets (Some rest) → left ≡ octets ++ rest

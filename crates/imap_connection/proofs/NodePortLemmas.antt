@@ -2,7 +2,7 @@
 use Rattle.std.proofs.Common.{◌≡◌, ℕ, Option, None, Some, sym, ap, ◌∙◌, subst}
 use Rattle.imap_syntax.specs.declared.command.Tagged.{Tagged}
 use Rattle.imap_syntax.specs.declared.idle.IdleLine.{IdleLine}
-use Rattle.imap_node.specs.Nodes.{Idles}
+use Rattle.imap_node.specs.Nodes.{IsIdlingAt}
 use Rattle.imap_node.proofs.SessionLemmas.{idles_open}
 use Rattle.imap_connection.specs.PortCalls as asked
 use Rattle.imap_connection.specs.NodePorts.{AwaitsCall, HasNoSession, NodeSession}
@@ -24,13 +24,13 @@ module _ {O : Type 0} (port : NodeSession O) where
 
   module _ (n : ℕ) (session : port.session ≡ Some n) where
     -- while the session idles no command is awaited
-    pub idling_awaits_no_command : (tagged : Tagged) → Idles port.node n → AwaitsCall port (asked.Command tagged) → ⊥
+    pub idling_awaits_no_command : (tagged : Tagged) → IsIdlingAt port.node n → AwaitsCall port (asked.Command tagged) → ⊥
     idling_awaits_no_command tagged i a =
         let same : n ≡ a.0 = some_is (sym session ∙ a.1) in
-        a.3 (subst (λ (k : ℕ). Idles port.node k) same i)
+        a.3 (subst (λ (k : ℕ). IsIdlingAt port.node k) same i)
 
     -- while the session doesn't idle no line is awaited
-    pub awake_awaits_no_line : (line : IdleLine) → (Idles port.node n → ⊥) → AwaitsCall port (asked.Line line) → ⊥
+    pub awake_awaits_no_line : (line : IdleLine) → (IsIdlingAt port.node n → ⊥) → AwaitsCall port (asked.Line line) → ⊥
     awake_awaits_no_line line awake a =
         let same : a.0 ≡ n = some_is (sym a.1 ∙ session) in
-        awake (subst (λ (k : ℕ). Idles port.node k) same a.2)
+        awake (subst (λ (k : ℕ). IsIdlingAt port.node k) same a.2)

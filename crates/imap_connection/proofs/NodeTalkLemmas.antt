@@ -35,7 +35,7 @@ use Rattle.imap_connection.specs.declared.turn.Turn.{Turn}
 use Rattle.imap_connection.proofs.RequestLemmas.{handled, of_command}
 use Rattle.imap_connection.specs.NodePorts.{NodeSession, NodeSteps, RespondsTo}
 use Rattle.imap_connection.specs.NodeTalks.{ItemAt, IsOpenSession, items_at_each_one, items_of, text_of_turn, text_sent}
-use Rattle.imap_connection.specs.Requests.{Handles, Takes, idling_after_reply, is_logout, logs_out, texts}
+use Rattle.imap_connection.specs.Requests.{AnswersItem, HandlesRequest, idling_after_reply, is_logout, logs_out, texts}
 use Rattle.imap_connection.specs.Conversations.{Converses}
 use Rattle.imap_connection.proofs.OtherStepsLemmas.{active_after_others, idling_after_others, no_other_steps}
 
@@ -269,7 +269,7 @@ module _ {O : Type 0} (old new : NodeSession O) (n : ℕ) (item : Item) (given :
 
 module _ {O : Type 0} (takes_turn : O → ℕ → NodeState → ℕ → NodeState → O → Type 0) where
   taken_by : (old new : NodeSession O) (n : ℕ) (given : List Answer) (after : Option (List ℕ)) (out : Bool) (idling : Option (List ℕ)) → IsOpenSession old n idling
-      → (item : Item) (request : Request) → IsRequest idling item request → Handles (NodeSteps takes_turn) old idling request given new after out → IsItemTaken old new n item given after out
+      → (item : Item) (request : Request) → IsRequest idling item request → HandlesRequest (NodeSteps takes_turn) old idling request given new after out → IsItemTaken old new n item given after out
   taken_by old new n given after out idling st item (requests.Immediate answer) i h = immediate_taken old new n item given after out idling answer st i h.0 h.1 h.2 h.3
   taken_by old new n given after out idling st item (requests.Command tagged) i h =
       let none : idling ≡ None = of_command idling item tagged i in
@@ -280,7 +280,7 @@ module _ {O : Type 0} (takes_turn : O → ℕ → NodeState → ℕ → NodeStat
 
   -- the port takes an item as its node does, after the others' steps
   pub taken : (old new : NodeSession O) (n : ℕ) (given : List Answer) (after : Option (List ℕ)) (out : Bool) (idling : Option (List ℕ)) → IsOpenSession old n idling
-      → (item : Item) → Takes (NodeSteps takes_turn) old idling item given new after out → IsItemTaken old new n item given after out
+      → (item : Item) → AnswersItem (NodeSteps takes_turn) old idling item given new after out → IsItemTaken old new n item given after out
   taken old new n given after out idling st item t = taken_by old new n given after out idling st item t.0 t.1 t.2
 
   -- ---- many items

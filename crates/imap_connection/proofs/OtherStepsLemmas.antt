@@ -5,7 +5,7 @@ use Rattle.causal_inbox.specs.declared.delivery.Delivered.{Delivered}
 use Rattle.crdt_ops.specs.declared.op.Op.{Op}
 use Rattle.imap_commands.specs.declared.session.Session.{Session}
 use Rattle.imap_node.specs.Deliveries.{Delivers, IsRefusedAt}
-use Rattle.imap_node.specs.Nodes.{Awaits, HasLoggedOut, Idles, IsActive, NodeState, with_session_closed}
+use Rattle.imap_node.specs.Nodes.{HasLoggedOut, IsActive, IsAwaitedInput, IsIdlingAt, NodeState, with_session_closed}
 use Rattle.imap_node.specs.Responses.{Responds}
 use Rattle.imap_node.specs.Sessions.{IsOpen, session_at}
 use Rattle.imap_node.specs.declared.input.Input.{Input}
@@ -52,14 +52,14 @@ session_after_others n old new h = session_after_steps n h.0 old new h.1
 pub open_after_others : (n : ℕ) (old new : NodeState) → SomeOtherSteps n old new → IsOpen old.sessions n → IsOpen new.sessions n
 open_after_others n old new h o = subst (λ (s : Option Session). IsSome s) (sym (session_after_others n old new h)) o
 
-pub idles_after_others : (n : ℕ) (old new : NodeState) → SomeOtherSteps n old new → Idles old n → Idles new n
+pub idles_after_others : (n : ℕ) (old new : NodeState) → SomeOtherSteps n old new → IsIdlingAt old n → IsIdlingAt new n
 idles_after_others n old new h i = (i.0, session_after_others n old new h ∙ i.1, i.2)
 
-idled_before_others : (n : ℕ) (old new : NodeState) → SomeOtherSteps n old new → Idles new n → Idles old n
+idled_before_others : (n : ℕ) (old new : NodeState) → SomeOtherSteps n old new → IsIdlingAt new n → IsIdlingAt old n
 idled_before_others n old new h i = (i.0, sym (session_after_others n old new h) ∙ i.1, i.2)
 
 -- the others' steps leave what the session awaits as it was
-pub awaits_after_others : (n : ℕ) (old new : NodeState) (input : Input) → SomeOtherSteps n old new → Awaits old n input → Awaits new n input
+pub awaits_after_others : (n : ℕ) (old new : NodeState) (input : Input) → SomeOtherSteps n old new → IsAwaitedInput old n input → IsAwaitedInput new n input
 awaits_after_others n old new (Command moment tagged) h a = (open_after_others n old new h a.0, λ i. a.1 (idled_before_others n old new h i))
 awaits_after_others n old new (Line line) h a = idles_after_others n old new h a
 awaits_after_others n old new Poll h a = idles_after_others n old new h a

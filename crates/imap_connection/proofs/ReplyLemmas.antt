@@ -5,7 +5,7 @@ use Rattle.imap_answers.specs.declared.fixed_words.Refusal.TheVariants as refusa
 use Rattle.imap_commands.specs.declared.session.Session.{Session}
 use Rattle.imap_syntax.specs.declared.idle.IdleLine.{IdleLine}
 use Rattle.imap_node.specs.Nodes.{HasLoggedOut, IsActive, NodeState}
-use Rattle.imap_node.specs.Responses.{IsNodeAfter, Replies, Responds}
+use Rattle.imap_node.specs.Responses.{IsNodeAfter, IsReply, Responds}
 use Rattle.imap_node.specs.Sessions.{session_at, with_session}
 use Rattle.imap_node.specs.declared.input.Input.{Input}
 use Rattle.imap_node.specs.declared.input.Input.TheVariants.{Line}
@@ -15,7 +15,7 @@ use Rattle.imap_connection.specs.Replies.{is_out_of_memory}
 use Rattle.imap_connection.proofs.PlaceLemmas.{open_active, session_again, session_put}
 
 -- the session of an input is open after it
-pub session_after_reply : (old new : NodeState) (n : ℕ) (input : Input) (reply : Reply) (s : Session) → session_at old.sessions n ≡ Some s → Replies old n s input reply new
+pub session_after_reply : (old new : NodeState) (n : ℕ) (input : Input) (reply : Reply) (s : Session) → session_at old.sessions n ≡ Some s → IsReply old n s input reply new
     → (after : Session) × (session_at new.sessions n ≡ Some after)
 session_after_reply old new n input (Done answers silent issued) s h r =
     (_, ap (λ places. session_at places n) r.becomes.sessions ∙ session_put old.sessions n _ s h)
@@ -37,7 +37,7 @@ unchanged : (old new : NodeState) (n : ℕ) (s : Session) → session_at old.ses
 unchanged old new n s h r = same_node new old r.start (r.applied ∙ append-nil old.applied) r.held (r.sessions ∙ session_again old.sessions n s h)
 
 without : (old new : NodeState) (n : ℕ) (line : IdleLine) (why : Refusal) (closed : Bool) (s : Session) → is_out_of_memory (Refused why closed) ≡ true → session_at old.sessions n ≡ Some s
-    → Replies old n s (Line line) (Refused why closed) new → new ≡ old
+    → IsReply old n s (Line line) (Refused why closed) new → new ≡ old
 without old new n line refusals.NoMemory closed s m h r = unchanged old new n s h r.2
 without old new n line refusals.NoSuchMailbox closed s m h r = absurd (false≢true m)
 without old new n line refusals.NoDestination closed s m h r = absurd (false≢true m)

@@ -9,10 +9,10 @@ use Rattle.imap_syntax.specs.declared.idle.IdleLine.{IdleLine}
 use Rattle.imap_lex.specs.declared.item.Item.{Item}
 use Rattle.imap_lex.specs.declared.item.Item.TheVariants.{Ready, Frame, Refused}
 use Rattle.imap_commands.specs.declared.session.Session.{Session}
-use Rattle.imap_node.specs.Nodes.{Idles, NodeState}
+use Rattle.imap_node.specs.Nodes.{IsIdlingAt, NodeState}
 use Rattle.imap_node.specs.Sessions.{session_at}
 use Rattle.imap_connection.specs.Conversation.{IsPrefixOf, IsLine, StopsAt, TakesItemAt, TakesItem, turns_of_item, turns_of_answers, item_at, turns_of}
-use Rattle.imap_connection.specs.RequestSteps.{AwaitsRequest, Fails, Handles, IsOfLine, IsRequest}
+use Rattle.imap_connection.specs.RequestSteps.{AwaitsRequest, FailsRequest, HandlesRequest, IsOfLine, IsRequest}
 use Rattle.imap_connection.specs.Replies.{answers_of, idling_at, tag_of_idling}
 use Rattle.imap_connection.specs.Talks.{EndsAtRefusedLine}
 use Rattle.imap_connection.specs.declared.request.Request.{Request}
@@ -24,7 +24,7 @@ use Rattle.imap_connection.proofs.TurnLemmas.{prefix_append}
 
 -- if the node carries out the request of an item, it takes the item
 pub handled : (idling : Option (List ℕ)) (old new : NodeState) (session moment : ℕ) (item : Item) (request : Request) (given : List Answer)
-    → IsRequest idling item request → Handles old session moment request given new → TakesItem idling old session moment item given new
+    → IsRequest idling item request → HandlesRequest old session moment request given new → TakesItem idling old session moment item given new
 handled idling old new session moment Ready (Immediate answer) given i h = (h.0 ∙ ap (λ (a : Answer). a ∷ []) i, h.1)
 handled idling old new session moment Ready (Command tagged) given i h = absurd i
 handled idling old new session moment Ready (Line tag line) given i h = absurd i
@@ -60,15 +60,15 @@ of_line (Some tag) Ready (Line own line) i l = absurd i
 of_line (Some tag) (Frame octets) (Line own line) i l = (tag, line, refl, i.1)
 of_line (Some tag) (Refused octets) (Line own line) i l = (tag, line, refl, i.1)
 
--- a session idles exactly if it is in an IDLE with some tag
-tag_idles : (node : NodeState) (n : ℕ) (tag : List ℕ) (place : Option Session) → place ≡ session_at node.sessions n → tag_of_idling place ≡ Some tag → Idles node n
+-- a session idles exactly when it is in an IDLE with some tag
+tag_idles : (node : NodeState) (n : ℕ) (tag : List ℕ) (place : Option Session) → place ≡ session_at node.sessions n → tag_of_idling place ≡ Some tag → IsIdlingAt node n
 tag_idles node n tag None at t = let e : ◌≡◌ {A = Option (List ℕ)} None (Some tag) = t in absurd cc
 tag_idles node n tag (Some session) at t = (session, sym at, subst (λ (o : Option (List ℕ)). IsSome o) (sym t) refl)
 
-pub idles_with_tag : (node : NodeState) (n : ℕ) (tag : List ℕ) → idling_at node n ≡ Some tag → Idles node n
+pub idles_with_tag : (node : NodeState) (n : ℕ) (tag : List ℕ) → idling_at node n ≡ Some tag → IsIdlingAt node n
 idles_with_tag node n tag t = tag_idles node n tag (session_at node.sessions n) refl t
 
-pub awake_without_tag : (node : NodeState) (n : ℕ) → idling_at node n ≡ None → Idles node n → ⊥
+pub awake_without_tag : (node : NodeState) (n : ℕ) → idling_at node n ≡ None → IsIdlingAt node n → ⊥
 awake_without_tag node n none i =
     let some : IsSome (idling_at node n) = subst (λ (o : Option Session). IsSome (tag_of_idling o)) (sym i.1) i.2 in
     let never : IsSome {T = List ℕ} None = subst (λ (o : Option (List ℕ)). IsSome o) none some in
@@ -81,14 +81,14 @@ request_awaited node n item (Command tagged) i = awake_without_tag node n (of_co
 request_awaited node n item (Line own line) i = let l = of_line (idling_at node n) item (Line own line) i tt in idles_with_tag node n l.0 l.2
 
 module _ (session moment : ℕ) (item : Item) (before mid after : List Turn) (shown : mid ≡ before ++ turns_of_item item) (old new : NodeState) (request : Request) (is : IsRequest (idling_at old session) item request) where
-  took : (given : List Answer) → Handles old session moment request given new → TakesItemAt old session (item_at moment item) given new
+  took : (given : List Answer) → HandlesRequest old session moment request given new → TakesItemAt old session (item_at moment item) given new
   took given h = handled (idling_at old session) old new session moment item request given is h
 
   after_item : (more : List Turn) → after ≡ mid ++ more → after ≡ before ++ (turns_of_item item ++ more)
   after_item more e = e ∙ ap (λ turns. turns ++ more) shown ∙ append_assoc before (turns_of_item item) more
 
   -- all answers after what the item shows
-  pub item_answered : {T E : Type 0} (r : Result T E) → OnOk r ((given : List Answer) × Handles old session moment request given new × (after ≡ mid ++ turns_of_answers given))
+  pub item_answered : {T E : Type 0} (r : Result T E) → OnOk r ((given : List Answer) × HandlesRequest old session moment request given new × (after ≡ mid ++ turns_of_answers given))
       → OnOk r ((given : List Answer) × TakesItemAt old session (item_at moment item) given new × (after ≡ before ++ turns_of item given))
   item_answered (Err e) o = tt
   item_answered (Ok x) o = (o.0, took o.0 o.1, after_item (turns_of_answers o.0) o.2)
@@ -97,7 +97,7 @@ module _ (session moment : ℕ) (item : Item) (before mid after : List Turn) (sh
   prefix_none front e = ([], sym (append-nil (turns_of_item item ++ front) ∙ ap (λ f. turns_of_item item ++ f) e ∙ append-nil (turns_of_item item)))
 
   -- memory ran out during the answers
-  pub item_broken : {T : Type 0} (r : Result T TalkFaultKind) → IfErr r (λ why. (front : List Turn) × (after ≡ mid ++ front) × Fails why old session moment request front new)
+  pub item_broken : {T : Type 0} (r : Result T TalkFaultKind) → IfErr r (λ why. (front : List Turn) × (after ≡ mid ++ front) × FailsRequest why old session moment request front new)
       → IfErr r (λ why. (more : List Turn) × (after ≡ before ++ more) × StopsAt why old session (item_at moment item) more new)
   item_broken (Ok x) o = tt
   item_broken (Err kinds.NoMemory) o = (
@@ -123,20 +123,20 @@ module _ (session moment : ℕ) (item : Item) (before : List Turn) (node : NodeS
 -- an answer that is sent at once
 module _ (session moment : ℕ) (node : NodeState) (answer : Answer) (before after : List Turn) where
   pub sent_ok : {T E : Type 0} (r : Result T E) → OnOk r (after ≡ before ++ turns_of_answers (answer ∷ []))
-      → OnOk r ((given : List Answer) × Handles node session moment (Immediate answer) given node × (after ≡ before ++ turns_of_answers given))
+      → OnOk r ((given : List Answer) × HandlesRequest node session moment (Immediate answer) given node × (after ≡ before ++ turns_of_answers given))
   sent_ok (Err e) o = tt
   sent_ok (Ok x) o = (answer ∷ [], (refl, refl), o)
 
   pub sent_err : {T : Type 0} (r : Result T TalkFaultKind) → IfErr r (λ why. (why ≡ kinds.NoMemory) × (after ≡ before))
-      → IfErr r (λ why. (front : List Turn) × (after ≡ before ++ front) × Fails why node session moment (Immediate answer) front node)
+      → IfErr r (λ why. (front : List Turn) × (after ≡ before ++ front) × FailsRequest why node session moment (Immediate answer) front node)
   sent_err (Ok x) o = tt
   sent_err (Err why) o =
-      subst (λ (k : TalkFaultKind). (front : List Turn) × (after ≡ before ++ front) × Fails k node session moment (Immediate answer) front node) (sym o.0) ([], o.1 ∙ sym (append-nil before), inl (refl, refl))
+      subst (λ (k : TalkFaultKind). (front : List Turn) × (after ≡ before ++ front) × FailsRequest k node session moment (Immediate answer) front node) (sym o.0) ([], o.1 ∙ sym (append-nil before), inl (refl, refl))
 
 -- a line does the same at any moment
 pub line_fails : {T : Type 0} (r : Result T TalkFaultKind) (old new : NodeState) (session moment : ℕ) (tag : List ℕ) (line : IdleLine) (before after : List Turn)
-    → IfErr r (λ why. (front : List Turn) × (after ≡ before ++ front) × Fails why old session 0 (Line tag line) front new)
-    → IfErr r (λ why. (front : List Turn) × (after ≡ before ++ front) × Fails why old session moment (Line tag line) front new)
+    → IfErr r (λ why. (front : List Turn) × (after ≡ before ++ front) × FailsRequest why old session 0 (Line tag line) front new)
+    → IfErr r (λ why. (front : List Turn) × (after ≡ before ++ front) × FailsRequest why old session moment (Line tag line) front new)
 line_fails (Ok x) old new session moment tag line before after o = tt
 line_fails (Err kinds.NoMemory) old new session moment tag line before after o = o
 line_fails (Err kinds.LineRefused) old new session moment tag line before after o = o
@@ -144,7 +144,7 @@ line_fails (Err (kinds.Framing why)) old new session moment tag line before afte
 
 -- a line that is refused because memory ran out
 pub refused_fails : (kind : TalkFaultKind) (old new : NodeState) (session moment : ℕ) (tag : List ℕ) (line : IdleLine) (before after : List Turn) → EndsAtRefusedLine kind before after → new ≡ old
-    → (front : List Turn) × (after ≡ before ++ front) × Fails kind old session moment (Line tag line) front new
+    → (front : List Turn) × (after ≡ before ++ front) × FailsRequest kind old session moment (Line tag line) front new
 refused_fails kinds.LineRefused old new session moment tag line before after g e = (turns_of_answers (Bye reasons.NoMemory ∷ []), g, (tt, refl, e))
 refused_fails kinds.NoMemory old new session moment tag line before after g e = ([], g ∙ sym (append-nil before), inl (refl, e))
 refused_fails (kinds.Framing why) old new session moment tag line before after g e = absurd g

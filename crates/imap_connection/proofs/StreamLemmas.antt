@@ -8,20 +8,20 @@ use Rattle.imap_lex.proofs.CutLemmas.{cut_of-append}
 use Rattle.imap_node.specs.Nodes.{IsActive, NodeState}
 use Rattle.imap_connection.specs.Conversation.{Converses, TimedItem, items_at, turns_of}
 use Rattle.imap_connection.specs.Streams.{Piece, AreTalks, cut_by, items_of, octets_in, items_without_moments}
-use Rattle.imap_connection.specs.Talks.{Talks}
+use Rattle.imap_connection.specs.Talks.{TakesPiece}
 use Rattle.imap_connection.specs.declared.turn.Turn.{Turn}
 use Rattle.imap_connection.proofs.PlaceLemmas.{closed_stops}
 
 -- a conversation that continues, and the conversation after it
-pub converses_on : (old mid new : NodeState) (session : ℕ) (items more : List TimedItem) (turns rest : List Turn) → IsActive mid session → Converses old session items turns mid → Converses mid session more rest new → Converses old session (items ++ more) (turns ++ rest) new
-converses_on old mid new session [] more turns rest active c d =
+pub converses_append : (old mid new : NodeState) (session : ℕ) (items more : List TimedItem) (turns rest : List Turn) → IsActive mid session → Converses old session items turns mid → Converses mid session more rest new → Converses old session (items ++ more) (turns ++ rest) new
+converses_append old mid new session [] more turns rest active c d =
     subst (λ (ts : List Turn). Converses old session more (ts ++ rest) new) (sym c.0) (subst (λ (n : NodeState). Converses n session more rest new) c.1 d)
-converses_on old mid new session (item ∷ items) more turns rest active c d = (
+converses_append old mid new session (item ∷ items) more turns rest active c d = (
   c.0,
   c.1,
   c.2,
   elim c.3 [
-    | inl on ↦ inl (on.0, (on.1.0 ++ rest, ap (λ ts. ts ++ rest) on.1.1 ∙ append_assoc (turns_of item.item c.0) on.1.0 rest, converses_on c.1 mid new session items more on.1.0 rest active on.1.2 d))
+    | inl on ↦ inl (on.0, (on.1.0 ++ rest, ap (λ ts. ts ++ rest) on.1.1 ∙ append_assoc (turns_of item.item c.0) on.1.0 rest, converses_append c.1 mid new session items more on.1.0 rest active on.1.2 d))
     | inr out ↦ absurd (closed_stops c.1 session (subst (λ (n : NodeState). IsActive n session) out.2 active))
   ],
 )
@@ -49,24 +49,24 @@ untimed_whole limits state (piece ∷ pieces) =
     ∙ sym (items_joined limits state piece.octets (octets_in pieces))
 
 -- the octets with one further piece
-pub octets_more : (pieces : List Piece) (piece : Piece) → octets_in (pieces ++ piece ∷ []) ≡ octets_in pieces ++ piece.octets
-octets_more pieces piece =
+pub octets_append : (pieces : List Piece) (piece : Piece) → octets_in (pieces ++ piece ∷ []) ≡ octets_in pieces ++ piece.octets
+octets_append pieces piece =
     flat_map-append (λ (p : Piece). p.octets) pieces (piece ∷ []) ∙ ap (λ os. octets_in pieces ++ os) (append-nil piece.octets)
 
 module _ (limits : Limits) (piece : Piece) where
   -- the items that one further piece completes, after those of the earlier pieces
-  pub items_more : (state between : Result FrameProgress FrameFaultKind) (pieces : List Piece) → between ≡ (cut_from limits state (octets_in pieces)).1
+  pub items_append : (state between : Result FrameProgress FrameFaultKind) (pieces : List Piece) → between ≡ (cut_from limits state (octets_in pieces)).1
       → items_of limits state (pieces ++ piece ∷ []) ≡ items_of limits state pieces ++ (cut_by limits between piece).0
-  items_more state between [] e = append-nil _ ∙ ap (λ s. (cut_by limits s piece).0) (sym e)
-  items_more state between (p ∷ pieces) e =
+  items_append state between [] e = append-nil _ ∙ ap (λ s. (cut_by limits s piece).0) (sym e)
+  items_append state between (p ∷ pieces) e =
       let cut = cut_by limits state p in
-      ap (λ items. cut.0 ++ items) (items_more cut.1 between pieces (e ∙ state_joined limits state p.octets (octets_in pieces)))
+      ap (λ items. cut.0 ++ items) (items_append cut.1 between pieces (e ∙ state_joined limits state p.octets (octets_in pieces)))
       ∙ sym (append_assoc cut.0 (items_of limits cut.1 pieces) (cut_by limits between piece).0)
 
-  pub state_more : (state between : Result FrameProgress FrameFaultKind) (pieces : List Piece) → between ≡ (cut_from limits state (octets_in pieces)).1
+  pub state_append : (state between : Result FrameProgress FrameFaultKind) (pieces : List Piece) → between ≡ (cut_from limits state (octets_in pieces)).1
       → (cut_from limits state (octets_in (pieces ++ piece ∷ []))).1 ≡ (cut_by limits between piece).1
-  state_more state between pieces e =
-      ap (λ os. (cut_from limits state os).1) (octets_more pieces piece) ∙ state_joined limits state (octets_in pieces) piece.octets
+  state_append state between pieces e =
+      ap (λ os. (cut_from limits state os).1) (octets_append pieces piece) ∙ state_joined limits state (octets_in pieces) piece.octets
       ∙ ap (λ s. (cut_from limits s piece.octets).1) (sym e)
 
 -- piece by piece, the turns are the conversation over the items of the whole
@@ -85,15 +85,15 @@ talks_joined old new session limits state end (piece ∷ pieces) turns t =
     let later' : Converses mid session (items_of limits (cut_from limits state piece.octets).1 pieces) rest new =
     subst (λ (s : Result FrameProgress FrameFaultKind). Converses mid session (items_of limits s pieces) rest new) here later.0 in (
       subst (λ (ts : List Turn). Converses old session (items_of limits state (piece ∷ pieces)) ts new) (sym t.5.1)
-          (converses_on old mid new session (cut_by limits state piece).0 (items_of limits (cut_from limits state piece.octets).1 pieces) first rest active first_talk.0 later'),
+          (converses_append old mid new session (cut_by limits state piece).0 (items_of limits (cut_from limits state piece.octets).1 pieces) first rest active first_talk.0 later'),
       later.1 ∙ ap (λ s. (cut_from limits s (octets_in pieces)).1) here ∙ sym (state_joined limits state piece.octets (octets_in pieces)),
     )
 
 -- with a last piece, which may end the session, after the others
 pub last_talk_joined : (old mid new : NodeState) (session : ℕ) (limits : Limits) (state between end : Result FrameProgress FrameFaultKind) (pieces : List Piece) (piece : Piece) (turns more : List Turn)
-    → IsActive mid session → AreTalks old session limits state pieces turns mid between → Talks mid session (cut_by limits between piece) more new end
+    → IsActive mid session → AreTalks old session limits state pieces turns mid between → TakesPiece mid session (cut_by limits between piece) more new end
     → Converses old session (items_of limits state (pieces ++ piece ∷ [])) (turns ++ more) new
 last_talk_joined old mid new session limits state between end pieces piece turns more active t l =
     let before = talks_joined old mid session limits state between pieces turns t in
-    subst (λ (items : List TimedItem). Converses old session items (turns ++ more) new) (sym (items_more limits piece state between pieces before.1))
-    (converses_on old mid new session (items_of limits state pieces) (cut_by limits between piece).0 turns more active before.0 l.0)
+    subst (λ (items : List TimedItem). Converses old session items (turns ++ more) new) (sym (items_append limits piece state between pieces before.1))
+    (converses_append old mid new session (items_of limits state pieces) (cut_by limits between piece).0 turns more active before.0 l.0)

@@ -33,9 +33,9 @@ module _ {start : NodeState} {session : ℕ} {items : List TimedItem} {before : 
   pub underway_at_first : IsActive start session → Underway start session items before start items before
   underway_at_first h = record { active = h; done = []; turns_are = sym (append-nil before); converses = λ rest new c. c; breaks = λ why rest new b. b }
 
-  pub underway_on : (node mid : NodeState) (timed : TimedItem) (left : List TimedItem) (turns after : List Turn) → Underway start session items before node (timed ∷ left) turns
+  pub underway_next : (node mid : NodeState) (timed : TimedItem) (left : List TimedItem) (turns after : List Turn) → Underway start session items before node (timed ∷ left) turns
       → ((given : List Answer) × TakesItemAt node session timed given mid × (after ≡ turns ++ turns_of timed.item given)) → IsActive mid session → Underway start session items before mid left after
-  underway_on node mid timed left turns after u t g =
+  underway_next node mid timed left turns after u t g =
       let more = turns_of timed.item t.0 in
       record {
         active = g;

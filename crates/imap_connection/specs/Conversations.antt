@@ -23,7 +23,7 @@ use Rattle.imap_connection.specs.Conversation.{IsPrefixOf}
 use Rattle.imap_connection.specs.Replies.{answers_of}
 use Rattle.imap_connection.specs.Devices.{GivesOctets, TakesOctets, TakesAllOrPart}
 use Rattle.imap_connection.specs.EndReasons.{bye_text_of, end_reason_of}
-use Rattle.imap_connection.specs.Requests.{StopsAt, Takes, texts}
+use Rattle.imap_connection.specs.Requests.{AnswersItem, StopsAt, texts}
 use Rattle.imap_connection.specs.declared.end_reason.Ended.{Ended}
 use Rattle.imap_connection.specs.declared.end_reason.Ended.TheVariants.{PeerClosed}
 use Rattle.imap_connection.specs.declared.end_reason.Ended.TheVariants.{Framing}
@@ -39,7 +39,7 @@ module _ {S : Type 0} (steps : S → PortCall → Result Reply PortFault → S �
   Converses old idling [] output new after = (output ≡ []) × (new ≡ old) × (after ≡ idling)
   Converses old idling (item ∷ items) output new after =
       (given : List Answer) × (mid : S) × (between : Option (List ℕ)) × (rest : List ℕ)
-      × Takes steps old idling item given mid between false
+      × AnswersItem steps old idling item given mid between false
       × (output ≡ texts given ++ rest)
       × Converses mid between items rest new after
 

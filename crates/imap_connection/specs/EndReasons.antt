@@ -1,7 +1,7 @@
 -- How a conversation ends, and the BYE that names its end (RFC 9051, section 7.1.5).
 
 use Rattle.std.specs.Prelude.{◌≡◌, ◌⊎◌, ℕ, false, Option, Some, None, List, [], ◌++◌, Result, Ok}
-use Rattle.std.specs.Prelude.{Err}
+use Rattle.std.specs.Prelude.{Err, codes}
 use Rattle.imap_lex.specs.declared.fault.FrameFaultKind.TheVariants as lex
 use Rattle.imap_answers.specs.AnswerText.{text_of_answer}
 use Rattle.imap_answers.specs.declared.answer.Answer.TheVariants.{Bye}
@@ -51,6 +51,17 @@ text_of_bye (Some reason) = text_of_answer (Bye reason)
 abbrev pub bye_text_of : Ended → List ℕ
 bye_text_of ended = text_of_bye (reason_of ended)
 
+-- The text for an end in the log.
+abbrev pub log_text_of : Ended → List ℕ
+log_text_of Logout = codes "logout"
+log_text_of PeerClosed = codes "closed by the client"
+log_text_of TooManySessions = codes "too many sessions"
+log_text_of (Framing _) = codes "bad framing"
+log_text_of ReadFailed = codes "read failed"
+log_text_of WriteFailed = codes "write failed"
+log_text_of NoMemory = codes "no memory"
+log_text_of Torn = codes "replica changed"
+
 -- How many reads failed in a conversation that ended in this way.
 abbrev pub failed_reads : Ended → ℕ
 failed_reads ReadFailed = 1
@@ -62,9 +73,9 @@ failed_writes WriteFailed = 1
 failed_writes _ = 0
 
 -- How many writes failed, in a conversation that may continue.
-abbrev pub failed : Result (Unit {0}) Ended → ℕ
-failed (Ok all) = 0
-failed (Err ended) = failed_writes ended
+abbrev pub write_failures : Result (Unit {0}) Ended → ℕ
+write_failures (Ok all) = 0
+write_failures (Err ended) = failed_writes ended
 
 -- The text of a conversation that ended in this way was taken or is buffered; if a write failed, an
 -- initial part was taken.

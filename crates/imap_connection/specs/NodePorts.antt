@@ -7,9 +7,9 @@ use Rattle.crdt_ops.specs.declared.op.Op.{Op}
 use Rattle.imap_answers.specs.declared.fixed_words.Login.{Login}
 use Rattle.imap_answers.specs.declared.fixed_words.Login.TheVariants.{PreAuthenticated, Required}
 use Rattle.imap_node.specs.Deliveries.{Delivers, IsRefusedAt}
-use Rattle.imap_node.specs.Nodes.{Awaits, Idles, NodeState, with_session_closed}
+use Rattle.imap_node.specs.Nodes.{IsAwaitedInput, IsIdlingAt, NodeState, with_session_closed}
 use Rattle.imap_node.specs.Responses.{Responds}
-use Rattle.imap_node.specs.Sessions.{IsOpen, Opens}
+use Rattle.imap_node.specs.Sessions.{IsOpen, OpensSession}
 use Rattle.imap_node.specs.Steps.{IsFull}
 use Rattle.imap_node.specs.declared.input.Input.{Input}
 use Rattle.imap_node.specs.declared.input.Input.TheVariants as inputs
@@ -38,13 +38,13 @@ HasNoSession {O} s = (n : ℕ) → s.session ≡ Some n → IsOpen s.node.sessio
 -- The session awaits this call: a command if it is open and doesn't idle, a line if it idles.
 abbrev pub AwaitsCall : {O : Type 0} → NodeSession O → PortCall → Type 0
 AwaitsCall {O} s (asked.Command tagged) =
-    (n : ℕ) × (s.session ≡ Some n) × IsOpen s.node.sessions n × (Idles s.node n → ⊥)
-AwaitsCall {O} s (asked.Line line) = (n : ℕ) × (s.session ≡ Some n) × Idles s.node n
+    (n : ℕ) × (s.session ≡ Some n) × IsOpen s.node.sessions n × (IsIdlingAt s.node n → ⊥)
+AwaitsCall {O} s (asked.Line line) = (n : ℕ) × (s.session ≡ Some n) × IsIdlingAt s.node n
 
 -- The login that a greeting reports, by authentication (RFC 9051, section 7.1.4).
-abbrev pub login_by : Auth → Login
-login_by Preauth = PreAuthenticated
-login_by (Password credentials) = Required
+abbrev pub login_of : Auth → Login
+login_of Preauth = PreAuthenticated
+login_of (Password credentials) = Required
 
 -- Why no session was opened: all session numbers are in use; memory ran out; or it isn't the first
 -- attempt.
@@ -67,9 +67,9 @@ NodeOpens {O} old (Err fault) new =
 NodeOpens {O} old (Ok login) new =
     (auth : Auth)
     × (n : ℕ)
-    × (login ≡ login_by auth)
+    × (login ≡ login_of auth)
     × (new.session ≡ Some n)
-    × Opens old.node.sessions auth n new.node.sessions
+    × OpensSession old.node.sessions auth n new.node.sessions
     × (new.node ≡ record old.node { sessions = new.node.sessions })
     × (new.others ≡ old.others)
     × (old.auth ≡ Some auth)
@@ -93,7 +93,7 @@ module _ {O : Type 0} (takes_turn : O → ℕ → NodeState → ℕ → NodeStat
     pub moment : ℕ
     pub mid : NodeState
     pub opened : old.session ≡ Some number
-    pub awaited : Awaits old.node number (input moment)
+    pub awaited : IsAwaitedInput old.node number (input moment)
     pub turn : TakesTurn old number moment mid new.others
     pub responds : Responds mid number (input moment) reply new.node
     pub session : new.session ≡ Some number

@@ -10,7 +10,7 @@ use Rattle.imap_lex.specs.declared.fault.FrameFaultKind.TheVariants.{NulByte}
 use Rattle.imap_lex.specs.declared.item.Item.{Item}
 use Rattle.imap_lex.specs.declared.limits.Limits.{Limits}
 use Rattle.imap_node.specs.Nodes.{HasLoggedOut, IsActive, NodeState, with_session_closed}
-use Rattle.imap_node.specs.Sessions.{Opens}
+use Rattle.imap_node.specs.Sessions.{OpensSession}
 use Rattle.imap_node.specs.declared.sessions.Auth.{Auth}
 use Rattle.imap_connection.specs.Conversation.{item_at}
 use Rattle.imap_connection.specs.Replies.{idling_at}
@@ -18,7 +18,7 @@ use Rattle.imap_connection.specs.Streams.{ConversesBetweenOthers, SomeOtherSteps
 use Rattle.imap_connection.specs.declared.turn.Turn.{Turn}
 use Rattle.imap_connection.specs.declared.turn.Turn.TheVariants.{Got, Sent}
 use Rattle.imap_connection.specs.EndReasons.{bye_text_of}
-use Rattle.imap_connection.specs.NodePorts.{NodeSession, login_by}
+use Rattle.imap_connection.specs.NodePorts.{NodeSession, login_of}
 use Rattle.imap_connection.specs.declared.end_reason.Ended.{Ended}
 use Rattle.imap_connection.specs.declared.end_reason.Ended.TheVariants.{Logout, PeerClosed}
 use Rattle.imap_connection.specs.declared.end_reason.Ended.TheVariants.{Framing}
@@ -93,11 +93,11 @@ pub record TalksAtNode (old : NodeState) (auth : Auth) (limits : Limits) (octets
     (ended : Ended) (output : List ℕ) (new : NodeState) : Type 0 where
   pub session : ℕ
   pub first : NodeState
-  pub opens : Opens old.sessions auth session first.sessions
+  pub opens : OpensSession old.sessions auth session first.sessions
   pub first_is : first ≡ record old { sessions = first.sessions }
   pub placed : List ItemAt
   pub items : items_of placed ≡ (cut_from limits (Ok start) octets).0
   pub turns : List Turn
   pub closes : ClosesAfter ended first session (items_at_each_one placed) turns new
   pub output_is : output
-      ≡ text_of_answer (Greeting (login_by auth)) ++ text_sent turns ++ bye_text_of ended
+      ≡ text_of_answer (Greeting (login_of auth)) ++ text_sent turns ++ bye_text_of ended

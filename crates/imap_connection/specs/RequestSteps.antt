@@ -13,7 +13,7 @@ use Rattle.imap_answers.specs.declared.fixed_words.Refusal.{Refusal}
 use Rattle.imap_answers.specs.declared.fixed_words.Refusal.TheVariants as refusals
 use Rattle.imap_lex.specs.declared.item.Item.{Item}
 use Rattle.imap_lex.specs.declared.item.Item.TheVariants.{Ready, Frame, Refused}
-use Rattle.imap_node.specs.Nodes.{Idles, NodeState}
+use Rattle.imap_node.specs.Nodes.{IsIdlingAt, NodeState}
 use Rattle.imap_node.specs.Responses.{Responds}
 use Rattle.imap_node.specs.declared.input.Input.TheVariants as inputs
 use Rattle.imap_node.specs.declared.reply.Reply.{Reply}
@@ -41,17 +41,17 @@ IsRequest idling item request = ⊥
 -- The session is open and awaits this request: a command if it doesn't idle, a line if it does.
 abbrev pub AwaitsRequest : NodeState → ℕ → Request → Type 0
 AwaitsRequest node session (Immediate answer) = Unit {0}
-AwaitsRequest node session (Command tagged) = Idles node session → ⊥
-AwaitsRequest node session (Line tag line) = Idles node session
+AwaitsRequest node session (Command tagged) = IsIdlingAt node session → ⊥
+AwaitsRequest node session (Line tag line) = IsIdlingAt node session
 
 -- The node carries out a request, and gives these answers.
-abbrev pub Handles : NodeState → ℕ → ℕ → Request → List Answer → NodeState → Type 0
-Handles old session moment (Immediate answer) given new = (given ≡ answer ∷ []) × (new ≡ old)
-Handles old session moment (Command tagged) given new =
+abbrev pub HandlesRequest : NodeState → ℕ → ℕ → Request → List Answer → NodeState → Type 0
+HandlesRequest old session moment (Immediate answer) given new = (given ≡ answer ∷ []) × (new ≡ old)
+HandlesRequest old session moment (Command tagged) given new =
     (reply : Reply)
     × Responds old session (inputs.Command moment tagged) reply new
     × (given ≡ answers_of tagged.tag reply)
-Handles old session moment (Line tag line) given new =
+HandlesRequest old session moment (Line tag line) given new =
     (reply : Reply)
     × Responds old session (inputs.Line line) reply new
     × (is_out_of_memory reply ≡ false)
@@ -64,14 +64,15 @@ IsOfLine _ = ⊥
 
 -- Memory ran out during the answers: the request was not carried out; or it was, and some of its
 -- turns were added; or it is a line that was refused.
-abbrev pub Fails : TalkFaultKind → NodeState → ℕ → ℕ → Request → List Turn → NodeState → Type 0
-Fails kinds.NoMemory old session moment request front new =
+abbrev pub FailsRequest : TalkFaultKind → NodeState → ℕ → ℕ → Request → List Turn → NodeState
+    → Type 0
+FailsRequest kinds.NoMemory old session moment request front new =
     ((front ≡ []) × (new ≡ old))
-    ⊎ ((given : List Answer) × Handles old session moment request given new
+    ⊎ ((given : List Answer) × HandlesRequest old session moment request given new
     × IsPrefixOf front (turns_of_answers given))
-Fails kinds.LineRefused old session moment request front new =
+FailsRequest kinds.LineRefused old session moment request front new =
     IsOfLine request × (front ≡ turns_of_answers (answers.Bye reasons.NoMemory ∷ [])) × (new ≡ old)
-Fails (kinds.Framing why) old session moment request front new = ⊥
+FailsRequest (kinds.Framing why) old session moment request front new = ⊥
 
 -- The reason that a fault of the parser gives for a frame with a tag.
 abbrev pub reason_for : ParseFault → Refusal

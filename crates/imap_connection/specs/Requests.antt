@@ -67,17 +67,17 @@ module _ {S : Type 0} (steps : S → PortCall → Result Reply PortFault → S �
   -- A session, which idles with this tag or doesn't idle, makes a request to the port; `given` are
   -- the answers, `after` is the tag of its IDLE afterwards, and `out` says whether it has logged
   -- out.
-  abbrev pub Handles : S → Option (List ℕ) → Request → List Answer → S → Option (List ℕ) → Bool
-      → Type 0
-  Handles old idling (requests.Immediate answer) given new after out =
+  abbrev pub HandlesRequest : S → Option (List ℕ) → Request → List Answer → S → Option (List ℕ)
+      → Bool → Type 0
+  HandlesRequest old idling (requests.Immediate answer) given new after out =
       (given ≡ answer ∷ []) × (new ≡ old) × (after ≡ idling) × (out ≡ false)
-  Handles old idling (requests.Command tagged) given new after out =
+  HandlesRequest old idling (requests.Command tagged) given new after out =
       (reply : Reply)
       × steps old (asked.Command tagged) (Ok reply) new
       × (given ≡ answers_of tagged.tag reply)
       × (after ≡ idling_after_reply tagged reply)
       × (out ≡ logs_out tagged reply)
-  Handles old idling (requests.Line tag line) given new after out =
+  HandlesRequest old idling (requests.Line tag line) given new after out =
       (reply : Reply)
       × steps old (asked.Line line) (Ok reply) new
       × (is_out_of_memory reply ≡ false)
@@ -111,25 +111,26 @@ module _ {S : Type 0} (steps : S → PortCall → Result Reply PortFault → S �
   abbrev pub EndsAtRequest : S → Option (List ℕ) → Request → Ended → List Answer → S → Type 0
   EndsAtRequest old idling request ended given new =
       ((ended ≡ Logout)
-      × ((after : Option (List ℕ)) × Handles old idling request given new after true))
+      × ((after : Option (List ℕ)) × HandlesRequest old idling request given new after true))
       ⊎ (((ended ≡ NoMemory)
       × ((all : List Answer) × (after : Option (List ℕ)) × (out : Bool)
-      × Handles old idling request all new after out × IsPrefixOf given all))
+      × HandlesRequest old idling request all new after out × IsPrefixOf given all))
       ⊎ (IsLineRefused old request ended given new
       ⊎ IsRefused old request ended given new))
 
   -- Memory ran out before the port was called or anything was answered, or a request ends the
   -- conversation.
-  abbrev pub Fails : S → Option (List ℕ) → Request → Ended → List Answer → S → Type 0
-  Fails old idling request ended given new =
+  abbrev pub FailsRequest : S → Option (List ℕ) → Request → Ended → List Answer → S → Type 0
+  FailsRequest old idling request ended given new =
       IsUnasked old ended given new ⊎ EndsAtRequest old idling request ended given new
 
   -- An item is answered.
-  abbrev pub Takes : S → Option (List ℕ) → Item → List Answer → S → Option (List ℕ) → Bool → Type 0
-  Takes old idling item given new after out =
+  abbrev pub AnswersItem : S → Option (List ℕ) → Item → List Answer → S → Option (List ℕ) → Bool
+      → Type 0
+  AnswersItem old idling item given new after out =
       (request : Request)
       × IsRequest idling item request
-      × Handles old idling request given new after out
+      × HandlesRequest old idling request given new after out
 
   -- The conversation ends at an item: memory ran out before the port was called; or its request
   -- ends it.

@@ -9,15 +9,15 @@ use Rattle.imap_lex.specs.Framing.{FrameProgress, cut_from}
 use Rattle.imap_lex.specs.declared.fault.FrameFaultKind.{FrameFaultKind}
 use Rattle.imap_lex.specs.declared.item.Item.{Item}
 use Rattle.imap_lex.specs.declared.limits.Limits.{Limits}
-use Rattle.imap_node.specs.Deliveries.{Delivers, Drains}
+use Rattle.imap_node.specs.Deliveries.{Delivers, DrainsHeld}
 use Rattle.imap_node.specs.Nodes.{IsActive, NodeState, with_session_closed}
 use Rattle.imap_node.specs.Responses.{Responds}
-use Rattle.imap_node.specs.Sessions.{IsOpen, Opens}
+use Rattle.imap_node.specs.Sessions.{IsOpen, OpensSession}
 use Rattle.imap_node.specs.declared.input.Input.{Input}
 use Rattle.imap_node.specs.declared.reply.Reply.{Reply}
 use Rattle.imap_node.specs.declared.sessions.Auth.{Auth}
 use Rattle.imap_connection.specs.Conversation.{Converses, TimedItem}
-use Rattle.imap_connection.specs.Talks.{EndsTalk, Talks, TimedCut, cut_at}
+use Rattle.imap_connection.specs.Talks.{EndsTalk, TakesPiece, TimedCut, cut_at}
 use Rattle.imap_connection.specs.declared.turn.TalkFaultKind.{TalkFaultKind}
 use Rattle.imap_connection.specs.declared.turn.Turn.{Turn}
 
@@ -60,7 +60,7 @@ abbrev pub AreTalks : NodeState → ℕ → Limits → Result FrameProgress Fram
 AreTalks old session limits state [] turns new end = (turns ≡ []) × (new ≡ old) × (end ≡ state)
 AreTalks old session limits state (piece ∷ pieces) turns new end =
     (first : List Turn) × (mid : NodeState) × (between : Result FrameProgress FrameFaultKind)
-    × Talks old session (cut_by limits state piece) first mid between × IsActive mid session
+    × TakesPiece old session (cut_by limits state piece) first mid between × IsActive mid session
     × ((rest : List Turn) × (turns ≡ first ++ rest)
     × AreTalks mid session limits between pieces rest new end)
 
@@ -92,7 +92,7 @@ pub record Call : Type 0 where
 abbrev pub IsCallAfter : {P : Type 0} → Run P → Call → Type 0
 IsCallAfter run call =
     IsActive run.new run.session
-    × Talks run.new run.session (cut_by run.limits run.after call.piece) call.turns call.new
+    × TakesPiece run.new run.session (cut_by run.limits run.after call.piece) call.turns call.new
     call.after
 
 -- The call after a run, which ends the connection for this reason.
@@ -121,7 +121,7 @@ octets_with run call = octets_in (run.pieces ++ call.piece ∷ [])
 abbrev pub OtherSessionStep : ℕ → NodeState → NodeState → Type 0
 OtherSessionStep session old new =
     (other : ℕ) × (other ≢ session)
-    × (((auth : Auth) × Opens old.sessions auth other new.sessions
+    × (((auth : Auth) × OpensSession old.sessions auth other new.sessions
     × (new ≡ record old { sessions = new.sessions }))
     ⊎ (IsOpen old.sessions other
     × (((input : Input) × (reply : Reply) × Responds old other input reply new)
@@ -132,7 +132,7 @@ OtherSessionStep session old new =
 abbrev pub OtherStep : ℕ → NodeState → NodeState → Type 0
 OtherStep session old new =
     ((op : Op) × (arrival : Arrival) × Delivers old op arrival new)
-    ⊎ (((count : ℕ) × Drains old count new) ⊎ OtherSessionStep session old new)
+    ⊎ (((count : ℕ) × DrainsHeld old count new) ⊎ OtherSessionStep session old new)
 
 -- This number of such steps, one after another.
 abbrev pub OtherSteps : ℕ → ℕ → NodeState → NodeState → Type 0
@@ -163,7 +163,7 @@ TalksBetweenOthers old session limits state [] turns new end =
 TalksBetweenOthers old session limits state (piece_at ∷ pieces_at) turns new end =
     (first : List Turn) × (mid : NodeState) × (between : Result FrameProgress FrameFaultKind)
     × SomeOtherSteps session old piece_at.node
-    × Talks piece_at.node session (cut_by limits state piece_at.piece) first mid between
+    × TakesPiece piece_at.node session (cut_by limits state piece_at.piece) first mid between
     × IsActive mid session
     × ((rest : List Turn) × (turns ≡ first ++ rest)
     × TalksBetweenOthers mid session limits between pieces_at rest new end)

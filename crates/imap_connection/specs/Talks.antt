@@ -59,9 +59,9 @@ EndsAtRefusedLine (kinds.Framing why) old new = ⊥
 
 -- The turns of a piece of input: those of the conversation over the items that the piece completes.
 -- If the session continues, the framer has what is left of the piece.
-abbrev pub Talks : NodeState → ℕ → TimedCut → List Turn → NodeState
+abbrev pub TakesPiece : NodeState → ℕ → TimedCut → List Turn → NodeState
     → Result FrameProgress FrameFaultKind → Type 0
-Talks old session cut turns new state =
+TakesPiece old session cut turns new state =
     Converses old session cut.0 turns new × (IsActive new session → (state ≡ cut.1) × IsOk state)
 
 -- How a piece of input ends a conversation.

@@ -6,7 +6,8 @@ ghost use Rattle.imap_answers.specs.AnswerText.{text_of_answer};
 ghost use Rattle.imap_answers.specs.declared.answer.Answer.TheVariants.{Greeting as Greets};
 ghost use Rattle.imap_lex.specs.Framing.{cut_from, start};
 ghost use Rattle.imap_connection.specs.Devices.{GivesOctets, IsOutput, TakesAllOrPart};
-ghost use Rattle.imap_connection.specs.EndReasons.{IsLastOutput, bye_text_of, failed, failed_reads};
+ghost use Rattle.imap_connection.specs.EndReasons.{IsLastOutput, bye_text_of, failed_reads};
+ghost use Rattle.imap_connection.specs.EndReasons.{write_failures};
 ghost use Rattle.imap_connection.specs.EndReasons.{failed_writes};
 ghost use Rattle.imap_connection.specs.Conversations.{Converses, EndsOverOctets, EndsOverCut};
 ghost use Rattle.imap_connection.specs.Conversations.{HoldsConversation, IsWritten};
@@ -221,7 +222,7 @@ fn answer_piece<K: Sink, P: Port>(
         × IsLastOutput ended (K.taken sink.old) talk.old.text.items output (K.taken sink.new)
         talk.new.text.items) }
     ensures devices { IfErr result (λ ended. failed_reads ended ≡ 0) }
-    ensures failures { K.failures sink.new ≡ K.failures sink.old + failed result }
+    ensures failures { K.failures sink.new ≡ K.failures sink.old + write_failures result }
 {
     match talk.framer.feed(alloc, piece) {
         Ok(items) => take_all(alloc, port, &mut talk.idling, &items, sink, &mut talk.text),
@@ -262,7 +263,7 @@ fn take_all<K: Sink, P: Port>(
         × IsLastOutput ended (K.taken sink.old) text.old.items output (K.taken sink.new)
         text.new.items) }
     ensures devices { IfErr result (λ ended. failed_reads ended ≡ 0) }
-    ensures failures { K.failures sink.new ≡ K.failures sink.old + failed result }
+    ensures failures { K.failures sink.new ≡ K.failures sink.old + write_failures result }
 {
     let mut batch = Batch::new(alloc);
     for item in items {

@@ -1,7 +1,7 @@
 //! How a conversation ends.
 
 ghost use Rattle.std.specs.Prelude.{◌≡◌};
-ghost use Rattle.imap_connection.specs.EndReasons.{bye_text_of, end_reason_of};
+ghost use Rattle.imap_connection.specs.EndReasons.{bye_text_of, end_reason_of, log_text_of};
 ghost use Rattle.imap_connection.specs.declared.end_reason.Ended.TheVariants.{Framing as EndsFraming};
 
 use crate::fault::PortFault;
@@ -64,5 +64,21 @@ fn framing_text(why: FrameFaultKind) -> &'static [u8]
         FrameFaultKind::NulByte => b"* BYE NUL in text\r\n",
         FrameFaultKind::NoMemory => b"* BYE no memory\r\n",
         FrameFaultKind::Failed => b"",
+    }
+}
+
+/// The text for an end in the log.
+pub fn log_text_of(reason: Ended) -> &'static str
+    ensures { result.now ≡ log_text_of reason }
+{
+    match reason {
+        Ended::Logout => "logout",
+        Ended::PeerClosed => "closed by the client",
+        Ended::TooManySessions => "too many sessions",
+        Ended::Framing(_) => "bad framing",
+        Ended::ReadFailed => "read failed",
+        Ended::WriteFailed => "write failed",
+        Ended::NoMemory => "no memory",
+        Ended::Torn => "replica changed",
     }
 }

@@ -70,10 +70,10 @@ mod wire;
 
 pub use conversations::converse;
 pub use dump::write_dump;
-pub use end_reason::Ended;
+pub use end_reason::{Ended, log_text_of};
 pub use fault::PortFault;
 pub use imap_node::{
-    Answers, Auth, Credentials, Issued, MAX_SESSIONS, Node, OpenFault, Reply, Session, SessionNo,
+    Answers, Auth, Credentials, MAX_SESSIONS, Node, OpenFault, Reply, ReplyOps, Session, SessionNo,
     State,
 };
 pub use interleaving::{Deliveries, NoOthers, Others};

@@ -33,7 +33,7 @@ impl<'a> MemorySource<'a> {
     }
 
     /// How many reads failed.
-    pub fn failed(&self) -> u64
+    pub fn failures(&self) -> u64
         ensures { result ≡ self.now.failed }
     {
         self.failed
@@ -66,8 +66,8 @@ impl<'a> Source for MemorySource<'a> {
     }
 }
 
-/// What was written, in memory, up to a limit: a write that would pass it fails, and so do all
-/// later ones. Each write appends octet by octet.
+/// What was written, in memory, up to a limit: a write that would pass it fails, and so does
+/// each later one with an octet. Each write appends octet by octet.
 #[derive(Drop)]
 pub struct MemorySink {
     octets: Vec<u8>,
@@ -108,7 +108,7 @@ impl MemorySink {
     }
 
     /// How many writes failed.
-    pub fn failed(&self) -> u64
+    pub fn failures(&self) -> u64
         ensures { result ≡ self.now.failed }
     {
         self.failed

@@ -3,7 +3,7 @@
 ghost use Rattle.std.specs.Prelude.{◌≡◌, IfNone, IfSome, None, Some};
 ghost use Rattle.imap_node.specs.Sessions.{IsOpen};
 ghost use Rattle.imap_connection.specs.PortCalls.{Command};
-ghost use Rattle.imap_connection.specs.NodePorts.{HasNoSession, NodeSteps, login_by};
+ghost use Rattle.imap_connection.specs.NodePorts.{HasNoSession, NodeSteps, login_of};
 
 use crate::fault::PortFault;
 use crate::interleaving::Others;
@@ -88,8 +88,8 @@ impl<O: Others> NodePort<O> {
     }
 }
 
-fn login_by(auth: &Auth) -> Login
-    ensures { result ≡ login_by auth.now }
+fn login_of(auth: &Auth) -> Login
+    ensures { result ≡ login_of auth.now }
 {
     match auth {
         Auth::Preauth => Login::PreAuthenticated,
@@ -110,7 +110,7 @@ impl<O: Others> Port for NodePort<O> {
         let Some(auth) = self.auth.take() else {
             return Err(PortFault::PassedOver);
         };
-        let login = login_by(&auth);
+        let login = login_of(&auth);
         match self.node.open(auth) {
             Ok(session) => {
                 self.session = Some(session);

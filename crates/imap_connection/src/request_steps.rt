@@ -7,7 +7,8 @@ ghost use Rattle.imap_node.specs.Commands.{is_idle};
 ghost use Rattle.imap_connection.specs.EndReasons.{failed_reads, failed_writes};
 ghost use Rattle.imap_lex.specs.declared.item.Item.{Item};
 ghost use Rattle.imap_connection.specs.Conversations.{HasTaken, EndsOverItems};
-ghost use Rattle.imap_connection.specs.Requests.{Fails, Handles, IsAskingOf, is_done, is_logout};
+ghost use Rattle.imap_connection.specs.Requests.{FailsRequest, HandlesRequest, IsAskingOf, is_done};
+ghost use Rattle.imap_connection.specs.Requests.{is_logout};
 ghost use Rattle.imap_connection.specs.Requests.{texts};
 ghost use Rattle.imap_connection.specs.declared.end_reason.Ended.TheVariants.{Logout};
 ghost use Rattle.imap_connection.specs.declared.end_reason.Ended.TheVariants.{NoMemory};
@@ -102,10 +103,10 @@ fn take_request<P: Port>(
     text: &mut Vec<u8>,
 ) -> Result<(), Ended>
     ensures ok { OnOk result ((given : List Answer)
-        × Handles P.steps port.old idling.old request given port.new idling.new false
+        × HandlesRequest P.steps port.old idling.old request given port.new idling.new false
         × (text.new.items ≡ text.old.items ++ texts given)) }
     ensures err { IfErr result (λ ended. (given : List Answer)
-        × Fails P.steps port.old idling.old request ended given port.new
+        × FailsRequest P.steps port.old idling.old request ended given port.new
         × (text.new.items ≡ text.old.items ++ texts given)) }
     ensures devices { IfErr result (λ ended. (failed_reads ended ≡ 0) × (failed_writes ended ≡ 0)) }
 {
@@ -138,10 +139,10 @@ fn take_command<P: Port>(
     text: &mut Vec<u8>,
 ) -> Result<(), Ended>
     ensures ok { OnOk result ((given : List Answer)
-        × Handles P.steps port.old idling.old (requests.Command tagged) given port.new idling.new
-        false × (text.new.items ≡ text.old.items ++ texts given)) }
+        × HandlesRequest P.steps port.old idling.old (requests.Command tagged) given port.new
+        idling.new false × (text.new.items ≡ text.old.items ++ texts given)) }
     ensures err { IfErr result (λ ended. (given : List Answer)
-        × Fails P.steps port.old idling.old (requests.Command tagged) ended given port.new
+        × FailsRequest P.steps port.old idling.old (requests.Command tagged) ended given port.new
         × (text.new.items ≡ text.old.items ++ texts given)) }
     ensures devices { IfErr result (λ ended. (failed_reads ended ≡ 0) × (failed_writes ended ≡ 0)) }
 {
@@ -216,10 +217,10 @@ fn take_line<P: Port>(
     text: &mut Vec<u8>,
 ) -> Result<(), Ended>
     ensures ok { OnOk result ((given : List Answer)
-        × Handles P.steps port.old idling.old (requests.Line tag line) given port.new idling.new
-        false × (text.new.items ≡ text.old.items ++ texts given)) }
+        × HandlesRequest P.steps port.old idling.old (requests.Line tag line) given port.new
+        idling.new false × (text.new.items ≡ text.old.items ++ texts given)) }
     ensures err { IfErr result (λ ended. (given : List Answer)
-        × Fails P.steps port.old idling.old (requests.Line tag line) ended given port.new
+        × FailsRequest P.steps port.old idling.old (requests.Line tag line) ended given port.new
         × (text.new.items ≡ text.old.items ++ texts given)) }
     ensures devices { IfErr result (λ ended. (failed_reads ended ≡ 0) × (failed_writes ended ≡ 0)) }
 {

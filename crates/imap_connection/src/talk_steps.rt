@@ -6,13 +6,13 @@ ghost use Rattle.std.specs.Option.{option_copied};
 ghost use Rattle.imap_answers.specs.declared.answer.Answer.{Answer};
 ghost use Rattle.imap_lex.specs.Framing.{cut_from};
 ghost use Rattle.imap_lex.specs.declared.fault.FrameFaultKind.{FrameFaultKind};
-ghost use Rattle.imap_node.specs.Nodes.{HasLoggedOut, Idles, IsActive};
+ghost use Rattle.imap_node.specs.Nodes.{HasLoggedOut, IsActive, IsIdlingAt};
 ghost use Rattle.imap_connection.specs.Conversation.{BreaksOff, Converses, StopsAt, TakesItemAt};
 ghost use Rattle.imap_connection.specs.Conversation.{turns_of_answers, item_at, items_at, turns_of};
-ghost use Rattle.imap_connection.specs.RequestSteps.{AwaitsRequest, Fails, Handles};
+ghost use Rattle.imap_connection.specs.RequestSteps.{AwaitsRequest, FailsRequest, HandlesRequest};
 ghost use Rattle.imap_connection.specs.Replies.{idling_at};
 ghost use Rattle.imap_connection.specs.Talks.{BreaksPoll, EndsTalk, IsPoll, EndsWithBye};
-ghost use Rattle.imap_connection.specs.Talks.{EndsAtRefusedLine, Talks, cut_at, bye_of};
+ghost use Rattle.imap_connection.specs.Talks.{EndsAtRefusedLine, TakesPiece, cut_at, bye_of};
 ghost use Rattle.imap_connection.specs.declared.request.Request.TheVariants.{Command as CommandRequest};
 ghost use Rattle.imap_connection.specs.declared.request.Request.TheVariants.{Line as LineRequest};
 ghost use Rattle.imap_connection.specs.declared.turn.TalkFaultKind.TheVariants as kinds;
@@ -48,7 +48,7 @@ pub fn talk(
     piece: &[u8],
 ) -> Result<Vec<Turn>, TalkFault>
     requires { IsActive node.old.state session }
-    ensures ok { IfOk result (λ turns. Talks node.old.state session
+    ensures ok { IfOk result (λ turns. TakesPiece node.old.state session
         (cut_at moment (cut_from framer.old.limits framer.old.state piece.now)) turns.items
         node.new.state framer.new.state) }
     ensures err { IfErr result (λ fault. EndsTalk fault.why node.old.state session framer.old.state
@@ -87,7 +87,7 @@ pub fn poll_turns(
     node: &mut Node,
     session: SessionNo,
 ) -> Result<Vec<Turn>, TalkFault>
-    requires { Idles node.old.state session }
+    requires { IsIdlingAt node.old.state session }
     ensures ok { IfOk result (λ turns. IsPoll node.old.state session turns.items node.new.state) }
     ensures err { IfErr result (λ fault. (fault.why ≡ kinds.NoMemory)
         × BreaksPoll node.old.state session fault.turns.items node.new.state) }
@@ -199,11 +199,11 @@ fn take_request(
     requires active { IsActive node.old.state session }
     requires awaited { AwaitsRequest node.old.state session request }
     ensures ok { OnOk result ((given : List Answer)
-        × Handles node.old.state session moment request given node.new.state
+        × HandlesRequest node.old.state session moment request given node.new.state
         × (turns.new.items ≡ turns.old.items ++ turns_of_answers given)) }
     ensures err { IfErr result (λ why. (front : List Turn)
         × (turns.new.items ≡ turns.old.items ++ front)
-        × Fails why node.old.state session moment request front node.new.state) }
+        × FailsRequest why node.old.state session moment request front node.new.state) }
     ensures open { IsActive node.new.state session ⊎ HasLoggedOut node.new.state session }
 {
     match request {
@@ -223,13 +223,14 @@ fn take_command(
     turns: &mut Vec<Turn>,
 ) -> Result<(), TalkFaultKind>
     requires active { IsActive node.old.state session }
-    requires awake { Idles node.old.state session → ⊥ }
+    requires awake { IsIdlingAt node.old.state session → ⊥ }
     ensures ok { OnOk result ((given : List Answer)
-        × Handles node.old.state session moment (CommandRequest tagged) given node.new.state
+        × HandlesRequest node.old.state session moment (CommandRequest tagged) given node.new.state
         × (turns.new.items ≡ turns.old.items ++ turns_of_answers given)) }
     ensures err { IfErr result (λ why. (front : List Turn)
         × (turns.new.items ≡ turns.old.items ++ front)
-        × Fails why node.old.state session moment (CommandRequest tagged) front node.new.state) }
+        × FailsRequest why node.old.state session moment (CommandRequest tagged) front
+        node.new.state) }
     ensures open { IsActive node.new.state session ⊎ HasLoggedOut node.new.state session }
 {
     // The command moves into the call, and the answer to a refused one bears its tag.
@@ -254,13 +255,13 @@ fn take_line(
     turns: &mut Vec<Turn>,
 ) -> Result<(), TalkFaultKind>
     requires active { IsActive node.old.state session }
-    requires idles { Idles node.old.state session }
+    requires idles { IsIdlingAt node.old.state session }
     ensures ok { OnOk result ((given : List Answer)
-        × Handles node.old.state session 0 (LineRequest tag line) given node.new.state
+        × HandlesRequest node.old.state session 0 (LineRequest tag line) given node.new.state
         × (turns.new.items ≡ turns.old.items ++ turns_of_answers given)) }
     ensures err { IfErr result (λ why. (front : List Turn)
         × (turns.new.items ≡ turns.old.items ++ front)
-        × Fails why node.old.state session 0 (LineRequest tag line) front node.new.state) }
+        × FailsRequest why node.old.state session 0 (LineRequest tag line) front node.new.state) }
     ensures open { IsActive node.new.state session ⊎ HasLoggedOut node.new.state session }
 {
     let reply = node.done(alloc, session, line);

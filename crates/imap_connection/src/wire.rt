@@ -32,7 +32,7 @@ impl<T> Wire<T> {
     }
 
     /// How many reads and writes failed.
-    pub fn failed(&self) -> u64
+    pub fn failures(&self) -> u64
         ensures { result ≡ self.now.failed }
     {
         self.failed

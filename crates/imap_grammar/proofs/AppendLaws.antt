@@ -8,7 +8,7 @@ use Rattle.imap_syntax.specs.Languages.{◌⌢◌, exactly, sp, optional}
 use Rattle.imap_syntax.specs.MessageFlags.{append_flags, flag_group}
 use Rattle.imap_grammar.specs.Reading.{literal_at, follows_space}
 use Rattle.imap_grammar.specs.CommandReading.{append_date_at, append_flags_at, append_parts_at, flags_given, literal_text_at}
-use Rattle.imap_syntax.specs.Strings.{begins, literal, mailbox}
+use Rattle.imap_syntax.specs.Strings.{begins_with, literal, mailbox}
 use Rattle.imap_grammar.proofs.DateTimeLaws.{date_begins, date_reads}
 use Rattle.imap_grammar.proofs.FlagLaws.{group_reads}
 use Rattle.imap_grammar.proofs.FlagSets.{written_are, written_is}
@@ -32,7 +32,7 @@ text_no_peek : (mark : ℕ) → eqb 123 mark ≡ false → (value octets rest : 
 text_no_peek mark n value octets rest f =
     let p = parts_around sp (literal value) octets rest f in
     let q = parts_around (exactly (123 ∷ [])) _ p.0 rest p.2 in
-    ap (follows_space mark) (exactly_is (32 ∷ []) octets p.0 p.1) ∙ follows_space_no mark p.0 (ap (begins mark) (exactly_is (123 ∷ []) p.0 q.0 q.1) ∙ n)
+    ap (follows_space mark) (exactly_is (32 ∷ []) octets p.0 p.1) ∙ follows_space_no mark p.0 (ap (begins_with mark) (exactly_is (123 ∷ []) p.0 q.0 q.1) ∙ n)
 
 abbrev NoPeek : ℕ → List ℕ → Type 0
 NoPeek mark rest = follows_space mark rest ≡ false
@@ -45,7 +45,7 @@ append_flags_reads =
     map_reads (peeked_reads 40 (group_reads (NoPeek 40)) (λ value octets rest f. front_begins 40 _ octets rest f) (NoPeek 40) (λ rest s. s) (λ rest s. s))
     flags_given append_flags (λ value text h. (value, h, written_are (unwrap_or value []))) (λ it text h. (h.0, h.1, written_is (unwrap_or h.0 []) it h.2))
 
-first_differs : (octets : List ℕ) → begins 34 octets ≡ true → begins 40 octets ≡ false
+first_differs : (octets : List ℕ) → begins_with 34 octets ≡ true → begins_with 40 octets ≡ false
 first_differs [] h = cc
 first_differs (b ∷ bs) h = ap (λ c. eqb c 40) (eqb-true b 34 h)
 

@@ -1,4 +1,4 @@
--- The octets after a command's word are read as its arguments exactly if they spell arguments.
+-- The octets after a command's word are read as its arguments exactly when they spell arguments.
 use Rattle.std.proofs.Common.{◌≡◌, ℕ, Bool, true, false, cond, codes, eqb, List, [], ◌∷◌, Option, Some, ap, inl, inr, sym, ◌∙◌, refl, subst}
 use Rattle.std.proofs.lemmas.Bool.{eqb-true}
 use Rattle.imap_syntax.specs.Commands.{word_of, arguments, condstore_parameter, first_word, own_word, status_item, modifier, returns, selection}
@@ -17,7 +17,7 @@ use Rattle.imap_grammar.proofs.ListingLaws.{astring_no_paren, returns_end, retur
 use Rattle.imap_grammar.proofs.FlagLaws.{stored_reads}
 use Rattle.imap_grammar.proofs.ItemLaws.{fetched_reads}
 use Rattle.imap_grammar.proofs.ModifierLaws.{modifier_reads}
-use Rattle.imap_syntax.specs.Strings.{astring, begins, is_in, mailbox, pattern, run}
+use Rattle.imap_syntax.specs.Strings.{astring, begins_with, is_in, mailbox, pattern, run}
 use Rattle.std.specs.List.{list_all}
 use Rattle.imap_types.specs.Keywords.{to_lower_case}
 use Rattle.imap_syntax.specs.Words.{command_word, uid_words, status_word, status_items, mode_word, store_actions, store_word}
@@ -55,11 +55,11 @@ again_by reads make value octets rest f s = ap (λ r. r >>= λ first. Some (make
 command_bare : (this : Command) (named : CommandWord) (octets : List ℕ) (x : Command × List ℕ) → word_of this ≡ named → ((text : List ℕ) → text ≡ [] → arguments this text) → Some (this, octets) ≡ Some x → IsReadCommand named octets x
 command_bare this named octets x e n h = subst (IsReadCommand named octets) (some_is (this, octets) x h) (e, ([], n [] refl, refl))
 
-again_alone : (this : Command) (octets rest : List ℕ) → HasPrefix nothing octets rest → ◌≡◌ {A = Option (Command × List ℕ)} (Some (this, octets)) (Some (this, rest))
-again_alone this octets rest f = ap (λ xs. Some (this, xs)) (exactly_is [] octets rest f)
+again_by_nothing : (this : Command) (octets rest : List ℕ) → HasPrefix nothing octets rest → ◌≡◌ {A = Option (Command × List ℕ)} (Some (this, octets)) (Some (this, rest))
+again_by_nothing this octets rest f = ap (λ xs. Some (this, xs)) (exactly_is [] octets rest f)
 
-end_alone : (octets rest : List ℕ) → HasPrefix nothing octets rest → IsArgEnd rest → IsWordEnd octets
-end_alone octets rest f s = subst IsWordEnd (sym (exactly_is [] octets rest f)) (closes_ends rest s)
+ends_at_no_argument : (octets rest : List ℕ) → HasPrefix nothing octets rest → IsArgEnd rest → IsWordEnd octets
+ends_at_no_argument octets rest f s = subst IsWordEnd (sym (exactly_is [] octets rest f)) (closes_ends rest s)
 
 -- ---- The parts.
 
@@ -95,7 +95,7 @@ condstore_sound (b ∷ bs) x h =
       | inr f ↦ subst (λ (y : Bool × List ℕ). HasPrefix (condstore_parameter y.0) (b ∷ bs) y.1) (some_is (false, b ∷ bs) x f.1) ([], refl, refl)
     ]
 
-condstore_none : (rest : List ℕ) → begins 32 rest ≡ false → condstore_at rest ≡ Some (false, rest)
+condstore_none : (rest : List ℕ) → begins_with 32 rest ≡ false → condstore_at rest ≡ Some (false, rest)
 condstore_none [] h = refl
 condstore_none (b ∷ bs) h = ap (λ c. cond c (after (40 ∷ []) bs >>= λ inner. after_word (codes "CONDSTORE") inner >>= λ tail. after (41 ∷ []) tail >>= λ rest. Some (true, rest)) (Some (false, b ∷ bs))) h
 
@@ -115,7 +115,7 @@ condstore_reads : IsReader condstore_at condstore_parameter IsArgEnd
 condstore_reads = record { sound = condstore_sound; complete = λ octets rest value f s. condstore_complete value octets rest f s }
 
 condstore_ends : (value : Bool) (octets rest : List ℕ) → HasPrefix (condstore_parameter value) octets rest → IsArgEnd rest → IsWordEnd octets
-condstore_ends false octets rest f s = end_alone octets rest f s
+condstore_ends false octets rest f s = ends_at_no_argument octets rest f s
 condstore_ends true octets rest f s = sp_ends (in_parens (word (codes "CONDSTORE"))) octets rest f
 
 opened_reads : IsReader opened_at (λ p. sp ⌢ mailbox p.0 ⌢ condstore_parameter p.1) IsArgEnd
@@ -269,9 +269,9 @@ either_complete {form} reads make own value e l tail plain ends true octets rest
 either_complete {form} reads make own value e l tail plain ends false octets rest f s = plain octets ∙ again_by reads (make false) value octets rest (without_nothing _ octets rest f) s
 
 pub arguments_complete : (this : Command) (octets rest : List ℕ) → HasPrefix (arguments this) octets rest → IsArgEnd rest → arguments_at (word_of this) octets ≡ Some (this, rest)
-arguments_complete commands.Capability octets rest f s = again_alone commands.Capability octets rest f
-arguments_complete commands.Noop octets rest f s = again_alone commands.Noop octets rest f
-arguments_complete commands.Logout octets rest f s = again_alone commands.Logout octets rest f
+arguments_complete commands.Capability octets rest f s = again_by_nothing commands.Capability octets rest f
+arguments_complete commands.Noop octets rest f s = again_by_nothing commands.Noop octets rest f
+arguments_complete commands.Logout octets rest f s = again_by_nothing commands.Logout octets rest f
 arguments_complete (commands.Login user password) octets rest f s = again_by login_reads (λ parts. commands.Login parts.0 parts.1) (user, password) octets rest f s
 arguments_complete (commands.Enable names) octets rest f s = again_by enable_reads commands.Enable names octets rest f s
 arguments_complete (commands.Select name condstore) octets rest f s = again_by opened_reads (λ parts. commands.Select parts.0 parts.1) (name, condstore) octets rest f s
@@ -282,13 +282,13 @@ arguments_complete (commands.Subscribe name) octets rest f s = again_by name_rea
 arguments_complete (commands.Unsubscribe name) octets rest f s = again_by name_reads commands.Unsubscribe name octets rest f s
 arguments_complete (commands.ListNames asked) octets rest f s =
     again_by list_reads list_of (asked.subscribed_only, (asked.reference, (asked.pattern, asked.return_subscribed))) octets rest f s
-arguments_complete commands.Namespace octets rest f s = again_alone commands.Namespace octets rest f
+arguments_complete commands.Namespace octets rest f s = again_by_nothing commands.Namespace octets rest f
 arguments_complete (commands.Status name items) octets rest f s = again_by status_parts (λ parts. commands.Status parts.0 parts.1) (name, items) octets rest f s
 arguments_complete (commands.Append asked) octets rest f s = again_by append_parts append_of (asked.name, (asked.flags, (asked.date, asked.text))) octets rest f s
-arguments_complete commands.Idle octets rest f s = again_alone commands.Idle octets rest f
-arguments_complete commands.Close octets rest f s = again_alone commands.Close octets rest f
-arguments_complete commands.Unselect octets rest f s = again_alone commands.Unselect octets rest f
-arguments_complete commands.Expunge octets rest f s = again_alone commands.Expunge octets rest f
+arguments_complete commands.Idle octets rest f s = again_by_nothing commands.Idle octets rest f
+arguments_complete commands.Close octets rest f s = again_by_nothing commands.Close octets rest f
+arguments_complete commands.Unselect octets rest f s = again_by_nothing commands.Unselect octets rest f
+arguments_complete commands.Expunge octets rest f s = again_by_nothing commands.Expunge octets rest f
 arguments_complete (commands.UidExpunge uids) octets rest f s =
     let p = parts_around (own_word true words.Expunge) _ octets rest f in
     own_complete words.Expunge octets p.0 refl refl p.1 (sp_ends (sequence_set uids) p.0 rest p.2) ∙ again_by uids_reads commands.UidExpunge uids p.0 rest p.2 s
@@ -305,9 +305,9 @@ arguments_complete (commands.Move asked) octets rest f s =
 
 -- No octet of a word follows the command's word.
 pub arguments_end : (this : Command) (octets rest : List ℕ) → HasPrefix (arguments this) octets rest → IsArgEnd rest → IsWordEnd octets
-arguments_end commands.Capability octets rest f s = end_alone octets rest f s
-arguments_end commands.Noop octets rest f s = end_alone octets rest f s
-arguments_end commands.Logout octets rest f s = end_alone octets rest f s
+arguments_end commands.Capability octets rest f s = ends_at_no_argument octets rest f s
+arguments_end commands.Noop octets rest f s = ends_at_no_argument octets rest f s
+arguments_end commands.Logout octets rest f s = ends_at_no_argument octets rest f s
 arguments_end (commands.Login user password) octets rest f s = sp_ends _ octets rest f
 arguments_end (commands.Enable names) octets rest f s = sp_ends _ octets rest f
 arguments_end (commands.Select name condstore) octets rest f s = sp_ends _ octets rest f
@@ -317,13 +317,13 @@ arguments_end (commands.Delete name) octets rest f s = sp_ends _ octets rest f
 arguments_end (commands.Subscribe name) octets rest f s = sp_ends _ octets rest f
 arguments_end (commands.Unsubscribe name) octets rest f s = sp_ends _ octets rest f
 arguments_end (commands.ListNames asked) octets rest f s = sp_ends _ octets rest f
-arguments_end commands.Namespace octets rest f s = end_alone octets rest f s
+arguments_end commands.Namespace octets rest f s = ends_at_no_argument octets rest f s
 arguments_end (commands.Status name items) octets rest f s = sp_ends _ octets rest f
 arguments_end (commands.Append asked) octets rest f s = sp_ends _ octets rest f
-arguments_end commands.Idle octets rest f s = end_alone octets rest f s
-arguments_end commands.Close octets rest f s = end_alone octets rest f s
-arguments_end commands.Unselect octets rest f s = end_alone octets rest f s
-arguments_end commands.Expunge octets rest f s = end_alone octets rest f s
+arguments_end commands.Idle octets rest f s = ends_at_no_argument octets rest f s
+arguments_end commands.Close octets rest f s = ends_at_no_argument octets rest f s
+arguments_end commands.Unselect octets rest f s = ends_at_no_argument octets rest f s
+arguments_end commands.Expunge octets rest f s = ends_at_no_argument octets rest f s
 arguments_end (commands.UidExpunge uids) octets rest f s = copy_front true words.Expunge octets rest _ f
 arguments_end (commands.Search asked) octets rest f s = copy_front asked.by_uid words.Search octets rest _ f
 arguments_end (commands.Fetch asked) octets rest f s = copy_front asked.by_uid words.Fetch octets rest _ f

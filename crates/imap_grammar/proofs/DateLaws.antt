@@ -7,9 +7,9 @@ use Rattle.imap_types.specs.DateTimes.{is_digit, month_of}
 use Rattle.imap_types.specs.declared.day.Day.{Day}
 use Rattle.imap_syntax.specs.Dates.{date, date_text, day_of_month, digits_to, hyphen, month_name, quote, year_number}
 use Rattle.imap_grammar.specs.Reading.{after, before, date_at, date_parts_at, date_text_at, digits_at, hyphened, is_date, month_name_at, octets_at, run_at, ◌>>=◌}
-use Rattle.imap_syntax.specs.Faults.{begins_in}
+use Rattle.imap_syntax.specs.Faults.{begins_with_class}
 use Rattle.imap_syntax.specs.Languages.{◌⌢◌}
-use Rattle.imap_syntax.specs.Strings.{begins, is_in, number_of, run}
+use Rattle.imap_syntax.specs.Strings.{begins_with, is_in, number_of, run}
 use Rattle.imap_syntax.specs.declared.octet_class.OctetClass.TheVariants.{Digit}
 use Rattle.imap_grammar.proofs.DateTimeLaws.{date_from, date_to}
 use Rattle.imap_grammar.proofs.ReaderLaws.{IsWordEnd, HasPrefix, IsReader, after_complete, after_sound, bind_some, both_reads, chosen, exactly_is, guarded, joined, map_reads, parts_around, some_is}
@@ -70,7 +70,7 @@ hyphened_reads {A} {read} {form} {stops} reads = record {
 hyphen_no_digit : (Q : List ℕ → Type 0) (octets rest : List ℕ) → HasPrefix (hyphen ⌢ Q) octets rest → NoDigit octets
 hyphen_no_digit Q octets rest f =
     let p = parts_around hyphen Q octets rest f in
-    ap (begins_in Digit) (exactly_is (45 ∷ []) octets p.0 p.1)
+    ap (begins_with_class Digit) (exactly_is (45 ∷ []) octets p.0 p.1)
 
 parts_reads : IsReader date_parts_at (λ p. day_of_month p.0 ⌢ hyphen ⌢ month_name p.1.0 ⌢ hyphen ⌢ year_number p.1.1) NoDigit
 parts_reads =
@@ -108,17 +108,17 @@ date_sound (b ∷ bs) x h =
 digit_no_quote : (b : ℕ) → is_digit b ≡ true → eqb b 34 ≡ false
 digit_no_quote b h = grind (arith, nat_tests)
 
-digits_first : (digits text octets rest : List ℕ) → run Digit digits text → octets ≡ text ++ rest → begins 34 octets ≡ false
+digits_first : (digits text octets rest : List ℕ) → run Digit digits text → octets ≡ text ++ rest → begins_with 34 octets ≡ false
 digits_first [] text octets rest r e = absurd (r.0 refl)
 digits_first (b ∷ bs) text octets rest r e =
-    ap (begins 34) (e ∙ ap (λ xs. xs ++ rest) r.2) ∙ digit_no_quote b (and_parts (is_digit b) (list_all (is_in Digit) bs) r.1).0
+    ap (begins_with 34) (e ∙ ap (λ xs. xs ++ rest) r.2) ∙ digit_no_quote b (and_parts (is_digit b) (list_all (is_in Digit) bs) r.1).0
 
-text_first : (this : Day) (octets rest : List ℕ) → HasPrefix (date_text this) octets rest → begins 34 octets ≡ false
+text_first : (this : Day) (octets rest : List ℕ) → HasPrefix (date_text this) octets rest → begins_with 34 octets ≡ false
 text_first this octets rest f =
     let p = parts_around (day_of_month this.day) _ octets rest (f.0, f.1.0, f.2) in
     digits_first p.1.1.0.0.0 p.1.0 octets p.0 p.1.1.0.0.1 p.1.2
 
-unquoted : (octets : List ℕ) → begins 34 octets ≡ false → date_at octets ≡ date_text_at octets
+unquoted : (octets : List ℕ) → begins_with 34 octets ≡ false → date_at octets ≡ date_text_at octets
 unquoted [] h = refl
 unquoted (b ∷ bs) h = ap (λ c. cond c (before date_text_at (after (34 ∷ [])) bs) (date_text_at (b ∷ bs))) h
 
@@ -129,7 +129,7 @@ date_complete this octets rest f s = elim f.1 [
       let p = parts_around quote (date_text this ⌢ quote) octets rest (f.0, t, f.2) in
       let q = parts_around (date_text this) quote p.0 rest p.2 in
       let close : q.0 ≡ 34 ∷ rest = exactly_is (34 ∷ []) q.0 rest q.2 in
-      let inside : date_text_at p.0 ≡ Some (this, q.0) = text_complete this p.0 q.0 q.1 (ap (begins_in Digit) close) in
+      let inside : date_text_at p.0 ≡ Some (this, q.0) = text_complete this p.0 q.0 q.1 (ap (begins_with_class Digit) close) in
       ap date_at (exactly_is (34 ∷ []) octets p.0 p.1)
       ∙ ap (λ r. r >>= λ first. after (34 ∷ []) first.1 >>= λ rest. Some (first.0, rest)) inside
       ∙ ap (λ o. after (34 ∷ []) o >>= λ rest. Some (this, rest)) close

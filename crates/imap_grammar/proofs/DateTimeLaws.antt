@@ -11,7 +11,7 @@ use Rattle.imap_types.proofs.DateTimeLemmas.{date_time_from_test, test_from_date
 use Rattle.imap_syntax.specs.Dates.{date_time}
 use Rattle.imap_grammar.specs.Reading.{is_date, zeroed}
 use Rattle.imap_grammar.specs.CommandReading.{date_time_at}
-use Rattle.imap_syntax.specs.Strings.{begins}
+use Rattle.imap_syntax.specs.Strings.{begins_with}
 use Rattle.imap_grammar.proofs.ReaderLaws.{HasPrefix, IsReader, chosen, guarded, some_is}
 
 not_above : (limit n : ℕ) → not (nat_lt limit n) ≡ true → n ≤ limit
@@ -118,12 +118,12 @@ date_complete value octets rest f =
 pub date_reads : (end : List ℕ → Type 0) → IsReader date_time_at date_time end
 date_reads end = record { sound = date_sound; complete = λ octets rest value f s. date_complete value octets rest f }
 
-value_begins : (value octets rest : List ℕ) → IsDateTime value → octets ≡ value ++ rest → begins 34 octets ≡ true
+value_begins : (value octets rest : List ℕ) → IsDateTime value → octets ≡ value ++ rest → begins_with 34 octets ≡ true
 value_begins [] octets rest h e = absurd (let k : 0 ≡ 28 = date_length [] h in omega arith)
-value_begins (a ∷ r) octets rest h e = ap (begins 34) e ∙ ap (λ c. eqb c 34) (quote_first a r h)
+value_begins (a ∷ r) octets rest h e = ap (begins_with 34) e ∙ ap (λ c. eqb c 34) (quote_first a r h)
 
-pub date_begins : (value octets rest : List ℕ) → HasPrefix (date_time value) octets rest → begins 34 octets ≡ true
+pub date_begins : (value octets rest : List ℕ) → HasPrefix (date_time value) octets rest → begins_with 34 octets ≡ true
 date_begins value octets rest f = elim f.1.1 [
   | inl same ↦ value_begins value octets rest f.1.0 (f.2 ∙ ap (λ xs. xs ++ rest) same)
-  | inr spaced ↦ ap (begins 34) (f.2 ∙ ap (λ xs. xs ++ rest) spaced.2)
+  | inr spaced ↦ ap (begins_with 34) (f.2 ∙ ap (λ xs. xs ++ rest) spaced.2)
 ]

@@ -7,7 +7,7 @@ use Rattle.imap_types.specs.Keywords.{to_lower_case, is_atom_octet}
 use Rattle.imap_syntax.specs.Languages.{exactly, sp, word, listed, maybe_listed}
 use Rattle.imap_syntax.specs.MessageFlags.{flag, flag_group, stored, stored_texts}
 use Rattle.imap_grammar.specs.Reading.{flag_at, flag_group_at, flags_of, listed_at, map_read, maybe_flags_at, named, named_at, no_flags, run_at, store_flags_at, stored_texts_at, ◌>>=◌}
-use Rattle.imap_syntax.specs.Strings.{begins, is_in, run}
+use Rattle.imap_syntax.specs.Strings.{begins_with, is_in, run}
 use Rattle.imap_syntax.specs.Words.{system_flags, system_word}
 use Rattle.imap_syntax.specs.declared.octet_class.OctetClass.TheVariants.{Atom, Item}
 use Rattle.imap_syntax.specs.declared.flags.Flag.{Flag}
@@ -15,7 +15,7 @@ use Rattle.imap_syntax.specs.declared.flags.Flag.TheVariants.{System, Keyword}
 use Rattle.imap_syntax.specs.declared.flags.SystemFlag.{SystemFlag}
 use Rattle.imap_syntax.specs.declared.flags.SystemFlag.TheVariants as system
 use Rattle.imap_grammar.proofs.FlagSets.{written_are, written_is}
-use Rattle.imap_grammar.proofs.ReaderLaws.{IsArgEnd, IsWordEnd, HasPrefix, IsReader, Shut, bind_some, chosen, closes_ends, closes_no_space, enclosed_reads, exactly_is, front_begins, joined, map_reads, parts_around, shut_closes, some_is, stopping}
+use Rattle.imap_grammar.proofs.ReaderLaws.{IsArgEnd, IsWordEnd, HasPrefix, IsReader, BeginsWithClosingParen, bind_some, chosen, closes_ends, closes_no_space, enclosed_reads, exactly_is, front_begins, joined, map_reads, parts_around, closing_paren_closes, some_is, stopping}
 use Rattle.imap_grammar.proofs.Lists.{listed_reads}
 use Rattle.imap_grammar.proofs.Spans.{run_reads}
 use Rattle.imap_grammar.proofs.WordLaws.{ends_item, table_reads}
@@ -54,14 +54,14 @@ atom_no : (b : ℕ) → is_atom_octet b ≡ true → (eqb b 92 ≡ false) × (eq
 atom_no b h = (grind (arith, nat_tests), grind (arith, nat_tests), grind (arith, nat_tests))
 
 -- the first octet of an atom
-atom_first : (keyword text octets rest : List ℕ) → run Atom keyword text → octets ≡ text ++ rest → (begins 92 octets ≡ false) × (begins 40 octets ≡ false) × (begins 41 octets ≡ false)
+atom_first : (keyword text octets rest : List ℕ) → run Atom keyword text → octets ≡ text ++ rest → (begins_with 92 octets ≡ false) × (begins_with 40 octets ≡ false) × (begins_with 41 octets ≡ false)
 atom_first [] text octets rest r e = absurd (r.0 refl)
 atom_first (b ∷ bs) text octets rest r e =
     let is : octets ≡ (b ∷ bs) ++ rest = e ∙ ap (λ xs. xs ++ rest) r.2 in
     let n = atom_no b (and_parts (is_atom_octet b) (list_all (is_in Atom) bs) r.1).0 in
-    (ap (begins 92) is ∙ n.0, ap (begins 40) is ∙ n.1, ap (begins 41) is ∙ n.2)
+    (ap (begins_with 92) is ∙ n.0, ap (begins_with 40) is ∙ n.1, ap (begins_with 41) is ∙ n.2)
 
-no_escape : (octets : List ℕ) → begins 92 octets ≡ false → flag_at octets ≡ map_read Keyword (run_at Atom) octets
+no_escape : (octets : List ℕ) → begins_with 92 octets ≡ false → flag_at octets ≡ map_read Keyword (run_at Atom) octets
 no_escape [] h = refl
 no_escape (b ∷ bs) h = ap (λ c. cond c (map_read System (named_at system_word system_flags) bs) (map_read Keyword (run_at Atom) (b ∷ bs))) h
 
@@ -78,14 +78,14 @@ flag_reads = record { sound = flag_sound; complete = λ octets rest value f s. f
 flags_reads : IsReader (listed_at 32 flag_at) (listed sp flag) IsArgEnd
 flags_reads = listed_reads 32 flag_reads IsArgEnd closes_no_space closes_ends (λ octets. refl)
 
-flag_first : (value : Flag) (octets rest : List ℕ) → HasPrefix (flag value) octets rest → (begins 40 octets ≡ false) × (begins 41 octets ≡ false)
+flag_first : (value : Flag) (octets rest : List ℕ) → HasPrefix (flag value) octets rest → (begins_with 40 octets ≡ false) × (begins_with 41 octets ≡ false)
 flag_first (System known) octets rest f =
     let p = parts_around (exactly (92 ∷ [])) (word (system_word known)) octets rest f in
     let e = exactly_is (92 ∷ []) octets p.0 p.1 in
-    (ap (begins 40) e, ap (begins 41) e)
+    (ap (begins_with 40) e, ap (begins_with 41) e)
 flag_first (Keyword keyword) octets rest f = let n = atom_first keyword f.0 octets rest f.1 f.2 in (n.1, n.2)
 
-list_first : (values : List Flag) (octets rest : List ℕ) → HasPrefix (listed sp flag values) octets rest → (begins 40 octets ≡ false) × (begins 41 octets ≡ false)
+list_first : (values : List Flag) (octets rest : List ℕ) → HasPrefix (listed sp flag values) octets rest → (begins_with 40 octets ≡ false) × (begins_with 41 octets ≡ false)
 list_first [] octets rest f = absurd f.1
 list_first (v ∷ vs) octets rest f = let p = parts_around (flag v) _ octets rest f in flag_first v octets p.0 p.1
 
@@ -101,17 +101,17 @@ maybe_sound (b ∷ bs) x h =
       | inr n ↦ maybe_from x.0 (b ∷ bs) x.1 (flags_reads.sound (b ∷ bs) x n.1)
     ]
 
-shut_none : (rest : List ℕ) → begins 41 rest ≡ true → maybe_flags_at rest ≡ Some ([], rest)
+shut_none : (rest : List ℕ) → begins_with 41 rest ≡ true → maybe_flags_at rest ≡ Some ([], rest)
 shut_none [] h = cc
 shut_none (b ∷ bs) h = ap (λ c. cond c (Some ([], b ∷ bs)) (listed_at 32 flag_at (b ∷ bs))) h
 
-shut_some : (octets : List ℕ) → begins 41 octets ≡ false → maybe_flags_at octets ≡ listed_at 32 flag_at octets
+shut_some : (octets : List ℕ) → begins_with 41 octets ≡ false → maybe_flags_at octets ≡ listed_at 32 flag_at octets
 shut_some [] h = refl
 shut_some (b ∷ bs) h = ap (λ c. cond c (Some ([], b ∷ bs)) (listed_at 32 flag_at (b ∷ bs))) h
 
-maybe_complete : (values : List Flag) (octets rest : List ℕ) → HasPrefix (maybe_listed sp flag values) octets rest → Shut rest → maybe_flags_at octets ≡ Some (values, rest)
+maybe_complete : (values : List Flag) (octets rest : List ℕ) → HasPrefix (maybe_listed sp flag values) octets rest → BeginsWithClosingParen rest → maybe_flags_at octets ≡ Some (values, rest)
 maybe_complete [] octets rest f s = ap maybe_flags_at (exactly_is [] octets rest f) ∙ shut_none rest s
-maybe_complete (v ∷ vs) octets rest f s = shut_some octets (list_first (v ∷ vs) octets rest f).1 ∙ flags_reads.complete octets rest (v ∷ vs) f (shut_closes rest s)
+maybe_complete (v ∷ vs) octets rest f s = shut_some octets (list_first (v ∷ vs) octets rest f).1 ∙ flags_reads.complete octets rest (v ∷ vs) f (closing_paren_closes rest s)
 
 pub group_reads : (end : List ℕ → Type 0) → IsReader flag_group_at flag_group end
 group_reads end = enclosed_reads 40 41 (record { sound = maybe_sound; complete = λ octets rest values f s. maybe_complete values octets rest f s }) end
@@ -124,11 +124,11 @@ texts_sound (b ∷ bs) x h =
       | inr n ↦ let f = flags_reads.sound (b ∷ bs) x n.1 in (f.0, inr f.1, f.2)
     ]
 
-open_group : (octets : List ℕ) → begins 40 octets ≡ true → stored_texts_at octets ≡ flag_group_at octets
+open_group : (octets : List ℕ) → begins_with 40 octets ≡ true → stored_texts_at octets ≡ flag_group_at octets
 open_group [] h = cc
 open_group (b ∷ bs) h = ap (λ c. cond c (flag_group_at (b ∷ bs)) (listed_at 32 flag_at (b ∷ bs))) h
 
-open_list : (octets : List ℕ) → begins 40 octets ≡ false → stored_texts_at octets ≡ listed_at 32 flag_at octets
+open_list : (octets : List ℕ) → begins_with 40 octets ≡ false → stored_texts_at octets ≡ listed_at 32 flag_at octets
 open_list [] h = refl
 open_list (b ∷ bs) h = ap (λ c. cond c (flag_group_at (b ∷ bs)) (listed_at 32 flag_at (b ∷ bs))) h
 

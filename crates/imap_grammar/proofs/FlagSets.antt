@@ -48,88 +48,88 @@ shows Deleted flags = flags.deleted
 shows Seen flags = flags.seen
 shows Draft flags = flags.draft
 
-system_more : (known : SystemFlag) (one : Flag) (flags : Flags) → shows known (with_flag flags one) ≡ (is_system known one || shows known flags)
-system_more Answered (System Answered) flags = refl
-system_more Answered (System Flagged) flags = refl
-system_more Answered (System Deleted) flags = refl
-system_more Answered (System Seen) flags = refl
-system_more Answered (System Draft) flags = refl
-system_more Answered (Keyword keyword) flags = refl
-system_more Flagged (System Answered) flags = refl
-system_more Flagged (System Flagged) flags = refl
-system_more Flagged (System Deleted) flags = refl
-system_more Flagged (System Seen) flags = refl
-system_more Flagged (System Draft) flags = refl
-system_more Flagged (Keyword keyword) flags = refl
-system_more Deleted (System Answered) flags = refl
-system_more Deleted (System Flagged) flags = refl
-system_more Deleted (System Deleted) flags = refl
-system_more Deleted (System Seen) flags = refl
-system_more Deleted (System Draft) flags = refl
-system_more Deleted (Keyword keyword) flags = refl
-system_more Seen (System Answered) flags = refl
-system_more Seen (System Flagged) flags = refl
-system_more Seen (System Deleted) flags = refl
-system_more Seen (System Seen) flags = refl
-system_more Seen (System Draft) flags = refl
-system_more Seen (Keyword keyword) flags = refl
-system_more Draft (System Answered) flags = refl
-system_more Draft (System Flagged) flags = refl
-system_more Draft (System Deleted) flags = refl
-system_more Draft (System Seen) flags = refl
-system_more Draft (System Draft) flags = refl
-system_more Draft (Keyword keyword) flags = refl
+shows_of_added : (known : SystemFlag) (one : Flag) (flags : Flags) → shows known (with_flag flags one) ≡ (is_system known one || shows known flags)
+shows_of_added Answered (System Answered) flags = refl
+shows_of_added Answered (System Flagged) flags = refl
+shows_of_added Answered (System Deleted) flags = refl
+shows_of_added Answered (System Seen) flags = refl
+shows_of_added Answered (System Draft) flags = refl
+shows_of_added Answered (Keyword keyword) flags = refl
+shows_of_added Flagged (System Answered) flags = refl
+shows_of_added Flagged (System Flagged) flags = refl
+shows_of_added Flagged (System Deleted) flags = refl
+shows_of_added Flagged (System Seen) flags = refl
+shows_of_added Flagged (System Draft) flags = refl
+shows_of_added Flagged (Keyword keyword) flags = refl
+shows_of_added Deleted (System Answered) flags = refl
+shows_of_added Deleted (System Flagged) flags = refl
+shows_of_added Deleted (System Deleted) flags = refl
+shows_of_added Deleted (System Seen) flags = refl
+shows_of_added Deleted (System Draft) flags = refl
+shows_of_added Deleted (Keyword keyword) flags = refl
+shows_of_added Seen (System Answered) flags = refl
+shows_of_added Seen (System Flagged) flags = refl
+shows_of_added Seen (System Deleted) flags = refl
+shows_of_added Seen (System Seen) flags = refl
+shows_of_added Seen (System Draft) flags = refl
+shows_of_added Seen (Keyword keyword) flags = refl
+shows_of_added Draft (System Answered) flags = refl
+shows_of_added Draft (System Flagged) flags = refl
+shows_of_added Draft (System Deleted) flags = refl
+shows_of_added Draft (System Seen) flags = refl
+shows_of_added Draft (System Draft) flags = refl
+shows_of_added Draft (Keyword keyword) flags = refl
 
 system_all : (known : SystemFlag) (written : List Flag) (flags : Flags) → shows known (flags_of flags written) ≡ (shows known flags || list_any (is_system known) written)
 system_all known [] flags = sym (or_none (shows known flags))
 system_all known (one ∷ more) flags =
     system_all known more (with_flag flags one)
-    ∙ ap (λ (b : Bool). b || list_any (is_system known) more) (system_more known one flags)
+    ∙ ap (λ (b : Bool). b || list_any (is_system known) more) (shows_of_added known one flags)
     ∙ or_moved (is_system known one) (shows known flags) (list_any (is_system known) more)
 
 -- ---- keywords
 
-abbrev holds : List (List ℕ) → List ℕ → Bool
-holds words word = list_any (bytes_eq word) words
+abbrev has_word : List (List ℕ) → List ℕ → Bool
+has_word words word = list_any (bytes_eq word) words
 
 same_word : (w v : List ℕ) → octet_order w v ≡ Equal → w ≡ v
 same_word w v e = slice_cmp-IsAntisymmetric nat_cmp-IsAntisymmetric w v e
 
-holds_step : (x w v : List ℕ) (vs rest : List (List ℕ)) (o : Ordering) → octet_order w v ≡ o → holds rest x ≡ (bytes_eq x w || holds vs x) → holds (match_ordering o (w ∷ v ∷ vs) (v ∷ vs) (v ∷ rest)) x ≡ (bytes_eq x w || (bytes_eq x v || holds vs x))
-holds_step x w v vs rest Less e h = refl
-holds_step x w v vs rest Equal e h = sym (ap (λ (u : List ℕ). bytes_eq x u || (bytes_eq x v || holds vs x)) (same_word w v e) ∙ or_twice (bytes_eq x v) (holds vs x))
-holds_step x w v vs rest Greater e h = ap (λ (b : Bool). bytes_eq x v || b) h ∙ or_turned (bytes_eq x w) (bytes_eq x v) (holds vs x)
+has_word_step : (x w v : List ℕ) (vs rest : List (List ℕ)) (o : Ordering) → octet_order w v ≡ o → has_word rest x ≡ (bytes_eq x w || has_word vs x) → has_word (match_ordering o (w ∷ v ∷ vs) (v ∷ vs) (v ∷ rest)) x ≡ (bytes_eq x w || (bytes_eq x v || has_word vs x))
+has_word_step x w v vs rest Less e h = refl
+has_word_step x w v vs rest Equal e h = sym (ap (λ (u : List ℕ). bytes_eq x u || (bytes_eq x v || has_word vs x)) (same_word w v e) ∙ or_twice (bytes_eq x v) (has_word vs x))
+has_word_step x w v vs rest Greater e h = ap (λ (b : Bool). bytes_eq x v || b) h ∙ or_turned (bytes_eq x w) (bytes_eq x v) (has_word vs x)
 
-holds_with : (x w : List ℕ) (vs : List (List ℕ)) → holds (with_word w vs) x ≡ (bytes_eq x w || holds vs x)
-holds_with x w [] = refl
-holds_with x w (v ∷ vs) = holds_step x w v vs (with_word w vs) (octet_order w v) refl (holds_with x w vs)
+has_word_with : (x w : List ℕ) (vs : List (List ℕ)) → has_word (with_word w vs) x ≡ (bytes_eq x w || has_word vs x)
+has_word_with x w [] = refl
+has_word_with x w (v ∷ vs) = has_word_step x w v vs (with_word w vs) (octet_order w v) refl (has_word_with x w vs)
 
-keyword_more : (x : List ℕ) (one : Flag) (flags : Flags) → holds (with_flag flags one).keywords x ≡ (is_keyword x one || holds flags.keywords x)
-keyword_more x (System Answered) flags = refl
-keyword_more x (System Flagged) flags = refl
-keyword_more x (System Deleted) flags = refl
-keyword_more x (System Seen) flags = refl
-keyword_more x (System Draft) flags = refl
-keyword_more x (Keyword keyword) flags = holds_with x (to_lower_case keyword) flags.keywords
+has_word_of_added : (x : List ℕ) (one : Flag) (flags : Flags) → has_word (with_flag flags one).keywords x ≡ (is_keyword x one || has_word flags.keywords x)
+has_word_of_added x (System Answered) flags = refl
+has_word_of_added x (System Flagged) flags = refl
+has_word_of_added x (System Deleted) flags = refl
+has_word_of_added x (System Seen) flags = refl
+has_word_of_added x (System Draft) flags = refl
+has_word_of_added x (Keyword keyword) flags = has_word_with x (to_lower_case keyword) flags.keywords
 
-keyword_all : (x : List ℕ) (written : List Flag) (flags : Flags) → holds (flags_of flags written).keywords x ≡ (holds flags.keywords x || list_any (is_keyword x) written)
-keyword_all x [] flags = sym (or_none (holds flags.keywords x))
+keyword_all : (x : List ℕ) (written : List Flag) (flags : Flags) → has_word (flags_of flags written).keywords x ≡ (has_word flags.keywords x || list_any (is_keyword x) written)
+keyword_all x [] flags = sym (or_none (has_word flags.keywords x))
 keyword_all x (one ∷ more) flags =
     keyword_all x more (with_flag flags one)
-    ∙ ap (λ (b : Bool). b || list_any (is_keyword x) more) (keyword_more x one flags)
-    ∙ or_moved (is_keyword x one) (holds flags.keywords x) (list_any (is_keyword x) more)
+    ∙ ap (λ (b : Bool). b || list_any (is_keyword x) more) (has_word_of_added x one flags)
+    ∙ or_moved (is_keyword x one) (has_word flags.keywords x) (list_any (is_keyword x) more)
 
-set_more : (one : Flag) (flags : Flags) → AreKeywords flags.keywords → AreKeywords (with_flag flags one).keywords
-set_more (System Answered) flags h = h
-set_more (System Flagged) flags h = h
-set_more (System Deleted) flags h = h
-set_more (System Seen) flags h = h
-set_more (System Draft) flags h = h
-set_more (Keyword keyword) flags h = keywords_with keyword flags.keywords h
+keywords_of_added : (one : Flag) (flags : Flags) → AreKeywords flags.keywords → AreKeywords (with_flag flags one).keywords
+keywords_of_added (System Answered) flags h = h
+keywords_of_added (System Flagged) flags h = h
+keywords_of_added (System Deleted) flags h = h
+keywords_of_added (System Seen) flags h = h
+keywords_of_added (System Draft) flags h = h
+keywords_of_added (Keyword keyword) flags h = keywords_with keyword flags.keywords h
 
 set_all : (written : List Flag) (flags : Flags) → AreKeywords flags.keywords → AreKeywords (flags_of flags written).keywords
 set_all [] flags h = h
-set_all (one ∷ more) flags h = set_all more (with_flag flags one) (set_more one flags h)
+set_all (one ∷ more) flags h = set_all more (with_flag flags one) (keywords_of_added one flags h)
 
 pub written_are : (written : List Flag) → AreWritten written (flags_of no_flags written)
 written_are written = record {
@@ -145,21 +145,21 @@ written_are written = record {
 -- ---- there is only one such set
 
 abbrev IsWithin : List (List ℕ) → List (List ℕ) → Type 0
-IsWithin xs ys = (z : List ℕ) → holds xs z ≡ true → holds ys z ≡ true
+IsWithin xs ys = (z : List ℕ) → has_word xs z ≡ true → has_word ys z ≡ true
 
-holds_cases : (z x : List ℕ) (xs : List (List ℕ)) → holds (x ∷ xs) z ≡ true → (z ≡ x) ⊎ (holds xs z ≡ true)
-holds_cases z x xs h = elim (or_cases (bytes_eq z x) (holds xs z) h) [ inl e ↦ inl ((bytes_eq-Decides z x).0 e) | inr t ↦ inr t ]
+has_word_cases : (z x : List ℕ) (xs : List (List ℕ)) → has_word (x ∷ xs) z ≡ true → (z ≡ x) ⊎ (has_word xs z ≡ true)
+has_word_cases z x xs h = elim (or_cases (bytes_eq z x) (has_word xs z) h) [ inl e ↦ inl ((bytes_eq-Decides z x).0 e) | inr t ↦ inr t ]
 
-holds_first : (x : List ℕ) (xs : List (List ℕ)) → holds (x ∷ xs) x ≡ true
-holds_first x xs = or_left (bytes_eq x x) (holds xs x) ((bytes_eq-Decides x x).1 refl)
+has_word_first : (x : List ℕ) (xs : List (List ℕ)) → has_word (x ∷ xs) x ≡ true
+has_word_first x xs = or_left (bytes_eq x x) (has_word xs x) ((bytes_eq-Decides x x).1 refl)
 
-holds_rest : (z x : List ℕ) (xs : List (List ℕ)) → holds xs z ≡ true → holds (x ∷ xs) z ≡ true
-holds_rest z x xs i = or_right (bytes_eq z x) (holds xs z) i
+has_word_rest : (z x : List ℕ) (xs : List (List ℕ)) → has_word xs z ≡ true → has_word (x ∷ xs) z ≡ true
+has_word_rest z x xs i = or_right (bytes_eq z x) (has_word xs z) i
 
-first_before : (x z : List ℕ) (xs : List (List ℕ)) → AreAscending (x ∷ xs) → holds xs z ≡ true → IsBefore x z
+first_before : (x z : List ℕ) (xs : List (List ℕ)) → AreAscending (x ∷ xs) → has_word xs z ≡ true → IsBefore x z
 first_before x z [] h i = absurd (false≢true i)
 first_before x z (y ∷ xs) h i =
-    elim (holds_cases z y xs i) [
+    elim (has_word_cases z y xs i) [
       | inl e ↦ subst (IsBefore x) (sym e) h.0
       | inr t ↦ nat_list_cmp_total.trans x y z h.0 (first_before y z xs h.1 t)
     ]
@@ -173,16 +173,16 @@ ascending_rest x (y ∷ xs) h = h.1
 
 tail_within : (x y : List ℕ) (xs ys : List (List ℕ)) → x ≡ y → AreAscending (x ∷ xs) → IsWithin (x ∷ xs) (y ∷ ys) → IsWithin xs ys
 tail_within x y xs ys e h f z i =
-    elim (holds_cases z y ys (f z (holds_rest z x xs i))) [
+    elim (has_word_cases z y ys (f z (has_word_rest z x xs i))) [
       | inl k ↦ absurd (not_itself x (subst (IsBefore x) (k ∙ sym e) (first_before x z xs h i)))
       | inr t ↦ t
     ]
 
-heads_same : (x y : List ℕ) (xs ys : List (List ℕ)) → AreAscending (x ∷ xs) → AreAscending (y ∷ ys) → holds (y ∷ ys) x ≡ true → holds (x ∷ xs) y ≡ true → x ≡ y
+heads_same : (x y : List ℕ) (xs ys : List (List ℕ)) → AreAscending (x ∷ xs) → AreAscending (y ∷ ys) → has_word (y ∷ ys) x ≡ true → has_word (x ∷ xs) y ≡ true → x ≡ y
 heads_same x y xs ys h k i j =
-    elim (holds_cases x y ys i) [
+    elim (has_word_cases x y ys i) [
       | inl e ↦ e
-      | inr t ↦ elim (holds_cases y x xs j) [
+      | inr t ↦ elim (has_word_cases y x xs j) [
         | inl e ↦ sym e
         | inr u ↦ absurd (not_itself x (nat_list_cmp_total.trans x y x (first_before x y xs h u) (first_before y x ys k t)))
       ]
@@ -190,10 +190,10 @@ heads_same x y xs ys h k i j =
 
 one_set : (xs ys : List (List ℕ)) → AreAscending xs → AreAscending ys → IsWithin xs ys → IsWithin ys xs → xs ≡ ys
 one_set [] [] h k f g = refl
-one_set [] (y ∷ ys) h k f g = absurd (false≢true (g y (holds_first y ys)))
-one_set (x ∷ xs) [] h k f g = absurd (false≢true (f x (holds_first x xs)))
+one_set [] (y ∷ ys) h k f g = absurd (false≢true (g y (has_word_first y ys)))
+one_set (x ∷ xs) [] h k f g = absurd (false≢true (f x (has_word_first x xs)))
 one_set (x ∷ xs) (y ∷ ys) h k f g =
-    let head : x ≡ y = heads_same x y xs ys h k (f x (holds_first x xs)) (g y (holds_first y ys)) in
+    let head : x ≡ y = heads_same x y xs ys h k (f x (has_word_first x xs)) (g y (has_word_first y ys)) in
     let tail : xs ≡ ys = one_set xs ys (ascending_rest x xs h) (ascending_rest y ys k) (tail_within x y xs ys head h f) (tail_within y x ys xs (sym head) k g) in
     λ i. head i ∷ tail i
 

@@ -2,7 +2,7 @@
 use Rattle.std.proofs.Common.{◌≡◌, ◌≢◌, ◌⊎◌, ◌↔◌, ℕ, false, cond, List, [], ◌∷◌, ◌++◌, Option, Some, None, Result, Ok, Err, inl, inr, ap, sym, ◌∙◌, refl, subst}
 use Rattle.std.specs.Prelude.{IfOk}
 use Rattle.imap_syntax.specs.Commands.{word_of, arguments, command, IsSpelled}
-use Rattle.imap_syntax.specs.Faults.{HasTag, IsTagged, NamesCommand, begins_in}
+use Rattle.imap_syntax.specs.Faults.{HasTag, IsTagged, NamesCommand, begins_with_class}
 use Rattle.imap_syntax.specs.Languages.{◌⌢◌, sp, crlf, word}
 use Rattle.imap_grammar.specs.Reading.{IsReading, after, is_nil, named, run_at, span, ◌>>=◌}
 use Rattle.imap_grammar.specs.CommandReading.{AnswersTag, AnswersWord, arguments_at, ended_at, tag_at, tagged_at, word_at}
@@ -30,7 +30,7 @@ tag_sound frame x h =
 
 tag_complete : (frame mid rest tag : List ℕ) → HasPrefix (run Tag tag) frame mid → HasPrefix sp mid rest → tag_at frame ≡ Some (tag, rest)
 tag_complete frame mid rest tag f s =
-    let begins : begins_in Tag mid ≡ false = ap (begins_in Tag) (s.2 ∙ ap (λ xs. xs ++ rest) s.1) in
+    let begins : begins_with_class Tag mid ≡ false = ap (begins_with_class Tag) (s.2 ∙ ap (λ xs. xs ++ rest) s.1) in
     ap (λ r. r >>= λ t. after (32 ∷ []) t.1 >>= λ r. Some (t.0, r)) (run_complete Tag frame mid tag f begins)
     ∙ ap (λ r. r >>= λ r. Some (tag, r)) (after_complete (32 ∷ []) mid rest s)
 
@@ -58,7 +58,7 @@ ended_complete c octets mid f e =
 word_front : (octets : List ℕ) (w : CommandWord) → word_at octets ≡ Some w → HasPrefix (word (command_word w)) octets (span (is_in Atom) octets).1
 word_front octets w h = ((span (is_in Atom) octets).0, named_sound command_word command_words (span (is_in Atom) octets).0 w h, span_parts (is_in Atom) octets)
 
-word_span : (octets rest : List ℕ) (w : CommandWord) (f : HasPrefix (word (command_word w)) octets rest) → begins_in Atom rest ≡ false → span (is_in Atom) octets ≡ (f.0, rest)
+word_span : (octets rest : List ℕ) (w : CommandWord) (f : HasPrefix (word (command_word w)) octets rest) → begins_with_class Atom rest ≡ false → span (is_in Atom) octets ≡ (f.0, rest)
 word_span octets rest w f s = ap (span (is_in Atom)) f.2 ∙ span_complete Atom f.0 rest (word_atoms (command_word w) f.0 (command_atoms w) f.1) s
 
 -- a command that is read is one that the frame spells

@@ -8,11 +8,11 @@ use Rattle.std.specs.Str.{bytes_eq}
 use Rattle.imap_types.specs.Keywords.{to_lower_case}
 use Rattle.imap_types.specs.declared.section.Section.{Section}
 use Rattle.imap_types.specs.declared.section.Section.TheVariants.{Whole, Header, Text, Fields, FieldsNot}
-use Rattle.imap_syntax.specs.Faults.{begins_in}
+use Rattle.imap_syntax.specs.Faults.{begins_with_class}
 use Rattle.imap_syntax.specs.Items.{fast_items, fetch_item, fetched, field_names, item_tail, item_word, partial, section}
 use Rattle.imap_syntax.specs.Languages.{◌⌢◌, exactly, nothing, sp, word, in_parens, listed}
-use Rattle.imap_grammar.specs.Reading.{after, alone_at, before, body_at, both, bracketed_at, fetched_at, field_names_at, is_nil, item_at, item_tail_at, listed_at, map_read, named, named_at, number_at, nz_at, parens_at, partial_at, section_at, section_tail_at, span, ◌>>=◌}
-use Rattle.imap_syntax.specs.Strings.{begins, is_in, is_pattern_octet, number_to, nz}
+use Rattle.imap_grammar.specs.Reading.{after, fast_or_item_at, before, body_at, both, bracketed_at, fetched_at, field_names_at, is_nil, item_at, item_tail_at, listed_at, map_read, named, named_at, number_at, nz_at, parens_at, partial_at, section_at, section_tail_at, span, ◌>>=◌}
+use Rattle.imap_syntax.specs.Strings.{begins_with, is_in, is_pattern_octet, number_to, nz}
 use Rattle.imap_syntax.specs.Words.{fetch_word, fetch_words, section_word, section_words}
 use Rattle.imap_syntax.specs.declared.octet_class.OctetClass.TheVariants.{Astring, Digit, Item}
 use Rattle.imap_syntax.specs.declared.fetch.FetchItem.{FetchItem}
@@ -47,7 +47,7 @@ names_reads : (end : List ℕ → Type 0) → IsReader field_names_at field_name
 names_reads end = spaced_reads (parens_reads (listed_reads 32 (text_reads Astring) IsArgEnd closes_no_space closes_ends (λ octets. refl)) {stops = end})
 
 abbrev Bracket : List ℕ → Type 0
-Bracket rest = begins 93 rest ≡ true
+Bracket rest = begins_with 93 rest ≡ true
 
 bracket_item : (rest : List ℕ) → Bracket rest → NoItem rest
 bracket_item [] h = refl
@@ -79,11 +79,11 @@ whole_complete : (rest : List ℕ) → Bracket rest → section_at rest ≡ Some
 whole_complete [] h = cc
 whole_complete (b ∷ bs) h = ap (λ c. cond c (Some (Whole, b ∷ bs)) (named_at section_word section_words (b ∷ bs) >>= λ parsed. section_tail_at parsed.0 parsed.1)) h
 
-no_bracket : (octets : List ℕ) → begins 93 octets ≡ false → section_at octets ≡ (named_at section_word section_words octets >>= λ parsed. section_tail_at parsed.0 parsed.1)
+no_bracket : (octets : List ℕ) → begins_with 93 octets ≡ false → section_at octets ≡ (named_at section_word section_words octets >>= λ parsed. section_tail_at parsed.0 parsed.1)
 no_bracket [] h = refl
 no_bracket (b ∷ bs) h = ap (λ c. cond c (Some (Whole, b ∷ bs)) (named_at section_word section_words (b ∷ bs) >>= λ parsed. section_tail_at parsed.0 parsed.1)) h
 
-section_word_complete : (w : SectionWord) (octets mid : List ℕ) → HasPrefix (word (section_word w)) octets mid → NoItem mid → begins 93 octets ≡ false → section_at octets ≡ section_tail_at w mid
+section_word_complete : (w : SectionWord) (octets mid : List ℕ) → HasPrefix (word (section_word w)) octets mid → NoItem mid → begins_with 93 octets ≡ false → section_at octets ≡ section_tail_at w mid
 section_word_complete w octets mid f s n =
     no_bracket octets n ∙ ap (λ r. r >>= λ parsed. section_tail_at parsed.0 parsed.1) (named_at_complete section_word section_words w octets mid (section_named w) (section_letters w) f s)
 
@@ -142,9 +142,9 @@ partial_complete (Some this) octets rest f s =
     let dot : q.0 ≡ 46 ∷ r.0 = exactly_is (46 ∷ []) q.0 r.0 r.1 in
     let close : t.0 ≡ 62 ∷ rest = exactly_is (62 ∷ []) t.0 rest t.2 in
     ap partial_at (exactly_is (60 ∷ []) octets p.0 p.1)
-    ∙ ap (λ r. r >>= λ start. after (46 ∷ []) start.1 >>= λ dot. nz_at dot >>= λ count. after (62 ∷ []) count.1 >>= λ rest. Some (Some (record { start = start.0; count = count.0 }), rest)) ((number_reads 4294967295).complete p.0 q.0 this.start q.1 (ap (begins_in Digit) dot))
+    ∙ ap (λ r. r >>= λ start. after (46 ∷ []) start.1 >>= λ dot. nz_at dot >>= λ count. after (62 ∷ []) count.1 >>= λ rest. Some (Some (record { start = start.0; count = count.0 }), rest)) ((number_reads 4294967295).complete p.0 q.0 this.start q.1 (ap (begins_with_class Digit) dot))
     ∙ ap (λ r. r >>= λ dot. nz_at dot >>= λ count. after (62 ∷ []) count.1 >>= λ rest. Some (Some (record { start = this.start; count = count.0 }), rest)) (after_complete (46 ∷ []) q.0 r.0 r.1)
-    ∙ ap (λ r. r >>= λ count. after (62 ∷ []) count.1 >>= λ rest. Some (Some (record { start = this.start; count = count.0 }), rest)) (nz_reads.complete r.0 t.0 this.count t.1 (ap (begins_in Digit) close))
+    ∙ ap (λ r. r >>= λ count. after (62 ∷ []) count.1 >>= λ rest. Some (Some (record { start = this.start; count = count.0 }), rest)) (nz_reads.complete r.0 t.0 this.count t.1 (ap (begins_with_class Digit) close))
     ∙ ap (λ r. r >>= λ rest. Some (Some this, rest)) (after_complete (62 ∷ []) t.0 rest t.2)
 
 partial_reads : IsReader partial_at partial IsWordEnd
@@ -247,8 +247,8 @@ item_reads = keyed_reads (table_reads fetch_word fetch_words fetch_named fetch_l
 list_reads : IsReader (listed_at 32 item_at) (listed sp fetch_item) IsArgEnd
 list_reads = listed_reads 32 item_reads IsArgEnd closes_no_space closes_ends (λ octets. refl)
 
-alone_sound : (octets : List ℕ) (x : List FetchItem × List ℕ) → alone_at octets ≡ Some x → HasPrefix (fetched x.0) octets x.1
-alone_sound octets x h =
+fast_or_item_sound : (octets : List ℕ) (x : List FetchItem × List ℕ) → fast_or_item_at octets ≡ Some x → HasPrefix (fetched x.0) octets x.1
+fast_or_item_sound octets x h =
     elim (chosen (bytes_eq (to_lower_case (span (is_in Item) octets).0) (to_lower_case (codes "FAST"))) (Some (fast_items, (span (is_in Item) octets).1)) (map_read (λ item. item ∷ []) item_at octets) (Some x) h) [
       | inl t ↦
           subst (λ (y : List FetchItem × List ℕ). HasPrefix (fetched y.0) octets y.1) (some_is (fast_items, (span (is_in Item) octets).1) x t.1)
@@ -262,18 +262,18 @@ alone_sound octets x h =
 fetched_sound : (octets : List ℕ) (x : List FetchItem × List ℕ) → fetched_at octets ≡ Some x → HasPrefix (fetched x.0) octets x.1
 fetched_sound [] x h = cc
 fetched_sound (b ∷ bs) x h =
-    elim (chosen (eqb b 40) (before (listed_at 32 item_at) (after (41 ∷ [])) bs) (alone_at (b ∷ bs)) (Some x) h) [
+    elim (chosen (eqb b 40) (before (listed_at 32 item_at) (after (41 ∷ [])) bs) (fast_or_item_at (b ∷ bs)) (Some x) h) [
       | inl t ↦
           let a = bind_some (listed_at 32 item_at bs) _ x t.1 in
           let c = bind_some (after (41 ∷ []) a.0.1) _ x a.2 in
           let j = joined (exactly (40 ∷ [])) _ (b ∷ bs) bs c.0 (40 ∷ [], refl, ap (λ c. c ∷ bs) (eqb-true b 40 t.0)) (joined (listed sp fetch_item a.0.0) (exactly (41 ∷ [])) bs a.0.1 c.0 (list_reads.sound bs a.0 a.1) (after_sound (41 ∷ []) a.0.1 c.0 c.1)) in
           subst (λ (y : List FetchItem × List ℕ). HasPrefix (fetched y.0) (b ∷ bs) y.1) (some_is (a.0.0, c.0) x c.2) (j.0, inl j.1, j.2)
-      | inr n ↦ alone_sound (b ∷ bs) x n.1
+      | inr n ↦ fast_or_item_sound (b ∷ bs) x n.1
     ]
 
-no_group : (octets : List ℕ) → begins 40 octets ≡ false → fetched_at octets ≡ alone_at octets
+no_group : (octets : List ℕ) → begins_with 40 octets ≡ false → fetched_at octets ≡ fast_or_item_at octets
 no_group [] h = refl
-no_group (b ∷ bs) h = ap (λ c. cond c (before (listed_at 32 item_at) (after (41 ∷ [])) bs) (alone_at (b ∷ bs))) h
+no_group (b ∷ bs) h = ap (λ c. cond c (before (listed_at 32 item_at) (after (41 ∷ [])) bs) (fast_or_item_at (b ∷ bs))) h
 
 fast_complete : (octets rest : List ℕ) → HasPrefix (word (codes "FAST")) octets rest → IsWordEnd rest → fetched_at octets ≡ Some (fast_items, rest)
 fast_complete octets rest f s =

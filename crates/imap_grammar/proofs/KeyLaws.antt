@@ -11,14 +11,14 @@ use Rattle.imap_types.specs.declared.sequence_set.SequenceBound.{SequenceBound}
 use Rattle.imap_types.specs.declared.sequence_set.SequenceBound.TheVariants.{Number, Greatest}
 use Rattle.imap_types.specs.declared.sequence_set.SequenceRange.{SequenceRange}
 use Rattle.imap_syntax.specs.Dates.{date}
-use Rattle.imap_syntax.specs.Faults.{begins_in}
+use Rattle.imap_syntax.specs.Faults.{begins_with_class}
 use Rattle.imap_grammar.specs.KeyReading.{below_at, keys_at, leaf_at, level_at, more_keys_at, numbers_at, or_more, worded_at}
 use Rattle.imap_syntax.specs.KeyWords.{key_word, key_words}
 use Rattle.imap_syntax.specs.Keys.{all_of, and_all, key_over, key_within, test}
 use Rattle.imap_syntax.specs.Languages.{◌⌢◌, exactly, never, sp, word, in_parens, listed}
 use Rattle.imap_grammar.specs.Reading.{after, and_more, before, both, date_at, is_nil, listed_at, map_read, more_at, named, named_at, next_at, number_at, run_at, set_at, spaced, text_at, ◌>>=◌}
 use Rattle.imap_syntax.specs.Sets.{bound, range, sequence_set}
-use Rattle.imap_syntax.specs.Strings.{astring, begins, is_in, number_to, run}
+use Rattle.imap_syntax.specs.Strings.{astring, begins_with, is_in, number_to, run}
 use Rattle.imap_syntax.specs.declared.octet_class.OctetClass.TheVariants.{Astring, Atom, Digit, Item}
 use Rattle.imap_syntax.specs.declared.flags.SystemFlag.TheVariants as system
 use Rattle.imap_syntax.specs.declared.search.DateRelation.TheVariants as order
@@ -44,7 +44,7 @@ IsKeyWord w =
     (named key_word key_words (key_word w) ≡ Some w)
     × (list_all (is_in Item) (to_lower_case (key_word w)) ≡ true)
     × (is_nil (to_lower_case (key_word w)) ≡ false)
-    × (begins_in Digit (to_lower_case (key_word w)) ≡ false)
+    × (begins_with_class Digit (to_lower_case (key_word w)) ≡ false)
     × (bytes_eq (to_lower_case (key_word w)) (to_lower_case (codes "RETURN")) ≡ false)
     × (bytes_eq (to_lower_case (key_word w)) (to_lower_case (codes "CHARSET")) ≡ false)
 
@@ -89,7 +89,7 @@ key_letters w = (is_key_word w).1
 pub key_some : (w : SearchKeyWord) → is_nil (to_lower_case (key_word w)) ≡ false
 key_some w = (is_key_word w).2
 
-pub key_no_digit : (w : SearchKeyWord) → begins_in Digit (to_lower_case (key_word w)) ≡ false
+pub key_no_digit : (w : SearchKeyWord) → begins_with_class Digit (to_lower_case (key_word w)) ≡ false
 key_no_digit w = (is_key_word w).3
 
 pub key_no_return : (w : SearchKeyWord) → bytes_eq (to_lower_case (key_word w)) (to_lower_case (codes "RETURN")) ≡ false
@@ -142,31 +142,31 @@ leaf_sound key.Or octets mid x f h = absurd cc
 digit_same : (b : ℕ) → is_digit (to_ascii_lowercase b) ≡ is_digit b
 digit_same b = grind (arith, nat_tests)
 
-no_digit : (token text octets rest : List ℕ) → begins_in Digit (to_lower_case token) ≡ false → is_nil (to_lower_case token) ≡ false → word token text → octets ≡ text ++ rest → begins_in Digit octets ≡ false
+no_digit : (token text octets rest : List ℕ) → begins_with_class Digit (to_lower_case token) ≡ false → is_nil (to_lower_case token) ≡ false → word token text → octets ≡ text ++ rest → begins_with_class Digit octets ≡ false
 no_digit token [] octets rest h n w e = absurd (let k : true ≡ false = ap is_nil w ∙ n in cc)
-no_digit token (b ∷ text) octets rest h n w e = ap (begins_in Digit) e ∙ sym (digit_same b) ∙ ap (begins_in Digit) w ∙ h
+no_digit token (b ∷ text) octets rest h n w e = ap (begins_with_class Digit) e ∙ sym (digit_same b) ∙ ap (begins_with_class Digit) w ∙ h
 
 digit_no_paren : (b : ℕ) → is_digit b ≡ true → eqb b 40 ≡ false
 digit_no_paren b h = grind (arith, nat_tests)
 
-nz_first : (digits text octets rest : List ℕ) → run Digit digits text → octets ≡ text ++ rest → (begins 40 octets ≡ false) × ((begins_in Digit octets || begins 42 octets) ≡ true)
+nz_first : (digits text octets rest : List ℕ) → run Digit digits text → octets ≡ text ++ rest → (begins_with 40 octets ≡ false) × ((begins_with_class Digit octets || begins_with 42 octets) ≡ true)
 nz_first [] text octets rest r e = absurd (r.0 refl)
 nz_first (b ∷ bs) text octets rest r e =
     let is : octets ≡ (b ∷ bs) ++ rest = e ∙ ap (λ xs. xs ++ rest) r.2 in
     let d : is_digit b ≡ true = (and_parts (is_digit b) (list_all (is_in Digit) bs) r.1).0 in
-    (ap (begins 40) is ∙ digit_no_paren b d, ap (λ o. begins_in Digit o || begins 42 o) is ∙ ap (λ c. c || (eqb b 42)) d)
+    (ap (begins_with 40) is ∙ digit_no_paren b d, ap (λ o. begins_with_class Digit o || begins_with 42 o) is ∙ ap (λ c. c || (eqb b 42)) d)
 
-bound_first : (low : SequenceBound) (octets rest : List ℕ) → HasPrefix (bound low) octets rest → (begins 40 octets ≡ false) × ((begins_in Digit octets || begins 42 octets) ≡ true)
+bound_first : (low : SequenceBound) (octets rest : List ℕ) → HasPrefix (bound low) octets rest → (begins_with 40 octets ≡ false) × ((begins_with_class Digit octets || begins_with 42 octets) ≡ true)
 bound_first (Number n) octets rest f = nz_first f.1.0.0 f.0 octets rest f.1.0.1 f.2
-bound_first Greatest octets rest f = let e = exactly_is (42 ∷ []) octets rest f in (ap (begins 40) e, ap (λ o. begins_in Digit o || begins 42 o) e)
+bound_first Greatest octets rest f = let e = exactly_is (42 ∷ []) octets rest f in (ap (begins_with 40) e, ap (λ o. begins_with_class Digit o || begins_with 42 o) e)
 
-range_first : (this : SequenceRange) (octets rest : List ℕ) → HasPrefix (range this) octets rest → (begins 40 octets ≡ false) × ((begins_in Digit octets || begins 42 octets) ≡ true)
+range_first : (this : SequenceRange) (octets rest : List ℕ) → HasPrefix (range this) octets rest → (begins_with 40 octets ≡ false) × ((begins_with_class Digit octets || begins_with 42 octets) ≡ true)
 range_first this octets rest f = elim f.1 [
   | inl two ↦ let p = parts_around (bound this.first) _ octets rest (f.0, two, f.2) in bound_first this.first octets p.0 p.1
   | inr one ↦ bound_first this.first octets rest (f.0, one.0, f.2)
 ]
 
-pub set_first : (set : List SequenceRange) (octets rest : List ℕ) → HasPrefix (sequence_set set) octets rest → (begins 40 octets ≡ false) × ((begins_in Digit octets || begins 42 octets) ≡ true)
+pub set_first : (set : List SequenceRange) (octets rest : List ℕ) → HasPrefix (sequence_set set) octets rest → (begins_with 40 octets ≡ false) × ((begins_with_class Digit octets || begins_with 42 octets) ≡ true)
 set_first [] octets rest f = absurd f.1
 set_first (r ∷ rs) octets rest f = let p = parts_around (range r) _ octets rest f in range_first r octets p.0 p.1
 
@@ -302,7 +302,7 @@ module _ {inner : List ℕ → Option (List SearchStep × List ℕ)} {form : Lis
   abbrev by_word : List ℕ → Option (List SearchStep × List ℕ)
   by_word octets = named_at key_word key_words octets >>= λ parsed. worded_at inner parsed.0 parsed.1
 
-  no_forms : (octets : List ℕ) → begins 40 octets ≡ false → begins_in Digit octets ≡ false → begins 42 octets ≡ false → level_at inner octets ≡ by_word octets
+  no_forms : (octets : List ℕ) → begins_with 40 octets ≡ false → begins_with_class Digit octets ≡ false → begins_with 42 octets ≡ false → level_at inner octets ≡ by_word octets
   no_forms [] h i j = refl
   no_forms (b ∷ bs) h i j =
       ap (λ c. cond c (before (keys_at inner) (after (41 ∷ [])) bs) (cond (is_in Digit b || (eqb b 42)) (numbers_at (b ∷ bs)) (by_word (b ∷ bs)))) h
@@ -314,7 +314,7 @@ module _ {inner : List ℕ → Option (List SearchStep × List ℕ)} {form : Lis
       no_forms octets (word_first (key_word w) octets mid 40 (key_letters w) (key_some w) refl f) (no_digit (key_word w) f.0 octets mid (key_no_digit w) (key_some w) f.1 f.2) (word_first (key_word w) octets mid 42 (key_letters w) (key_some w) refl f)
       ∙ ap (λ r. r >>= λ parsed. worded_at inner parsed.0 parsed.1) (named_at_complete key_word key_words w octets mid (key_named w) (key_letters w) f s)
 
-  digits_level : (octets : List ℕ) → begins 40 octets ≡ false → (begins_in Digit octets || begins 42 octets) ≡ true → level_at inner octets ≡ numbers_at octets
+  digits_level : (octets : List ℕ) → begins_with 40 octets ≡ false → (begins_with_class Digit octets || begins_with 42 octets) ≡ true → level_at inner octets ≡ numbers_at octets
   digits_level [] h i = cc
   digits_level (b ∷ bs) h i =
       ap (λ c. cond c (before (keys_at inner) (after (41 ∷ [])) bs) (cond (is_in Digit b || (eqb b 42)) (numbers_at (b ∷ bs)) (by_word (b ∷ bs)))) h

@@ -1,7 +1,7 @@
 -- Keys, as the loop of the code reads them.
 use Rattle.std.proofs.Common.{◌≡◌, ◌≢◌, ℕ, zero, suc, ◌-◌, ◌+◌, ◌<◌, List, [], ◌∷◌, ◌++◌, Option, Some, None, refl, sym, ap, ◌∙◌, arith}
 use Rattle.imap_grammar.specs.KeyReading.{below_at, level_at, more_keys_at, or_more}
-use Rattle.imap_grammar.specs.Reading.{◌>>=◌, Fails, next_at}
+use Rattle.imap_grammar.specs.Reading.{◌>>=◌, IsFaultOfReading, next_at}
 use Rattle.imap_grammar.specs.declared.fault.ParseFault.{ParseFault}
 use Rattle.imap_grammar.specs.declared.fault.ParseFault.TheVariants.{NoMemory, BadSyntax, NotInProfile, NoTag, UnknownCommand}
 use Rattle.imap_syntax.specs.declared.search.SearchStep.{SearchStep}
@@ -37,7 +37,7 @@ module _ (inner : List ℕ → Option (List SearchStep × List ℕ)) where
       let k : count - i ≡ suc (count - (i + 1)) = omega arith in
       sym so_far ∙ ap (λ n. more_keys_at n inner steps octets) k ∙ ap (λ r. r >>= λ next. or_more (more_keys_at (count - (i + 1)) inner) steps octets next) h
 
-  pub keys_fail : (e : ParseFault) (steps : List SearchStep) (count i : ℕ) (octets : List ℕ) (total : Option (List SearchStep × List ℕ)) → i < count → Fails e (next_at 32 inner octets) → more_keys_at (count - i) inner steps octets ≡ total → Fails e total
+  pub keys_fail : (e : ParseFault) (steps : List SearchStep) (count i : ℕ) (octets : List ℕ) (total : Option (List SearchStep × List ℕ)) → i < count → IsFaultOfReading e (next_at 32 inner octets) → more_keys_at (count - i) inner steps octets ≡ total → IsFaultOfReading e total
   keys_fail NoMemory steps count i octets total lt h so_far = tt
   keys_fail BadSyntax steps count i octets total lt h so_far = fail_none steps count i octets total lt h so_far
   keys_fail NotInProfile steps count i octets total lt h so_far = fail_none steps count i octets total lt h so_far

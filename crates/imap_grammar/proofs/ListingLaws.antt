@@ -5,11 +5,11 @@ use Rattle.std.proofs.lemmas.Bool.Decides.{nat_tests}
 use Rattle.std.specs.List.{list_all}
 use Rattle.imap_types.specs.Keywords.{is_astring_octet}
 use Rattle.imap_syntax.specs.Commands.{options, returns, selection}
-use Rattle.imap_syntax.specs.Faults.{begins_in}
+use Rattle.imap_syntax.specs.Faults.{begins_with_class}
 use Rattle.imap_syntax.specs.Languages.{◌⌢◌, exactly, nothing, sp, word}
 use Rattle.imap_grammar.specs.Reading.{◌>>=◌, after, after_word, before, spaced}
 use Rattle.imap_grammar.specs.CommandReading.{options_at, options_inner_at, returns_at, selection_at}
-use Rattle.imap_syntax.specs.Strings.{astring, begins, is_in, run}
+use Rattle.imap_syntax.specs.Strings.{astring, begins_with, is_in, run}
 use Rattle.imap_syntax.specs.declared.octet_class.OctetClass.TheVariants.{Astring, Item}
 use Rattle.imap_grammar.proofs.ReaderLaws.{IsArgEnd, IsWordEnd, HasPrefix, IsReader, after_complete, after_sound, bind_some, chosen, closes_ends, closes_no_space, exactly_is, front_begins, joined, parts_around, some_is, sp_ends, spaced_reads}
 use Rattle.imap_grammar.proofs.WordLaws.{after_word_complete, after_word_sound, ends_item, word_first}
@@ -33,7 +33,7 @@ inner_sound (b ∷ bs) x h =
           (joined (word (codes "SUBSCRIBED")) (exactly (41 ∷ [])) (b ∷ bs) w.0 e.0 (after_word_sound (codes "SUBSCRIBED") (b ∷ bs) w.0 w.1) (after_sound (41 ∷ []) w.0 e.0 e.1))
     ]
 
-not_closed : (octets : List ℕ) → begins 41 octets ≡ false → options_inner_at octets ≡ (after_word (codes "SUBSCRIBED") octets >>= λ tail. after (41 ∷ []) tail >>= λ rest. Some (true, rest))
+not_closed : (octets : List ℕ) → begins_with 41 octets ≡ false → options_inner_at octets ≡ (after_word (codes "SUBSCRIBED") octets >>= λ tail. after (41 ∷ []) tail >>= λ rest. Some (true, rest))
 not_closed [] h = refl
 not_closed (b ∷ bs) h = ap (λ c. cond c (Some (false, bs)) (after_word (codes "SUBSCRIBED") (b ∷ bs) >>= λ tail. after (41 ∷ []) tail >>= λ rest. Some (true, rest))) h
 
@@ -45,7 +45,7 @@ inner_complete false octets rest f =
 inner_complete true octets rest f =
     let p = parts_around (word (codes "SUBSCRIBED")) (exactly (41 ∷ [])) octets rest f in
     let close : p.0 ≡ 41 ∷ rest = exactly_is (41 ∷ []) p.0 rest p.2 in
-    let stop : begins_in Item p.0 ≡ false = ap (begins_in Item) close in
+    let stop : begins_with_class Item p.0 ≡ false = ap (begins_with_class Item) close in
     not_closed octets (word_first (codes "SUBSCRIBED") octets p.0 41 refl refl refl p.1)
     ∙ ap (λ r. r >>= λ tail. after (41 ∷ []) tail >>= λ rest. Some (true, rest)) (after_word_complete (codes "SUBSCRIBED") octets p.0 refl p.1 stop)
     ∙ ap (λ r. r >>= λ rest. Some (true, rest)) (after_complete (41 ∷ []) p.0 rest p.2)
@@ -70,7 +70,7 @@ options_reads end = record {
       ap (λ r. r >>= options_inner_at) (after_complete (40 ∷ []) octets p.0 p.1) ∙ inner_complete value p.0 rest p.2;
 }
 
-options_begin : (value : Bool) (Q : List ℕ → Type 0) (octets rest : List ℕ) → HasPrefix (options value ⌢ Q) octets rest → begins 40 octets ≡ true
+options_begin : (value : Bool) (Q : List ℕ → Type 0) (octets rest : List ℕ) → HasPrefix (options value ⌢ Q) octets rest → begins_with 40 octets ≡ true
 options_begin value Q octets rest f =
     let p = parts_around (options value) Q octets rest f in
     front_begins 40 (inner value) octets p.0 (options_inner value octets p.0 p.1)
@@ -94,13 +94,13 @@ selection_sound (b ∷ bs) x h =
     ]
 
 abbrev pub NoParen : List ℕ → Type 0
-NoParen rest = begins 40 rest ≡ false
+NoParen rest = begins_with 40 rest ≡ false
 
 selection_none : (rest : List ℕ) → NoParen rest → selection_at rest ≡ Some (false, rest)
 selection_none [] h = refl
 selection_none (b ∷ bs) h = ap (λ c. cond c (before options_at (after (32 ∷ [])) (b ∷ bs)) (Some (false, b ∷ bs))) h
 
-selection_some : (octets : List ℕ) → begins 40 octets ≡ true → selection_at octets ≡ before options_at (after (32 ∷ [])) octets
+selection_some : (octets : List ℕ) → begins_with 40 octets ≡ true → selection_at octets ≡ before options_at (after (32 ∷ [])) octets
 selection_some [] h = cc
 selection_some (b ∷ bs) h = ap (λ c. cond c (before options_at (after (32 ∷ [])) (b ∷ bs)) (Some (false, b ∷ bs))) h
 
@@ -124,16 +124,16 @@ selection_reads = record { sound = selection_sound; complete = λ octets rest va
 astring_octet : (b : ℕ) → is_astring_octet b ≡ true → eqb b 40 ≡ false
 astring_octet b h = grind (arith, nat_tests)
 
-run_first : (value text octets rest : List ℕ) → run Astring value text → octets ≡ text ++ rest → begins 40 octets ≡ false
+run_first : (value text octets rest : List ℕ) → run Astring value text → octets ≡ text ++ rest → begins_with 40 octets ≡ false
 run_first [] text octets rest r e = absurd (r.0 refl)
-run_first (b ∷ bs) text octets rest r e = ap (begins 40) (e ∙ ap (λ xs. xs ++ rest) r.2) ∙ astring_octet b (and_parts (is_astring_octet b) (list_all (is_in Astring) bs) r.1).0
+run_first (b ∷ bs) text octets rest r e = ap (begins_with 40) (e ∙ ap (λ xs. xs ++ rest) r.2) ∙ astring_octet b (and_parts (is_astring_octet b) (list_all (is_in Astring) bs) r.1).0
 
 pub astring_no_paren : (value octets rest : List ℕ) → HasPrefix (astring value) octets rest → NoParen octets
 astring_no_paren value octets rest f = elim f.1 [
   | inl r ↦ run_first value f.0 octets rest r f.2
   | inr s ↦ elim s [
-    | inl q ↦ ap (begins 40) (f.2 ∙ ap (λ xs. xs ++ rest) q.1)
-    | inr l ↦ let p = parts_around (exactly (123 ∷ [])) _ octets rest (f.0, l, f.2) in ap (begins 40) (exactly_is (123 ∷ []) octets p.0 p.1)
+    | inl q ↦ ap (begins_with 40) (f.2 ∙ ap (λ xs. xs ++ rest) q.1)
+    | inr l ↦ let p = parts_around (exactly (123 ∷ [])) _ octets rest (f.0, l, f.2) in ap (begins_with 40) (exactly_is (123 ∷ []) octets p.0 p.1)
   ]
 ]
 
@@ -158,7 +158,7 @@ returns_sound (b ∷ bs) x h =
       | inr n ↦ subst (λ (y : Bool × List ℕ). HasPrefix (returns y.0) (b ∷ bs) y.1) (some_is (false, b ∷ bs) x n.1) ([], inl refl, refl)
     ]
 
-returns_none : (rest : List ℕ) → begins 32 rest ≡ false → returns_at rest ≡ Some (false, rest)
+returns_none : (rest : List ℕ) → begins_with 32 rest ≡ false → returns_at rest ≡ Some (false, rest)
 returns_none [] h = refl
 returns_none (b ∷ bs) h = ap (λ c. cond c (after_word (codes "RETURN") bs >>= spaced options_at) (Some (false, b ∷ bs))) h
 

@@ -4,9 +4,9 @@ use Rattle.std.proofs.lemmas.Bool.{eqb-true, eq-eqb}
 use Rattle.std.proofs.lemmas.List.{append-nil}
 use Rattle.imap_grammar.specs.declared.fault.ParseFault.{ParseFault}
 use Rattle.imap_grammar.specs.declared.fault.ParseFault.TheVariants.{NoMemory, BadSyntax, NotInProfile, NoTag, UnknownCommand}
-use Rattle.imap_grammar.specs.Reading.{◌>>=◌, Fails, next_at, and_more, more_at, listed_at}
+use Rattle.imap_grammar.specs.Reading.{◌>>=◌, IsFaultOfReading, next_at, and_more, more_at, listed_at}
 use Rattle.imap_syntax.specs.Languages.{exactly, each_after, listed}
-use Rattle.imap_syntax.specs.Strings.{begins}
+use Rattle.imap_syntax.specs.Strings.{begins_with}
 use Rattle.imap_grammar.proofs.ReaderLaws.{HasPrefix, IsReader, bind_some, chosen, exactly_is, joined, parts_around, some_is}
 
 module _ {A : Type 0} where
@@ -48,8 +48,8 @@ module _ {A : Type 0} where
         ap (λ n. more_at n separator read octets) k ∙ ap (λ o. o >>= λ next. and_more (more_at (count - (i + 1)) separator read) octets next) h in
         sym so_far ∙ ap (with_list front) one
 
-    pub fails : (e : ParseFault) (front : List A) (count i : ℕ) (octets : List ℕ) (total : Option (List A × List ℕ)) → i < count → Fails e (next_at separator read octets)
-        → with_list front (more_at (count - i) separator read octets) ≡ total → Fails e total
+    pub fails : (e : ParseFault) (front : List A) (count i : ℕ) (octets : List ℕ) (total : Option (List A × List ℕ)) → i < count → IsFaultOfReading e (next_at separator read octets)
+        → with_list front (more_at (count - i) separator read octets) ≡ total → IsFaultOfReading e total
     fails NoMemory front count i octets total lt h so_far = tt
     fails BadSyntax front count i octets total lt h so_far = fails_none front count i octets total lt h so_far
     fails NotInProfile front count i octets total lt h so_far = fails_none front count i octets total lt h so_far
@@ -82,11 +82,11 @@ module _ {A : Type 0} (separator : ℕ) {read : List ℕ → Option (A × List �
             subst (λ (y : List A × List ℕ). HasPrefix (ListTail y.0) (b ∷ bs) y.1) (some_is ([], b ∷ bs) x h2) ([], refl, refl)
       ]
 
-  next_none : (rest : List ℕ) → begins separator rest ≡ false → next_at separator read rest ≡ Some None
+  next_none : (rest : List ℕ) → begins_with separator rest ≡ false → next_at separator read rest ≡ Some None
   next_none [] h = refl
   next_none (b ∷ bs) h = ap (λ c. cond c (read bs >>= λ x. Some (Some x)) (Some None)) h
 
-  module _ (ends_list : List ℕ → Type 0) (no_separator : (rest : List ℕ) → ends_list rest → begins separator rest ≡ false) (stops_end : (rest : List ℕ) → ends_list rest → stops rest) (stops_more : (octets : List ℕ) → stops (separator ∷ octets)) where
+  module _ (ends_list : List ℕ → Type 0) (no_separator : (rest : List ℕ) → ends_list rest → begins_with separator rest ≡ false) (stops_end : (rest : List ℕ) → ends_list rest → stops rest) (stops_more : (octets : List ℕ) → stops (separator ∷ octets)) where
     tail_stops : (values : List A) (octets rest : List ℕ) → HasPrefix (ListTail values) octets rest → ends_list rest → stops octets
     tail_stops [] octets rest f s = subst stops (sym (exactly_is [] octets rest f)) (stops_end rest s)
     tail_stops (v ∷ vs) octets rest f s =

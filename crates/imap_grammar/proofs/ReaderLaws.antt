@@ -5,7 +5,7 @@ use Rattle.std.proofs.lemmas.List.{append-nil}
 use Rattle.std.proofs.lemmas.Bool.Decides.{nat_tests}
 use Rattle.imap_syntax.specs.Languages.{◌⌢◌, exactly, nothing, sp, in_parens, optional}
 use Rattle.imap_grammar.specs.Reading.{◌>>=◌, after, before, both, enclosed_at, map_read, parens_at, peeked_at, follows_space, spaced}
-use Rattle.imap_syntax.specs.Strings.{begins, is_pattern_octet}
+use Rattle.imap_syntax.specs.Strings.{begins_with, is_pattern_octet}
 
 -- the octets are a text of the language and then the rest
 abbrev pub HasPrefix : (List ℕ → Type 0) → List ℕ → List ℕ → Type 0
@@ -96,7 +96,7 @@ module _ {A : Type 0} {read : List ℕ → Option (A × List ℕ)} {form : A →
 
   pub both_reads : {B : Type 0} {next : List ℕ → Option (B × List ℕ)} {form_next : B → List ℕ → Type 0} {stops_next : List ℕ → Type 0} → IsReader next form_next stops_next
       → ((octets rest : List ℕ) (value : B) → HasPrefix (form_next value) octets rest → stops_next rest → stops octets) → IsReader (both read next) (λ p. form p.0 ⌢ form_next p.1) stops_next
-  both_reads {B} {next} {form_next} {stops_next} others begins = record {
+  both_reads {B} {next} {form_next} {stops_next} others begins_with = record {
     sound = λ octets x h.
         let a = bind_some (read octets) _ x h in
         let b = bind_some (next a.0.1) _ x a.2 in
@@ -105,7 +105,7 @@ module _ {A : Type 0} {read : List ℕ → Option (A × List ℕ)} {form : A →
         (joined (form a.0.0) (form_next b.0.0) octets a.0.1 b.0.1 (reads.sound octets a.0 a.1) (others.sound a.0.1 b.0 b.1));
     complete = λ octets rest value f s.
         let p = parts_around (form value.0) (form_next value.1) octets rest f in
-        let e = reads.complete octets p.0 value.0 p.1 (begins p.0 rest value.1 p.2 s) in
+        let e = reads.complete octets p.0 value.0 p.1 (begins_with p.0 rest value.1 p.2 s) in
         let g = others.complete p.0 rest value.1 p.2 s in
         ap (λ r. r >>= λ first. next first.1 >>= λ second. Some ((first.0, second.0), second.1)) e ∙ ap (λ r. r >>= λ second. Some ((value.0, second.0), second.1)) g;
   }
@@ -142,7 +142,7 @@ closes_ends (b ∷ bs) h = close_ends b h
 close_no : (b : ℕ) → ((eqb b 41) || (eqb b 13)) ≡ true → eqb b 32 ≡ false
 close_no b h = grind (arith, nat_tests)
 
-pub closes_no_space : (rest : List ℕ) → IsArgEnd rest → begins 32 rest ≡ false
+pub closes_no_space : (rest : List ℕ) → IsArgEnd rest → begins_with 32 rest ≡ false
 closes_no_space [] h = refl
 closes_no_space (b ∷ bs) h = close_no b h
 
@@ -167,7 +167,7 @@ pub to_end : {A : Type 0} {read : List ℕ → Option (A × List ℕ)} {form : A
 to_end reads = stopping reads IsArgEnd closes_ends
 
 -- A value between two octets.
-pub enclosed_reads : {A : Type 0} {read : List ℕ → Option (A × List ℕ)} {form : A → List ℕ → Type 0} (opening closing : ℕ) → IsReader read form (λ rest. begins closing rest ≡ true) → (stops : List ℕ → Type 0)
+pub enclosed_reads : {A : Type 0} {read : List ℕ → Option (A × List ℕ)} {form : A → List ℕ → Type 0} (opening closing : ℕ) → IsReader read form (λ rest. begins_with closing rest ≡ true) → (stops : List ℕ → Type 0)
     → IsReader (enclosed_at opening closing read) (λ value. exactly (opening ∷ []) ⌢ form value ⌢ exactly (closing ∷ [])) stops
 enclosed_reads {A} {read} {form} opening closing reads stops = record {
   sound = λ octets x h.
@@ -181,37 +181,37 @@ enclosed_reads {A} {read} {form} opening closing reads stops = record {
   complete = λ octets rest value f s.
       let p = parts_around (exactly (opening ∷ [])) _ octets rest f in
       let q = parts_around (form value) (exactly (closing ∷ [])) p.0 rest p.2 in
-      let close : begins closing q.0 ≡ true = ap (begins closing) (exactly_is (closing ∷ []) q.0 rest q.2) ∙ eq-eqb closing closing refl in
+      let close : begins_with closing q.0 ≡ true = ap (begins_with closing) (exactly_is (closing ∷ []) q.0 rest q.2) ∙ eq-eqb closing closing refl in
       ap (λ r. r >>= before read (after (closing ∷ []))) (after_complete (opening ∷ []) octets p.0 p.1)
       ∙ ap (λ r. r >>= λ first. after (closing ∷ []) first.1 >>= λ rest. Some (first.0, rest)) (reads.complete p.0 q.0 value q.1 close)
       ∙ ap (λ r. r >>= λ rest. Some (value, rest)) (after_complete (closing ∷ []) q.0 rest q.2);
 }
 
 -- the rest begins with `)`
-abbrev pub Shut : List ℕ → Type 0
-Shut rest = begins 41 rest ≡ true
+abbrev pub BeginsWithClosingParen : List ℕ → Type 0
+BeginsWithClosingParen rest = begins_with 41 rest ≡ true
 
 shut_or : (b : ℕ) → eqb b 41 ≡ true → ((eqb b 41) || (eqb b 13)) ≡ true
 shut_or b h = ap (λ c. c || (eqb b 13)) h
 
-pub shut_closes : (rest : List ℕ) → Shut rest → IsArgEnd rest
-shut_closes [] h = cc
-shut_closes (b ∷ bs) h = shut_or b h
+pub closing_paren_closes : (rest : List ℕ) → BeginsWithClosingParen rest → IsArgEnd rest
+closing_paren_closes [] h = cc
+closing_paren_closes (b ∷ bs) h = shut_or b h
 
 pub parens_reads : {A : Type 0} {read : List ℕ → Option (A × List ℕ)} {form : A → List ℕ → Type 0} → IsReader read form IsArgEnd → {stops : List ℕ → Type 0} → IsReader (parens_at read) (λ value. in_parens (form value)) stops
-parens_reads reads {stops} = enclosed_reads 40 41 (stopping reads Shut shut_closes) stops
+parens_reads reads {stops} = enclosed_reads 40 41 (stopping reads BeginsWithClosingParen closing_paren_closes) stops
 
-pub front_begins : (b : ℕ) (Q : List ℕ → Type 0) (octets rest : List ℕ) → HasPrefix (exactly (b ∷ []) ⌢ Q) octets rest → begins b octets ≡ true
+pub front_begins : (b : ℕ) (Q : List ℕ → Type 0) (octets rest : List ℕ) → HasPrefix (exactly (b ∷ []) ⌢ Q) octets rest → begins_with b octets ≡ true
 front_begins b Q octets rest f =
     let p = parts_around (exactly (b ∷ [])) Q octets rest f in
-    ap (begins b) (exactly_is (b ∷ []) octets p.0 p.1) ∙ eq-eqb b b refl
+    ap (begins_with b) (exactly_is (b ∷ []) octets p.0 p.1) ∙ eq-eqb b b refl
 
 -- a space and an octet that are looked for
-pub follows_space_at : (mark : ℕ) (octets : List ℕ) → begins mark octets ≡ true → follows_space mark (32 ∷ octets) ≡ true
+pub follows_space_at : (mark : ℕ) (octets : List ℕ) → begins_with mark octets ≡ true → follows_space mark (32 ∷ octets) ≡ true
 follows_space_at mark [] h = h
 follows_space_at mark (b ∷ bs) h = h
 
-pub follows_space_no : (mark : ℕ) (octets : List ℕ) → begins mark octets ≡ false → follows_space mark (32 ∷ octets) ≡ false
+pub follows_space_no : (mark : ℕ) (octets : List ℕ) → begins_with mark octets ≡ false → follows_space mark (32 ∷ octets) ≡ false
 follows_space_no mark [] h = refl
 follows_space_no mark (b ∷ bs) h = h
 
@@ -221,7 +221,7 @@ closes_no_peek mark (b ∷ []) h = refl
 closes_no_peek mark (b ∷ c ∷ bs) h = ap (λ d. d && (eqb c mark)) (close_no b h)
 
 module _ {A : Type 0} {read : List ℕ → Option (A × List ℕ)} {form : A → List ℕ → Type 0} {stops : List ℕ → Type 0} (mark : ℕ) (reads : IsReader read form stops)
-    (first : (value : A) (octets rest : List ℕ) → HasPrefix (form value) octets rest → begins mark octets ≡ true)
+    (first : (value : A) (octets rest : List ℕ) → HasPrefix (form value) octets rest → begins_with mark octets ≡ true)
     (end : List ℕ → Type 0) (stops_at_end : (rest : List ℕ) → end rest → stops rest) (no : (rest : List ℕ) → end rest → follows_space mark rest ≡ false) where
   peeked_complete : (value : Option A) (octets rest : List ℕ) → HasPrefix (optional form value) octets rest → end rest → peeked_at mark read octets ≡ Some (value, rest)
   peeked_complete None octets rest f s =
@@ -255,12 +255,12 @@ pub keyed_reads : {A B : Type 0} {read : List ℕ → Option (A × List ℕ)} {f
     → ((it : B) (octets rest : List ℕ) → HasPrefix (form_next it) octets rest → stops_next rest → next (key it) octets ≡ Some (it, rest))
     → ((it : B) (octets rest : List ℕ) → HasPrefix (form_next it) octets rest → stops_next rest → stops octets)
     → IsReader (λ octets. read octets >>= λ first. next first.0 first.1) (λ it. form (key it) ⌢ form_next it) stops_next
-keyed_reads {A} {B} {read} {form} {stops} reads next key form_next stops_next sound complete begins = record {
+keyed_reads {A} {B} {read} {form} {stops} reads next key form_next stops_next sound complete begins_with = record {
   sound = λ octets x h.
       let a = bind_some (read octets) _ x h in
       let t = sound a.0.0 a.0.1 x a.2 in
       joined (form (key x.0)) (form_next x.0) octets a.0.1 x.1 (subst (λ v. HasPrefix (form v) octets a.0.1) (sym t.0) (reads.sound octets a.0 a.1)) t.1;
   complete = λ octets rest it f s.
       let p = parts_around (form (key it)) (form_next it) octets rest f in
-      ap (λ r. r >>= λ first. next first.0 first.1) (reads.complete octets p.0 (key it) p.1 (begins it p.0 rest p.2 s)) ∙ complete it p.0 rest p.2 s;
+      ap (λ r. r >>= λ first. next first.0 first.1) (reads.complete octets p.0 (key it) p.1 (begins_with it p.0 rest p.2 s)) ∙ complete it p.0 rest p.2 s;
 }

@@ -7,7 +7,7 @@ use Rattle.std.specs.Char.{to_ascii_lowercase}
 use Rattle.std.specs.List.{list_all}
 use Rattle.std.specs.Str.{bytes_eq}
 use Rattle.imap_types.specs.Keywords.{to_lower_case}
-use Rattle.imap_syntax.specs.Faults.{begins_in}
+use Rattle.imap_syntax.specs.Faults.{begins_with_class}
 use Rattle.imap_grammar.specs.KeyReading.{below_at, charset_at, charset_name_at, is_charset, keys_at, maybe_options_at, returned_at, returned_group_at, search_parts_at}
 use Rattle.imap_syntax.specs.KeyWords.{key_word, option_word, search_options}
 use Rattle.imap_syntax.proofs.KeyLemmas.{search-key}
@@ -15,7 +15,7 @@ use Rattle.imap_syntax.specs.SearchKeys.{IsKey}
 use Rattle.imap_syntax.specs.Keys.{charset, key_over, key_within, return_options, search_keys, search_option, test}
 use Rattle.imap_syntax.specs.Languages.{◌⌢◌, exactly, sp, word, in_parens, listed, each_after, maybe_listed}
 use Rattle.imap_grammar.specs.Reading.{after, is_nil, listed_at, named, named_at, parens_at, spaced, span, text_at, ◌>>=◌}
-use Rattle.imap_syntax.specs.Strings.{astring, begins, is_in}
+use Rattle.imap_syntax.specs.Strings.{astring, begins_with, is_in}
 use Rattle.imap_syntax.specs.declared.octet_class.OctetClass.TheVariants.{Astring, Digit, Item}
 use Rattle.imap_syntax.specs.declared.search.SearchKeyWord.{SearchKeyWord}
 use Rattle.imap_syntax.specs.declared.search.SearchKeyWord.TheVariants as key
@@ -24,7 +24,7 @@ use Rattle.imap_syntax.specs.declared.search.SearchOption.TheVariants as option
 use Rattle.imap_syntax.specs.declared.search.SearchStep.{SearchStep}
 use Rattle.imap_syntax.specs.declared.search.SearchTest.{SearchTest}
 use Rattle.imap_syntax.specs.declared.search.SearchTest.TheVariants as tests
-use Rattle.imap_grammar.proofs.ReaderLaws.{IsArgEnd, IsWordEnd, HasPrefix, IsReader, Shut, after_complete, after_sound, bind_some, both_reads, chosen, closes_ends, closes_no_space, enclosed_reads, exactly_is, joined, parts_around, shut_closes, some_is, sp_ends, spaced_reads, stopping}
+use Rattle.imap_grammar.proofs.ReaderLaws.{IsArgEnd, IsWordEnd, HasPrefix, IsReader, BeginsWithClosingParen, after_complete, after_sound, bind_some, both_reads, chosen, closes_ends, closes_no_space, enclosed_reads, exactly_is, joined, parts_around, closing_paren_closes, some_is, sp_ends, spaced_reads, stopping}
 use Rattle.imap_grammar.proofs.KeyLaws.{all_reads, key_letters, key_no_charset, key_no_return, set_first, within_reads}
 use Rattle.imap_grammar.proofs.Lists.{listed_reads}
 use Rattle.imap_grammar.proofs.Spans.{span_parts}
@@ -66,19 +66,19 @@ maybe_sound (b ∷ bs) x h =
       | inr n ↦ maybe_from x.0 (b ∷ bs) x.1 (options_reads.sound (b ∷ bs) x n.1)
     ]
 
-shut_none : (rest : List ℕ) → begins 41 rest ≡ true → maybe_options_at rest ≡ Some ([], rest)
+shut_none : (rest : List ℕ) → begins_with 41 rest ≡ true → maybe_options_at rest ≡ Some ([], rest)
 shut_none [] h = cc
 shut_none (b ∷ bs) h = ap (λ c. cond c (Some ([], b ∷ bs)) (listed_at 32 (named_at option_word search_options) (b ∷ bs))) h
 
-shut_some : (octets : List ℕ) → begins 41 octets ≡ false → maybe_options_at octets ≡ listed_at 32 (named_at option_word search_options) octets
+shut_some : (octets : List ℕ) → begins_with 41 octets ≡ false → maybe_options_at octets ≡ listed_at 32 (named_at option_word search_options) octets
 shut_some [] h = refl
 shut_some (b ∷ bs) h = ap (λ c. cond c (Some ([], b ∷ bs)) (listed_at 32 (named_at option_word search_options) (b ∷ bs))) h
 
-maybe_complete : (values : List SearchOption) (octets rest : List ℕ) → HasPrefix (maybe_listed sp search_option values) octets rest → Shut rest → maybe_options_at octets ≡ Some (values, rest)
+maybe_complete : (values : List SearchOption) (octets rest : List ℕ) → HasPrefix (maybe_listed sp search_option values) octets rest → BeginsWithClosingParen rest → maybe_options_at octets ≡ Some (values, rest)
 maybe_complete [] octets rest f s = ap maybe_options_at (exactly_is [] octets rest f) ∙ shut_none rest s
 maybe_complete (v ∷ vs) octets rest f s =
     let p = parts_around (search_option v) _ octets rest f in
-    shut_some octets (word_first (option_word v) octets p.0 41 (option_letters v) (option_some v) refl p.1) ∙ options_reads.complete octets rest (v ∷ vs) f (shut_closes rest s)
+    shut_some octets (word_first (option_word v) octets p.0 41 (option_letters v) (option_some v) refl p.1) ∙ options_reads.complete octets rest (v ∷ vs) f (closing_paren_closes rest s)
 
 group_reads : (end : List ℕ → Type 0) → IsReader (spaced (parens_at maybe_options_at)) (λ values. sp ⌢ in_parens (maybe_listed sp search_option values)) end
 group_reads end = spaced_reads (enclosed_reads 40 41 (record { sound = maybe_sound; complete = λ octets rest values f s. maybe_complete values octets rest f s }) end)
@@ -102,7 +102,7 @@ module _ (token : List ℕ) (others : (w : SearchKeyWord) → bytes_eq (to_lower
       let p = parts_around (word (key_word w)) (sp ⌢ Q) octets rest f in
       plain_other w octets p.0 p.1 (sp_ends Q p.0 rest p.2)
 
-  digits_other : (octets : List ℕ) → (begins_in Digit octets || begins 42 octets) ≡ true → Other token octets
+  digits_other : (octets : List ℕ) → (begins_with_class Digit octets || begins_with 42 octets) ≡ true → Other token octets
   digits_other [] h = cc
   digits_other (b ∷ bs) h = elim (cases_Bool (is_in Item b)) [
     | inl t ↦ rw t (digits b (span (is_in Item) bs).0 h)

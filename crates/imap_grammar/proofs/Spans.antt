@@ -2,7 +2,7 @@ use Rattle.std.proofs.Common.{◌≡◌, ◌≢◌, ℕ, Bool, true, false, cond
 use Rattle.std.proofs.lemmas.Bool.{and_parts, and_from, cases_Bool}
 use Rattle.std.proofs.lemmas.Bool.Decides.{nat_tests}
 use Rattle.std.specs.List.{list_all}
-use Rattle.imap_syntax.specs.Faults.{begins_in}
+use Rattle.imap_syntax.specs.Faults.{begins_with_class}
 use Rattle.imap_grammar.specs.Reading.{span, is_nil, run_at}
 use Rattle.imap_syntax.specs.Strings.{is_in, is_pattern_octet, run}
 use Rattle.imap_syntax.specs.declared.octet_class.OctetClass.{OctetClass}
@@ -17,15 +17,15 @@ pub span_all : (p : ℕ → Bool) (bs : List ℕ) → list_all p (span p bs).0 �
 span_all p [] = refl
 span_all p (b ∷ bs) = elim (cases_Bool (p b)) [ inl t ↦ rw t (and_from _ _ t (span_all p bs)) | inr f ↦ rw f refl ]
 
-pub span_stops : (class : OctetClass) (bs : List ℕ) → begins_in class (span (is_in class) bs).1 ≡ false
+pub span_stops : (class : OctetClass) (bs : List ℕ) → begins_with_class class (span (is_in class) bs).1 ≡ false
 span_stops class [] = refl
 span_stops class (b ∷ bs) = elim (cases_Bool (is_in class b)) [ inl t ↦ rw t (span_stops class bs) | inr f ↦ rw f f ]
 
-pub span_none : (class : OctetClass) (rest : List ℕ) → begins_in class rest ≡ false → span (is_in class) rest ≡ ([], rest)
+pub span_none : (class : OctetClass) (rest : List ℕ) → begins_with_class class rest ≡ false → span (is_in class) rest ≡ ([], rest)
 span_none class [] h = refl
 span_none class (b ∷ bs) h = rw h refl
 
-pub span_complete : (class : OctetClass) (front rest : List ℕ) → list_all (is_in class) front ≡ true → begins_in class rest ≡ false → span (is_in class) (front ++ rest) ≡ (front, rest)
+pub span_complete : (class : OctetClass) (front rest : List ℕ) → list_all (is_in class) front ≡ true → begins_with_class class rest ≡ false → span (is_in class) (front ++ rest) ≡ (front, rest)
 span_complete class [] rest a h = span_none class rest h
 span_complete class (b ∷ front) rest a h =
     let p = and_parts (is_in class b) (list_all (is_in class) front) a in
@@ -41,7 +41,7 @@ is_nil-not [] h = absurd (h refl)
 is_nil-not (x ∷ xs) h = refl
 
 StopsAt : OctetClass → List ℕ → Type 0
-StopsAt class rest = begins_in class rest ≡ false
+StopsAt class rest = begins_with_class class rest ≡ false
 
 pub run_sound : (class : OctetClass) (octets : List ℕ) (x : List ℕ × List ℕ) → run_at class octets ≡ Some x → HasPrefix (run class x.0) octets x.1
 run_sound class octets x h =
@@ -49,7 +49,7 @@ run_sound class octets x h =
     subst (λ (y : List ℕ × List ℕ). HasPrefix (run class y.0) octets y.1) (some_is (span (is_in class) octets) x g.1)
     ((span (is_in class) octets).0, (not_nil _ g.0, span_all (is_in class) octets, refl), span_parts (is_in class) octets)
 
-pub run_complete : (class : OctetClass) (octets rest value : List ℕ) → HasPrefix (run class value) octets rest → begins_in class rest ≡ false → run_at class octets ≡ Some (value, rest)
+pub run_complete : (class : OctetClass) (octets rest value : List ℕ) → HasPrefix (run class value) octets rest → begins_with_class class rest ≡ false → run_at class octets ≡ Some (value, rest)
 run_complete class octets rest value f s =
     let e : octets ≡ value ++ rest = f.2 ∙ ap (λ xs. xs ++ rest) f.1.2 in
     let g : span (is_in class) octets ≡ (value, rest) = ap (span (is_in class)) e ∙ span_complete class value rest f.1.1 s in
@@ -64,7 +64,7 @@ pattern_octet Pattern b h = h
 pattern_octet Digit b h = grind (arith, nat_tests)
 pattern_octet Item b h = grind (arith, nat_tests)
 
-pub ends_stop : (class : OctetClass) (rest : List ℕ) → IsWordEnd rest → begins_in class rest ≡ false
+pub ends_stop : (class : OctetClass) (rest : List ℕ) → IsWordEnd rest → begins_with_class class rest ≡ false
 ends_stop class [] h = refl
 ends_stop class (b ∷ bs) h = elim (cases_Bool (is_in class b)) [ inl t ↦ absurd (let e : not true ≡ true = subst (λ c. not c ≡ true) (pattern_octet class b t) h in cc) | inr f ↦ f ]
 

@@ -6,7 +6,7 @@ use Rattle.std.specs.List.{list_all}
 use Rattle.imap_syntax.specs.Languages.{exactly}
 use Rattle.imap_syntax.specs.Strings.{is_in, is_quotable, quoted_escape, quoted, literal, number, number_of, optional_plus, run, text_of, mailbox}
 use Rattle.imap_types.specs.Names.{fold_inbox}
-use Rattle.imap_syntax.specs.Faults.{begins_in}
+use Rattle.imap_syntax.specs.Faults.{begins_with_class}
 use Rattle.imap_grammar.specs.Reading.{◌>>=◌, mailbox_at, after, after_plus, with_prefix, quoted_at, run_at, literal_at, octets_at, text_at}
 use Rattle.imap_syntax.specs.declared.octet_class.OctetClass.{OctetClass}
 use Rattle.imap_syntax.specs.declared.octet_class.OctetClass.TheVariants.{Tag, Atom, Astring, Pattern, Digit, Item}
@@ -133,10 +133,10 @@ literal_sound octets x h =
     (joined optional_plus _ d.0.1 (after_plus d.0.1) x.1 (plus_sound d.0.1)
     (joined (exactly (125 ∷ 13 ∷ 10 ∷ [])) (exactly x.0) (after_plus d.0.1) r.0 x.1 mark value)))
 
-begins_plus : (octets rest : List ℕ) → HasPrefix optional_plus octets (125 ∷ rest) → begins_in Digit octets ≡ false
+begins_plus : (octets rest : List ℕ) → HasPrefix optional_plus octets (125 ∷ rest) → begins_with_class Digit octets ≡ false
 begins_plus octets rest f = elim f.1 [
-  | inl e ↦ ap (begins_in Digit) (f.2 ∙ ap (λ xs. xs ++ 125 ∷ rest) e)
-  | inr e ↦ ap (begins_in Digit) (f.2 ∙ ap (λ xs. xs ++ 125 ∷ rest) e)
+  | inl e ↦ ap (begins_with_class Digit) (f.2 ∙ ap (λ xs. xs ++ 125 ∷ rest) e)
+  | inr e ↦ ap (begins_with_class Digit) (f.2 ∙ ap (λ xs. xs ++ 125 ∷ rest) e)
 ]
 
 pub literal_complete : (octets rest value : List ℕ) → HasPrefix (literal value) octets rest → (inner : List ℕ) × (octets ≡ 123 ∷ inner) × (literal_at inner ≡ Some (value, rest))

@@ -13,8 +13,8 @@ use Rattle.imap_grammar.specs.Reading.{after_word, is_nil, named, named_at, span
 use Rattle.imap_syntax.specs.declared.word.CommandWord.{CommandWord}
 use Rattle.imap_syntax.specs.declared.word.CommandWord.TheVariants.{Capability, Noop, Logout, Login, Enable, Select, Examine, Create, Delete, Subscribe, Unsubscribe, ListNames, Namespace, Status, Append, Idle, Close, Unselect, Expunge, Search, Fetch, Store, Copy, Move, Uid, Rename, StartTls, Authenticate}
 use Rattle.imap_syntax.specs.Commands.{status_item}
-use Rattle.imap_syntax.specs.Faults.{begins_in}
-use Rattle.imap_syntax.specs.Strings.{begins, is_in}
+use Rattle.imap_syntax.specs.Faults.{begins_with_class}
+use Rattle.imap_syntax.specs.Strings.{begins_with, is_in}
 use Rattle.imap_syntax.specs.declared.octet_class.OctetClass.TheVariants.{Item}
 use Rattle.imap_syntax.specs.declared.status.StatusItem.{StatusItem}
 use Rattle.imap_syntax.specs.declared.status.StatusItem.TheVariants as status
@@ -98,7 +98,7 @@ items_lower [] h = refl
 items_lower (b ∷ bs) h = let p = and_parts _ _ h in and_from _ _ (item_octet b p.0) (items_lower bs p.1)
 
 abbrev pub NoItem : List ℕ → Type 0
-NoItem rest = begins_in Item rest ≡ false
+NoItem rest = begins_with_class Item rest ≡ false
 
 pub item_span : (token octets rest : List ℕ) → list_all (is_in Item) (to_lower_case token) ≡ true → (f : HasPrefix (word token) octets rest) → NoItem rest → span (is_in Item) octets ≡ (f.0, rest)
 item_span token octets rest h f s = ap (span (is_in Item)) f.2 ∙ span_complete Item f.0 rest (items_lower f.0 (ap (list_all (is_in Item)) f.1 ∙ h)) s
@@ -162,12 +162,12 @@ status_reads = stopping (table_reads status_word status_items status_named statu
 item_not : (b m : ℕ) → is_in Item b ≡ true → is_in Item m ≡ false → eqb b m ≡ false
 item_not b m h o = elim (cases_Bool (eqb b m)) [ inl t ↦ absurd (let e : true ≡ false = sym h ∙ ap (is_in Item) (eqb-true b m t) ∙ o in cc) | inr f ↦ f ]
 
-word_begins : (token text octets rest : List ℕ) (m : ℕ) → list_all (is_in Item) (to_lower_case token) ≡ true → is_nil (to_lower_case token) ≡ false → is_in Item m ≡ false → word token text → octets ≡ text ++ rest → begins m octets ≡ false
+word_begins : (token text octets rest : List ℕ) (m : ℕ) → list_all (is_in Item) (to_lower_case token) ≡ true → is_nil (to_lower_case token) ≡ false → is_in Item m ≡ false → word token text → octets ≡ text ++ rest → begins_with m octets ≡ false
 word_begins token [] octets rest m h n o w e = absurd (let k : true ≡ false = ap is_nil w ∙ n in cc)
 word_begins token (b ∷ text) octets rest m h n o w e =
     let i = items_lower (b ∷ text) (ap (list_all (is_in Item)) w ∙ h) in
-    ap (begins m) e ∙ item_not b m (and_parts (is_in Item b) (list_all (is_in Item) text) i).0 o
+    ap (begins_with m) e ∙ item_not b m (and_parts (is_in Item b) (list_all (is_in Item) text) i).0 o
 
 -- a word's first octet belongs to words
-pub word_first : (token octets rest : List ℕ) (m : ℕ) → list_all (is_in Item) (to_lower_case token) ≡ true → is_nil (to_lower_case token) ≡ false → is_in Item m ≡ false → HasPrefix (word token) octets rest → begins m octets ≡ false
+pub word_first : (token octets rest : List ℕ) (m : ℕ) → list_all (is_in Item) (to_lower_case token) ≡ true → is_nil (to_lower_case token) ≡ false → is_in Item m ≡ false → HasPrefix (word token) octets rest → begins_with m octets ≡ false
 word_first token octets rest m h n o f = word_begins token f.0 octets rest m h n o f.1 f.2

@@ -31,7 +31,7 @@ use Rattle.imap_syntax.specs.declared.flags.Flag.{Flag}
 use Rattle.imap_syntax.specs.declared.flags.Flag.TheVariants.{System, Keyword}
 use Rattle.imap_syntax.specs.declared.flags.SystemFlag.TheVariants.{Answered, Flagged, Deleted}
 use Rattle.imap_syntax.specs.declared.flags.SystemFlag.TheVariants.{Seen, Draft}
-use Rattle.imap_syntax.specs.Strings.{begins, is_in, is_quotable, number_of}
+use Rattle.imap_syntax.specs.Strings.{begins_with, is_in, is_quotable, number_of}
 use Rattle.imap_syntax.specs.Words.{fetch_word, fetch_words, section_word, section_words}
 use Rattle.imap_syntax.specs.Words.{system_flags, system_word}
 use Rattle.imap_syntax.specs.declared.octet_class.OctetClass.{OctetClass}
@@ -44,16 +44,16 @@ use Rattle.imap_grammar.specs.declared.fault.ParseFault.TheVariants.{UnknownComm
 
 -- A fault means that nothing was read. No clause says which of the two faults of syntax it is;
 -- `NoMemory` may take the place of either, or of a value.
-abbrev pub Fails : {Y : Type 0} → ParseFault → Option Y → Type 0
-Fails NoMemory read = Unit {0}
-Fails BadSyntax read = read ≡ None
-Fails NotInProfile read = read ≡ None
-Fails NoTag read = ⊥
-Fails UnknownCommand read = ⊥
+abbrev pub IsFaultOfReading : {Y : Type 0} → ParseFault → Option Y → Type 0
+IsFaultOfReading NoMemory read = Unit {0}
+IsFaultOfReading BadSyntax read = read ≡ None
+IsFaultOfReading NotInProfile read = read ≡ None
+IsFaultOfReading NoTag read = ⊥
+IsFaultOfReading UnknownCommand read = ⊥
 
 -- The result of the code is that of a reading function, unless memory runs out.
 abbrev pub IsReading : {X Y : Type 0} → (X → Y) → Result X ParseFault → Option Y → Type 0
-IsReading = IsReadingBy Fails
+IsReading = IsReadingBy IsFaultOfReading
 
 -- The first of the values whose word is this text, ignoring ASCII case.
 abbrev pub named : {W : Type 0} → (W → List ℕ) → List W → List ℕ → Option W
@@ -191,7 +191,7 @@ enclosed_at opening closing read octets =
 abbrev pub parens_at : {A : Type 0} → (List ℕ → Option (A × List ℕ)) → List ℕ → Option (A × List ℕ)
 parens_at = enclosed_at 40 41
 
--- The octets after a word, which may be in any case.
+-- The octets after a word, which may be in any letter case.
 abbrev pub after_word : List ℕ → List ℕ → Option (List ℕ)
 after_word token octets =
     if bytes_eq (to_lower_case (span (is_in Item) octets).0) (to_lower_case token)
@@ -217,7 +217,7 @@ number_at limit octets =
 abbrev pub nz_at : List ℕ → Option (ℕ × List ℕ)
 nz_at octets =
     run_at Digit octets >>= λ digits.
-    if begins 48 digits.0 || nat_lt 4294967295 (number_of 0 digits.0) then None
+    if begins_with 48 digits.0 || nat_lt 4294967295 (number_of 0 digits.0) then None
     else Some (number_of 0 digits.0, digits.1)
 
 -- A number or `*` (42).
@@ -410,8 +410,8 @@ abbrev pub item_at : List ℕ → Option (FetchItem × List ℕ)
 item_at octets = named_at fetch_word fetch_words octets >>= λ parsed. item_tail_at parsed.0 parsed.1
 
 -- FAST or one item.
-abbrev pub alone_at : List ℕ → Option (List FetchItem × List ℕ)
-alone_at octets =
+abbrev pub fast_or_item_at : List ℕ → Option (List FetchItem × List ℕ)
+fast_or_item_at octets =
     if bytes_eq (to_lower_case (span (is_in Item) octets).0) (to_lower_case (codes "FAST")) then
     Some (fast_items, (span (is_in Item) octets).1)
     else map_read (λ item. item ∷ []) item_at octets
@@ -421,4 +421,4 @@ abbrev pub fetched_at : List ℕ → Option (List FetchItem × List ℕ)
 fetched_at [] = None
 fetched_at (octet ∷ octets) =
     if octet == 40 then before (listed_at 32 item_at) (after (41 ∷ [])) octets
-    else alone_at (octet ∷ octets)
+    else fast_or_item_at (octet ∷ octets)

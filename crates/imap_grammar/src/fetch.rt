@@ -1,7 +1,7 @@
 //! The arguments of FETCH (RFC 9051, section 6.4.5; RFC 7162, section 3.1.4).
 
 ghost use Rattle.std.specs.Prelude.{◌≡◌, ◌⊎◌, IfOk};
-ghost use Rattle.imap_grammar.specs.Reading.{IsReading, alone_at, body_at, bracketed_at};
+ghost use Rattle.imap_grammar.specs.Reading.{IsReading, body_at, bracketed_at, fast_or_item_at};
 ghost use Rattle.imap_grammar.specs.Reading.{fetched_at};
 ghost use Rattle.imap_grammar.specs.Reading.{field_names_at, item_at, item_tail_at, named_at};
 ghost use Rattle.imap_grammar.specs.Reading.{partial_at, section_at, section_tail_at};
@@ -106,14 +106,14 @@ fn fetch_items(alloc: Global, octets: &[u8]) -> Result<(Vec<FetchItem>, &[u8]), 
                 let rest = skip(rest, b")")?;
                 return Ok((items, rest));
             }
-            alone(alloc, octets)
+            fast_or_item(alloc, octets)
         }
     }
 }
 
 /// Reads FAST or one item.
-fn alone(alloc: Global, octets: &[u8]) -> Result<(Vec<FetchItem>, &[u8]), ParseFault>
-    ensures { IsReading (λ x. (x.0.items, x.1.now)) result (alone_at octets.now) }
+fn fast_or_item(alloc: Global, octets: &[u8]) -> Result<(Vec<FetchItem>, &[u8]), ParseFault>
+    ensures { IsReading (λ x. (x.0.items, x.1.now)) result (fast_or_item_at octets.now) }
 {
     let (token, rest) = span(OctetClass::Item, octets);
     if token.eq_ignore_ascii_case(b"FAST") {

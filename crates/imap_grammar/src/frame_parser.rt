@@ -20,7 +20,7 @@ use std::alloc::Global;
 
 /// Reads the command that a whole frame spells, CRLF included.
 ///
-/// The faults: `NoTag` and `UnknownCommand` exactly if `specs/Faults` of `imap_syntax` says so;
+/// The faults: `NoTag` and `UnknownCommand` exactly when `specs/Faults` of `imap_syntax` says so;
 /// `BadSyntax` and `NotInProfile` only if the frame spells no command; `NoMemory` in place of any
 /// answer but the first two faults.
 pub fn parse(alloc: Global, frame: &[u8]) -> Result<Tagged, ParseFault>

@@ -6,7 +6,7 @@ ghost use Rattle.imap_syntax.specs.declared.idle.IdleLine.TheVariants.{Done};
 
 use imap_syntax::IdleLine;
 
-/// Whether a frame during IDLE is `DONE`, in any case.
+/// Whether a frame during IDLE is `DONE`, in any letter case.
 pub fn idle_line(frame: &[u8]) -> IdleLine
     ensures { (result ≡ Done) ↔ EndsIdle frame.now }
 {

@@ -159,11 +159,11 @@ fn numbers(alloc: Global, octets: &[u8]) -> Result<(Vec<SearchStep>, &[u8]), Par
     ensures { IsReading (λ x. (x.0.items, x.1.now)) result (numbers_at octets.now) }
 {
     let (numbers, rest) = set(alloc, octets)?;
-    Ok((alone(alloc, SearchTest::Numbers { numbers })?, rest))
+    Ok((steps_of_test(alloc, SearchTest::Numbers { numbers })?, rest))
 }
 
 /// The steps of a key that is one test.
-fn alone(alloc: Global, test: SearchTest) -> Result<Vec<SearchStep>, AllocError>
+fn steps_of_test(alloc: Global, test: SearchTest) -> Result<Vec<SearchStep>, AllocError>
     ensures { IfOk result (λ steps. steps.items ≡ Test test ∷ []) }
 {
     let mut steps = Vec::new(alloc);
@@ -242,7 +242,7 @@ fn leaf_key(
         (map_read (λ test. Test test ∷ []) (leaf_at word) octets.now) }
 {
     let (test, rest) = leaf(alloc, word, octets)?;
-    Ok((alone(alloc, test)?, rest))
+    Ok((steps_of_test(alloc, test)?, rest))
 }
 
 /// Joins the steps of two keys by OR. An `Err`, if memory runs out, may leave `steps` longer.

@@ -2,8 +2,8 @@
 //!
 //! `imap_syntax` has the commands as values and defines, production by production, which frame
 //! spells which command (`IsSpelled`). [`parse`] answers exactly that: a command if the frame
-//! spells it, unless memory runs out, and `NoTag` or `UnknownCommand` exactly if there is no tag or
-//! no command's word; a lack of memory never hides these two. [`one_reading`] is the law that no
+//! spells it, unless memory runs out, and `NoTag` or `UnknownCommand` exactly when there is no tag
+//! or no command's word; a lack of memory never hides these two. [`one_reading`] is the law that no
 //! frame spells two commands. [`tag_of`] gives a frame's tag, and [`idle_line`] says whether a
 //! frame ends IDLE. A fault changes nothing.
 //!

@@ -2,7 +2,7 @@
 
 ghost use Rattle.std.specs.Prelude.{◌≡◌, ◌<◌, ◌-◌, ◌^◌, length, min};
 ghost use Rattle.imap_grammar.specs.Reading.{IsReading, number_at, nz_at};
-ghost use Rattle.imap_syntax.specs.Strings.{begins, number_of};
+ghost use Rattle.imap_syntax.specs.Strings.{begins_with, number_of};
 
 use crate::fault::ParseFault;
 use crate::scan::run;
@@ -35,7 +35,7 @@ pub fn nz(octets: &[u8]) -> Result<(u32, &[u8]), ParseFault>
 
 /// Whether the first digit is a zero.
 fn begins_with_zero(digits: &[u8]) -> bool
-    ensures { result ≡ begins 48 digits.now }
+    ensures { result ≡ begins_with 48 digits.now }
 {
     match digits {
         [] => false,

@@ -60,7 +60,7 @@ pub fn space(octets: &[u8]) -> Result<&[u8], ParseFault>
     skip(octets, b" ")
 }
 
-/// The octets after a word that they must begin with, in any case.
+/// The octets after a word that they must begin with, in any letter case.
 pub fn skip_word<'a>(octets: &'a [u8], token: &[u8]) -> Result<&'a [u8], ParseFault>
     ensures { IsReading (λ rest. rest.now) result (after_word token.now octets.now) }
 {

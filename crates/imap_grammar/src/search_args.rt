@@ -138,7 +138,7 @@ fn charset_name(alloc: Global, octets: &[u8]) -> Result<&[u8], ParseFault>
     space(rest)
 }
 
-/// Whether this charset is supported; its name may be in any case.
+/// Whether this charset is supported; its name may be in any letter case.
 fn is_charset(name: &[u8]) -> bool
     ensures { result ≡ is_charset name.now }
 {

@@ -53,7 +53,7 @@ pub fn plain(alloc: Global, class: OctetClass, octets: &[u8]) -> Result<(Octets,
     Ok((Octets::from_slice(alloc, front)?, rest))
 }
 
-/// Reads a mailbox name; INBOX in any case becomes capitals (RFC 9051, section 9, mailbox).
+/// Reads a mailbox name; INBOX in any letter case becomes capitals (RFC 9051, section 9, mailbox).
 pub fn mailbox(alloc: Global, octets: &[u8]) -> Result<(Name, &[u8]), ParseFault>
     ensures { IsReading (λ x. (x.0, x.1.now)) result (mailbox_at octets.now) }
 {

@@ -55,8 +55,8 @@ ended_line line inside h e = record {
 }
 
 -- An open line with another octet is still open.
-pub open_more : (line : List ℕ) (octet : ℕ) → HasNoCrlf line → is_end line octet ≡ false → HasNoCrlf (line ++ octet ∷ [])
-open_more line octet h not_end front back e =
+pub open_line_append : (line : List ℕ) (octet : ℕ) → HasNoCrlf line → is_end line octet ≡ false → HasNoCrlf (line ++ octet ∷ [])
+open_line_append line octet h not_end front back e =
     elim (last_of back) [
       | inl k ↦
           let p = at_last line front octet (e ∙ ap (λ t. front ++ 13 ∷ 10 ∷ t) k) in

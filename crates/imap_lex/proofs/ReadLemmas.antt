@@ -14,7 +14,7 @@ use Rattle.imap_lex.specs.Frames.{AreCommands, AreFrames, ArePartsOfCommand, Are
 use Rattle.imap_lex.specs.MarkReading.{line_mark}
 use Rattle.imap_lex.specs.Framing.{Cut, FrameProgress, after_octet, cut_from, is_end, octets_so_far, ready_item, start, with_items}
 use Rattle.imap_lex.proofs.CutLemmas.{cut_of-fault}
-use Rattle.imap_lex.proofs.LineLemmas.{end_parts, ended_line, no_nul_both, open_more}
+use Rattle.imap_lex.proofs.LineLemmas.{end_parts, ended_line, no_nul_both, open_line_append}
 use Rattle.imap_lex.proofs.MarkLemmas.{mark_is, unmarked_is}
 use Rattle.imap_lex.proofs.StepLemmas.{announced_of-push, at_line, at_literal, ended, ended_literal, ended_too_long, ended_whole, literal_whole, octets_of-push, outside_of-push, readies-push, ready_is, step_end, step_full, step_line, step_literal, step_nul}
 use Rattle.imap_lex.proofs.RunLemmas.{run_step}
@@ -161,7 +161,7 @@ line_change limits rest items octet o nul =
                 parts = o.parts;
                 line = o.line ++ octet ∷ [];
                 taken = taken_more limits o.parts o.line octet o.taken nul room;
-                open_line = open_more o.line octet o.open_line f;
+                open_line = open_line_append o.line octet o.open_line f;
                 text_is = ap (λ t. t ++ octet ∷ []) o.text_is ∙ append_assoc (octets_of o.parts) o.line (octet ∷ []);
                 items_are = append-nil items ∙ o.items_are;
               },

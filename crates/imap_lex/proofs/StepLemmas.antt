@@ -41,14 +41,14 @@ pub readies-push : (parts : List Part) (part : Part) → readies (parts ++ part 
 readies-push parts part = flat_map-append (λ (p : Part). ready p.plus) parts (part ∷ []) ∙ ap (λ t. readies parts ++ t) (append-nil (ready part.plus))
 
 -- One further octet of a line.
-line_more : (parts : List Part) (line : List ℕ) (octet : ℕ) → with_octet (at_line parts line) octet ≡ at_line parts (line ++ octet ∷ [])
-line_more parts line octet =
+line_append : (parts : List Part) (line : List ℕ) (octet : ℕ) → with_octet (at_line parts line) octet ≡ at_line parts (line ++ octet ∷ [])
+line_append parts line octet =
     let e : octets_outside parts + length line + 1 ≡ octets_outside parts + length (line ++ octet ∷ []) = omega (arith, length_push line octet) in
     λ k. record { front = octets_of parts; line = line ++ octet ∷ []; outside = e k; announced = announced_octets parts; awaited = 0 }
 
 -- One further octet of a literal.
-literal_more : (parts : List Part) (line : List ℕ) (n : ℕ) (literal : List ℕ) (octet : ℕ) → record (at_literal parts line n literal) { front = (octets_of parts ++ (line ++ literal)) ++ octet ∷ []; awaited = n - length literal - 1 } ≡ at_literal parts line n (literal ++ octet ∷ [])
-literal_more parts line n literal octet =
+literal_append : (parts : List Part) (line : List ℕ) (n : ℕ) (literal : List ℕ) (octet : ℕ) → record (at_literal parts line n literal) { front = (octets_of parts ++ (line ++ literal)) ++ octet ∷ []; awaited = n - length literal - 1 } ≡ at_literal parts line n (literal ++ octet ∷ [])
+literal_append parts line n literal octet =
     let e : n - length literal - 1 ≡ n - length (literal ++ octet ∷ []) = omega (arith, length_push literal octet) in
     let f : (octets_of parts ++ (line ++ literal)) ++ octet ∷ [] ≡ octets_of parts ++ (line ++ (literal ++ octet ∷ [])) =
     append_assoc (octets_of parts) (line ++ literal) (octet ∷ []) ∙ ap (λ t. octets_of parts ++ t) (append_assoc line literal (octet ∷ []))
@@ -70,11 +70,11 @@ step_nul limits p octet e = rw (eq-eqb octet 0 e) refl
 
 pub step_literal : (limits : Limits) (parts : List Part) (line : List ℕ) (n : ℕ) (literal : List ℕ) (octet : ℕ) → octet ≢ 0 → length literal < n → after_octet limits (at_literal parts line n literal) octet ≡ quietly (at_literal parts line n (literal ++ octet ∷ []))
 step_literal limits parts line n literal octet h l =
-    rw (ne_eqb octet 0 h, lt-ltb 0 (n - length literal) (omega arith)) (ap quietly (literal_more parts line n literal octet))
+    rw (ne_eqb octet 0 h, lt-ltb 0 (n - length literal) (omega arith)) (ap quietly (literal_append parts line n literal octet))
 
 pub step_line : (limits : Limits) (parts : List Part) (line : List ℕ) (octet : ℕ) → octet ≢ 0 → octets_outside parts + length line < limits.line → is_end line octet ≡ false → after_octet limits (at_line parts line) octet ≡ quietly (at_line parts (line ++ octet ∷ []))
 step_line limits parts line octet h l e =
-    rw (ne_eqb octet 0 h, lt-leb limits.line (octets_outside parts + length line) l, e) (ap quietly (line_more parts line octet))
+    rw (ne_eqb octet 0 h, lt-leb limits.line (octets_outside parts + length line) l, e) (ap quietly (line_append parts line octet))
 
 pub step_full : (limits : Limits) (parts : List Part) (line : List ℕ) (octet : ℕ) → octet ≢ 0 → limits.line ≤ octets_outside parts + length line → after_octet limits (at_line parts line) octet ≡ Err LineTooLong
 step_full limits parts line octet h l = rw (ne_eqb octet 0 h, le-leb limits.line (octets_outside parts + length line) l) refl
@@ -86,7 +86,7 @@ ended limits parts text = after_line_end (at_line parts text) (line_effect_of te
 pub step_end : (limits : Limits) (parts : List Part) (line : List ℕ) → octets_outside parts + length line < limits.line → is_end line 10 ≡ true → after_octet limits (at_line parts line) 10 ≡ ended limits parts (line ++ 10 ∷ [])
 step_end limits parts line l e =
     rw (lt-leb limits.line (octets_outside parts + length line) l, e)
-    (ap (λ p. after_line_end p (line_effect_of (line ++ 10 ∷ []) (limits.literals - announced_octets parts))) (line_more parts line 10))
+    (ap (λ p. after_line_end p (line_effect_of (line ++ 10 ∷ []) (limits.literals - announced_octets parts))) (line_append parts line 10))
 
 -- The result of a line's end in each case.
 pub ended_whole : (limits : Limits) (parts : List Part) (text : List ℕ) → IsUnmarked text → ended limits parts text ≡ after_line_end (at_line parts text) Whole

@@ -144,7 +144,7 @@ Faults LiteralTooLong items cut = cut ≡ (items, Err LiteralTooLong)
 Faults NulByte items cut = cut ≡ (items, Err NulByte)
 Faults Failed items cut = ⊥
 
--- The state after a failed feed: `Failed` exactly if it had failed before, which changes nothing;
+-- The state after a failed feed: `Failed` exactly when it had failed before, which changes nothing;
 -- else the new fault, for good.
 abbrev pub FaultsNow : FrameFaultKind → List Item → Result FrameProgress FrameFaultKind
     → Result FrameProgress FrameFaultKind → Cut → Type 0

@@ -11,7 +11,7 @@ ghost use Rattle.imap_lex.specs.Framing.{octets_so_far, start};
 
 /// A stream's result doesn't depend on how it is cut into pieces: the items, and the fault or the
 /// progress of the next command, are those of the whole stream.
-pub fn any_cuts()
+pub fn cuts_change_nothing()
     ensures whole { (limits : Limits) (pieces : List (List ℕ))
         → cut_of_pieces limits (Ok start) pieces
         ≡ cut_from limits (Ok start) (concat_pieces pieces) }
@@ -29,7 +29,7 @@ pub fn frames_are_read()
         × (octets_so_far progress ≡ rest) }
 {}
 
-/// A stream without a fault is made of the commands that it gives, and the rest is what was read of
+/// A stream without a fault consists of the commands that it gives and a rest: what was read of
 /// the next command.
 pub fn read_items_are_frames()
     ensures { (limits : Limits) (stream : List ℕ) (items : List Item) (progress : FrameProgress)
@@ -37,13 +37,14 @@ pub fn read_items_are_frames()
         → AreFrames limits stream items (octets_so_far progress) }
 {}
 
-/// A stream ends in a fault exactly if some octet makes a fault: the first such octet decides. The
+/// A stream ends in a fault if and only if some octet causes one: the first such octet decides. The
 /// items are those before it.
 pub fn faults_come_first()
     ensures at { (limits : Limits) (stream : List ℕ) (items : List Item) (why : FrameFaultKind)
         → cut_from limits (Ok start) stream ≡ (items, Err why)
         → FailsAt limits stream items why }
-    ensures so { (limits : Limits) (stream : List ℕ) (items : List Item) (why : FrameFaultKind)
+    ensures converse { (limits : Limits) (stream : List ℕ) (items : List Item)
+        (why : FrameFaultKind)
         → FailsAt limits stream items why
         → cut_from limits (Ok start) stream ≡ (items, Err why) }
 {}

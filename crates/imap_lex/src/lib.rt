@@ -17,9 +17,9 @@
 //!   a machine word is above any limit. Framing knows no grammar: a line that ends with a mark
 //!   continues with a literal, even inside a quoted string; `~{n}` ends with a mark. A literal's
 //!   last CR and an LF after it don't end a line. NUL inside a literal is refused too.
-//! - With 8,192 octets outside literals and then a mark, the literal is read; the first octet after
-//!   it is one too many. If the octet that is one too many is NUL, the fault is `NUL in text`; if
-//!   it ends a mark that passes the limit, the fault is `line too long`.
+//! - If the last of 8,192 octets outside literals ends a mark, the literal is read; the first octet
+//!   after it is one too many. If the octet that is one too many is NUL, the fault is `NUL in
+//!   text`; if it ends a mark that passes the limit, the fault is `line too long`.
 //! - If memory runs out, some of the first items of the piece are returned, and the framer can't be
 //!   used further. Memory may run out at any octet, so no contract says how many items there are.
 #![tactic(auto)]
@@ -36,5 +36,5 @@ mod progress;
 pub use fault::{FrameFault, FrameFaultKind};
 pub use framer::Framer;
 pub use item::{Frame, Item};
-pub use laws::{any_cuts, faults_come_first, frames_are_read, read_items_are_frames};
+pub use laws::{cuts_change_nothing, faults_come_first, frames_are_read, read_items_are_frames};
 pub use limits::Limits;

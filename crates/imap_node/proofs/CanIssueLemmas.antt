@@ -247,13 +247,13 @@ chosen : (b : Bool) (rows : List ListedMessage) (row : ListedMessage) → IsIn r
 chosen true rows row i = i
 chosen false rows row i = absurd i
 
-under_in : (uidvalidity : ℕ) (now : Option ℕ) (rows : List ListedMessage) (row : ListedMessage) → IsIn row (rows_under uidvalidity now rows) → IsIn row rows
-under_in uidvalidity None rows row i = absurd i
-under_in uidvalidity (Some now) rows row i = chosen (now == uidvalidity) rows row i
+in_rows_under : (uidvalidity : ℕ) (now : Option ℕ) (rows : List ListedMessage) (row : ListedMessage) → IsIn row (rows_under uidvalidity now rows) → IsIn row rows
+in_rows_under uidvalidity None rows row i = absurd i
+in_rows_under uidvalidity (Some now) rows row i = chosen (now == uidvalidity) rows row i
 
 module _ (start : Counters) (ops : List Op) (a : IsApplied ops) where
   pub view_row : (view : ViewState) (row : ListedMessage) → IsIn row (rows_for start ops view) → IsIn row (listing start view.name ops)
-  view_row view row i = under_in view.uidvalidity (uidvalidity_of start view.name ops) (listing start view.name ops) row i
+  view_row view row i = in_rows_under view.uidvalidity (uidvalidity_of start view.name ops) (listing start view.name ops) row i
 
   pub view_keywords : (view : ViewState) → HaveLawfulKeywords (rows_for start ops view)
   view_keywords view = λ row i. keywords_lawful start view.name ops row a (view_row view row i)

@@ -65,15 +65,15 @@ flags_of uid (row ∷ rows) = elim (cases_Bool (nat_eq row.uid uid)) [ inl t ↦
 
 under_same : (v : ℕ) (n m : Option ℕ) (before after : List ListedMessage) (uid : ℕ) → n ≡ m → row_of uid after ≡ row_of uid before → flags_at uid (entries_of (rows_under v n before)) ≡ flags_at uid (entries_of (rows_under v m after))
 under_same v n None before after uid e h = ap (λ (k : Option ℕ). flags_at uid (entries_of (rows_under v k before))) e
-under_same v n (Some m) before after uid e h = ap (λ (k : Option ℕ). flags_at uid (entries_of (rows_under v k before))) e ∙ either (nat_eq m v)
+under_same v n (Some m) before after uid e h = ap (λ (k : Option ℕ). flags_at uid (entries_of (rows_under v k before))) e ∙ flags_at_if (nat_eq m v)
   where
-    either : (b : Bool) → flags_at uid (entries_of (if b then before else [])) ≡ flags_at uid (entries_of (if b then after else []))
-    either true = flags_of uid before ∙ ap (option_map (λ (r : ListedMessage). r.flags)) (sym h) ∙ sym (flags_of uid after)
-    either false = refl
+    flags_at_if : (b : Bool) → flags_at uid (entries_of (if b then before else [])) ≡ flags_at uid (entries_of (if b then after else []))
+    flags_at_if true = flags_of uid before ∙ ap (option_map (λ (r : ListedMessage). r.flags)) (sym h) ∙ sym (flags_of uid after)
+    flags_at_if false = refl
 
-pub names_in : (start : Counters) (before ops : List Op) (name : List ℕ) (ahead : MailboxSnapshot) (now : Option ℕ) (uidnext : ℕ) (notes : List Note) → IsApplied (before ++ ops) → IsSnapshotOf start before ops name ahead
-    → now ≡ uidvalidity_of start name (before ++ ops) → uidnext ≡ uidnext_of start name (before ++ ops) → NamesTouched ahead.uidvalidity now ahead.uidnext uidnext ahead.touched notes → NotesNameIn start before (before ++ ops) name notes
-names_in start before ops name ahead now uidnext notes a is u n names v uid =
+pub names_in : (start : Counters) (before ops : List Op) (name : List ℕ) (snapshot : MailboxSnapshot) (now : Option ℕ) (uidnext : ℕ) (notes : List Note) → IsApplied (before ++ ops) → IsSnapshotOf start before ops name snapshot
+    → now ≡ uidvalidity_of start name (before ++ ops) → uidnext ≡ uidnext_of start name (before ++ ops) → NamesTouched snapshot.uidvalidity now snapshot.uidnext uidnext snapshot.touched notes → NotesNameIn start before (before ++ ops) name notes
+names_in start before ops name snapshot now uidnext notes a is u n names v uid =
     elim names [
       | inr all ↦ inr (all uid)
       | inl some ↦

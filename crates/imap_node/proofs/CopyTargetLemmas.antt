@@ -47,9 +47,9 @@ use Rattle.crdt_ops.specs.Ops.{id_of}
 -- ---- operations that copy
 
 -- an operation appends a message to the folder
-abbrev pub appends_to : List ℕ → Kind → Bool
-appends_to folder (kinds.Append name flags date text) = bytes_eq folder name
-appends_to folder _ = false
+abbrev pub appends_message_to : List ℕ → Kind → Bool
+appends_message_to folder (kinds.Append name flags date text) = bytes_eq folder name
+appends_message_to folder _ = false
 
 -- each of the ids is that of an operation in `before`
 abbrev pub HasAll : List Op → List OpId → Type 0
@@ -70,7 +70,7 @@ copying_stays before (kinds.Store name flags old_ids origin) h = tt
 copying_stays before (kinds.Subscribe name) h = tt
 copying_stays before (kinds.Unsubscribe name seen) h = tt
 
-elsewhere : (folder : List ℕ) (kind : Kind) → kind_names_folder folder kind ≡ false → appends_to folder kind ≡ false
+elsewhere : (folder : List ℕ) (kind : Kind) → kind_names_folder folder kind ≡ false → appends_message_to folder kind ≡ false
 elsewhere folder (kinds.Create name) h = refl
 elsewhere folder (kinds.Delete name seen) h = refl
 elsewhere folder (kinds.Append name flags date text) h = h
@@ -81,14 +81,14 @@ elsewhere folder (kinds.Unsubscribe name seen) h = refl
 
 -- an Append to the folder
 record Puts (folder : List ℕ) (id : OpId) (kind : Kind) : Type 0 where
-  counted : appends_to folder kind ≡ true
+  counted : appends_message_to folder kind ≡ true
   own : is_some_tag (MessageTag folder id) (tag_added_by id kind) ≡ true
   origin : option_map (λ (b : MessageTagData). b.origin) (tag_data_by id kind) ≡ Some id
   keeps : (i : OpId) → list_any (same_tag (MessageTag folder i)) (tags_removed_by kind) ≡ false
 
 -- an Expunge in the folder
 record Takes (before : List Op) (folder : List ℕ) (id : OpId) (kind : Kind) : Type 0 where
-  counted : appends_to folder kind ≡ false
+  counted : appends_message_to folder kind ≡ false
   adds_none : (i : OpId) → is_some_tag (MessageTag folder i) (tag_added_by id kind) ≡ false
   earlier : (i : OpId) → list_any (same_tag (MessageTag folder i)) (tags_removed_by kind) ≡ true → Has before i
 
@@ -118,15 +118,15 @@ parts_of before folder id (kinds.Unsubscribe name seen) h c = absurd h
 
 -- ---- counts
 
-one_counted : {X : Type 0} (test : X → Bool) (x : X) (xs : List X) → length (filter test (x ∷ xs)) ≡ once (test x) + length (filter test xs)
-one_counted test x xs = elim (cases_Bool (test x)) [ inl t ↦ rw t (omega arith) | inr f ↦ rw f (omega arith) ]
+length_filter_cons : {X : Type 0} (test : X → Bool) (x : X) (xs : List X) → length (filter test (x ∷ xs)) ≡ once (test x) + length (filter test xs)
+length_filter_cons test x xs = elim (cases_Bool (test x)) [ inl t ↦ rw t (omega arith) | inr f ↦ rw f (omega arith) ]
 
-pub more_counted : {X : Type 0} (test : X → Bool) (xs ys : List X) → length (filter test (xs ++ ys)) ≡ length (filter test xs) + length (filter test ys)
-more_counted test [] ys = omega arith
-more_counted test (x ∷ xs) ys =
-    let a = one_counted test x (xs ++ ys) in
-    let b = one_counted test x xs in
-    let c = more_counted test xs ys in
+pub length_filter_append : {X : Type 0} (test : X → Bool) (xs ys : List X) → length (filter test (xs ++ ys)) ≡ length (filter test xs) + length (filter test ys)
+length_filter_append test [] ys = omega arith
+length_filter_append test (x ∷ xs) ys =
+    let a = length_filter_cons test x (xs ++ ys) in
+    let b = length_filter_cons test x xs in
+    let c = length_filter_append test xs ys in
     omega (arith, a, b, c)
 
 -- ---- ascending lists
@@ -207,17 +207,17 @@ at_end y (z ∷ xs) = inr (at_end y xs)
 
 -- the ids of those that append a message to the folder
 abbrev pub added_origins : List ℕ → List Op → List OpId
-added_origins folder ops = map id_of (filter (λ (o : Op). appends_to folder o.kind) ops)
+added_origins folder ops = map id_of (filter (λ (o : Op). appends_message_to folder o.kind) ops)
 
 abbrev added_origins_by : Bool → OpId → List OpId
 added_origins_by b id = if b then id ∷ [] else []
 
-added_more : (folder : List ℕ) (o : Op) (ops : List Op) → added_origins folder (o ∷ ops) ≡ added_origins_by (appends_to folder o.kind) o.id ++ added_origins folder ops
-added_more folder o ops = elim (cases_Bool (appends_to folder o.kind)) [ inl t ↦ rw t refl | inr f ↦ rw f refl ]
+added_cons : (folder : List ℕ) (o : Op) (ops : List Op) → added_origins folder (o ∷ ops) ≡ added_origins_by (appends_message_to folder o.kind) o.id ++ added_origins folder ops
+added_cons folder o ops = elim (cases_Bool (appends_message_to folder o.kind)) [ inl t ↦ rw t refl | inr f ↦ rw f refl ]
 
-has_more : (i : OpId) (ops : List Op) (o : Op) → Has ops i → Has (ops ++ o ∷ []) i
-has_more i [] o h = absurd h
-has_more i (x ∷ ops) o h = elim h [ inl e ↦ inl e | inr t ↦ inr (has_more i ops o t) ]
+has_append : (i : OpId) (ops : List Op) (o : Op) → Has ops i → Has (ops ++ o ∷ []) i
+has_append i [] o h = absurd h
+has_append i (x ∷ ops) o h = elim h [ inl e ↦ inl e | inr t ↦ inr (has_append i ops o t) ]
 
 and_not_true : (x y : Bool) → x ≡ true → y ≡ false → (x && not y) ≡ true
 and_not_true true false p q = refl
@@ -332,10 +332,10 @@ module _ (start : Counters) (folder : List ℕ) (before : List Op) (first : ℕ)
           next = omega (arith, next, up);
         }
 
-    none_added : (origins : List OpId) → appends_to folder o.kind ≡ false → AreAdded (ops ++ o ∷ []) origins → AreAdded (ops ++ o ∷ []) (origins ++ added_origins_by (appends_to folder o.kind) o.id)
+    none_added : (origins : List OpId) → appends_message_to folder o.kind ≡ false → AreAdded (ops ++ o ∷ []) origins → AreAdded (ops ++ o ∷ []) (origins ++ added_origins_by (appends_message_to folder o.kind) o.id)
     none_added origins f k = subst (λ (b : Bool). AreAdded (ops ++ o ∷ []) (origins ++ added_origins_by b o.id)) (sym f) (subst (AreAdded (ops ++ o ∷ [])) (sym (append-nil origins)) k)
 
-    pub added_one : (origins : List OpId) → IsCopying before o.kind → AreAdded ops origins → AreAdded (ops ++ o ∷ []) (origins ++ added_origins_by (appends_to folder o.kind) o.id)
+    pub added_one : (origins : List OpId) → IsCopying before o.kind → AreAdded ops origins → AreAdded (ops ++ o ∷ []) (origins ++ added_origins_by (appends_message_to folder o.kind) o.id)
     added_one origins c l =
         elim (cases_Bool (kind_names_folder folder o.kind)) [
           | inl about ↦ elim (parts_of before folder o.id o.kind c about) [
@@ -367,10 +367,10 @@ module _ (start : Counters) (folder : List ℕ) (before : List Op) (first : ℕ)
       let b : IsApplied ((ops ++ o ∷ []) ++ more) = subst IsApplied (sym same) a in
       let d = applied_front (ops ++ o ∷ []) more b in
       let exists = exists_after_one folder ops o d (copying_stays before o.kind (c o (inl refl))) t in
-      let by = added_origins_by (appends_to folder o.kind) o.id in
+      let by = added_origins_by (appends_message_to folder o.kind) o.id in
       let one = added_one ops o d earlier exists origins (c o (inl refl)) l in
-      let rest = added_all more (ops ++ o ∷ []) (origins ++ by) b (λ i h. has_more i ops o (earlier i h)) exists (λ p i. c p (inr i)) one in
-      let joined : (origins ++ by) ++ added_origins folder more ≡ origins ++ added_origins folder (o ∷ more) = append_assoc origins by (added_origins folder more) ∙ ap (λ (ids : List OpId). origins ++ ids) (sym (added_more folder o more)) in
+      let rest = added_all more (ops ++ o ∷ []) (origins ++ by) b (λ i h. has_append i ops o (earlier i h)) exists (λ p i. c p (inr i)) one in
+      let joined : (origins ++ by) ++ added_origins folder more ≡ origins ++ added_origins folder (o ∷ more) = append_assoc origins by (added_origins folder more) ∙ ap (λ (ids : List OpId). origins ++ ids) (sym (added_cons folder o more)) in
       subst (λ (xs : List Op). AreAdded xs (origins ++ added_origins folder (o ∷ more))) same (subst (AreAdded ((ops ++ o ∷ []) ++ more)) joined rest)
 
 -- ---- their rows
@@ -400,8 +400,8 @@ mapped_length f (x ∷ xs) = let e = mapped_length f xs in omega (arith, e)
 is_over : (first n : ℕ) → 1 ≤ first → first ≤ n → nat_lt (first - 1) n ≡ true
 is_over first n l h = elim (cases_Bool (nat_lt (first - 1) n)) [ inl t ↦ t | inr f ↦ absurd (grind (arith, nat_tests)) ]
 
-from_over : (first n : ℕ) → 1 ≤ first → nat_lt (first - 1) n ≡ true → first ≤ n
-from_over first n l h = grind (arith, nat_tests)
+le_of_pred_lt : (first n : ℕ) → 1 ≤ first → nat_lt (first - 1) n ≡ true → first ≤ n
+le_of_pred_lt first n l h = grind (arith, nat_tests)
 
 -- the rows above a UID are those of the added messages
 added_beyond : (start : Counters) (folder : List ℕ) (before ops : List Op) (first : ℕ) (origins : List OpId) (row : ListedMessage) → 1 ≤ first → ((g : OpId) → IsIn g origins ↔ IsAdded start folder before first ops g)
@@ -413,7 +413,7 @@ added_beyond start folder before ops first origins row least are =
       λ i.
           let w = f.0 i in
           let r = row_in start folder ops row w.0 in
-          let from : first ≤ row.uid = from_over first row.uid least w.1 in
+          let from : first ≤ row.uid = le_of_pred_lt first row.uid least w.1 in
           m.1 (r.0, (are r.0).1 (r.1, subst (λ (x : ListedMessage). first ≤ x.uid) (sym r.2) from), r.2),
       λ i.
           let w = m.0 i in
@@ -436,47 +436,47 @@ rows_are_added start folder before issued least a r t c =
 -- so there are as many such rows as Appends
 rows_added : (start : Counters) (folder : List ℕ) (before issued : List Op) → 1 ≤ uidnext_of start folder before → IsApplied (before ++ issued) → AreRisingRows 1 (listing start folder (before ++ issued)) → folder_exists folder before ≡ true
     → ((o : Op) → IsIn o issued → IsCopying before o.kind)
-    → length (rows_after_uid (uidnext_of start folder before - 1) (listing start folder (before ++ issued))) ≡ length (filter (λ (o : Op). appends_to folder o.kind) issued)
+    → length (rows_after_uid (uidnext_of start folder before - 1) (listing start folder (before ++ issued))) ≡ length (filter (λ (o : Op). appends_message_to folder o.kind) issued)
 rows_added start folder before issued least a r t c =
     ap (λ (rows : List ListedMessage). length rows) (rows_are_added start folder before issued least a r t c)
     ∙ mapped_length (listed_message_of start folder (before ++ issued)) (added_origins folder issued)
-    ∙ mapped_length id_of (filter (λ (o : Op). appends_to folder o.kind) issued)
+    ∙ mapped_length id_of (filter (λ (o : Op). appends_message_to folder o.kind) issued)
 
 -- ---- what COPY and MOVE issue
 
-kinds_counted : (folder : List ℕ) (issued : List Op) → length (filter (λ (o : Op). appends_to folder o.kind) issued) ≡ length (filter (appends_to folder) (map (λ (o : Op). o.kind) issued))
+kinds_counted : (folder : List ℕ) (issued : List Op) → length (filter (λ (o : Op). appends_message_to folder o.kind) issued) ≡ length (filter (appends_message_to folder) (map (λ (o : Op). o.kind) issued))
 kinds_counted folder [] = refl
 kinds_counted folder (o ∷ issued) =
-    let a = one_counted (λ (p : Op). appends_to folder p.kind) o issued in
-    let b = one_counted (appends_to folder) o.kind (map (λ (p : Op). p.kind) issued) in
+    let a = length_filter_cons (λ (p : Op). appends_message_to folder p.kind) o issued in
+    let b = length_filter_cons (appends_message_to folder) o.kind (map (λ (p : Op). p.kind) issued) in
     let c = kinds_counted folder issued in
     omega (arith, a, b, c)
 
-append_counted : (folder : List ℕ) (m : Option ListedMessage) → length (filter (appends_to folder) (append_of folder m)) ≡ once (not (is_gone m))
+append_counted : (folder : List ℕ) (m : Option ListedMessage) → length (filter (appends_message_to folder) (append_of folder m)) ≡ once (not (is_gone m))
 append_counted folder None = refl
 append_counted folder (Some row) =
     let own : bytes_eq folder folder ≡ true = (bytes_eq-Decides folder folder).1 refl in
     rw own refl
 
-pub appends_counted : (folder : List ℕ) (rows : List ListedMessage) (view : List ViewEntry) (numbers : List ℕ) → length (filter (appends_to folder) (appends_of folder rows view numbers)) ≡ length (existing_messages rows view numbers)
+pub appends_counted : (folder : List ℕ) (rows : List ListedMessage) (view : List ViewEntry) (numbers : List ℕ) → length (filter (appends_message_to folder) (appends_of folder rows view numbers)) ≡ length (existing_messages rows view numbers)
 appends_counted folder rows view [] = refl
 appends_counted folder rows view (n ∷ numbers) =
     let m = message_at rows view n in
-    let a = more_counted (appends_to folder) (append_of folder m) (appends_of folder rows view numbers) in
+    let a = length_filter_append (appends_message_to folder) (append_of folder m) (appends_of folder rows view numbers) in
     let b = append_counted folder m in
     let c = appends_counted folder rows view numbers in
-    let d = one_counted (λ k. not (is_gone (message_at rows view k))) n numbers in
+    let d = length_filter_cons (λ k. not (is_gone (message_at rows view k))) n numbers in
     omega (arith, a, b, c, d)
 
-removal_counted : (folder destination : List ℕ) (m : Option ListedMessage) → length (filter (appends_to destination) (expunge_of_moved folder m)) ≡ 0
+removal_counted : (folder destination : List ℕ) (m : Option ListedMessage) → length (filter (appends_message_to destination) (expunge_of_moved folder m)) ≡ 0
 removal_counted folder destination None = refl
 removal_counted folder destination (Some row) = refl
 
-pub removals_counted : (folder destination : List ℕ) (rows : List ListedMessage) (view : List ViewEntry) (numbers : List ℕ) → length (filter (appends_to destination) (expunges_of_moved folder rows view numbers)) ≡ 0
+pub removals_counted : (folder destination : List ℕ) (rows : List ListedMessage) (view : List ViewEntry) (numbers : List ℕ) → length (filter (appends_message_to destination) (expunges_of_moved folder rows view numbers)) ≡ 0
 removals_counted folder destination rows view [] = refl
 removals_counted folder destination rows view (n ∷ numbers) =
     let m = message_at rows view n in
-    let a = more_counted (appends_to destination) (expunge_of_moved folder m) (expunges_of_moved folder rows view numbers) in
+    let a = length_filter_append (appends_message_to destination) (expunge_of_moved folder m) (expunges_of_moved folder rows view numbers) in
     let b = removal_counted folder destination m in
     let c = removals_counted folder destination rows view numbers in
     omega (arith, a, b, c)
@@ -519,14 +519,14 @@ mapped_copying before issued intended e h o i = each_in (IsCopying before) inten
 pub kinds_added : (start : Counters) (folder : List ℕ) (before issued : List Op) (intended : List Kind) → 1 ≤ uidnext_of start folder before → IsApplied (before ++ issued) → AreRisingRows 1 (listing start folder (before ++ issued))
     → folder_exists folder before ≡ true
     → map (λ (o : Op). o.kind) issued ≡ intended → Each (IsCopying before) intended
-    → length (rows_after_uid (uidnext_of start folder before - 1) (listing start folder (before ++ issued))) ≡ length (filter (appends_to folder) intended)
+    → length (rows_after_uid (uidnext_of start folder before - 1) (listing start folder (before ++ issued))) ≡ length (filter (appends_message_to folder) intended)
 kinds_added start folder before issued intended least a r t e c =
-    rows_added start folder before issued least a r t (mapped_copying before issued intended e c) ∙ kinds_counted folder issued ∙ ap (λ ks. length (filter (appends_to folder) ks)) e
+    rows_added start folder before issued least a r t (mapped_copying before issued intended e c) ∙ kinds_counted folder issued ∙ ap (λ ks. length (filter (appends_message_to folder) ks)) e
 
 -- the destination gets as many messages as there are sources
 pub copies_added : (start : Counters) (folder : List ℕ) (before issued : List Op) (intended : List Kind) (mailbox : OpenMailbox) (request : CopyArgs)
     → 1 ≤ uidnext_of start folder before → IsApplied (before ++ issued) → AreRisingRows 1 (listing start folder (before ++ issued)) → folder_exists folder before ≡ true → map (λ (o : Op). o.kind) issued ≡ intended → Each (IsCopying before) intended
-    → length (filter (appends_to folder) intended) ≡ length (existing_messages mailbox.rows mailbox.view (numbers_in_set request.by_uid request.messages mailbox.view))
+    → length (filter (appends_message_to folder) intended) ≡ length (existing_messages mailbox.rows mailbox.view (numbers_in_set request.by_uid request.messages mailbox.view))
     → HasAllCopies mailbox request (copy_target_in start before (before ++ issued) folder)
 copies_added start folder before issued intended mailbox request least a r t e c n =
     let rows = mailbox.rows in

@@ -26,8 +26,8 @@ no_change_notes start list = λ name uidvalidity uid. inl refl
 
 -- ---- a session with nothing noted
 
-pub current_by : (start : Counters) (ops : List Op) (places : Places) (feeds : List FeedState) (n : ℕ) (p : Pending) (view : ViewState) → AreAllNoted start ops places feeds → p ≡ pending_at feeds n → p.missed ≡ false → p.notes ≡ [] → view_at places n ≡ Some view → IsCurrent start ops view
-current_by start ops places feeds n p view noted e m o v uid =
+pub current_by_feed : (start : Counters) (ops : List Op) (places : Places) (feeds : List FeedState) (n : ℕ) (p : Pending) (view : ViewState) → AreAllNoted start ops places feeds → p ≡ pending_at feeds n → p.missed ≡ false → p.notes ≡ [] → view_at places n ≡ Some view → IsCurrent start ops view
+current_by_feed start ops places feeds n p view noted e m o v uid =
     elim (noted n view v) [
       | inl t ↦ absurd (false≢true (sym m ∙ ap (λ (q : Pending). q.missed) e ∙ t))
       | inr note_names ↦ elim (note_names uid) [

@@ -53,12 +53,12 @@ beyond_front low (suc n) (row ∷ rows) h =
     let f : nat_lt last row.uid ≡ false = grind (arith, nat_tests) in
     rw f (beyond_front row.uid n rows h.1)
 
-front_more : (rows : List ListedMessage) (n m : ℕ) → entries_of (take n rows) ++ entries_of (take m (drop n rows)) ≡ entries_of (take (n + m) rows)
-front_more rows zero m = let k : m ≡ 0 + m = omega arith in ap (λ (i : ℕ). entries_of (take i rows)) k
-front_more [] (suc n) m = ap entries_of (take-nil m ∙ sym (take-nil (suc n + m)))
-front_more (row ∷ rows) (suc n) m =
+entries_of_take_plus : (rows : List ListedMessage) (n m : ℕ) → entries_of (take n rows) ++ entries_of (take m (drop n rows)) ≡ entries_of (take (n + m) rows)
+entries_of_take_plus rows zero m = let k : m ≡ 0 + m = omega arith in ap (λ (i : ℕ). entries_of (take i rows)) k
+entries_of_take_plus [] (suc n) m = ap entries_of (take-nil m ∙ sym (take-nil (suc n + m)))
+entries_of_take_plus (row ∷ rows) (suc n) m =
     let k : suc (n + m) ≡ suc n + m = omega arith in
-    ap (λ (es : List ViewEntry). entry_of row ∷ es) (front_more rows n m) ∙ ap (λ (i : ℕ). entries_of (take i (row ∷ rows))) k
+    ap (λ (es : List ViewEntry). entry_of row ∷ es) (entries_of_take_plus rows n m) ∙ ap (λ (i : ℕ). entries_of (take i (row ∷ rows))) k
 
 whole_front : (rows : List ListedMessage) (n : ℕ) → length (entries_of (take n rows)) ≡ length rows → entries_of (take n rows) ≡ entries_of rows
 whole_front [] n h = ap entries_of (take-nil n)
@@ -67,9 +67,9 @@ whole_front (row ∷ rows) (suc n) h = ap (λ (es : List ViewEntry). entry_of ro
 
 -- ---- answers that show messages as the listing has them
 
-neither : (a b : Bool) → (a || b) ≡ false → (a ≡ false) × (b ≡ false)
-neither true b h = absurd (false≢true (sym h))
-neither false b h = (refl, h)
+or_both_false : (a b : Bool) → (a || b) ≡ false → (a ≡ false) × (b ≡ false)
+or_both_false true b h = absurd (false≢true (sym h))
+or_both_false false b h = (refl, h)
 
 module _ (rows : List ListedMessage) (r : AreRisingRows 1 rows) where
   one_shown : (n : ℕ) (answer : Answer) → is_altering answer ≡ false → (m : ℕ) × (after_answer rows (entries_of (take n rows)) answer ≡ entries_of (take m rows))
@@ -77,13 +77,13 @@ module _ (rows : List ListedMessage) (r : AreRisingRows 1 rows) where
   one_shown n (Fetch k items) h = absurd (false≢true (sym h))
   one_shown n (Exists count) h =
       let more = count - length (entries_of (take n rows)) in
-      (n + more, ap (λ (rs : List ListedMessage). entries_of (take n rows) ++ entries_of (take more rs)) (beyond_front 0 n rows r) ∙ front_more rows n more)
+      (n + more, ap (λ (rs : List ListedMessage). entries_of (take n rows) ++ entries_of (take more rs)) (beyond_front 0 n rows r) ∙ entries_of_take_plus rows n more)
   one_shown n _ h = (n, refl)
 
   all_shown : (n : ℕ) (own : List Answer) → list_any is_altering own ≡ false → (m : ℕ) × (after_answers rows (entries_of (take n rows)) own ≡ entries_of (take m rows))
   all_shown n [] h = (n, refl)
   all_shown n (answer ∷ own) h =
-      let k = neither (is_altering answer) (list_any is_altering own) h in
+      let k = or_both_false (is_altering answer) (list_any is_altering own) h in
       let one = one_shown n answer k.0 in
       let all = all_shown one.0 own k.1 in
       (all.0, ap (λ (es : List ViewEntry). after_answers rows es own) one.1 ∙ all.1)

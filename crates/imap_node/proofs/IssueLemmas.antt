@@ -1,5 +1,5 @@
 use Rattle.std.proofs.Common.{inl, inr, ℕ, ◌+◌, List, [], ◌∷◌, ◌++◌, map, append-nil, refl, sym, ap, ◌∙◌, subst}
-use Rattle.causal_inbox.specs.Inbox.{AreHeldStill, IsClockOf}
+use Rattle.causal_inbox.specs.Inbox.{AreRemainingHeld, IsClockOf}
 use Rattle.crdt_ops.specs.Sound.{IsSound}
 use Rattle.crdt_ops.specs.declared.kind.Kind.{Kind}
 use Rattle.crdt_ops.specs.declared.op.Op.{Op}
@@ -14,14 +14,14 @@ use Rattle.imap_node.specs.declared.input.Input.{Input}
 use Rattle.imap_node.specs.declared.reply.Reply.{Reply}
 use Rattle.imap_node.specs.declared.reply.Reply.TheVariants.{Done, Refused}
 use Rattle.imap_node.proofs.CanIssueLemmas.{input_can}
-use Rattle.imap_node.proofs.NextLemmas.{can_by, next_applied, next_issued, next_ripe, no_cut}
+use Rattle.imap_node.proofs.NextLemmas.{can_issue_by_clock, next_applied, next_issued, next_ripe, no_cut}
 use Rattle.uid_projection.specs.Applied.{IsApplied}
 use Rattle.crdt_ops.specs.Ops.{id_of}
 
 -- an operation that may be issued and comes next is sound
 next_sound : (replica : ℕ) (applied front : List Op) (op : Op) (counts : List (ℕ × ℕ)) → IsClockOf id_of applied counts → CanIssue applied op.kind → IsNext replica (applied ++ front) op → IsSound op
 next_sound replica applied front op counts c can n =
-    let by : CanIssueBy op.clock op.kind = can_by applied front op.kind counts op.clock can c n.clock in
+    let by : CanIssueBy op.clock op.kind = can_issue_by_clock applied front op.kind counts op.clock can c n.clock in
     record {
       own = ap (λ (r : ℕ). count_of op.clock r + 1) n.own ∙ sym n.number;
       covered = by.covered;
@@ -53,13 +53,13 @@ next_fresh replica applied kinds ops can h op i =
       fresh = λ has. (next_ripe replica (applied ++ cut.0) op n).1 (id_in_front id_of op.id applied cut.0 has);
     }
 
-held_still : (ops old new : List Op) → AreHeldAfter ops old new → AreHeldStill id_of ops old new
+held_still : (ops old new : List Op) → AreHeldAfter ops old new → AreRemainingHeld id_of ops old new
 held_still [] old new h = λ o. (λ i. (subst (IsIn o) h i, λ none. none), λ p. subst (IsIn o) (sym h) p.0)
 held_still (op ∷ ops) old new h = h
 
 -- a node issues the operations of its reply
-pub issues_well : (old new : NodeState) (n : ℕ) (input : Input) (reply : Reply) → IsApplied old.applied → Responds old n input reply new → Issues old (issued_by reply) new
-issues_well old new n input (Done answers silent issued) a (session, at, c) =
+pub issues_of_responds : (old new : NodeState) (n : ℕ) (input : Input) (reply : Reply) → IsApplied old.applied → Responds old n input reply new → Issues old (issued_by reply) new
+issues_of_responds old new n input (Done answers silent issued) a (session, at, c) =
     let can = input_can old.start old.applied a c.stamp session.state input c.kinds c.intended in
     let fresh = next_fresh old.start.replica old.applied c.kinds issued can c.next in
     record {
@@ -73,7 +73,7 @@ issues_well old new n input (Done answers silent issued) a (session, at, c) =
       not_exhausted = c.not_exhausted;
       whole = subst IsApplied (sym c.becomes.applied) (next_applied old.start.replica old.applied c.kinds issued a.sound a.causal (λ o i. (fresh o i).sound) c.next);
     }
-issues_well old new n input (Refused why closed) a (session, at, h) = record {
+issues_of_responds old new n input (Refused why closed) a (session, at, h) = record {
   start = h.2.start;
   applied = h.2.applied;
   held = held_still [] old.held new.held h.2.held;

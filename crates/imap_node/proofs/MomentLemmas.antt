@@ -115,8 +115,8 @@ known_since start folder front back v uids a t e has below row i =
       | inr none ↦ let from = (good.fresh row i none).0 in inr (λ uid j. let l = below uid j in omega (arith, l, from))
     ]
 
-pub known : (start : Counters) (ops : List Op) (view : ViewState) → IsApplied ops → IsOlderView start ops view → uidvalidity_of start view.name ops ≡ Some view.uidvalidity → (row : ListedMessage) → IsIn row (listing start view.name ops) → IsKnown (uids_of view.entries) row.uid
-known start ops view a g e =
+pub listed_known : (start : Counters) (ops : List Op) (view : ViewState) → IsApplied ops → IsOlderView start ops view → uidvalidity_of start view.name ops ≡ Some view.uidvalidity → (row : ListedMessage) → IsIn row (listing start view.name ops) → IsKnown (uids_of view.entries) row.uid
+listed_known start ops view a g e =
     subst (λ (os : List Op). (row : ListedMessage) → IsIn row (listing start view.name os) → IsKnown (uids_of view.entries) row.uid) (sym g.split)
     (known_since start view.name g.front g.back view.uidvalidity (uids_of view.entries) (subst IsApplied g.split a) g.exists (subst (λ (os : List Op). uidvalidity_of start view.name os ≡ Some view.uidvalidity) g.split e) (g.has e) (g.below e))
 

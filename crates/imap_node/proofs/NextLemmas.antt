@@ -68,36 +68,36 @@ last_cut (y ∷ xs) (z ∷ front) back x o e =
     ]
 
 -- operations that come next, followed by one that comes next after them
-pub next_more : (replica : ℕ) (applied ops : List Op) (op : Op)
+pub next_append : (replica : ℕ) (applied ops : List Op) (op : Op)
     → ((front : List Op) (o : Op) (back : List Op) → ops ≡ front ++ o ∷ back → IsNext replica (applied ++ front) o)
     → IsNext replica (applied ++ ops) op
     → (front : List Op) (o : Op) (back : List Op) → ops ++ op ∷ [] ≡ front ++ o ∷ back → IsNext replica (applied ++ front) o
-next_more replica applied ops op h n front o back e =
+next_append replica applied ops op h n front o back e =
     elim (last_cut ops front back op o e) [
       | inl t ↦ subst (λ (p : Op). IsNext replica (applied ++ front) p) t.1 (subst (λ (xs : List Op). IsNext replica (applied ++ xs) op) t.0 n)
       | inr t ↦ h front o t.0 t.1
     ]
 
-covered_more : (clock more : List (ℕ × ℕ)) (ids : List OpId) → ((i : OpId) → IsCause clock i → IsCause more i) → AreCovered clock ids → AreCovered more ids
-covered_more clock more [] w h = tt
-covered_more clock more (i ∷ ids) w h = (w i h.0, covered_more clock more ids w h.1)
+are_covered_weaker : (clock more : List (ℕ × ℕ)) (ids : List OpId) → ((i : OpId) → IsCause clock i → IsCause more i) → AreCovered clock ids → AreCovered more ids
+are_covered_weaker clock more [] w h = tt
+are_covered_weaker clock more (i ∷ ids) w h = (w i h.0, are_covered_weaker clock more ids w h.1)
 
 -- a clock that counts more covers more
-pub covers_more : (clock more : List (ℕ × ℕ)) (kind : Kind) → ((i : OpId) → IsCause clock i → IsCause more i) → CoversReferenced clock kind → CoversReferenced more kind
-covers_more clock more (Create folder) w h = tt
-covers_more clock more (Delete folder seen) w h = covered_more clock more seen w h
-covers_more clock more (Append folder flags date text) w h = tt
-covers_more clock more (Expunge folder old_ids) w h = covered_more clock more old_ids w h
-covers_more clock more (Store folder flags old_ids origin) w h = (covered_more clock more old_ids w h.0, w origin h.1)
-covers_more clock more (Subscribe name) w h = tt
-covers_more clock more (Unsubscribe name seen) w h = covered_more clock more seen w h
+pub covers_referenced_weaker : (clock more : List (ℕ × ℕ)) (kind : Kind) → ((i : OpId) → IsCause clock i → IsCause more i) → CoversReferenced clock kind → CoversReferenced more kind
+covers_referenced_weaker clock more (Create folder) w h = tt
+covers_referenced_weaker clock more (Delete folder seen) w h = are_covered_weaker clock more seen w h
+covers_referenced_weaker clock more (Append folder flags date text) w h = tt
+covers_referenced_weaker clock more (Expunge folder old_ids) w h = are_covered_weaker clock more old_ids w h
+covers_referenced_weaker clock more (Store folder flags old_ids origin) w h = (are_covered_weaker clock more old_ids w h.0, w origin h.1)
+covers_referenced_weaker clock more (Subscribe name) w h = tt
+covers_referenced_weaker clock more (Unsubscribe name seen) w h = are_covered_weaker clock more seen w h
 
 -- an operation that may be issued after a list may be issued after a longer one
-pub can_by : (applied more : List Op) (kind : Kind) (before after : List (ℕ × ℕ)) → CanIssue applied kind → IsClockOf id_of applied before → IsClockOf id_of (applied ++ more) after
+pub can_issue_by_clock : (applied more : List Op) (kind : Kind) (before after : List (ℕ × ℕ)) → CanIssue applied kind → IsClockOf id_of applied before → IsClockOf id_of (applied ++ more) after
     → CanIssueBy after kind
-can_by applied more kind before after can b a = record {
+can_issue_by_clock applied more kind before after can b a = record {
   lawful = can.lawful;
-  covered = covers_more before after kind (λ i c. (a i).1 (id_in_front id_of i applied more ((b i).0 c))) (can.covered before b);
+  covered = covers_referenced_weaker before after kind (λ i c. (a i).1 (id_in_front id_of i applied more ((b i).0 c))) (can.covered before b);
 }
 
 -- two clocks of one list have the same counts
@@ -120,7 +120,7 @@ pub record IsMade (replica : ℕ) (applied : List Op) (given rest : List Kind) (
   pub next : (front : List Op) (op : Op) (back : List Op) → ops ≡ front ++ op ∷ back → IsNext replica (applied ++ front) op
   pub sound : AreSound IsSound ops
   pub counts : IsClockOf id_of (applied ++ ops) clock
-  pub few : count_of clock replica + length rest ≤ 4294967295
+  pub fits_numbers : count_of clock replica + length rest ≤ 4294967295
 
 pub no_cut : (front : List Op) (op : Op) (back : List Op) → [] ≡ front ++ op ∷ back → ⊥
 no_cut [] op back e = absurd cc
@@ -128,7 +128,7 @@ no_cut (o ∷ front) op back e = absurd cc
 
 pub made_none : (replica : ℕ) (applied : List Op) (given rest : List Kind) (ops : List Op) (clock now : List (ℕ × ℕ)) → rest ≡ given → ops ≡ [] → clock ≡ now
     → IsClockOf id_of applied now → count_of now replica + length given ≤ 4294967295 → IsMade replica applied given rest ops clock
-made_none replica applied given rest ops clock now r o k counts few =
+made_none replica applied given rest ops clock now r o k counts fits_numbers =
     subst (λ (xs : List Kind). IsMade replica applied given xs ops clock) (sym r)
     (subst (λ (os : List Op). IsMade replica applied given given os clock) (sym o)
     (subst (IsMade replica applied given given []) (sym k)
@@ -137,12 +137,12 @@ made_none replica applied given rest ops clock now r o k counts few =
       next = λ front op back e. absurd (no_cut front op back e);
       sound = λ op i. absurd i;
       counts = subst (λ (os : List Op). IsClockOf id_of os now) (sym (append-nil applied)) counts;
-      few = few;
+      fits_numbers = fits_numbers;
     })))
 
-kinds_more : (ops : List Op) (op : Op) (rest : List Kind) → map (λ (o : Op). o.kind) (ops ++ op ∷ []) ++ rest ≡ map (λ (o : Op). o.kind) ops ++ op.kind ∷ rest
-kinds_more [] op rest = refl
-kinds_more (o ∷ ops) op rest = ap (λ (ks : List Kind). o.kind ∷ ks) (kinds_more ops op rest)
+kinds_append : (ops : List Op) (op : Op) (rest : List Kind) → map (λ (o : Op). o.kind) (ops ++ op ∷ []) ++ rest ≡ map (λ (o : Op). o.kind) ops ++ op.kind ∷ rest
+kinds_append [] op rest = refl
+kinds_append (o ∷ ops) op rest = ap (λ (ks : List Kind). o.kind ∷ ks) (kinds_append ops op rest)
 
 raised_own : (old : List (ℕ × ℕ)) (replica number : ℕ) (new : List (ℕ × ℕ)) → IsRaised old replica number new → count_of new replica ≡ max (count_of old replica) number
 raised_own old replica number new h =
@@ -152,10 +152,10 @@ raised_own old replica number new h =
       | inr f ↦ absurd (f.1 refl)
     ]
 
-pub made_more : (replica : ℕ) (applied : List Op) (given : List Kind) (kind : Kind) (rest : List Kind) (ops : List Op) (clock : List (ℕ × ℕ)) (op : Op) (new : List (ℕ × ℕ))
+pub made_append : (replica : ℕ) (applied : List Op) (given : List Kind) (kind : Kind) (rest : List Kind) (ops : List Op) (clock : List (ℕ × ℕ)) (op : Op) (new : List (ℕ × ℕ))
     → IsMade replica applied given (kind ∷ rest) ops clock → op.kind ≡ kind → op.clock ≡ clock → op.id.replica ≡ replica → op.id.number ≡ count_of clock replica + 1 → IsSound op
     → IsRaised clock replica op.id.number new → IsMade replica applied given rest (ops ++ op ∷ []) new
-made_more replica applied given kind rest ops clock op new h k c r n sound raised =
+made_append replica applied given kind rest ops clock op new h k c r n sound raised =
     let is_next : IsNext replica (applied ++ ops) op = record {
       own = r;
       clock = subst (IsClockOf id_of (applied ++ ops)) (sym c) h.counts;
@@ -164,14 +164,14 @@ made_more replica applied given kind rest ops clock op new h k c r n sound raise
     let own : count_of op.clock op.id.replica + 1 ≡ op.id.number = ap (λ (x : ℕ). count_of op.clock x + 1) r ∙ sym is_next.number in
     let here : IsRaised clock op.id.replica op.id.number new = subst (λ (x : ℕ). IsRaised clock x op.id.number new) (sym r) raised in
     let now : count_of new replica ≡ max (count_of clock replica) op.id.number = raised_own clock replica op.id.number new raised in
-    let left : count_of clock replica + length (kind ∷ rest) ≤ 4294967295 = h.few in
+    let left : count_of clock replica + length (kind ∷ rest) ≤ 4294967295 = h.fits_numbers in
     record {
-      split = kinds_more ops op rest ∙ ap (λ (x : Kind). map (λ (o : Op). o.kind) ops ++ x ∷ rest) k ∙ h.split;
-      next = next_more replica applied ops op h.next is_next;
+      split = kinds_append ops op rest ∙ ap (λ (x : Kind). map (λ (o : Op). o.kind) ops ++ x ∷ rest) k ∙ h.split;
+      next = next_append replica applied ops op h.next is_next;
       sound = λ o i. elim (in_both ops (op ∷ []) o i) [ inl t ↦ h.sound o t | inr t ↦ elim t [ inl e ↦ subst IsSound e sound | inr f ↦ absurd f ] ];
       counts = subst (λ (os : List Op). IsClockOf id_of os new) (append_assoc applied ops (op ∷ []))
           (clock_step id_of clock_of (applied ++ ops) clock new op h.counts (next_ripe replica (applied ++ ops) op is_next) own here);
-      few = omega (arith, now, left, n);
+      fits_numbers = omega (arith, now, left, n);
     }
 
 kind_among : (xs : List Kind) (kind : Kind) (rest : List Kind) → IsIn kind (xs ++ kind ∷ rest)
@@ -181,7 +181,7 @@ kind_among (x ∷ xs) kind rest = inr (kind_among xs kind rest)
 pub made_can : (replica : ℕ) (applied : List Op) (given : List Kind) (kind : Kind) (rest : List Kind) (ops : List Op) (clock before : List (ℕ × ℕ))
     → IsMade replica applied given (kind ∷ rest) ops clock → CanIssueAll applied given → IsClockOf id_of applied before → CanIssueBy clock kind
 made_can replica applied given kind rest ops clock before h can counts =
-    can_by applied ops kind before clock (can kind (subst (IsIn kind) h.split (kind_among (map (λ (o : Op). o.kind) ops) kind rest))) counts h.counts
+    can_issue_by_clock applied ops kind before clock (can kind (subst (IsIn kind) h.split (kind_among (map (λ (o : Op). o.kind) ops) kind rest))) counts h.counts
 
 pub made_all : (replica : ℕ) (applied : List Op) (given : List Kind) (ops : List Op) (clock : List (ℕ × ℕ)) → IsMade replica applied given [] ops clock → AreNext replica applied given ops
 made_all replica applied given ops clock h = record { of_kinds = sym (append-nil (map (λ (o : Op). o.kind) ops)) ∙ h.split; next = h.next }

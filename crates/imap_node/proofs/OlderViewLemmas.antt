@@ -27,7 +27,7 @@ use Rattle.merge_laws.specs.Orders.{IsIn}
 use Rattle.session_view.specs.Replay.{after_answers, view_after_reply}
 use Rattle.session_view.specs.ViewState.{ViewState}
 use Rattle.session_view.specs.Sync.{view_after_sync}
-use Rattle.session_view.specs.Views.{AreRising, Knows, entries_of}
+use Rattle.session_view.specs.Views.{AreRising, LacksOnlyLaterRows, entries_of}
 use Rattle.session_view.specs.declared.view_entry.ViewEntry.{ViewEntry}
 use Rattle.session_view.specs.declared.view_entry.SyncKind.{SyncKind}
 use Rattle.session_view.specs.declared.view_entry.SyncKind.TheVariants.{Full, Partial}
@@ -42,7 +42,7 @@ use Rattle.uid_projection.specs.UidsAndModSeqs.{uidnext_of}
 use Rattle.uid_projection.specs.Listing.{listing}
 use Rattle.uid_projection.proofs.Presence.{applied_front}
 use Rattle.imap_node.specs.Commands.{IsCommandReport, is_selected, is_selecting, state_after_command, condstore_answer, sync_of}
-use Rattle.imap_node.specs.Deliveries.{Delivers, Drains}
+use Rattle.imap_node.specs.Deliveries.{Delivers, DrainsHeld}
 use Rattle.imap_node.specs.InputEffects.{InputEffect, sync_result, sync_result_of, entries_after_sync}
 use Rattle.session_view.specs.NoteChanges.{uids_of}
 use Rattle.imap_node.specs.OlderViews.{IsOlderView, AreOlderViews, is_full, updates_view, command_updates_view}
@@ -51,30 +51,30 @@ use Rattle.imap_node.specs.Mailboxes.{counters_of, rows_for, validity_of}
 use Rattle.imap_node.specs.Nodes.{NodeState, with_session_closed, received_ops}
 use Rattle.imap_node.specs.Replays.{ViewsAscend, selects, view_at, view_in, view_of}
 use Rattle.imap_node.specs.Responses.{Responds, IsInputEffect, command_effect, tagged_lines_of_idle, condstore_is_on, session_after_refusal, session_after, sync_effect, input_intent}
-use Rattle.imap_node.specs.Sessions.{IsOpen, Opens, Places, new_session}
+use Rattle.imap_node.specs.Sessions.{IsOpen, OpensSession, Places, new_session}
 use Rattle.imap_node.specs.declared.input.Input.{Input}
 use Rattle.imap_node.specs.declared.input.Input.TheVariants as inputs
 use Rattle.imap_node.specs.declared.reply.Reply.{Reply}
 use Rattle.imap_node.specs.declared.reply.Reply.TheVariants.{Done, Refused}
 use Rattle.imap_node.specs.declared.sessions.Auth.{Auth}
 use Rattle.imap_node.specs.declared.sessions.Auth.TheVariants.{Preauth, Password}
-use Rattle.imap_node.proofs.IssueLemmas.{issues_well}
-use Rattle.imap_node.proofs.MomentLemmas.{older_by_uids, older_with_entries, older_view_append, known, next_grown, row_below, rows_are, validity_is}
+use Rattle.imap_node.proofs.IssueLemmas.{issues_of_responds}
+use Rattle.imap_node.proofs.MomentLemmas.{older_by_uids, older_with_entries, older_view_append, listed_known, next_grown, row_below, rows_are, validity_is}
 use Rattle.imap_node.proofs.PrintLemmas.{NamesExisting}
 use Rattle.imap_node.proofs.PrintingLemmas.{names_existing}
 use Rattle.imap_node.proofs.QuietLemmas.{notice_quiet, report_quiet}
 use Rattle.imap_node.proofs.ReplayLemmas.{closed_view, closes_alone, left_view, no_view, others_as_before, rows_rising, view_now}
-use Rattle.imap_node.proofs.UidLemmas.{IsKnown, IsQuiet, beyond_first, knows_all, listed_uid, partial_from, partial_has, replayed_uids, uid_listed, under_knows}
+use Rattle.imap_node.proofs.UidLemmas.{IsKnown, IsQuiet, beyond_first, lacks_later_all, listed_uid, partial_from, partial_has, replayed_uids, uid_listed, lacks_later_under}
 use Rattle.crdt_ops.specs.Ops.{clock_of, id_of}
 
 -- a view dates from an earlier moment, and its UIDs ascend
-pub record IsFine (start : Counters) (ops : List Op) (view : ViewState) : Type 0 where
+pub record IsOlderRisingView (start : Counters) (ops : List Op) (view : ViewState) : Type 0 where
   pub back : IsOlderView start ops view
   pub rising : AreRising 1 view.entries
 
 -- a view shows the listing
-abbrev pub ShowsAll : Counters → List Op → ViewState → Type 0
-ShowsAll start ops view = view.entries ≡ entries_of (rows_for start ops view)
+abbrev pub IsListingView : Counters → List Op → ViewState → Type 0
+IsListingView start ops view = view.entries ≡ entries_of (rows_for start ops view)
 
 module _ (start : Counters) (ops : List Op) (l : 1 ≤ start.uid) (a : IsApplied ops) where
   listed_from_one : (low : ℕ) (rows : List ListedMessage) (row : ListedMessage) → AreRisingRows low rows → IsIn row rows → low ≤ row.uid
@@ -86,26 +86,26 @@ module _ (start : Counters) (ops : List Op) (l : 1 ≤ start.uid) (a : IsApplied
         | inr t ↦ let next = listed_from_one (x.uid + 1) rows row r.1 t in omega (arith, first, next)
       ]
 
-  module _ (view : ViewState) (fine : IsFine start ops view) (silent : List SilentFlags) (own : List Answer) (q : Each IsQuiet own) where
+  module _ (view : ViewState) (fine : IsOlderRisingView start ops view) (silent : List SilentFlags) (own : List Answer) (q : Each IsQuiet own) where
     same_uids : uids_of (view_after_reply (rows_for start ops view) view.entries silent own) ≡ uids_of view.entries
     same_uids = replayed_uids (rows_for start ops view) view.entries silent own q
 
     entries_known : uidvalidity_of start view.name ops ≡ Some view.uidvalidity → (row : ListedMessage) → IsIn row (listing start view.name ops) → IsKnown (uids_of (view_after_reply (rows_for start ops view) view.entries silent own)) row.uid
-    entries_known e row i = subst (λ (us : List ℕ). IsKnown us row.uid) (sym same_uids) (known start ops view a fine.back e row i)
+    entries_known e row i = subst (λ (us : List ℕ). IsKnown us row.uid) (sym same_uids) (listed_known start ops view a fine.back e row i)
 
     listing_rises : uidvalidity_of start view.name ops ≡ Some view.uidvalidity → AreRisingRows 1 (listing start view.name ops)
     listing_rises e = subst (AreRisingRows 1) (rows_are start ops view e) (rows_rising start ops view l a)
 
-    replay_knows : Knows (view_after_reply (rows_for start ops view) view.entries silent own) (rows_for start ops view)
-    replay_knows =
-        under_knows view.uidvalidity (uidvalidity_of start view.name ops) (listing start view.name ops) (view_after_reply (rows_for start ops view) view.entries silent own)
-        (λ e. knows_all 1 (listing start view.name ops) (view_after_reply (rows_for start ops view) view.entries silent own) (omega arith) (listing_rises e) (entries_known e))
+    replay_lacks_later : LacksOnlyLaterRows (view_after_reply (rows_for start ops view) view.entries silent own) (rows_for start ops view)
+    replay_lacks_later =
+        lacks_later_under view.uidvalidity (uidvalidity_of start view.name ops) (listing start view.name ops) (view_after_reply (rows_for start ops view) view.entries silent own)
+        (λ e. lacks_later_all 1 (listing start view.name ops) (view_after_reply (rows_for start ops view) view.entries silent own) (omega arith) (listing_rises e) (entries_known e))
 
     -- after a full sync the view is the listing
     full_is : view_after_sync Full (rows_for start ops view) (view_after_reply (rows_for start ops view) view.entries silent own) ≡ entries_of (rows_for start ops view)
     full_is =
         full_shows (rows_for start ops view) (view_after_reply (rows_for start ops view) view.entries silent own) (rows_rising start ops view l a)
-        (replay_rising (rows_for start ops view) view.entries silent own (rows_rising start ops view l a) fine.rising) replay_knows
+        (replay_rising (rows_for start ops view) view.entries silent own (rows_rising start ops view l a) fine.rising) replay_lacks_later
 
     listed_older : (es : List ViewEntry) → es ≡ entries_of (rows_for start ops view) → IsOlderView start ops (record view { entries = es })
     listed_older es is =
@@ -147,14 +147,14 @@ module _ (start : Counters) (ops : List Op) (l : 1 ≤ start.uid) (a : IsApplied
   not_some : {X : Type 0} (view : ViewState) → ◌≡◌ {A = Option ViewState} None (Some view) → X
   not_some view e = absurd cc
 
-  abbrev Ends : Option SyncKind → Option ViewState → Type 0
-  Ends sync o = (view : ViewState) → o ≡ Some view → IsOlderView start ops view × (is_full sync ≡ true → ShowsAll start ops view)
+  abbrev IsOlderAfterSync : Option SyncKind → Option ViewState → Type 0
+  IsOlderAfterSync sync o = (view : ViewState) → o ≡ Some view → IsOlderView start ops view × (is_full sync ≡ true → IsListingView start ops view)
 
-  one_ends : (sync : Option SyncKind) (view : ViewState) → IsOlderView start ops view → (is_full sync ≡ true → ShowsAll start ops view) → Ends sync (Some view)
-  one_ends sync view g s = λ v e. let k : view ≡ v = cc in subst (λ (x : ViewState). IsOlderView start ops x × (is_full sync ≡ true → ShowsAll start ops x)) k (g, s)
+  one_ends : (sync : Option SyncKind) (view : ViewState) → IsOlderView start ops view → (is_full sync ≡ true → IsListingView start ops view) → IsOlderAfterSync sync (Some view)
+  one_ends sync view g s = λ v e. let k : view ≡ v = cc in subst (λ (x : ViewState). IsOlderView start ops x × (is_full sync ≡ true → IsListingView start ops x)) k (g, s)
 
-  ends_older : (sync : Option SyncKind) (modseq : Bool) (silent : List SilentFlags) (own : List Answer) → Each IsQuiet own → (state : State) → ((view : ViewState) → view_of state ≡ Some view → IsFine start ops view)
-      → Ends sync (view_of (sync_result start ops sync modseq state silent own).state)
+  ends_older : (sync : Option SyncKind) (modseq : Bool) (silent : List SilentFlags) (own : List Answer) → Each IsQuiet own → (state : State) → ((view : ViewState) → view_of state ≡ Some view → IsOlderRisingView start ops view)
+      → IsOlderAfterSync sync (view_of (sync_result start ops sync modseq state silent own).state)
   ends_older sync modseq silent own q (NotAuthenticated credentials) h = λ view e. not_some view e
   ends_older sync modseq silent own q Authenticated h = λ view e. not_some view e
   ends_older sync modseq silent own q LoggedOut h = λ view e. not_some view e
@@ -182,7 +182,7 @@ module _ (start : Counters) (ops : List Op) (l : 1 ≤ start.uid) (a : IsApplied
 
   select_older : (was read_only : Bool) (name : List ℕ) (flags : Flags) → folder_exists name ops ≡ true
       → (view : ViewState) → ◌≡◌ {A = Option ViewState} (Some (record (selected_view name) { entries = after_answers (rows_for start ops (selected_view name)) [] (closed_answers was ++ mailbox_answers read_only name (counters_of start name ops) (length (listing start name ops)) flags) })) (Some view)
-      → IsOlderView start ops view × ShowsAll start ops view
+      → IsOlderView start ops view × IsListingView start ops view
   select_older was read_only name flags t view e =
       let v = validity_is start name ops t in
       let own = rows_are start ops (selected_view name) v in
@@ -190,7 +190,7 @@ module _ (start : Counters) (ops : List Op) (l : 1 ≤ start.uid) (a : IsApplied
       let is : es ≡ entries_of (rows_for start ops (selected_view name)) =
       selected_rows (rows_for start ops (selected_view name)) was read_only name (counters_of start name ops) (listing start name ops) flags own (rows_rising start ops (selected_view name) l a) in
       let k : record (selected_view name) { entries = es } ≡ view = cc in
-      subst (λ (x : ViewState). IsOlderView start ops x × ShowsAll start ops x) k (
+      subst (λ (x : ViewState). IsOlderView start ops x × IsListingView start ops x) k (
         record {
           front = ops;
           back = [];
@@ -222,7 +222,7 @@ module _ (start : Counters) (ops : List Op) (l : 1 ≤ start.uid) (a : IsApplied
       ◌≡◌ {A = Option ViewState} (Some (record (selected_view name) { entries = view_after_reply (rows_for start ops (selected_view name)) [] report.silent (first ++ report.own) })) (Some view)
 
   selected_by : (was read_only : Bool) (name : List ℕ) (view : ViewState) (first : List Answer) (report : CommandReport) → folder_exists name ops ≡ true → first ≡ []
-      → IsSelectReport was read_only name (counters_of start name ops) (listing start name ops) report → Shown name view first report → IsOlderView start ops view × ShowsAll start ops view
+      → IsSelectReport was read_only name (counters_of start name ops) (listing start name ops) report → Shown name view first report → IsOlderView start ops view × IsListingView start ops view
   selected_by was read_only name view first report t f s e =
       let select_part = select_report was read_only name (counters_of start name ops) (listing start name ops) s.keywords in
       select_older was read_only name (flags_in_use s.keywords) t view (subst (λ (as_first : List Answer). Shown name view as_first select_part) f (subst (Shown name view first) s.only e))
@@ -240,10 +240,10 @@ module _ (start : Counters) (ops : List Op) (l : 1 ≤ start.uid) (a : IsApplied
   or_none true c f h = refl
   or_none false c f h = absurd (false≢true (sym f ∙ h))
 
-  module _ (before : List Op) (session : Session) (fine : (view : ViewState) → view_of session.state ≡ Some view → IsFine start ops view) where
+  module _ (before : List Op) (session : Session) (fine : (view : ViewState) → view_of session.state ≡ Some view → IsOlderRisingView start ops view) where
     -- a command that selects no mailbox
     stays_older : (tag : List ℕ) (command : Command) (report : CommandReport) → is_selecting command ≡ false → IsCommandReport start before ops session.state (condstore_is_on session command) tag command report
-        → (view : ViewState) → view_of (sync_result_of start ops (command_effect start ops session tag command report)).state ≡ Some view → IsOlderView start ops view × (command_updates_view command ≡ true → ShowsAll start ops view)
+        → (view : ViewState) → view_of (sync_result_of start ops (command_effect start ops session tag command report)).state ≡ Some view → IsOlderView start ops view × (command_updates_view command ≡ true → IsListingView start ops view)
     stays_older tag command report s t view e =
         let own = each_append IsQuiet (condstore_answer start ops session.state session.condstore command) report.own (notice_quiet start ops session.state session.condstore command) (report_quiet start before ops command session.state (condstore_is_on session command) tag report s t) in
         let ends = ends_older (sync_of command) (condstore_is_on session command) report.silent (condstore_answer start ops session.state session.condstore command ++ report.own) own (state_after_command start ops session.state command)
@@ -251,7 +251,7 @@ module _ (start : Counters) (ops : List Op) (l : 1 ≤ start.uid) (a : IsApplied
         (ends.0, λ h. ends.1 (or_none (is_full (sync_of command)) (is_selecting command) s h))
 
     command_older : (tag : List ℕ) (command : Command) (report : CommandReport) → NamesExisting ops command session.state → IsCommandReport start before ops session.state (condstore_is_on session command) tag command report
-        → (view : ViewState) → view_of (sync_result_of start ops (command_effect start ops session tag command report)).state ≡ Some view → IsOlderView start ops view × (command_updates_view command ≡ true → ShowsAll start ops view)
+        → (view : ViewState) → view_of (sync_result_of start ops (command_effect start ops session tag command report)).state ≡ Some view → IsOlderView start ops view × (command_updates_view command ≡ true → IsListingView start ops view)
     command_older tag (commands.Select name condstore) report n t view e =
         let b = selected_by (is_selected session.state) false name view (condstore_answer start ops session.state session.condstore (commands.Select name condstore)) report n (select_notice session.state name session.condstore condstore) t e in
         (b.0, λ h. b.1)
@@ -283,13 +283,13 @@ module _ (start : Counters) (ops : List Op) (l : 1 ≤ start.uid) (a : IsApplied
     command_older tag (commands.Move request) report n t view e = stays_older tag (commands.Move request) report refl t view e
 
     -- a line in IDLE, and a poll
-    sync_effect_older : (tail : List Answer) (view : ViewState) → view_of (sync_result_of start ops (sync_effect session tail)).state ≡ Some view → IsOlderView start ops view × ShowsAll start ops view
+    sync_effect_older : (tail : List Answer) (view : ViewState) → view_of (sync_result_of start ops (sync_effect session tail)).state ≡ Some view → IsOlderView start ops view × IsListingView start ops view
     sync_effect_older tail view e =
         let ends = ends_older (Some Full) session.condstore [] [] tt session.state fine view e in
         (ends.0, ends.1 refl)
 
     input_older : (stamp : List ℕ) (intended : List Kind) (issued : List Op) (input : Input) (effect : InputEffect) → before ++ issued ≡ ops → map (λ (o : Op). o.kind) issued ≡ intended → input_intent start before stamp session.state input ≡ Ok intended
-        → IsInputEffect start before ops session input effect → (view : ViewState) → view_of (sync_result_of start ops effect).state ≡ Some view → IsOlderView start ops view × (updates_view input ≡ true → ShowsAll start ops view)
+        → IsInputEffect start before ops session input effect → (view : ViewState) → view_of (sync_result_of start ops effect).state ≡ Some view → IsOlderView start ops view × (updates_view input ≡ true → IsListingView start ops view)
     input_older stamp intended issued (inputs.Command moment tagged) effect o m w (report, t, is) view e =
         let whole = subst IsApplied (sym o) a in
         let exists : NamesExisting ops tagged.command session.state =
@@ -303,16 +303,16 @@ module _ (start : Counters) (ops : List Op) (l : 1 ≤ start.uid) (a : IsApplied
 -- ---- nodes
 
 abbrev IsOlderAfter : Input → Counters → List Op → ViewState → Type 0
-IsOlderAfter input start ops view = IsOlderView start ops view × (updates_view input ≡ true → ShowsAll start ops view)
+IsOlderAfter input start ops view = IsOlderView start ops view × (updates_view input ≡ true → IsListingView start ops view)
 
 module _ (old new : NodeState) (n : ℕ) (input : Input) (l : 1 ≤ old.start.uid) (b : IsApplied old.applied) (rising : ViewsAscend old.sessions) (back : AreOlderViews old.start old.applied old.sessions) where
   done_older : (answers : List Answer) (silent : List SilentFlags) (issued : List Op) → Responds old n input (Done answers silent issued) new → (view : ViewState) → view_at new.sessions n ≡ Some view → IsOlderAfter input new.start new.applied view
   done_older answers silent issued r view e =
       let (session, at, c) = r in
-      let issues = issues_well old new n input (Done answers silent issued) b r in
+      let issues = issues_of_responds old new n input (Done answers silent issued) b r in
       let ops = old.applied ++ issued in
       let whole : IsApplied ops = subst IsApplied c.becomes.applied issues.whole in
-      let fine : (v : ViewState) → view_of session.state ≡ Some v → IsFine old.start ops v = λ v k.
+      let fine : (v : ViewState) → view_of session.state ≡ Some v → IsOlderRisingView old.start ops v = λ v k.
       let here : view_at old.sessions n ≡ Some v = ap view_in at ∙ k in
       record { back = older_view_append old.start old.applied issued v whole (back n v here); rising = rising n v here } in
       let has_view = sym (view_now old new issued n session (session_after old.start ops session input c.effect) at c.becomes) ∙ e in
@@ -323,7 +323,7 @@ module _ (old new : NodeState) (n : ℕ) (input : Input) (l : 1 ≤ old.start.ui
   -- the other sessions
   other_older : (reply : Reply) → Responds old n input reply new → (m : ℕ) → (m ≡ n → ⊥) → (view : ViewState) → view_at new.sessions m ≡ Some view → IsOlderView new.start new.applied view
   other_older reply r m d view e =
-      let issues = issues_well old new n input reply b r in
+      let issues = issues_of_responds old new n input reply b r in
       let whole : IsApplied (old.applied ++ issued_by reply) = subst IsApplied issues.applied issues.whole in
       let here : view_at old.sessions m ≡ Some view = ap view_in (sym (others_as_before old new n input reply r m d)) ∙ e in
       subst (λ (s : Counters). IsOlderView s new.applied view) (sym issues.start)
@@ -362,16 +362,16 @@ inputs_show old new n input answers silent issued view l b rising back r t e = (
 pub begins_older : (start : Counters) → AreOlderViews start [] []
 begins_older start = λ n view e. let k : ◌≡◌ {A = Option ViewState} None (Some view) = sym (no_view n) ∙ e in absurd cc
 
-pub opens_older : (start : Counters) (ops : List Op) (old new : Places) (auth : Auth) (n : ℕ) → Opens old auth n new → AreOlderViews start ops old → AreOlderViews start ops new
+pub opens_older : (start : Counters) (ops : List Op) (old new : Places) (auth : Auth) (n : ℕ) → OpensSession old auth n new → AreOlderViews start ops old → AreOlderViews start ops new
 opens_older start ops old new auth n o h = λ m view e.
     elim (eqb_tells m n) [
-      | inl t ↦ opened_no_view auth view (sym (ap view_in o.open_now) ∙ subst (λ (k : ℕ). view_at new k ≡ Some view) t.1 e)
+      | inl t ↦ new_session_has_no_view auth view (sym (ap view_in o.open_now) ∙ subst (λ (k : ℕ). view_at new k ≡ Some view) t.1 e)
       | inr f ↦ h m view (ap view_in (sym (o.others m f.1)) ∙ e)
     ]
   where
-    opened_no_view : {X : Type 0} (how : Auth) (view : ViewState) → view_of (new_session how).state ≡ Some view → X
-    opened_no_view Preauth view k = let x : ◌≡◌ {A = Option ViewState} None (Some view) = k in absurd cc
-    opened_no_view (Password credentials) view k = let x : ◌≡◌ {A = Option ViewState} None (Some view) = k in absurd cc
+    new_session_has_no_view : {X : Type 0} (how : Auth) (view : ViewState) → view_of (new_session how).state ≡ Some view → X
+    new_session_has_no_view Preauth view k = let x : ◌≡◌ {A = Option ViewState} None (Some view) = k in absurd cc
+    new_session_has_no_view (Password credentials) view k = let x : ◌≡◌ {A = Option ViewState} None (Some view) = k in absurd cc
 
 pub closes_older : (start : Counters) (ops : List Op) (old : NodeState) (n : ℕ) → IsOpen old.sessions n → AreOlderViews start ops old.sessions → AreOlderViews start ops (with_session_closed old n).sessions
 closes_older start ops old n o h = λ m view e.
@@ -392,7 +392,7 @@ delivered_older old new op arrival a d =
     grown_older old new (arrival_start id_of clock_of Exhausts (received_ops old) (received_ops new) op arrival d.arrives) d.sessions
     (arrival_grows id_of clock_of Exhausts (received_ops old) (received_ops new) op arrival d.arrives) a
 
-pub drained_older : (old new : NodeState) (count : ℕ) → IsApplied new.applied → Drains old count new → AreOlderViews old.start old.applied old.sessions → AreOlderViews new.start new.applied new.sessions
+pub drained_older : (old new : NodeState) (count : ℕ) → IsApplied new.applied → DrainsHeld old count new → AreOlderViews old.start old.applied old.sessions → AreOlderViews new.start new.applied new.sessions
 drained_older old new count a d =
     grown_older old new (releases_start id_of clock_of Exhausts count (received_ops old) (received_ops new) d.released) d.sessions
     (releases_grow id_of clock_of Exhausts count (received_ops old) (received_ops new) d.released) a

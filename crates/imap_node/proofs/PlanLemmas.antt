@@ -2,7 +2,7 @@ use Rattle.std.proofs.Common.{◌≡◌, ◌⊎◌, inl, inr, ℕ, Bool, true, f
 use Rattle.std.specs.Prelude.{Result, Ok, Err, MatchResult, ◌&&◌, if◌then◌else◌}
 use Rattle.std.specs.Prelude.{length, ◌==◌}
 use Rattle.std.proofs.lemmas.Bool.{false≢true}
-use Rattle.causal_inbox.specs.Inbox.{AreIssued, AreHeldStill}
+use Rattle.causal_inbox.specs.Inbox.{AreIssued, AreRemainingHeld}
 use Rattle.crdt_ops.specs.declared.kind.Kind.{Kind}
 use Rattle.crdt_ops.specs.declared.op.Op.{Op}
 use Rattle.imap_answers.specs.declared.fixed_words.Refusal.{Refusal}
@@ -40,7 +40,7 @@ match_weaker (Ok t) P P' Q Q' f g h = f t h
 match_weaker (Err e) P P' Q Q' f g h = g e h
 
 -- the operations that are still held after some were issued
-pub held_after_some : (ops old new : List Op) → (ops ≡ [] → ⊥) → AreHeldStill id_of ops old new → AreHeldAfter ops old new
+pub held_after_some : (ops old new : List Op) → (ops ≡ [] → ⊥) → AreRemainingHeld id_of ops old new → AreHeldAfter ops old new
 held_after_some [] old new n h = absurd (n refl)
 held_after_some (op ∷ ops) old new n h = h
 

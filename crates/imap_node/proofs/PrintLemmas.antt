@@ -147,11 +147,11 @@ moved_numbered start ops state _ h = h
 
 -- ---- the sync
 
-record EndsWell (end : SyncResult) : Type 0 where
+record IsPrintableSyncResult (end : SyncResult) : Type 0 where
   printable : Each IsPrintable end.answers
   numbered : HasNumberedView end.state
 
-ends_printable : (start : Counters) (ops : List Op) (sync : Option SyncKind) (modseq : Bool) (state : State) (silent : List SilentFlags) (own : List Answer) → IsPresentable start ops → HasNumberedView state → EndsWell (sync_result start ops sync modseq state silent own)
+ends_printable : (start : Counters) (ops : List Op) (sync : Option SyncKind) (modseq : Bool) (state : State) (silent : List SilentFlags) (own : List Answer) → IsPresentable start ops → HasNumberedView state → IsPrintableSyncResult (sync_result start ops sync modseq state silent own)
 ends_printable start ops sync modseq (NotAuthenticated credentials) silent own p v = record { printable = tt; numbered = tt }
 ends_printable start ops sync modseq Authenticated silent own p v = record { printable = tt; numbered = tt }
 ends_printable start ops sync modseq LoggedOut silent own p v = record { printable = tt; numbered = tt }

@@ -47,7 +47,7 @@ use Rattle.imap_node.specs.Printing.{IsAnswerableIn, HasPrintableAnswers, IsPres
 use Rattle.imap_node.specs.Responses.{CarriesOut, tag_of_idle, command_effect, ends_idling, tagged_lines_of_idle, condstore_is_on, leaves_mailbox, session_after_refusal, session_after, sync_effect}
 use Rattle.imap_node.proofs.PrintLemmas.{HasAllTargetCopies, NamesExisting, effect_printable, moved_numbered, notice_printable, tail_printable, report_printable}
 use Rattle.imap_node.specs.Sessions.{with_session}
-use Rattle.imap_node.proofs.CopyTargetLemmas.{HasAll, IsCopying, appends_copying, appends_counted, appends_to, copies_added, more_counted, removals_copying, removals_counted}
+use Rattle.imap_node.proofs.CopyTargetLemmas.{HasAll, IsCopying, appends_copying, appends_counted, appends_message_to, copies_added, length_filter_append, removals_copying, removals_counted}
 use Rattle.imap_node.proofs.ShownLemmas.{listing_showable, next_nonzero, shown_before}
 use Rattle.imap_node.proofs.ExistingFolderLemmas.{IsNoDelete, append_target_exists, copy_is, copy_target_exists, move_is, move_target_exists, folder_still_exists, known_exists}
 
@@ -141,7 +141,7 @@ module _ (start : Counters) (before issued : List Op) (stamp : List ℕ) (intend
       let exists = copy_target_exists (is_in_range request.by_uid request.messages view.entries) (folder_exists request.name before) appends intended w in
       let intended_is = copy_is (is_in_range request.by_uid request.messages view.entries) (folder_exists request.name before) appends intended w in
       copies_added start request.name before issued intended (mailbox_in start before view read_only) (record { by_uid = request.by_uid; messages = request.messages; destination = request.name }) (uidnext_at_least_one request.name) p.lasting.applied (rising request.name) exists m (subst (Each (IsCopying before)) (sym intended_is) (appends_copying before request.name rows view.entries numbers))
-      (ap (λ ks. length (filter (appends_to request.name) ks)) intended_is ∙ appends_counted request.name rows view.entries numbers)
+      (ap (λ ks. length (filter (appends_message_to request.name) ks)) intended_is ∙ appends_counted request.name rows view.entries numbers)
   adds_all (Selected view read_only) (commands.Move request) w =
       let rows = rows_for start before view in
       let numbers = numbers_in_set request.by_uid request.messages view.entries in
@@ -151,7 +151,7 @@ module _ (start : Counters) (before issued : List Op) (stamp : List ℕ) (intend
       let intended_is = move_is (is_in_range request.by_uid request.messages view.entries) read_only (folder_exists request.name before) (appends ++ removals) intended w in
       let had = rows_for_has_all start before view (shown_before start before issued p).lasting.applied in
       let copying = each_append (IsCopying before) appends removals (appends_copying before request.name rows view.entries numbers) (removals_copying before view.name rows view.entries numbers had) in
-      let both = ap (λ ks. length (filter (appends_to request.name) ks)) intended_is ∙ more_counted (appends_to request.name) appends removals in
+      let both = ap (λ ks. length (filter (appends_message_to request.name) ks)) intended_is ∙ length_filter_append (appends_message_to request.name) appends removals in
       let one = appends_counted request.name rows view.entries numbers in
       let none = removals_counted view.name request.name rows view.entries numbers in
       copies_added start request.name before issued intended (mailbox_in start before view read_only) (record { by_uid = request.by_uid; messages = request.messages; destination = request.name }) (uidnext_at_least_one request.name) p.lasting.applied (rising request.name) exists m (subst (Each (IsCopying before)) (sym intended_is) copying) (omega (arith, both, one, none))

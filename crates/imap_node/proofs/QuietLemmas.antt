@@ -6,7 +6,7 @@ use Rattle.imap_answers.specs.declared.answer.Answer.{Answer}
 use Rattle.imap_answers.specs.Printable.{Each}
 use Rattle.imap_commands.specs.Arguments.{StoreArgs}
 use Rattle.imap_commands.specs.CopyCommand.{copies_in, moved_answers, sources_of}
-use Rattle.imap_commands.specs.FetchCommand.{mode_of, shown_of}
+use Rattle.imap_commands.specs.FetchCommand.{mode_of, viewed_messages_at}
 use Rattle.imap_commands.specs.StoreCommand.{stored_answer, stored_answers, taken_messages}
 use Rattle.imap_commands.specs.Report.{CommandReport, message_at}
 use Rattle.imap_commands.specs.declared.session.State.{State}
@@ -95,7 +95,7 @@ module _ (start : Counters) (before after : List Op) where
       subst (λ (t : CommandReport). Each IsQuiet t.own) (sym h)
       (selected_quiet state _ (λ view read_only.
       let mode = mode_of (mailbox_in start before view read_only) modseq (record { by_uid = request.by_uid; messages = request.messages; items = request.items; changed_since = request.changed_since }) in
-      quiet_flat (λ (shown : ViewedMessage). answer_of request.items mode shown (row_of shown.uid (rows_for start before view)) (row_of shown.uid (rows_for start after view))) (shown_of view.entries (numbers_in_set request.by_uid request.messages view.entries))
+      quiet_flat (λ (shown : ViewedMessage). answer_of request.items mode shown (row_of shown.uid (rows_for start before view)) (row_of shown.uid (rows_for start after view))) (viewed_messages_at view.entries (numbers_in_set request.by_uid request.messages view.entries))
       (λ shown. fetch_quiet request.items mode shown (row_of shown.uid (rows_for start before view)) (row_of shown.uid (rows_for start after view)))))
   report_quiet (commands.Store request) state modseq tag report s h =
       subst (λ (t : CommandReport). Each IsQuiet t.own) (sym h)

@@ -36,7 +36,7 @@ use Rattle.imap_node.specs.Mailboxes.{rows_for}
 use Rattle.imap_node.specs.Nodes.{NodeState, with_session_closed}
 use Rattle.imap_node.specs.Replays.{ViewsAscend, replay_base_of_command, replay_base_of, view_after_replies, selects, view_at, view_after_input, view_in, view_of}
 use Rattle.imap_node.specs.Responses.{CarriesOut, IsNodeAfter, Responds, IsInputEffect, tagged_lines_of_idle, session_after_refusal, session_after, tagged_lines_of, input_intent}
-use Rattle.imap_node.specs.Sessions.{IsOpen, Opens, OthersStay, Places, new_session, session_at, with_session}
+use Rattle.imap_node.specs.Sessions.{IsOpen, OpensSession, OthersStay, Places, new_session, session_at, with_session}
 use Rattle.imap_node.specs.declared.input.Input.{Input}
 use Rattle.imap_node.specs.declared.input.Input.TheVariants as inputs
 use Rattle.imap_node.specs.declared.reply.Reply.{Reply}
@@ -44,25 +44,25 @@ use Rattle.imap_node.specs.declared.reply.Reply.TheVariants.{Done, Refused}
 use Rattle.imap_node.proofs.CanIssueLemmas.{not_ok}
 use Rattle.imap_node.specs.declared.sessions.Auth.{Auth}
 use Rattle.imap_node.specs.declared.sessions.Auth.TheVariants.{Preauth, Password}
-use Rattle.imap_node.proofs.IssueLemmas.{issues_well}
+use Rattle.imap_node.proofs.IssueLemmas.{issues_of_responds}
 use Rattle.imap_node.proofs.SessionLemmas.{open_is, others_stay, session_put}
 
 -- ---- an effect, replayed
 
 -- answers that change no view
-abbrev AreStill : List Answer → Type 0
-AreStill answers = (rows : List ListedMessage) (view : List ViewEntry) → after_answers rows view answers ≡ view
+abbrev ChangeNoView : List Answer → Type 0
+ChangeNoView answers = (rows : List ListedMessage) (view : List ViewEntry) → after_answers rows view answers ≡ view
 
-tail_still : (tag : List ℕ) (command : Command) (code : Option Code) → AreStill (tagged_lines_of tag command code)
+tail_still : (tag : List ℕ) (command : Command) (code : Option Code) → ChangeNoView (tagged_lines_of tag command code)
 tail_still tag command code = λ rows view. elim (cases_Bool (is_idle command)) [ inl y ↦ rw y refl | inr f ↦ rw f refl ]
 
-idle_still : (idling : Option (List ℕ)) → AreStill (tagged_lines_of_idle idling)
+idle_still : (idling : Option (List ℕ)) → ChangeNoView (tagged_lines_of_idle idling)
 idle_still None = λ rows view. refl
 idle_still (Some tag) = λ rows view. refl
 
 -- an input's own answers, those of the sync and the last ones, one after another
 module _ (rows : List ListedMessage) (modseq : Bool) where
-  replay_sync : (sync : Option SyncKind) (view : List ViewEntry) (own tail : List Answer) → AreStill tail
+  replay_sync : (sync : Option SyncKind) (view : List ViewEntry) (own tail : List Answer) → ChangeNoView tail
       → after_answers rows view (own ++ (answers_of_sync sync modseq rows (after_answers rows view own) ++ tail)) ≡ entries_after_sync sync rows (after_answers rows view own)
   replay_sync None view own tail still = after_append rows view own tail ∙ still rows (after_answers rows view own)
   replay_sync (Some kind) view own tail still =
@@ -70,7 +70,7 @@ module _ (rows : List ListedMessage) (modseq : Bool) where
       let sent = sync_answers kind modseq rows new_view in
       after_append rows view own (sent ++ tail) ∙ after_append rows new_view sent tail ∙ still rows (after_answers rows new_view sent) ∙ syncs_replay kind modseq rows new_view
 
-module _ (start : Counters) (ops : List Op) (sync : Option SyncKind) (modseq : Bool) (silent : List SilentFlags) (own tail : List Answer) (still : AreStill tail) where
+module _ (start : Counters) (ops : List Op) (sync : Option SyncKind) (modseq : Bool) (silent : List SilentFlags) (own tail : List Answer) (still : ChangeNoView tail) where
   sync_result_replays : (state : State) → view_of (sync_result start ops sync modseq state silent own).state ≡ view_after_replies start ops (view_of state) silent (own ++ ((sync_result start ops sync modseq state silent own).answers ++ tail))
   sync_result_replays (NotAuthenticated credentials) = refl
   sync_result_replays Authenticated = refl
@@ -95,10 +95,10 @@ moved_base start before after stamp state commands.Close intended w = refl
 moved_base start before after stamp state _ intended w = refl
 
 module _ (start : Counters) (before after : List Op) (session : Session) where
-  effect_still : (input : Input) (effect : InputEffect) → IsInputEffect start before after session input effect → AreStill effect.tail
-  effect_still (inputs.Command moment tagged) effect (report, is_report, is) = subst (λ (c : InputEffect). AreStill c.tail) (sym is) (tail_still tagged.tag tagged.command report.code)
-  effect_still (inputs.Line line) effect is = subst (λ (c : InputEffect). AreStill c.tail) (sym is) (idle_still session.idling)
-  effect_still inputs.Poll effect is = subst (λ (c : InputEffect). AreStill c.tail) (sym is) (λ rows view. refl)
+  effect_still : (input : Input) (effect : InputEffect) → IsInputEffect start before after session input effect → ChangeNoView effect.tail
+  effect_still (inputs.Command moment tagged) effect (report, is_report, is) = subst (λ (c : InputEffect). ChangeNoView c.tail) (sym is) (tail_still tagged.tag tagged.command report.code)
+  effect_still (inputs.Line line) effect is = subst (λ (c : InputEffect). ChangeNoView c.tail) (sym is) (idle_still session.idling)
+  effect_still inputs.Poll effect is = subst (λ (c : InputEffect). ChangeNoView c.tail) (sym is) (λ rows view. refl)
 
   effect_base : (stamp : List ℕ) (intended : List Kind) (input : Input) (effect : InputEffect) → input_intent start before stamp session.state input ≡ Ok intended → IsInputEffect start before after session input effect
       → view_of effect.state ≡ replay_base_of start after (view_of session.state) input
@@ -128,8 +128,8 @@ pub view_now : (old new : NodeState) (ops : List Op) (n : ℕ) (session next : S
 view_now old new ops n session next at h = ap (λ (p : Places). view_at p n) h.sessions ∙ ap view_in (session_put old.sessions n (Some next) session at)
 
 -- the operations are those of the node afterwards
-moved_on : (old new : NodeState) (ops : List Op) (P : Counters → List Op → Type 0) → new.start ≡ old.start → new.applied ≡ old.applied ++ ops → P old.start (old.applied ++ ops) → P new.start new.applied
-moved_on old new ops P s a p = subst (λ (x : Counters). P x new.applied) (sym s) (subst (λ (os : List Op). P old.start os) (sym a) p)
+subst_node_after : (old new : NodeState) (ops : List Op) (P : Counters → List Op → Type 0) → new.start ≡ old.start → new.applied ≡ old.applied ++ ops → P old.start (old.applied ++ ops) → P new.start new.applied
+subst_node_after old new ops P s a p = subst (λ (x : Counters). P x new.applied) (sym s) (subst (λ (os : List Op). P old.start os) (sym a) p)
 
 carried_replays : (old new : NodeState) (n : ℕ) (session : Session) (input : Input) (answers : List Answer) (silent : List SilentFlags) (issued : List Op) → session_at old.sessions n ≡ Some session
     → CarriesOut old n session input answers silent issued new → view_at new.sessions n ≡ view_after_replies new.start new.applied (replay_base_of new.start new.applied (view_at old.sessions n) input) silent answers
@@ -139,7 +139,7 @@ carried_replays old new n session input answers silent issued at c =
     let next = session_after start after session input c.effect in
     let still = effect_still start old.applied after session input c.effect c.taken in
     let base = effect_base start old.applied after session c.stamp c.kinds input c.effect c.intended c.taken in
-    moved_on old new issued (λ s os. view_at new.sessions n ≡ view_after_replies s os (replay_base_of s os (view_at old.sessions n) input) silent answers) c.becomes.start c.becomes.applied
+    subst_node_after old new issued (λ s os. view_at new.sessions n ≡ view_after_replies s os (replay_base_of s os (view_at old.sessions n) input) silent answers) c.becomes.start c.becomes.applied
     (view_now old new issued n session next at c.becomes
     ∙ sync_result_replays start after c.effect.sync c.effect.modseq c.effect.silent c.effect.own c.effect.tail still c.effect.state
     ∙ ap (λ (v : Option ViewState). view_after_replies start after v c.effect.silent (answers_of_effect start after c.effect)) base
@@ -225,7 +225,7 @@ inputs_ascend old new n input reply l a r h =
 
 pub views_ascend_after : (old new : NodeState) (n : ℕ) (input : Input) (reply : Reply) → 1 ≤ old.start.uid → IsApplied old.applied → Responds old n input reply new → ViewsAscend old.sessions → ViewsAscend new.sessions
 views_ascend_after old new n input reply l a r h =
-    let issues = issues_well old new n input reply a r in
+    let issues = issues_of_responds old new n input reply a r in
     inputs_ascend old new n input reply (subst (λ (s : Counters). 1 ≤ s.uid) (sym issues.start) l) issues.whole r h
 
 pub stays_ascending : (old new : Places) → new ≡ old → ViewsAscend old → ViewsAscend new
@@ -244,7 +244,7 @@ new_session_view : (auth : Auth) → view_of (new_session auth).state ≡ None
 new_session_view Preauth = refl
 new_session_view (Password credentials) = refl
 
-pub opens_ascend : (old new : Places) (auth : Auth) (n : ℕ) → Opens old auth n new → ViewsAscend old → ViewsAscend new
+pub opens_ascend : (old new : Places) (auth : Auth) (n : ℕ) → OpensSession old auth n new → ViewsAscend old → ViewsAscend new
 opens_ascend old new auth n o h = λ m view e.
     elim (eqb_tells m n) [
       | inl t ↦ none_ascends view (sym (ap view_in o.open_now ∙ new_session_view auth) ∙ subst (λ (k : ℕ). view_at new k ≡ Some view) t.1 e)

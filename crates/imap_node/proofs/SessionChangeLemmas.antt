@@ -65,13 +65,13 @@ module _ (start : Counters) (after : List Op) (state : State) (view : ViewState)
       (e ∙ (λ i. view_after_sync kind (r i) (view_after_first i)) ∙ ap (λ (s : Option SyncKind). entries_after_sync s (rows_for start after view) (view_after_reply (rows_for start after view) view.entries front.silent front.own)) (sym k))
       ∙ ap (λ (s : State). (sync_result_after start after s front).state) (sym is)
 
-  pub can_in_place : (change : ViewChange) → CanCommit view.entries change → IsChangeTo rows view.entries change → CanChangeSession start after state (Stays (Some change))
-  can_in_place change c l =
+  pub can_change_in_place : (change : ViewChange) → CanCommit view.entries change → IsChangeTo rows view.entries change → CanChangeSession start after state (Stays (Some change))
+  can_change_in_place change c l =
       subst (λ (s : State). CanChangeSession start after s (Stays (Some change))) (sym is) (record { make = c; leaves = subst (λ (rs : List ListedMessage). IsChangeTo rs view.entries change) r l })
 
 -- a listing made for a state has the rows of its view
-pub made_for : (start : Counters) (ops : List Op) (state : State) (view : ViewState) (read_only : Bool) (made : Option (List ListedMessage)) (rows : List ListedMessage) → state ≡ Selected view read_only → made ≡ Some rows → IsListingFor start ops state made → rows ≡ rows_for start ops view
-made_for start ops state view read_only made rows is e h =
+pub rows_made_for_state : (start : Counters) (ops : List Op) (state : State) (view : ViewState) (read_only : Bool) (made : Option (List ListedMessage)) (rows : List ListedMessage) → state ≡ Selected view read_only → made ≡ Some rows → IsListingFor start ops state made → rows ≡ rows_for start ops view
+rows_made_for_state start ops state view read_only made rows is e h =
     subst (λ (m : Option (List ListedMessage)). IsListingFor start ops (Selected view read_only) m) e (subst (λ (s : State). IsListingFor start ops s made) is h)
 
 -- the requirements of a view's sync
@@ -128,9 +128,9 @@ module _ (start : Counters) (ops : List Op) (places : Places) (feeds : List Feed
   own_view : (view : ViewState) → view_at (slice_set places (n - 1) place) n ≡ Some view → view_in place ≡ Some view
   own_view view q = ap view_in (sym own_place ∙ sym (place_at (slice_set places (n - 1) place) n positive)) ∙ q
 
-  pub all_gone : (feed : FeedState) → n - 1 < length feeds → ((view : ViewState) → view_in place ≡ Some view → IsNotedFor start ops feed.pending view) → AreAllNoted start ops (slice_set places (n - 1) place) (slice_set feeds (n - 1) feed)
-  all_gone feed within own zero view q = absurd (no_view view q)
-  all_gone feed within own (suc m) view q =
+  pub all_noted_set_feed : (feed : FeedState) → n - 1 < length feeds → ((view : ViewState) → view_in place ≡ Some view → IsNotedFor start ops feed.pending view) → AreAllNoted start ops (slice_set places (n - 1) place) (slice_set feeds (n - 1) feed)
+  all_noted_set_feed feed within own zero view q = absurd (no_view view q)
+  all_noted_set_feed feed within own (suc m) view q =
       elim (cases_Bool (nat_eq (suc m) n)) [
         | inl t ↦
             let e : suc m ≡ n = grind (arith, nat_tests) in
@@ -204,9 +204,9 @@ each_after_notes changes places old new k e l done rest start before after is no
 
 -- one further feed with its change notes added
 module _ (changes : List MailboxNotes) (places : Places) (old cur : List FeedState) (k : ℕ) (was feed : FeedState) (within : k < length cur) (value : was ≡ slice_index_or cur k was) (one : IsFeedAfterNotes changes (slice_index_or places k None) was.pending feed.pending) where
-  pub done_more : ((n : ℕ) → n < k → IsFeedAfterNotes changes (slice_index_or places n None) (slice_index_or old n missing_feed).pending (slice_index_or cur n missing_feed).pending) → ((n : ℕ) → k ≤ n → slice_index_or cur n missing_feed ≡ slice_index_or old n missing_feed)
+  pub after_notes_set : ((n : ℕ) → n < k → IsFeedAfterNotes changes (slice_index_or places n None) (slice_index_or old n missing_feed).pending (slice_index_or cur n missing_feed).pending) → ((n : ℕ) → k ≤ n → slice_index_or cur n missing_feed ≡ slice_index_or old n missing_feed)
       → (n : ℕ) → n < k + 1 → IsFeedAfterNotes changes (slice_index_or places n None) (slice_index_or old n missing_feed).pending (slice_index_or (slice_set cur k feed) n missing_feed).pending
-  done_more done rest n l =
+  after_notes_set done rest n l =
       elim (cases_Bool (nat_eq n k)) [
         | inl t ↦
             let e : n ≡ k = grind (arith, nat_tests) in
@@ -218,8 +218,8 @@ module _ (changes : List MailboxNotes) (places : Places) (old cur : List FeedSta
             (done n (let g = f in grind (arith, nat_tests)))
       ]
 
-  pub rest_more : ((n : ℕ) → k ≤ n → slice_index_or cur n missing_feed ≡ slice_index_or old n missing_feed) → (n : ℕ) → k + 1 ≤ n → slice_index_or (slice_set cur k feed) n missing_feed ≡ slice_index_or old n missing_feed
-  rest_more rest n l = get_or-set_other cur k n feed missing_feed (λ e. omega (arith, e, l)) ∙ rest n (omega arith)
+  pub rest_set : ((n : ℕ) → k ≤ n → slice_index_or cur n missing_feed ≡ slice_index_or old n missing_feed) → (n : ℕ) → k + 1 ≤ n → slice_index_or (slice_set cur k feed) n missing_feed ≡ slice_index_or old n missing_feed
+  rest_set rest n l = get_or-set_other cur k n feed missing_feed (λ e. omega (arith, e, l)) ∙ rest n (omega arith)
 
 -- one session changes, and its feed doesn't
 pub all_noted_set : (start : Counters) (ops : List Op) (places : Places) (feeds : List FeedState) (n : ℕ) (place : Option Session) (s : Session) → session_at places n ≡ Some s → AreAllNoted start ops places feeds

@@ -1,7 +1,7 @@
 use Rattle.std.proofs.Common.{◌≡◌, inl, inr, ℕ, ◌-◌, ◌<◌, zero, suc, Bool, true, false, cond, eqb, [], ◌∷◌, get_or, set, ap, refl, sym, subst, arith, Option, None, Some, IsSome}
 use Rattle.std.proofs.lemmas.Bool.{cases_lt}
 use Rattle.imap_commands.specs.declared.session.Session.{Session}
-use Rattle.imap_node.specs.Nodes.{Awaits, Idles, NodeState}
+use Rattle.imap_node.specs.Nodes.{IsAwaitedInput, IsIdlingAt, NodeState}
 use Rattle.imap_node.specs.Sessions.{IsOpen, OthersStay, Places, session_at, with_session}
 use Rattle.imap_node.specs.declared.input.Input.{Input}
 use Rattle.imap_node.specs.declared.input.Input.TheVariants.{Command, Line, Poll}
@@ -61,10 +61,10 @@ open_is None h = absurd cc
 open_is (Some s) h = (s, refl)
 
 -- a session that idles, or that awaits an input, is open
-pub idles_open : (node : NodeState) (n : ℕ) → Idles node n → IsOpen node.sessions n
+pub idles_open : (node : NodeState) (n : ℕ) → IsIdlingAt node n → IsOpen node.sessions n
 idles_open node n h = subst (λ (o : Option Session). IsSome o) (sym h.1) refl
 
-pub awaits_open : (node : NodeState) (n : ℕ) (input : Input) → Awaits node n input → IsOpen node.sessions n
+pub awaits_open : (node : NodeState) (n : ℕ) (input : Input) → IsAwaitedInput node n input → IsOpen node.sessions n
 awaits_open node n (Command moment tagged) h = h.0
 awaits_open node n (Line line) h = idles_open node n h
 awaits_open node n Poll h = idles_open node n h

@@ -35,17 +35,17 @@ pub none_new : (start : Counters) (applied : List Op) → AreChangeNotes start a
 none_new start applied = subst (λ (after : List Op). AreChangeNotes start applied after []) (sym (append-nil applied)) (λ name uidvalidity uid. inl refl)
 
 -- a session with nothing unsent is sent nothing, and its state stays
-unmoved : (start : Counters) (applied : List Op) (state : State) (pending : Pending) (modseq : Bool) → ((view : ViewState) → view_of state ≡ Some view → IsNotedFor start applied pending view) → HasNothingUnsent state pending
+settled_sync_result : (start : Counters) (applied : List Op) (state : State) (pending : Pending) (modseq : Bool) → ((view : ViewState) → view_of state ≡ Some view → IsNotedFor start applied pending view) → HasNothingUnsent state pending
     → ([] ≡ (sync_result_after start (applied ++ []) state (record { silent = []; own = []; sync = Some Full; modseq = modseq })).answers) × (state_with state None ≡ (sync_result_after start (applied ++ []) state (record { silent = []; own = []; sync = Some Full; modseq = modseq })).state)
-unmoved start applied state pending modseq noted settled =
+settled_sync_result start applied state pending modseq noted settled =
     shown_as_before start applied (applied ++ []) state (record { pending = pending; change_notes = [] }) (record { silent = []; own = []; sync = Some Full; modseq = modseq }) [] refl (λ view is. refl) refl noted (none_new start applied) (inr settled)
 
-answered : (start : Counters) (applied : List Op) (state : State) (condstore : Bool) (idling : Option (List ℕ)) (pending : Pending) (moment : ℕ) (tag : List ℕ)
+settled_noop_answered : (start : Counters) (applied : List Op) (state : State) (condstore : Bool) (idling : Option (List ℕ)) (pending : Pending) (moment : ℕ) (tag : List ℕ)
     → ((view : ViewState) → view_of state ≡ Some view → IsNotedFor start applied pending view) → HasNothingUnsent state pending
     → IsPreparedReply start applied (applied ++ []) (record { state = state; condstore = condstore; idling = idling }) (Command moment (record { tag = tag; command = Noop })) (settled_noop_reply (record { state = state; condstore = condstore; idling = idling }) tag).answered
-answered start applied state true idling pending moment tag noted settled =
+settled_noop_answered start applied state true idling pending moment tag noted settled =
     let session : Session = record { state = state; condstore = true; idling = idling } in
-    let same = unmoved start applied state pending true noted settled in
+    let same = settled_sync_result start applied state pending true noted settled in
     record {
       effect = command_effect start (applied ++ []) session tag Noop empty_report;
       taken = (empty_report, refl, refl);
@@ -53,9 +53,9 @@ answered start applied state true idling pending moment tag noted settled =
       silent = refl;
       becomes = λ i. record { state = same.1 i; condstore = true; idling = None };
     }
-answered start applied state false idling pending moment tag noted settled =
+settled_noop_answered start applied state false idling pending moment tag noted settled =
     let session : Session = record { state = state; condstore = false; idling = idling } in
-    let same = unmoved start applied state pending false noted settled in
+    let same = settled_sync_result start applied state pending false noted settled in
     record {
       effect = command_effect start (applied ++ []) session tag Noop empty_report;
       taken = (empty_report, refl, refl);
@@ -66,8 +66,8 @@ answered start applied state false idling pending moment tag noted settled =
 
 pub settled_noop_prepared : (start : Counters) (applied : List Op) (session : Session) (pending : Pending) (input : Input) (tag : List ℕ) → ((view : ViewState) → view_of session.state ≡ Some view → IsNotedFor start applied pending view) → IsSettledNoop session.state pending input tag
     → IsPreparedInput start applied session input (settled_noop_reply session tag)
-settled_noop_prepared start applied session pending input tag noted is_rest =
-    subst (λ (i : Input). IsPreparedInput start applied session i (settled_noop_reply session tag)) (sym is_rest.0.1)
+settled_noop_prepared start applied session pending input tag noted is_settled_noop =
+    subst (λ (i : Input). IsPreparedInput start applied session i (settled_noop_reply session tag)) (sym is_settled_noop.0.1)
     (record {
       stamp = [];
       stamped = tt;
@@ -75,7 +75,7 @@ settled_noop_prepared start applied session pending input tag noted is_rest =
       intended = refl;
       next = record { of_kinds = refl; next = λ front op back e. absurd (no_cut front op back e) };
       not_exhausted = λ (front, op, back, k, x). no_cut front op back k;
-      answered = answered start applied session.state session.condstore session.idling pending is_rest.0.0 tag noted is_rest.1;
+      answered = settled_noop_answered start applied session.state session.condstore session.idling pending is_settled_noop.0.0 tag noted is_settled_noop.1;
       copies = refl;
     })
 

@@ -13,7 +13,7 @@ use Rattle.merge_laws.proofs.Lists.{in_back, in_front, in_parts}
 use Rattle.session_view.specs.Replay.{after_answer, after_answers, after_silent, with_fetched_flags, with_flags_at, view_after_reply}
 use Rattle.session_view.specs.ViewState.{rows_under}
 use Rattle.session_view.specs.Sync.{refreshed_entry, refreshed_entry_by, view_after_sync}
-use Rattle.session_view.specs.Views.{Knows, entries_of, entry_of, has_uid, last_from, last_uid}
+use Rattle.session_view.specs.Views.{LacksOnlyLaterRows, entries_of, entry_of, has_uid, last_from, last_uid}
 use Rattle.session_view.specs.declared.view_entry.ViewEntry.{ViewEntry}
 use Rattle.session_view.specs.declared.view_entry.SyncKind.TheVariants.{Partial}
 use Rattle.session_view.specs.declared.reply_replay.SilentFlags.{SilentFlags}
@@ -92,18 +92,18 @@ last_below es n l h =
 abbrev pub IsKnown : List ℕ → ℕ → Type 0
 IsKnown uids uid = IsIn uid uids ⊎ ((other : ℕ) → IsIn other uids → other < uid)
 
-knows_one : (es : List ViewEntry) (uid : ℕ) → 0 < uid → IsKnown (uids_of es) uid → (has_uid es uid ≡ true) ⊎ (last_uid es < uid)
-knows_one es uid l h = elim h [ inl i ↦ inl (has_it uid es i) | inr above ↦ inr (last_below es uid l above) ]
+has_uid_or_later : (es : List ViewEntry) (uid : ℕ) → 0 < uid → IsKnown (uids_of es) uid → (has_uid es uid ≡ true) ⊎ (last_uid es < uid)
+has_uid_or_later es uid l h = elim h [ inl i ↦ inl (has_it uid es i) | inr above ↦ inr (last_below es uid l above) ]
 
-pub knows_all : (low : ℕ) (rows : List ListedMessage) (es : List ViewEntry) → 0 < low → AreRisingRows low rows → ((row : ListedMessage) → IsIn row rows → IsKnown (uids_of es) row.uid) → Knows es rows
-knows_all low [] es l r h = tt
-knows_all low (row ∷ rows) es l r h =
+pub lacks_later_all : (low : ℕ) (rows : List ListedMessage) (es : List ViewEntry) → 0 < low → AreRisingRows low rows → ((row : ListedMessage) → IsIn row rows → IsKnown (uids_of es) row.uid) → LacksOnlyLaterRows es rows
+lacks_later_all low [] es l r h = tt
+lacks_later_all low (row ∷ rows) es l r h =
     let first = r.0 in
-    (knows_one es row.uid (omega (arith, l, first)) (h row (inl refl)), knows_all (row.uid + 1) rows es (omega arith) r.1 (λ x i. h x (inr i)))
+    (has_uid_or_later es row.uid (omega (arith, l, first)) (h row (inl refl)), lacks_later_all (row.uid + 1) rows es (omega arith) r.1 (λ x i. h x (inr i)))
 
-pub under_knows : (uidvalidity : ℕ) (now : Option ℕ) (rows : List ListedMessage) (es : List ViewEntry) → (now ≡ Some uidvalidity → Knows es rows) → Knows es (rows_under uidvalidity now rows)
-under_knows uidvalidity None rows es h = tt
-under_knows uidvalidity (Some now) rows es h =
+pub lacks_later_under : (uidvalidity : ℕ) (now : Option ℕ) (rows : List ListedMessage) (es : List ViewEntry) → (now ≡ Some uidvalidity → LacksOnlyLaterRows es rows) → LacksOnlyLaterRows es (rows_under uidvalidity now rows)
+lacks_later_under uidvalidity None rows es h = tt
+lacks_later_under uidvalidity (Some now) rows es h =
     elim (cases_Bool (nat_eq now uidvalidity)) [
       | inl t ↦ rw t (h (let same : now ≡ uidvalidity = grind (arith, nat_tests) in ap (λ (n : ℕ). Some n) same))
       | inr f ↦ rw f tt

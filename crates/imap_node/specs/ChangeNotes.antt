@@ -21,17 +21,17 @@ pub record MailboxSnapshot : Type 0 where
   pub uidnext : ℕ
   pub touched : List ℕ
 
--- `ahead` has the values of the mailbox `name` before the operations: its UIDVALIDITY, its UIDNEXT,
--- and UIDs below that. As long as the UIDVALIDITY stays, the operations change no rows below
--- UIDNEXT but those with these UIDs.
+-- `snapshot` has the values of the mailbox `name` before the operations: its UIDVALIDITY, its
+-- UIDNEXT, and UIDs below that. As long as the UIDVALIDITY stays, the operations change no rows
+-- below UIDNEXT but those with these UIDs.
 pub record IsSnapshotOf (start : Counters) (before ops : List Op) (name : List ℕ)
-    (ahead : MailboxSnapshot) : Type 0 where
-  pub name_is : ahead.name ≡ name
-  pub uidvalidity : ahead.uidvalidity ≡ uidvalidity_of start name before
-  pub uidnext : ahead.uidnext ≡ uidnext_of start name before
+    (snapshot : MailboxSnapshot) : Type 0 where
+  pub name_is : snapshot.name ≡ name
+  pub uidvalidity : snapshot.uidvalidity ≡ uidvalidity_of start name before
+  pub uidnext : snapshot.uidnext ≡ uidnext_of start name before
   pub stay : IsApplied (before ++ ops)
       → uidvalidity_of start name (before ++ ops) ≡ uidvalidity_of start name before
-      → RowsStayExcept ahead.touched ahead.uidnext (listing start name before)
+      → RowsStayExcept snapshot.touched snapshot.uidnext (listing start name before)
       (listing start name (before ++ ops))
 
 -- If the UIDVALIDITY didn't change, the notes name each touched UID and each UID from `first` up to

@@ -2,7 +2,7 @@
 -- releases held ones (the IMAP-CRDT's causal delivery).
 
 use Rattle.std.specs.Prelude.{◌≡◌, ℕ, Option}
-use Rattle.causal_inbox.specs.Delivery.{Arrives, Refuses}
+use Rattle.causal_inbox.specs.Delivery.{IsArrival, IsDeliverFault}
 use Rattle.causal_inbox.specs.Inbox.{AreReleasedInTurn, IsLawfulInbox, IsStalled}
 use Rattle.causal_inbox.specs.declared.delivery.Arrival.{Arrival}
 use Rattle.causal_inbox.specs.Stalls.{StallsFor}
@@ -23,15 +23,15 @@ IsOrderly node = IsLawfulInbox id_of clock_of (received_ops node)
 -- or received it before. Its sessions stay as they are.
 pub record Delivers (old : NodeState) (op : Op) (arrival : Arrival) (new : NodeState) : Type 0 where
   pub sessions : new.sessions ≡ old.sessions
-  pub arrives : Arrives id_of clock_of Exhausts (received_ops old) op arrival (received_ops new)
+  pub arrives : IsArrival id_of clock_of Exhausts (received_ops old) op arrival (received_ops new)
 
 -- A node refuses a delivered operation.
 abbrev pub IsRefusedAt : NodeState → Op → DeliverFault → Type 0
-IsRefusedAt node op why = Refuses id_of clock_of Exhausts (received_ops node) op why
+IsRefusedAt node op why = IsDeliverFault id_of clock_of Exhausts (received_ops node) op why
 
 -- A node holds an operation although all its causes were applied.
-abbrev pub HoldsRipe : NodeState → Type 0
-HoldsRipe node = IsStalled id_of clock_of (received_ops node)
+abbrev pub HoldsRipeOp : NodeState → Type 0
+HoldsRipeOp node = IsStalled id_of clock_of (received_ops node)
 
 -- Why a node holds a ripe operation, if it holds one: the next operation to be released needs a
 -- number from a counter that is used up, or only memory ran out.
@@ -40,7 +40,7 @@ StallsAt node why = StallsFor id_of clock_of Exhausts (received_ops node) why
 
 -- A node releases `count` held operations whose causes were applied, each time the ripe one of the
 -- least id. Its sessions stay as they are.
-pub record Drains (old : NodeState) (count : ℕ) (new : NodeState) : Type 0 where
+pub record DrainsHeld (old : NodeState) (count : ℕ) (new : NodeState) : Type 0 where
   pub sessions : new.sessions ≡ old.sessions
   pub released : AreReleasedInTurn id_of clock_of Exhausts count (received_ops old)
       (received_ops new)

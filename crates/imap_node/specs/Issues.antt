@@ -1,7 +1,7 @@
 -- The operations that a node issues: sound, its own, and new (the IMAP-CRDT's rules for new tags).
 
 use Rattle.std.specs.Prelude.{◌≡◌, List, [], ◌++◌}
-use Rattle.causal_inbox.specs.Inbox.{AreIssued, AreHeldStill}
+use Rattle.causal_inbox.specs.Inbox.{AreIssued, AreRemainingHeld}
 use Rattle.crdt_ops.specs.declared.kind.Kind.{Kind}
 use Rattle.crdt_ops.specs.declared.op.Op.{Op}
 use Rattle.imap_node.specs.Nodes.{NodeState}
@@ -24,7 +24,7 @@ issued_by (Refused why closed) = []
 pub record Issues (old : NodeState) (ops : List Op) (new : NodeState) : Type 0 where
   pub start : new.start ≡ old.start
   pub applied : new.applied ≡ old.applied ++ ops
-  pub held : AreHeldStill id_of ops old.held new.held
+  pub held : AreRemainingHeld id_of ops old.held new.held
   pub issued : AreIssued id_of clock_of old.applied ops
   pub kinds : List Kind
   pub next : AreNext old.start.replica old.applied kinds ops

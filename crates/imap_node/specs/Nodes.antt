@@ -66,15 +66,16 @@ abbrev pub IsIdling : Session → Type 0
 IsIdling session = IsSome session.idling
 
 -- The session is open and idles.
-abbrev pub Idles : NodeState → ℕ → Type 0
-Idles node n = (session : Session) × (session_at node.sessions n ≡ Some session) × IsIdling session
+abbrev pub IsIdlingAt : NodeState → ℕ → Type 0
+IsIdlingAt node n =
+    (session : Session) × (session_at node.sessions n ≡ Some session) × IsIdling session
 
 -- The session awaits this input: a command if it is open and doesn't idle, a line or a poll if it
 -- idles (RFC 2177, section 3).
-abbrev pub Awaits : NodeState → ℕ → Input → Type 0
-Awaits node n (Command moment tagged) = IsOpen node.sessions n × (Idles node n → ⊥)
-Awaits node n (Line line) = Idles node n
-Awaits node n Poll = Idles node n
+abbrev pub IsAwaitedInput : NodeState → ℕ → Input → Type 0
+IsAwaitedInput node n (Command moment tagged) = IsOpen node.sessions n × (IsIdlingAt node n → ⊥)
+IsAwaitedInput node n (Line line) = IsIdlingAt node n
+IsAwaitedInput node n Poll = IsIdlingAt node n
 
 -- The session's LOGOUT was answered OK.
 abbrev pub HasLoggedOut : NodeState → ℕ → Type 0

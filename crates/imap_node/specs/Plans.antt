@@ -110,7 +110,7 @@ plan_of_prepared n p =
       next = Advances p.answered.update;
     }
 
--- The plan for an outcome of `prepare_for`.
+-- The plan for an outcome of `prepare_input`.
 abbrev pub plan_by : ℕ → State → Input → Result PreparedInput Refusal → Plan
 plan_by n state input (Ok p) = plan_of_prepared n p
 plan_by n state input (Err why) =

@@ -3,7 +3,7 @@
 
 use Rattle.std.specs.Prelude.{◌≡◌, ◌⊎◌, ℕ, Bool, true, false, ◌||◌, ◌&&◌, List, [], ◌∷◌, ◌++◌}
 use Rattle.std.specs.Prelude.{Option, Some, None, Result, Ok, Err, if◌then◌else◌}
-use Rattle.causal_inbox.specs.Inbox.{AreHeldStill}
+use Rattle.causal_inbox.specs.Inbox.{AreRemainingHeld}
 use Rattle.crdt_ops.specs.declared.kind.Kind.{Kind}
 use Rattle.crdt_ops.specs.declared.op.Op.{Op}
 use Rattle.imap_answers.specs.declared.answer.Answer.{Answer}
@@ -199,7 +199,7 @@ IsRefused start ops state input why =
 -- The held operations after these were issued: all of them if none was issued.
 abbrev pub AreHeldAfter : List Op → List Op → List Op → Type 0
 AreHeldAfter [] old new = new ≡ old
-AreHeldAfter (op ∷ ops) old new = AreHeldStill id_of (op ∷ ops) old new
+AreHeldAfter (op ∷ ops) old new = AreRemainingHeld id_of (op ∷ ops) old new
 
 -- The node issued these operations, and has these sessions. The operations come after those
 -- applied, and a held one with the id of one of them is dropped.
@@ -230,10 +230,10 @@ pub record CarriesOut (old : NodeState) (n : ℕ) (session : Session) (input : I
       (Some (session_after old.start (old.applied ++ issued) session input effect))) new
 
 -- What a node replies to an input of a session, and the node after it.
-abbrev pub Replies : NodeState → ℕ → Session → Input → Reply → NodeState → Type 0
-Replies old n session input (Done answers silent issued) new =
+abbrev pub IsReply : NodeState → ℕ → Session → Input → Reply → NodeState → Type 0
+IsReply old n session input (Done answers silent issued) new =
     CarriesOut old n session input answers silent issued new
-Replies old n session input (Refused why closed) new =
+IsReply old n session input (Refused why closed) new =
     IsRefused old.start old.applied session.state input why
     × (closed ≡ answers_closed session.state input why)
     × IsNodeAfter old []
@@ -243,4 +243,4 @@ abbrev pub Responds : NodeState → ℕ → Input → Reply → NodeState → Ty
 Responds old n input reply new =
     (session : Session)
     × (session_at old.sessions n ≡ Some session)
-    × Replies old n session input reply new
+    × IsReply old n session input reply new

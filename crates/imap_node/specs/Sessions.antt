@@ -47,7 +47,7 @@ new_session (Password credentials) =
     record { state = NotAuthenticated credentials; condstore = false; idling = None }
 
 -- A session is opened with the least number that no open session has, and nothing else changes.
-pub record Opens (old : Places) (auth : Auth) (n : ℕ) (new : Places) : Type 0 where
+pub record OpensSession (old : Places) (auth : Auth) (n : ℕ) (new : Places) : Type 0 where
   pub positive : 0 < n
   pub vacant : IsNone (session_at old n)
   pub least : (m : ℕ) → 0 < m → m < n → IsOpen old m

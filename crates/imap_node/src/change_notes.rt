@@ -139,7 +139,8 @@ impl MailboxSnapshot {
         ops: &[SoundOp],
     ) -> Result<MailboxSnapshot, AllocError>
         ensures { IfOk result
-            (λ ahead. IsSnapshotOf replica.now.start replica.now.applied ops.now name.now ahead) }
+            (λ snapshot. IsSnapshotOf replica.now.start replica.now.applied ops.now name.now
+            snapshot) }
     {
         let (uidvalidity, uidnext) = replica.numbers(name);
         Ok(MailboxSnapshot {
@@ -298,8 +299,8 @@ fn notes_of_mailbox(
     ensures notes { IfOk result (λ folder. NotesNameIn replica.now.start replica.now.applied
         (replica.now.applied ++ ops.now) name.now folder.notes) }
 {
-    let ahead = MailboxSnapshot::before_ops(alloc, replica, name, ops)?;
-    ahead.notes(
+    let snapshot = MailboxSnapshot::before_ops(alloc, replica, name, ops)?;
+    snapshot.notes(
         alloc,
         replica.uidvalidity_after(name, ops),
         replica.uidnext_after(name, ops),
@@ -314,8 +315,8 @@ pub fn snapshot_of(
 ) -> Result<MailboxSnapshot, AllocError>
     requires { (op : Op) × (ops.now ≡ op ∷ []) }
     ensures { (op : Op) → ops.now ≡ op ∷ []
-        → IfOk result (λ ahead. IsSnapshotOf replica.now.start replica.now.applied (op ∷ [])
-        (name_of op.kind) ahead) }
+        → IfOk result (λ snapshot. IsSnapshotOf replica.now.start replica.now.applied (op ∷ [])
+        (name_of op.kind) snapshot) }
 {
     let kind = &ops[0].op().kind;
     MailboxSnapshot::before_ops(alloc, replica, kind.name(), ops)
@@ -326,18 +327,18 @@ pub fn snapshot_of(
 pub fn change_notes_of_delivery(
     alloc: Global,
     replica: &ReplicaState,
-    ahead: MailboxSnapshot,
+    snapshot: MailboxSnapshot,
 ) -> Result<ChangeNotes, AllocError>
     ensures { (before : List Op) (op : Op)
-        → IsSnapshotOf replica.now.start before (op ∷ []) (name_of op.kind) ahead
+        → IsSnapshotOf replica.now.start before (op ∷ []) (name_of op.kind) snapshot
         → replica.now.applied ≡ before ++ op ∷ []
         → IfOk result
         (λ change_notes. AreChangeNotes replica.now.start before replica.now.applied change_notes) }
 {
     let _list = replica.op_list();
-    let uidvalidity = replica.uidvalidity(ahead.name());
-    let uidnext = replica.uidnext(ahead.name());
-    let folder = ahead.notes(alloc, uidvalidity, uidnext)?;
+    let uidvalidity = replica.uidvalidity(snapshot.name());
+    let uidnext = replica.uidnext(snapshot.name());
+    let folder = snapshot.notes(alloc, uidvalidity, uidnext)?;
     let mut folders = Vec::with_capacity(alloc, 1)?;
     folders.push_reserved(folder);
     Ok(ChangeNotes { folders })

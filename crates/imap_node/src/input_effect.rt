@@ -348,7 +348,7 @@ pub fn idling_after(
     match input {
         Input::Command { tagged, .. } => tag_of_idle(alloc, tagged),
         Input::Line { .. } => Ok(None),
-        Input::Poll => copied_tag(alloc, &session.idling),
+        Input::Poll => copy_tag(alloc, &session.idling),
     }
 }
 
@@ -362,7 +362,7 @@ fn tag_of_idle(alloc: Global, tagged: &Tagged) -> Result<Option<Octets>, AllocEr
     Ok(Some(tagged.tag.copy(alloc)?))
 }
 
-fn copied_tag(alloc: Global, tag: &Option<Octets>) -> Result<Option<Octets>, AllocError>
+fn copy_tag(alloc: Global, tag: &Option<Octets>) -> Result<Option<Octets>, AllocError>
     ensures { IfOk result (λ copied. copied ≡ tag.now) }
 {
     Ok(match tag {

@@ -6,14 +6,14 @@ ghost use Rattle.causal_inbox.specs.ReceivedSets.{HasGrown};
 ghost use Rattle.causal_inbox.specs.declared.delivery.Arrival.{Arrival};
 ghost use Rattle.crdt_ops.specs.declared.op.Op.{Op};
 ghost use Rattle.imap_answers.specs.declared.answer.Answer.{Answer};
-ghost use Rattle.imap_node.specs.Deliveries.{Delivers, Drains};
+ghost use Rattle.imap_node.specs.Deliveries.{Delivers, DrainsHeld};
 ghost use Rattle.imap_node.specs.OlderViews.{AreOlderViews, updates_view};
 ghost use Rattle.imap_node.specs.Issues.{Issues, issued_by};
 ghost use Rattle.imap_node.specs.Mailboxes.{rows_for};
 ghost use Rattle.imap_node.specs.Nodes.{NodeState, with_session_closed};
 ghost use Rattle.imap_node.specs.Replays.{ViewsAscend, view_at, view_after_input};
 ghost use Rattle.imap_node.specs.Responses.{Responds};
-ghost use Rattle.imap_node.specs.Sessions.{IsOpen, Opens, OthersStay, Places};
+ghost use Rattle.imap_node.specs.Sessions.{IsOpen, OpensSession, OthersStay, Places};
 ghost use Rattle.imap_node.specs.declared.input.Input.{Input};
 ghost use Rattle.imap_node.specs.declared.reply.Reply.{Reply};
 ghost use Rattle.imap_node.specs.declared.reply.Reply.TheVariants.{Done};
@@ -62,7 +62,7 @@ pub fn views_ascend()
         → 1 ≤ old.start.uid → IsApplied old.applied
         → Responds old n input reply new → ViewsAscend old.sessions
         → ViewsAscend new.sessions }
-    ensures opens { (old new : Places) (auth : Auth) (n : ℕ) → Opens old auth n new
+    ensures opens { (old new : Places) (auth : Auth) (n : ℕ) → OpensSession old auth n new
         → ViewsAscend old
         → ViewsAscend new }
     ensures closes { (old : NodeState) (n : ℕ) → IsOpen old.sessions n → ViewsAscend old.sessions
@@ -70,7 +70,7 @@ pub fn views_ascend()
     ensures deliveries { (old new : NodeState) (op : Op) (how : Arrival) → Delivers old op how new
         → ViewsAscend old.sessions
         → ViewsAscend new.sessions }
-    ensures drains { (old new : NodeState) (count : ℕ) → Drains old count new
+    ensures drains { (old new : NodeState) (count : ℕ) → DrainsHeld old count new
         → ViewsAscend old.sessions
         → ViewsAscend new.sessions }
 {}
@@ -85,7 +85,7 @@ pub fn views_are_older()
         → AreOlderViews old.start old.applied old.sessions
         → Responds old n input reply new → AreOlderViews new.start new.applied new.sessions }
     ensures opens { (start : Counters) (ops : List Op) (old new : Places) (auth : Auth) (n : ℕ)
-        → Opens old auth n new
+        → OpensSession old auth n new
         → AreOlderViews start ops old
         → AreOlderViews start ops new }
     ensures closes { (start : Counters) (ops : List Op) (old : NodeState) (n : ℕ)
@@ -102,7 +102,7 @@ pub fn views_are_older()
         → AreOlderViews old.start old.applied old.sessions
         → AreOlderViews new.start new.applied new.sessions }
     ensures drains { (old new : NodeState) (count : ℕ) → IsApplied new.applied
-        → Drains old count new
+        → DrainsHeld old count new
         → AreOlderViews old.start old.applied old.sessions
         → AreOlderViews new.start new.applied new.sessions }
 {}
@@ -132,6 +132,6 @@ pub fn counters_last()
         → IsLasting old.start old.applied → Delivers old op how new
         → IsLasting new.start new.applied }
     ensures drains { (old new : NodeState) (count : ℕ) → IsApplied new.applied
-        → IsLasting old.start old.applied → Drains old count new
+        → IsLasting old.start old.applied → DrainsHeld old count new
         → IsLasting new.start new.applied }
 {}

@@ -10,8 +10,8 @@
 //!
 //! - The reply and the node after it are the defined ones (`Responds`, `specs/Responses`). An input
 //!   is carried out whole, or refused for a defined reason. A refusal leaves everything as it was,
-//!   except that a refused SELECT or EXAMINE leaves its mailbox and a line that isn't DONE ends an
-//!   IDLE.
+//!   except that a refused SELECT or EXAMINE leaves no mailbox selected and a line that isn't DONE
+//!   ends an IDLE.
 //! - The operations that a node issues are sound, new and its own. A reply, replayed, gives the
 //!   session's view, whose UIDs ascend; after a full sync the view equals the mailbox's listing
 //!   (`laws`).
@@ -22,9 +22,9 @@
 //! # Decided
 //!
 //! - `Node::command`, `done`, `poll` and `plan` require that the session awaits the input
-//!   (`Awaits`, `specs/Nodes`): a command if it is open and doesn't idle, a line or a poll if it
-//!   idles. `is_open` and `is_idling` test that. The definition of a node's reply doesn't depend on
-//!   whether the session idles.
+//!   (`IsAwaitedInput`, `specs/Nodes`): a command if it is open and doesn't idle, a line or a poll
+//!   if it idles. `is_open` and `is_idling` test that. The definition of a node's reply doesn't
+//!   depend on whether the session idles.
 //! - `Node::session` returns a reference to a session's state, for contracts of conversations.
 //! - A node's replies are defined over the list of applied operations followed by what the command
 //!   issues. A command's own answers and the sync show values after the command's operations;
@@ -40,14 +40,14 @@
 //! - What a reply lists (answers, silent flags, issued operations) is stored once, in memory that
 //!   its copies share (`SharedList`), so that the journal, the caller's pass and the connection
 //!   that prints it share one reply. A copy takes no memory (`Reply::copy`, and above it
+//!   `Outcome::copy`). It fails only if more copies share a list than can be counted.
 //! - SELECT and EXAMINE leave nothing unsent. What they show is a prefix of the listing, since
 //!   answers that expunge nothing and report no items add the listing's next messages; if the view
 //!   has as many messages as the listing, it is the whole listing (`ShowsAll`,
 //!   `specs/SessionChanges`). So the code compares two lengths, and no messages.
-//!   `specs/SessionChanges`). So the code compares two lengths, and no messages.
 //! - In contracts, sessions are a list of places and not a function from numbers, since a value of
-//!   a model can't contain a function. Number 0 is never open, and what another session does
-//!   requires that this one is open, so that no two numbers mean one session.
+//!   a model can't contain a function. Number 0 is never open, and a statement about one session
+//!   and the others requires that it is open, so that no two numbers mean one session.
 #![tactic(auto)]
 
 mod change_notes;
@@ -79,5 +79,5 @@ pub use node::Node;
 pub use plan::Plan;
 pub use printable::{answers_are_printable, listings_are_showable};
 pub use replica::ReplicaState;
-pub use reply::{Answers, Issued, Reply, Silents};
+pub use reply::{Answers, Reply, ReplyOps, ReplySilentFlags};
 pub use sessions::{Auth, MAX_SESSIONS, OpenFault, SessionNo};

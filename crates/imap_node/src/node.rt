@@ -35,7 +35,7 @@ use crate::change_notes::{ChangeNotes, MailboxSnapshot, change_notes_of_delivery
 use crate::command_tables::{closes, ends_idling, leaves};
 use crate::feeds::{Feeds, may_have_notes};
 use crate::input::Input;
-use crate::plan::{Plan, PreparedInput, PreparedReply, SessionStep, prepare_for};
+use crate::plan::{Plan, PreparedInput, PreparedReply, SessionStep, prepare_input};
 use crate::ready_ops::ReadyOps;
 use crate::replica::ReplicaState;
 use crate::reply::Reply;
@@ -100,12 +100,12 @@ impl Model for Node {
 
 impl Node {
     ghost use Rattle.crdt_ops.specs.Sound.{IsSound};
-    ghost use Rattle.imap_node.specs.Deliveries.{Delivers, Drains, HoldsRipe, IsOrderly};
+    ghost use Rattle.imap_node.specs.Deliveries.{Delivers, DrainsHeld, HoldsRipeOp, IsOrderly};
     ghost use Rattle.imap_node.specs.Deliveries.{IsRefusedAt, StallsAt};
-    ghost use Rattle.imap_node.specs.Nodes.{Awaits, Idles, with_session_closed};
+    ghost use Rattle.imap_node.specs.Nodes.{IsAwaitedInput, IsIdlingAt, with_session_closed};
     ghost use Rattle.imap_node.specs.Plans.{CommitsTo, IsPlanned, IsPlanOf};
     ghost use Rattle.imap_node.specs.Responses.{Responds};
-    ghost use Rattle.imap_node.specs.Sessions.{IsOpen, Opens, session_at};
+    ghost use Rattle.imap_node.specs.Sessions.{IsOpen, OpensSession, session_at};
     ghost use Rattle.imap_node.specs.declared.sessions.OpenFault.TheVariants.{TooManySessions};
     ghost use Rattle.merge_laws.specs.Orders.{AreSound};
     ghost use Rattle.uid_projection.specs.Listing.{listing};
@@ -143,7 +143,7 @@ impl Node {
     /// Whether the session is open and idles: it then awaits a DONE, and nothing else (RFC 2177,
     /// section 3).
     pub fn is_idling(&self, session: SessionNo) -> bool
-        ensures { IsTrue result ↔ Idles self.now.state session }
+        ensures { IsTrue result ↔ IsIdlingAt self.now.state session }
     {
         match self.session(session) {
             Some(entry) => entry.idling.is_some(),
@@ -174,11 +174,11 @@ impl Node {
     }
 
     /// Opens a session with the least number that isn't open. An error leaves the node as it was:
-    /// `TooManySessions` exactly if all numbers from 1 to 1,024 are open, unless memory runs out;
+    /// `TooManySessions` exactly when all numbers from 1 to 1,024 are open, unless memory runs out;
     /// `NoMemory`.
     pub fn open(&mut self, auth: Auth) -> Result<SessionNo, OpenFault>
         ensures ok { IfOk result
-            (λ session. Opens self.old.state.sessions auth session self.new.state.sessions) }
+            (λ session. OpensSession self.old.state.sessions auth session self.new.state.sessions) }
         ensures full { result ≡ Err TooManySessions → (n : ℕ) → 0 < n → n ≤ 1024
             → IsOpen self.old.state.sessions n }
         ensures room { ((n : ℕ) × (0 < n) × (n ≤ 1024)
@@ -227,7 +227,7 @@ impl Node {
         moment: Moment,
         tagged: Tagged,
     ) -> Reply
-        requires { Awaits self.old.state session (inputs.Command moment tagged) }
+        requires { IsAwaitedInput self.old.state session (inputs.Command moment tagged) }
         ensures { Responds self.old.state session (inputs.Command moment tagged) result
             self.new.state }
     {
@@ -237,7 +237,7 @@ impl Node {
 
     /// Takes a line of a session that idles (RFC 2177, section 3).
     pub fn done(&mut self, alloc: Global, session: SessionNo, line: IdleLine) -> Reply
-        requires { Awaits self.old.state session (inputs.Line line) }
+        requires { IsAwaitedInput self.old.state session (inputs.Line line) }
         ensures { Responds self.old.state session (inputs.Line line) result self.new.state }
     {
         let plan = self.plan(alloc, session, Input::Line { line });
@@ -246,7 +246,7 @@ impl Node {
 
     /// Sends a session that idles what has changed (RFC 2177, section 3).
     pub fn poll(&mut self, alloc: Global, session: SessionNo) -> Reply
-        requires { Awaits self.old.state session inputs.Poll }
+        requires { IsAwaitedInput self.old.state session inputs.Poll }
         ensures { Responds self.old.state session inputs.Poll result self.new.state }
     {
         let plan = self.plan(alloc, session, Input::Poll);
@@ -257,7 +257,7 @@ impl Node {
     /// for it. The node stays as it was. The plan's reply is `Done` only if all room was made;
     /// every refusal is in it too.
     pub fn plan(&mut self, alloc: Global, session: SessionNo, input: Input) -> Plan
-        requires { Awaits self.old.state session input }
+        requires { IsAwaitedInput self.old.state session input }
         ensures same { self.new.state ≡ self.old.state }
         ensures planned { IsPlanned self.new result }
         ensures responds { IsPlanOf self.old.state session input result }
@@ -269,12 +269,12 @@ impl Node {
 
     /// `plan`, for an input that is borrowed.
     pub fn plan_for(&mut self, alloc: Global, session: SessionNo, input: &Input) -> Plan
-        requires { Awaits self.old.state session input.now }
+        requires { IsAwaitedInput self.old.state session input.now }
         ensures same { self.new.state ≡ self.old.state }
         ensures planned { IsPlanned self.new result }
         ensures responds { IsPlanOf self.old.state session input.now result }
     {
-        let outcome = prepare_for(
+        let outcome = prepare_input(
             alloc,
             &mut self.replica,
             &mut self.sessions,
@@ -322,7 +322,7 @@ impl Node {
         ensures answer { MatchResult result
             (λ d. Delivers self.old.state op d.arrival self.new.state)
             (λ e. IsRefusedAt self.old.state op e) }
-        ensures stalled { IfOk result (λ d. IsTrue d.stalled ↔ HoldsRipe self.new.state) }
+        ensures stalled { IfOk result (λ d. IsTrue d.stalled ↔ HoldsRipeOp self.new.state) }
         ensures err { OnErr result (self.new.state ≡ self.old.state) }
     {
         match self.receive(alloc, op)? {
@@ -350,13 +350,13 @@ impl Node {
         ensures err { OnErr result (self.new.state ≡ self.old.state) }
     {
         let count = self.replica.op_list().len();
-        let ahead = snapshot_of(alloc, &self.replica, slice::from_ref(&op));
+        let snapshot = snapshot_of(alloc, &self.replica, slice::from_ref(&op));
         let arrival = self.replica.receive(alloc, op);
         note_delivered(
             alloc,
             &self.replica,
             count,
-            ahead,
+            snapshot,
             &self.sessions,
             &mut self.feeds,
         );
@@ -366,8 +366,8 @@ impl Node {
     /// Applies held operations whose causes were all applied, the least id first, until there is
     /// none or one is refused. No session changes.
     pub fn drain(&mut self, alloc: Global) -> Drained
-        ensures released { Drains self.old.state result.applied self.new.state }
-        ensures stalled { IsTrue result.stalled ↔ HoldsRipe self.new.state }
+        ensures released { DrainsHeld self.old.state result.applied self.new.state }
+        ensures stalled { IsTrue result.stalled ↔ HoldsRipeOp self.new.state }
         ensures at_most { result.applied ≤ held_limit }
     {
         let count = self.replica.held().len();
@@ -410,13 +410,13 @@ impl Node {
             return Ok(false);
         };
         let count = self.replica.op_list().len();
-        let ahead = snapshot_of(alloc, &self.replica, next);
+        let snapshot = snapshot_of(alloc, &self.replica, next);
         let released = self.replica.release_next(alloc);
         note_delivered(
             alloc,
             &self.replica,
             count,
-            ahead,
+            snapshot,
             &self.sessions,
             &mut self.feeds,
         );
@@ -559,12 +559,12 @@ fn note_delivered(
     alloc: Global,
     replica: &ReplicaState,
     count: usize,
-    ahead: Result<MailboxSnapshot, AllocError>,
+    snapshot: Result<MailboxSnapshot, AllocError>,
     sessions: &Sessions,
     feeds: &mut Feeds,
 )
     requires count { count ≤ length replica.now.applied }
-    requires ahead { IfOk ahead (λ a. (op : Op)
+    requires snapshot { IfOk snapshot (λ a. (op : Op)
         × IsSnapshotOf replica.now.start (take count replica.now.applied) (op ∷ [])
         (name_of op.kind) a
         × (count < length replica.now.applied
@@ -575,11 +575,11 @@ fn note_delivered(
     if replica.op_list().len() == count {
         return;
     }
-    let Ok(ahead) = ahead else {
+    let Ok(snapshot) = snapshot else {
         feeds.miss_all();
         return;
     };
-    match change_notes_of_delivery(alloc, replica, ahead) {
+    match change_notes_of_delivery(alloc, replica, snapshot) {
         Ok(change_notes) => {
             feeds.ready(sessions, &change_notes);
             feeds.note(sessions, &change_notes);
@@ -588,7 +588,7 @@ fn note_delivered(
     }
 }
 
-/// The plan for an outcome of `prepare_for`.
+/// The plan for an outcome of `prepare_input`.
 fn plan_by(
     alloc: Global,
     number: SessionNo,

@@ -29,7 +29,7 @@ use crate::input_effect::{
 use crate::intents::input_intent;
 use crate::ready_ops::{ReadyOps, ready_next_ops};
 use crate::replica::ReplicaState;
-use crate::reply::{Answers, Issued, Reply, Silents, copy_ops};
+use crate::reply::{Answers, Reply, ReplyOps, ReplySilentFlags, copy_ops};
 use crate::reports::rows_after;
 use crate::session_change::{SessionChange, StateChange};
 use crate::sessions::{SessionNo, Sessions};
@@ -84,7 +84,7 @@ impl Plan {
 #[derive(Drop)]
 pub struct PreparedReply {
     pub answers: Answers,
-    pub silent: Silents,
+    pub silent: ReplySilentFlags,
     pub update: SessionChange,
 }
 
@@ -93,14 +93,14 @@ pub struct PreparedReply {
 pub struct PreparedInput {
     pub answered: PreparedReply,
     pub ops: ReadyOps,
-    pub copies: Issued,
+    pub copies: ReplyOps,
     pub change_notes: ChangeNotes,
 }
 
 /// Makes the room for an input of an open session, and works out the reply to it. An error is the
-/// reason to refuse the input, and leaves the received operations as they were. The sessions stay
-/// in any case.
-pub fn prepare_for(
+/// reason to refuse the input, and leaves the received operations as they were. The sessions are
+/// unchanged in either case.
+pub fn prepare_input(
     alloc: Global,
     replica: &mut ReplicaState,
     sessions: &mut Sessions,
@@ -136,7 +136,7 @@ pub fn prepare_for(
     if place >= places.len() {
         unreachable!()
     }
-    prepare_at(
+    prepare_at_place(
         alloc,
         replica,
         &mut places[place],
@@ -145,8 +145,8 @@ pub fn prepare_for(
     )
 }
 
-/// `prepare_for`, given the session's place.
-fn prepare_at(
+/// `prepare_input`, given the session's place.
+fn prepare_at_place(
     alloc: Global,
     replica: &mut ReplicaState,
     place: &mut Option<Session>,
@@ -181,7 +181,7 @@ fn prepare_at(
     }
 }
 
-/// `prepare_for`, given the session.
+/// `prepare_input`, given the session.
 fn prepare(
     alloc: Global,
     replica: &mut ReplicaState,
@@ -210,7 +210,7 @@ fn prepare(
 {
     match tag_of_settled_noop(alloc, session, feed, input) {
         Some(tag) => Ok(settled_noop_reply(alloc, session, tag)?),
-        None => prepare_any(alloc, replica, session, feed, input),
+        None => prepare_any_input(alloc, replica, session, feed, input),
     }
 }
 
@@ -232,12 +232,12 @@ fn tag_of_settled_noop<'a>(
         feed,
         change_notes: &change_notes,
     };
-    let is_rest = is_settled(&session.state, &unsent, Some(SyncKind::Full));
+    let has_nothing_unsent = is_settled(&session.state, &unsent, Some(SyncKind::Full));
     drop(change_notes);
-    if is_rest { Some(tag) } else { None }
+    if has_nothing_unsent { Some(tag) } else { None }
 }
 
-/// The tag of a NOOP.
+/// The tag of a NOOP; `None` for any other input.
 fn noop_tag(input: &Input) -> Option<&Octets>
     ensures { (tag : List ℕ) → option_map (λ t. t.now) result ≡ Some tag → IsNoop input.now tag }
 {
@@ -260,8 +260,8 @@ fn settled_noop_reply(
     ensures { IfOk result (λ prepared. prepared ≡ settled_noop_reply session.now tag.now) }
 {
     let answers = Answers::new(completed_line(alloc, tag, None, CompletedWord::Noop)?)?;
-    let silent = Silents::new(Vec::new(alloc))?;
-    let copies = Issued::new(Vec::new(alloc))?;
+    let silent = ReplySilentFlags::new(Vec::new(alloc))?;
+    let copies = ReplyOps::new(Vec::new(alloc))?;
     Ok(PreparedInput {
         answered: PreparedReply {
             answers,
@@ -279,7 +279,7 @@ fn settled_noop_reply(
 }
 
 /// `prepare`, for any input.
-fn prepare_any(
+fn prepare_any_input(
     alloc: Global,
     replica: &mut ReplicaState,
     session: &mut Session,
@@ -308,7 +308,7 @@ fn prepare_any(
     let stamp = stamp_of(input);
     let Intent { kinds, named } = intent_within_numbers(alloc, replica, &stamp, session, input)?;
     let ops = ready_next_ops(alloc, replica, kinds)?;
-    Ok(prepared_reply(alloc, replica, session, feed, input, &named, ops)?)
+    Ok(prepared_input(alloc, replica, session, feed, input, &named, ops)?)
 }
 
 /// The date-time that an input records.
@@ -331,7 +331,7 @@ fn stamp_for(command: &Command, moment: Moment) -> DateTime
     }
 }
 
-/// What an input issues, all of which the replica may issue, and the messages that it names.
+/// An input's intent: kinds, all of which the replica may issue, and the messages that it names.
 fn intent_within_numbers(
     alloc: Global,
     replica: &ReplicaState,
@@ -350,9 +350,9 @@ fn intent_within_numbers(
     input_intent(alloc, replica, stamp, &session.state, input)
 }
 
-/// The reply to an input after its operations, using the messages that it named before them, with a
-/// copy of the operations for the other replicas, and their change notes.
-fn prepared_reply(
+/// The reply to an input after its operations, with a copy of these for the other replicas, and
+/// their change notes. `named` are the messages that the input named before its operations.
+fn prepared_input(
     alloc: Global,
     replica: &ReplicaState,
     session: &mut Session,
@@ -379,13 +379,13 @@ fn prepared_reply(
         (replica.now.applied ++ ops.items) p.change_notes) }
 {
     let ops = ReadyOps::new(ops);
-    let copies = shared_copies(alloc, ops.as_slice())?;
+    let copies = share_copies(alloc, ops.as_slice())?;
     let change_notes = change_notes_of_issue(alloc, replica, ops.as_slice())?;
     let unsent = UnsentChanges {
         feed,
         change_notes: &change_notes,
     };
-    let answered = answers_to(
+    let answered = prepared_reply(
         alloc,
         replica,
         session,
@@ -402,17 +402,17 @@ fn prepared_reply(
     })
 }
 
-/// Equal operations, in memory that copies share.
-fn shared_copies(alloc: Global, ops: &[SoundOp]) -> Result<Issued, AllocError>
+/// Copies of the operations, in memory that further copies share.
+fn share_copies(alloc: Global, ops: &[SoundOp]) -> Result<ReplyOps, AllocError>
     ensures { IfOk result (λ copies. copies ≡ ops.now) }
 {
     let copies = copy_ops(alloc, ops)?;
-    Issued::new(copies)
+    ReplyOps::new(copies)
 }
 
-/// The answers to an input after its operations, using the messages that it named before them, and
-/// the change of the session.
-fn answers_to(
+/// The answers to an input after its operations, and the change of the session. `named` are the
+/// messages that the input named before its operations.
+fn prepared_reply(
     alloc: Global,
     replica: &ReplicaState,
     session: &mut Session,
@@ -438,8 +438,8 @@ fn answers_to(
 {
     let condstore = condstore_after(session, input);
     let idling = idling_after(alloc, session, input)?;
-    let made = listing_after(alloc, replica, ops, &session.state, unsent.change_notes)?;
-    let effect = draft_effect(alloc, replica, ops, made.as_ref(), session, input, named)?;
+    let listing = listing_after_ops(alloc, replica, ops, &session.state, unsent.change_notes)?;
+    let effect = draft_effect(alloc, replica, ops, listing.as_ref(), session, input, named)?;
     let ReplyParts {
         answers,
         silent,
@@ -448,7 +448,7 @@ fn answers_to(
         alloc,
         replica,
         ops,
-        made.as_ref(),
+        listing.as_ref(),
         &mut session.state,
         unsent,
         effect,
@@ -466,7 +466,7 @@ fn answers_to(
 
 /// The listing of the selected mailbox after the operations, made once for all that read it; `None`
 /// if no mailbox is selected, or if the operations change nothing in it.
-fn listing_after<'a>(
+fn listing_after_ops<'a>(
     alloc: Global,
     replica: &'a ReplicaState,
     ops: &'a [SoundOp],
@@ -475,7 +475,8 @@ fn listing_after<'a>(
 ) -> Result<Option<Rows<'a>>, AllocError>
     requires { IsReady replica.now ops.now }
     ensures { IfOk result
-        (λ made. IsListingFor replica.now.start (replica.now.applied ++ ops.now) state.now made) }
+        (λ listing. IsListingFor replica.now.start (replica.now.applied ++ ops.now)
+        state.now listing) }
 {
     match state {
         State::Selected { view, .. } => {
@@ -491,7 +492,7 @@ fn listing_after<'a>(
 /// The answers to an input, the flags that it sets silently, and the change of the state.
 struct ReplyParts {
     answers: Answers,
-    silent: Silents,
+    silent: ReplySilentFlags,
     state_change: StateChange,
 }
 
@@ -500,14 +501,14 @@ fn reply_of_effect(
     alloc: Global,
     replica: &ReplicaState,
     ops: &[SoundOp],
-    made: Option<&Rows<'_>>,
+    listing: Option<&Rows<'_>>,
     state: &mut State,
     unsent: &UnsentChanges<'_>,
     effect: EffectDraft,
 ) -> Result<ReplyParts, AllocError>
     requires ready { IsReady replica.now ops.now }
-    requires made { IsListingFor replica.now.start (replica.now.applied ++ ops.now) state.old
-        (option_map (λ rows. rows.now) made) }
+    requires listing { IsListingFor replica.now.start (replica.now.applied ++ ops.now) state.old
+        (option_map (λ rows. rows.now) listing) }
     requires noted { (view : ViewState)
         → view_of state.old ≡ Some view
         → IsNotedFor replica.now.start replica.now.applied unsent.now.pending view }
@@ -532,7 +533,7 @@ fn reply_of_effect(
         moved,
         tail,
     } = effect;
-    let front = SyncInput {
+    let sync_input = SyncInput {
         silent: &silent,
         own: &own,
         sync,
@@ -540,7 +541,13 @@ fn reply_of_effect(
     };
     let applied = ReplicaAfter { replica, ops };
     let (answers, state_change) = sync_and_change(
-        alloc, &applied, made, state, unsent, moved, &front,
+        alloc,
+        &applied,
+        listing,
+        state,
+        unsent,
+        moved,
+        &sync_input,
     )?;
     match share_reply(own, answers, tail, silent) {
         Ok((answers, silent)) => Ok(ReplyParts {
@@ -562,23 +569,27 @@ fn share_reply(
     synced: Vec<Answer>,
     tail: Vec<Answer>,
     silent: Vec<SilentFlags>,
-) -> Result<(Answers, Silents), AllocError>
+) -> Result<(Answers, ReplySilentFlags), AllocError>
     ensures answers { IfOk result (λ s. s.0 ≡ own.items ++ (synced.items ++ tail.items)) }
     ensures silent { IfOk result (λ s. s.1 ≡ silent.items) }
 {
-    let answers = match all_sent(own, synced, tail) {
+    let answers = match join_answers(own, synced, tail) {
         Ok(answers) => answers,
         Err(error) => {
             drop(silent);
             return Err(error);
         }
     };
-    let silent = Silents::new(silent)?;
+    let silent = ReplySilentFlags::new(silent)?;
     Ok((answers, silent))
 }
 
 /// All answers, in the order in which they are sent.
-fn all_sent(own: Vec<Answer>, synced: Vec<Answer>, tail: Vec<Answer>) -> Result<Answers, AllocError>
+fn join_answers(
+    own: Vec<Answer>,
+    synced: Vec<Answer>,
+    tail: Vec<Answer>,
+) -> Result<Answers, AllocError>
     ensures { IfOk result (λ sent. sent ≡ own.items ++ (synced.items ++ tail.items)) }
 {
     Answers::new(append_answers(own, append_answers(synced, tail)?)?)
@@ -589,16 +600,16 @@ fn all_sent(own: Vec<Answer>, synced: Vec<Answer>, tail: Vec<Answer>) -> Result<
 fn sync_and_change(
     alloc: Global,
     applied: &ReplicaAfter<'_>,
-    made: Option<&Rows<'_>>,
+    listing: Option<&Rows<'_>>,
     state: &mut State,
     unsent: &UnsentChanges<'_>,
     moved: Option<State>,
-    front: &SyncInput<'_>,
+    sync_input: &SyncInput<'_>,
 ) -> Result<(Vec<Answer>, StateChange), AllocError>
     requires ready { IsReady applied.now.replica.now applied.now.ops.now }
-    requires made { IsListingFor applied.now.replica.now.start
+    requires listing { IsListingFor applied.now.replica.now.start
         (applied.now.replica.now.applied ++ applied.now.ops.now) state.old
-        (option_map (λ rows. rows.now) made) }
+        (option_map (λ rows. rows.now) listing) }
     requires noted { (view : ViewState)
         → view_of state.old ≡ Some view
         → IsNotedFor applied.now.replica.now.start applied.now.replica.now.applied
@@ -609,11 +620,11 @@ fn sync_and_change(
     ensures answers { IfOk result (λ e. e.0.items
         ≡ (sync_result_after applied.now.replica.now.start
         (applied.now.replica.now.applied ++ applied.now.ops.now) (state_or state.old moved)
-        front.now).answers) }
+        sync_input.now).answers) }
     ensures state { IfOk result (λ e. changed_state state.old e.1
         ≡ (sync_result_after applied.now.replica.now.start
         (applied.now.replica.now.applied ++ applied.now.ops.now) (state_or state.old moved)
-        front.now).state) }
+        sync_input.now).state) }
     ensures can { IfOk result (λ e. CanChangeSession applied.now.replica.now.start
         (applied.now.replica.now.applied ++ applied.now.ops.now) state.old e.1) }
 {
@@ -623,9 +634,9 @@ fn sync_and_change(
                 answers,
                 state,
                 shows_all,
-            } = sync_rebuilt_state(alloc, applied.replica, applied.ops, next, front)?;
+            } = sync_rebuilt_state(alloc, applied.replica, applied.ops, next, sync_input)?;
             Ok((answers, StateChange::Moves { state, shows_all }))
         }
-        None => sync_in_place(alloc, applied, made, state, unsent, front),
+        None => sync_in_place(alloc, applied, listing, state, unsent, sync_input),
     }
 }

@@ -3,8 +3,8 @@
 
 ghost use Rattle.std.specs.Prelude.{◌≡◌, ◌↔◌, ℕ, ◌+◌, ◌≤◌, ◌++◌, ◌∷◌, [], length, IfOk, OnOk};
 ghost use Rattle.std.specs.Prelude.{IsTrue, MatchOption, MatchResult, Ok, Err, OnErr};
-ghost use Rattle.causal_inbox.specs.Delivery.{Arrives, Refuses};
-ghost use Rattle.causal_inbox.specs.Inbox.{AreIssued, AreHeldStill, IsClockOf, IsLawfulInbox};
+ghost use Rattle.causal_inbox.specs.Delivery.{IsArrival, IsDeliverFault};
+ghost use Rattle.causal_inbox.specs.Inbox.{AreIssued, AreRemainingHeld, IsClockOf, IsLawfulInbox};
 ghost use Rattle.causal_inbox.specs.Inbox.{IsNextReleased, IsStalled, uncovered_ops};
 ghost use Rattle.causal_inbox.specs.Releases.{Releases, RefusesRelease};
 ghost use Rattle.causal_inbox.specs.Stalls.{StallsFor};
@@ -134,7 +134,7 @@ impl ReplicaState {
     }
 
     /// Makes room to issue these operations, which come next. An error leaves the received
-    /// operations as they were: `Exhausted` exactly if one of these exhausts a counter.
+    /// operations as they were: `Exhausted` exactly when one of these exhausts a counter.
     pub fn ready(&mut self, alloc: Global, ops: &[SoundOp]) -> Result<(), IssueFault>
         ensures start { self.new.start ≡ self.old.start }
         ensures applied { self.new.applied ≡ self.old.applied }
@@ -152,7 +152,7 @@ impl ReplicaState {
         requires issued { AreIssued id_of clock_of self.old.applied ops.items }
         ensures start { self.new.start ≡ self.old.start }
         ensures applied { self.new.applied ≡ self.old.applied ++ ops.items }
-        ensures held { AreHeldStill id_of ops.items self.old.held self.new.held }
+        ensures held { AreRemainingHeld id_of ops.items self.old.held self.new.held }
     {
         self.inbox.issue(ops);
     }
@@ -161,9 +161,9 @@ impl ReplicaState {
     /// error leaves the replica as it was.
     pub fn receive(&mut self, alloc: Global, op: SoundOp) -> Result<Arrival, DeliverFault>
         ensures answer { MatchResult result
-            (λ arrival. Arrives id_of clock_of Exhausts (replica_received self.old) op arrival
+            (λ arrival. IsArrival id_of clock_of Exhausts (replica_received self.old) op arrival
             (replica_received self.new))
-            (λ e. Refuses id_of clock_of Exhausts (replica_received self.old) op e) }
+            (λ e. IsDeliverFault id_of clock_of Exhausts (replica_received self.old) op e) }
         ensures one { (n : ℕ) → result ≡ Ok (Applied n) → n ≡ 1 }
         ensures err { OnErr result (replica_received self.new ≡ replica_received self.old) }
     {

@@ -61,18 +61,18 @@ impl Answers {
 
 /// Flags that a session set silently, in their order (RFC 9051, section 6.4.6). Copies share one
 /// memory.
-pub struct Silents {
+pub struct ReplySilentFlags {
     silents: SharedList<SilentFlags>,
 }
 
 // By hand, so that crates above drop it whole.
-impl Drop for Silents {
+impl Drop for ReplySilentFlags {
     fn drop(self) {
         let Self { silents: _ } = self;
     }
 }
 
-impl Model for Silents {
+impl Model for ReplySilentFlags {
     ghost use Rattle.std.specs.Prelude.{List};
     ghost use Rattle.session_view.specs.declared.reply_replay.SilentFlags.{SilentFlags};
 
@@ -81,12 +81,12 @@ impl Model for Silents {
     ghost view = { λ s. s.silents };
 }
 
-impl Silents {
+impl ReplySilentFlags {
     /// These flags, whose memory it takes over; `Err` if memory to share them runs out.
-    pub fn new(silents: Vec<SilentFlags>) -> Result<Silents, AllocError>
+    pub fn new(silents: Vec<SilentFlags>) -> Result<ReplySilentFlags, AllocError>
         ensures { IfOk result (λ shared. shared ≡ silents.items) }
     {
-        Ok(Silents {
+        Ok(ReplySilentFlags {
             silents: SharedList::new(silents)?,
         })
     }
@@ -99,28 +99,28 @@ impl Silents {
     }
 
     /// The same flags, in the same memory. `Err` if more copies share it than can be counted.
-    pub fn copy(&self) -> Result<Silents, AllocError>
+    pub fn copy(&self) -> Result<ReplySilentFlags, AllocError>
         ensures { IfOk result (λ copied. copied ≡ self.now) }
     {
-        Ok(Silents {
+        Ok(ReplySilentFlags {
             silents: self.silents.copy()?,
         })
     }
 }
 
 /// Operations that a command issued, in the order of their numbers. Copies share one memory.
-pub struct Issued {
+pub struct ReplyOps {
     ops: SharedList<SoundOp>,
 }
 
 // By hand, so that crates above drop it whole.
-impl Drop for Issued {
+impl Drop for ReplyOps {
     fn drop(self) {
         let Self { ops: _ } = self;
     }
 }
 
-impl Model for Issued {
+impl Model for ReplyOps {
     ghost use Rattle.std.specs.Prelude.{List};
     ghost use Rattle.crdt_ops.specs.declared.op.Op.{Op};
 
@@ -129,12 +129,12 @@ impl Model for Issued {
     ghost view = { λ i. i.ops };
 }
 
-impl Issued {
+impl ReplyOps {
     /// These operations, whose memory it takes over; `Err` if memory to share them runs out.
-    pub fn new(ops: Vec<SoundOp>) -> Result<Issued, AllocError>
+    pub fn new(ops: Vec<SoundOp>) -> Result<ReplyOps, AllocError>
         ensures { IfOk result (λ shared. shared ≡ ops.items) }
     {
-        Ok(Issued {
+        Ok(ReplyOps {
             ops: SharedList::new(ops)?,
         })
     }
@@ -147,10 +147,10 @@ impl Issued {
     }
 
     /// The same operations, in the same memory. `Err` if more copies share it than can be counted.
-    pub fn copy(&self) -> Result<Issued, AllocError>
+    pub fn copy(&self) -> Result<ReplyOps, AllocError>
         ensures { IfOk result (λ copied. copied ≡ self.now) }
     {
-        Ok(Issued {
+        Ok(ReplyOps {
             ops: self.ops.copy()?,
         })
     }
@@ -164,9 +164,9 @@ pub enum Reply {
         /// All answers, in the order in which they are sent.
         answers: Answers,
         /// The flags that the session set silently, before the answers.
-        silent: Silents,
+        silent: ReplySilentFlags,
         /// The operations that it issued, for the other replicas.
-        issued: Issued,
+        issued: ReplyOps,
     },
     /// The input was refused. Nothing changed, except that a refused SELECT or EXAMINE leaves no
     /// mailbox selected, and that any line but DONE ends an IDLE.

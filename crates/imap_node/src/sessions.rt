@@ -107,7 +107,7 @@ impl Model for Sessions {
 }
 
 impl Sessions {
-    ghost use Rattle.imap_node.specs.Sessions.{Opens, with_session};
+    ghost use Rattle.imap_node.specs.Sessions.{OpensSession, with_session};
 
     /// No sessions.
     pub fn new(alloc: Global) -> Sessions
@@ -136,7 +136,7 @@ impl Sessions {
     /// Opens the session with the least number that isn't open. An error leaves the sessions as
     /// they were.
     pub fn open(&mut self, auth: Auth) -> Result<SessionNo, OpenFault>
-        ensures ok { IfOk result (λ session. Opens self.old auth session self.new) }
+        ensures ok { IfOk result (λ session. OpensSession self.old auth session self.new) }
         ensures full { result ≡ Err TooManySessions → (n : ℕ) → 0 < n → n ≤ 1024
             → IsOpen self.old n }
         ensures room { ((n : ℕ) × (0 < n) × (n ≤ 1024) × IsNone (session_at self.old n))

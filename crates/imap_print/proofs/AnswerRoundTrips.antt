@@ -32,7 +32,7 @@ use Rattle.imap_print.specs.Appending.{spaced}
 use Rattle.imap_answers.specs.Printable.{AreFetchItems, AreFlags, AreResults, AreStatusItems, IsCode, IsFolded, IsNotice, IsPrintable, IsSet, IsSmall, IsTag, IfPresent}
 use Rattle.imap_answers.specs.AnswerText.{line_of_answer, code_prefix, code_text, fetch_texts, notice_text, permanent_text, text_of_answer, results_text, sets_text, status_texts, uid_label}
 use Rattle.imap_print.specs.Reading.{◌>>=◌, after, value_with_rest, is_in, number_from, set_at, capped_at_32_bits, span, map_value, word_at}
-use Rattle.imap_print.specs.ReadingAnswers.{answer_at, appended_at, read_or, code_at, code_before_at, code_or, coded_at, completed_at, copied_at, done_at, fetch_at, fixed_at, last_set_at, line_at, list_at, modified_at, notice_at, numbered_at, permanent_at, permanent_notice_at, search_at, search_from, sets_at, star_at, status_at, status_items_at, status_list_at, tagged_at, untagged_ok_at, untagged_at, worded_at}
+use Rattle.imap_print.specs.ReadingAnswers.{answer_at, appended_at, read_or, code_at, code_before_at, code_or, number_code_at, completed_at, copyuid_at, done_at, fetch_at, fixed_at, last_set_at, line_at, list_at, modified_at, notice_at, numbered_at, permanent_at, permanent_notice_at, search_at, search_from, sets_at, star_at, status_at, status_items_at, status_list_at, tagged_at, untagged_ok_at, untagged_at, word_answer_at}
 use Rattle.imap_answers.specs.Strings.{crlf, name_text, separated_by, set_text}
 use Rattle.imap_print.specs.Tables.{commands}
 use Rattle.imap_answers.specs.Words.{attributes_text, bye_text, command_text, continuation_text, enabled_text, greeting_text, refusal_text}
@@ -41,8 +41,8 @@ use Rattle.imap_print.proofs.ListRoundTrips.{flags-round_trip, permanent-round_t
 use Rattle.imap_print.proofs.ItemRoundTrips.{bracket_ends, fetch-items-round_trip, not_by_uid, results-round_trip, space_ends, status-items-round_trip}
 
 -- a number and its bracket
-coded-round_trip : (n : ℕ) (rest : List ℕ) → n < 2 ^ 64 → coded_at ((decimal n ++ (93 ∷ [])) ++ rest) ≡ Some (n, rest)
-unfolding coded_at
+coded-round_trip : (n : ℕ) (rest : List ℕ) → n < 2 ^ 64 → number_code_at ((decimal n ++ (93 ∷ [])) ++ rest) ≡ Some (n, rest)
+unfolding number_code_at
 coded-round_trip n rest h =
     ap (λ (x : ℕ × List ℕ). after (codes "]") x.1 >>= λ rest. Some (x.0, rest)) (ap (number_from 0) (append_assoc (decimal n) (93 ∷ []) rest) ∙ number-round_trip n (93 ∷ rest) h)
 
@@ -58,8 +58,8 @@ sets-round_trip s c rest h i =
     ∙ ap (λ o. o >>= λ copies. Some ((s, copies.0), copies.1)) (last-set-round_trip c rest i)
 
 -- a UIDVALIDITY and two sets
-copied-round_trip : (u : ℕ) (s c rest : List ℕ) → IsSmall u → IsSet s → IsSet c → copied_at ((decimal u ++ (32 ∷ []) ++ sets_text s c ++ (93 ∷ [])) ++ rest) ≡ Some ((u, s, c), rest)
-unfolding copied_at
+copied-round_trip : (u : ℕ) (s c rest : List ℕ) → IsSmall u → IsSet s → IsSet c → copyuid_at ((decimal u ++ (32 ∷ []) ++ sets_text s c ++ (93 ∷ [])) ++ rest) ≡ Some ((u, s, c), rest)
+unfolding copyuid_at
 copied-round_trip u s c rest h i j =
     let more = set_text s ++ (32 ∷ (set_text c ++ (93 ∷ rest))) in
     let inner : sets_text s c ++ (93 ∷ rest) ≡ more = append_assoc (set_text s ++ (32 ∷ [])) (set_text c) (93 ∷ rest) ∙ append_assoc (set_text s) (32 ∷ []) (set_text c ++ (93 ∷ rest)) in
@@ -101,7 +101,7 @@ appended-round_trip u n rest h i =
     let whole : (decimal u ++ (32 ∷ []) ++ decimal n ++ (93 ∷ [])) ++ rest ≡ decimal u ++ (32 ∷ more) = simp append_assoc in
     let widen : u < 2 ^ 64 = omega arith in
     let widen' : n < 2 ^ 64 = omega arith in
-    ap (λ (x : ℕ × List ℕ). after (codes " ") x.1 >>= λ between. (coded_at between >>= λ uid. Some ((capped_at_32_bits x.0, capped_at_32_bits uid.0), uid.1))) (ap (number_from 0) whole ∙ number-round_trip u (32 ∷ more) widen)
+    ap (λ (x : ℕ × List ℕ). after (codes " ") x.1 >>= λ between. (number_code_at between >>= λ uid. Some ((capped_at_32_bits x.0, capped_at_32_bits uid.0), uid.1))) (ap (number_from 0) whole ∙ number-round_trip u (32 ∷ more) widen)
     ∙ ap (λ o. o >>= λ uid. Some ((capped_at_32_bits u, capped_at_32_bits uid.0), uid.1)) (coded-round_trip n rest widen')
     ∙ (λ k. Some ((capped_at_32_bits-round_trip u h k, capped_at_32_bits-round_trip n i k), rest))
 
@@ -329,7 +329,7 @@ unfolding untagged_ok_at
 untagged_ok-round_trip n rest h = ap (λ o. o >>= λ notice. value_with_rest (answer.UntaggedOk notice.0) (after (codes " ok") notice.1)) (notice-round_trip n (codes " ok" ++ rest) h)
 
 ok_answer : (n : Notice) (rest : List ℕ) → answer_at (codes "* OK " ++ (notice_text n ++ rest)) ≡ untagged_ok_at (notice_text n ++ rest)
-unfolding answer_at star_at untagged_at worded_at
+unfolding answer_at star_at untagged_at word_answer_at
 ok_answer notice.Closed rest = refl
 ok_answer (notice.UidValidity v) rest = refl
 ok_answer (notice.UidNext v) rest = refl
@@ -383,7 +383,7 @@ done_again tag more = refl
 
 -- an answer, up to the end of its line
 answer-round_trip : (a : Answer) (rest : List ℕ) → IsPrintable a → answer_at (line_of_answer a ++ (13 ∷ 10 ∷ rest)) ≡ Some (a, 13 ∷ 10 ∷ rest)
-unfolding line_of_answer answer_at star_at untagged_at worded_at fixed_at
+unfolding line_of_answer answer_at star_at untagged_at word_answer_at fixed_at
 answer-round_trip (answer.Greeting login) rest h = greeting-round_trip login rest
 answer-round_trip (answer.Continue awaited) rest h = continuation-round_trip awaited rest
 answer-round_trip answer.Capability rest h = refl

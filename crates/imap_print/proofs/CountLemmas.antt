@@ -15,8 +15,8 @@ rising_fits [] h = omega arith
 rising_fits (n ∷ ns) h = omega (arith, rising_from 1 n ns h)
 
 -- the count of numbers in the first runs and one further run
-pub one_run_more : (runs : List Run) (i : ℕ) (d : Run) → i < length runs → length (numbers_in (take (i + 1) runs)) ≡ length (numbers_in (take i runs)) + suc ((slice_index_or runs i d).last - (slice_index_or runs i d).first)
-one_run_more runs i d l =
+pub count_through_next_run : (runs : List Run) (i : ℕ) (d : Run) → i < length runs → length (numbers_in (take (i + 1) runs)) ≡ length (numbers_in (take i runs)) + suc ((slice_index_or runs i d).last - (slice_index_or runs i d).first)
+count_through_next_run runs i d l =
     let run = slice_index_or runs i d in
     let whole : take (i + 1) runs ≡ take i runs ++ run ∷ [] = take_more runs i d l in
     let size : length (numbers_of run) ≡ suc (run.last - run.first) = length-range_with_len run.first (suc (run.last - run.first)) in

@@ -15,7 +15,7 @@ use Rattle.imap_print.specs.Appending.{has_none, spaced}
 use Rattle.imap_answers.specs.Printable.{AreFetchItems, AreFlags, AreHits, AreResults, AreStatusItems, Each, IsModSeq, IsNonzero, IsPart, IsSection, IsSmall, IsWide, IfPresent}
 use Rattle.imap_answers.specs.AnswerText.{all_text, body_text, date_item, fetch_texts, flags_item, flags_text, modseq_item, origin_text, results_text, section_text, status_texts}
 use Rattle.imap_print.specs.Reading.{◌>>=◌, ListReading, after, octets_at, field_at, is_in, item_at, lead, literal_at, number_from, capped_at_32_bits, span, with_prefix, map_value}
-use Rattle.imap_print.specs.ReadingAnswers.{all_or, bodies_at, bodies_on, body_at, data_at, date_at, date_or, fetch_items_at, fields_at, fields_on, flags_or, modseq_or, origin_or, results_at, section_at, small_option, status_items_at}
+use Rattle.imap_print.specs.ReadingAnswers.{all_or, bodies_at, bodies_after, body_at, data_at, date_at, date_or, fetch_items_at, fields_at, fields_after, flags_or, modseq_or, origin_or, results_at, section_at, small_option, status_items_at}
 use Rattle.imap_answers.specs.Strings.{field_text, item, labelled_number, literal_text, separated_by, set_text}
 use Rattle.imap_answers.specs.declared.fetch_items.FetchItems.{FetchItems}
 use Rattle.imap_answers.specs.declared.fetch_items.SectionData.{SectionData}
@@ -126,7 +126,7 @@ fields-round_trip (suc fuel) f (name ∷ names) rest w l =
     let more = spaced false (map field_text names) ++ (41 ∷ rest) in
     let bytes = lead f (field_text name) ++ more in
     ap (fields_at (suc fuel) f) (spaced-front f (field_text name) (map field_text names) (41 ∷ rest))
-    ∙ ap (λ o. fields_on f o bytes (fields_at fuel false)) (not_closed_by f name more)
+    ∙ ap (λ o. fields_after f o bytes (fields_at fuel false)) (not_closed_by f name more)
     ∙ ap (λ o. (o >>= field_at) >>= λ x. with_prefix (x.0 ∷ []) (fields_at fuel false x.1)) (lead-open f (field_text name) more)
     ∙ ap (λ o. o >>= λ x. with_prefix (x.0 ∷ []) (fields_at fuel false x.1)) (field-round_trip name more w.0 (ends_string (map field_text names) rest))
     ∙ ap (with_prefix (name ∷ [])) (fields-round_trip fuel false names rest w.1 (omega arith))
@@ -191,7 +191,7 @@ bodies-round_trip (suc fuel) f (part ∷ parts) rest w l =
     let more = spaced false (map body_text parts) ++ (41 ∷ rest) in
     let inner = section_text part.section ++ (93 ∷ (origin_text part.origin ++ (32 ∷ (literal_text part.octets ++ more)))) in
     ap (bodies_at (suc fuel) f) (spaced-front f (body_text part) (map body_text parts) (41 ∷ rest) ∙ body_whole f part more)
-    ∙ ap (λ o. bodies_on o (lead f (codes "BODY[") ++ inner) (bodies_at fuel false)) (lead-round_trip f (codes "BODY[") inner)
+    ∙ ap (λ o. bodies_after o (lead f (codes "BODY[") ++ inner) (bodies_at fuel false)) (lead-round_trip f (codes "BODY[") inner)
     ∙ ap (λ o. o >>= λ x. with_prefix (x.0 ∷ []) (bodies_at fuel false x.1)) (body-round_trip part more w.0)
     ∙ ap (with_prefix (part ∷ [])) (bodies-round_trip fuel false parts rest w.1 (omega arith))
 

@@ -10,7 +10,7 @@ use Rattle.imap_answers.specs.declared.fixed_words.CompletedWord.{CompletedWord}
 use Rattle.imap_answers.specs.AnswerText.{line_of_answer, text_of_answer}
 use Rattle.imap_answers.specs.Strings.{crlf, separated_by}
 use Rattle.imap_answers.specs.Words.{command_text}
-use Rattle.imap_print.specs.Appending.{StartsWith}
+use Rattle.imap_print.specs.Appending.{IsPrefix}
 use Rattle.imap_print.specs.Lines.{EndsFlags, done_line, flags_end, numbered_line, only_flags}
 
 joined : (digits front label texts end line : List ℕ) → (((digits ++ front) ++ ((label ++ texts ++ end) ++ [])) ++ end) ++ line ≡ digits ++ (front ++ (label ++ (texts ++ (end ++ (end ++ line)))))
@@ -32,13 +32,13 @@ done_line_is tag command = sym (done_joined tag (codes " OK ") (command_text com
 
 -- ---- octets that begin with the old ones
 
-pub starts_same : (old new : List ℕ) → new ≡ old → StartsWith old new
+pub starts_same : (old new : List ℕ) → new ≡ old → IsPrefix old new
 starts_same old new e = ap (take (length old)) e ∙ take_all (length old) old (omega arith)
 
-pub starts_after : (old before text new : List ℕ) → StartsWith old before → new ≡ before ++ text → StartsWith old new
+pub starts_after : (old before text new : List ℕ) → IsPrefix old before → new ≡ before ++ text → IsPrefix old new
 starts_after old before text new starts e =
     let short : length old ≤ length before = omega (arith, length-take (length old) before, ap length starts) in
     ap (take (length old)) e ∙ take-append-le (length old) before text short ∙ starts
 
-pub starts_line : (old line new : List ℕ) → new ≡ old ++ line → StartsWith old new
+pub starts_line : (old line new : List ℕ) → new ≡ old ++ line → IsPrefix old new
 starts_line old line new e = starts_after old old line new (starts_same old old refl) e

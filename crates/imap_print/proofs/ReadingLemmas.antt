@@ -6,8 +6,8 @@ use Rattle.imap_print.specs.declared.scanner.ScanClass.TheVariants.{Atom}
 use Rattle.imap_print.specs.declared.fault.ReadFault.{ReadFault}
 use Rattle.imap_print.specs.declared.fault.ReadFault.TheVariants.{NoMemory, NotPrinted}
 use Rattle.imap_answers.specs.declared.fetch_items.SectionData.{SectionData}
-use Rattle.imap_print.specs.ReadingAnswers.{bodies_at, bodies_on, body_at, fields_at, fields_on, next_field_at}
-use Rattle.imap_print.specs.Reading.{◌>>=◌, Fails, after, octets_at, is_in, lead, run_at, runs_at, runs_after, span, with_prefix, words_at, words_after}
+use Rattle.imap_print.specs.ReadingAnswers.{bodies_at, bodies_after, body_at, fields_at, fields_after, next_field_at}
+use Rattle.imap_print.specs.Reading.{◌>>=◌, IsFaultOfReading, after, octets_at, is_in, lead, run_at, runs_at, runs_after, span, with_prefix, words_at, words_after}
 
 -- octets that end within a prefix don't begin with it
 pub after-missing : (i : ℕ) (ps bs : List ℕ) → i < length ps → length bs < 1 → after (drop i ps) bs ≡ None
@@ -32,16 +32,16 @@ runs-end i n parsed rest l h =
     ∙ ap (λ o. with_prefix parsed (runs_after (run_at rest).0 o (run_at rest).1 (runs_at (n - (i + 1))))) h
 
 -- a run with further runs after it
-pub runs-more : (i n : ℕ) (parsed : List Run) (rest more : List ℕ) → i < n → after (codes ",") (run_at rest).1 ≡ Some more → with_prefix parsed (runs_at (n - i) rest) ≡ with_prefix (parsed ++ (run_at rest).0 ∷ []) (runs_at (n - (i + 1)) more)
-runs-more i n parsed rest more l h =
+pub runs_at-step : (i n : ℕ) (parsed : List Run) (rest more : List ℕ) → i < n → after (codes ",") (run_at rest).1 ≡ Some more → with_prefix parsed (runs_at (n - i) rest) ≡ with_prefix (parsed ++ (run_at rest).0 ∷ []) (runs_at (n - (i + 1)) more)
+runs_at-step i n parsed rest more l h =
     let e : n - i ≡ suc (n - (i + 1)) = omega arith in
     ap (λ k. with_prefix parsed (runs_at k rest)) e
     ∙ ap (λ o. with_prefix parsed (runs_after (run_at rest).0 o (run_at rest).1 (runs_at (n - (i + 1))))) h
     ∙ with_prefix-twice parsed (run_at rest).0 (runs_at (n - (i + 1)) more)
 
 -- a word with further words after it
-pub words-more : (i n : ℕ) (none_yet : Bool) (parsed : List (List ℕ)) (rest unread : List ℕ) → i < n → after (lead none_yet []) rest ≡ Some unread → eqb (length (span (is_in Atom) unread).0) 0 ≡ false → with_prefix parsed (words_at (n - i) none_yet rest) ≡ with_prefix (parsed ++ (span (is_in Atom) unread).0 ∷ []) (words_at (n - (i + 1)) false (span (is_in Atom) unread).1)
-words-more i n none_yet parsed rest unread l h f =
+pub words_at-step : (i n : ℕ) (none_yet : Bool) (parsed : List (List ℕ)) (rest unread : List ℕ) → i < n → after (lead none_yet []) rest ≡ Some unread → eqb (length (span (is_in Atom) unread).0) 0 ≡ false → with_prefix parsed (words_at (n - i) none_yet rest) ≡ with_prefix (parsed ++ (span (is_in Atom) unread).0 ∷ []) (words_at (n - (i + 1)) false (span (is_in Atom) unread).1)
+words_at-step i n none_yet parsed rest unread l h f =
     let e : n - i ≡ suc (n - (i + 1)) = omega arith in
     let w = span (is_in Atom) unread in
     ap (λ k. with_prefix parsed (words_at k none_yet rest)) e
@@ -54,23 +54,23 @@ pub fields-end : (i n : ℕ) (none_yet : Bool) (parsed : List (List ℕ)) (rest 
 fields-end i n none_yet parsed rest unread out l h inv =
     let e : n - i ≡ suc (n - (i + 1)) = omega arith in
     sym inv ∙ ap (λ k. with_prefix parsed (fields_at k none_yet rest)) e
-    ∙ ap (λ o. with_prefix parsed (fields_on none_yet o rest (fields_at (n - (i + 1)) false))) h
+    ∙ ap (λ o. with_prefix parsed (fields_after none_yet o rest (fields_at (n - (i + 1)) false))) h
     ∙ (λ k. Some (append_none parsed k, unread))
 
 fields-step : (i n : ℕ) (none_yet : Bool) (parsed : List (List ℕ)) (rest : List ℕ) (out : Option (List (List ℕ) × List ℕ)) → i < n → after (codes ")") rest ≡ None → with_prefix parsed (fields_at (n - i) none_yet rest) ≡ out → out ≡ with_prefix parsed (next_field_at none_yet rest >>= λ name. with_prefix (name.0 ∷ []) (fields_at (n - (i + 1)) false name.1))
 fields-step i n none_yet parsed rest out l h inv =
     let e : n - i ≡ suc (n - (i + 1)) = omega arith in
     sym inv ∙ ap (λ k. with_prefix parsed (fields_at k none_yet rest)) e
-    ∙ ap (λ o. with_prefix parsed (fields_on none_yet o rest (fields_at (n - (i + 1)) false))) h
+    ∙ ap (λ o. with_prefix parsed (fields_after none_yet o rest (fields_at (n - (i + 1)) false))) h
 
-pub fields-fail : (fault : ReadFault) (i n : ℕ) (none_yet : Bool) (parsed : List (List ℕ)) (rest : List ℕ) (out : Option (List (List ℕ) × List ℕ)) → i < n → after (codes ")") rest ≡ None → with_prefix parsed (fields_at (n - i) none_yet rest) ≡ out → Fails fault (next_field_at none_yet rest) → Fails fault out
+pub fields-fail : (fault : ReadFault) (i n : ℕ) (none_yet : Bool) (parsed : List (List ℕ)) (rest : List ℕ) (out : Option (List (List ℕ) × List ℕ)) → i < n → after (codes ")") rest ≡ None → with_prefix parsed (fields_at (n - i) none_yet rest) ≡ out → IsFaultOfReading fault (next_field_at none_yet rest) → IsFaultOfReading fault out
 fields-fail NoMemory i n none_yet parsed rest out l h inv f = tt
 fields-fail NotPrinted i n none_yet parsed rest out l h inv f =
     fields-step i n none_yet parsed rest out l h inv
     ∙ ap (λ o. with_prefix parsed (o >>= λ name. with_prefix (name.0 ∷ []) (fields_at (n - (i + 1)) false name.1))) f
 
-pub fields-more : (i n : ℕ) (none_yet : Bool) (parsed : List (List ℕ)) (rest : List ℕ) (out : Option (List (List ℕ) × List ℕ)) (name tail : List ℕ) → i < n → after (codes ")") rest ≡ None → with_prefix parsed (fields_at (n - i) none_yet rest) ≡ out → next_field_at none_yet rest ≡ Some (name, tail) → with_prefix (parsed ++ name ∷ []) (fields_at (n - (i + 1)) false tail) ≡ out
-fields-more i n none_yet parsed rest out name tail l h inv f =
+pub fields_at-step : (i n : ℕ) (none_yet : Bool) (parsed : List (List ℕ)) (rest : List ℕ) (out : Option (List (List ℕ) × List ℕ)) (name tail : List ℕ) → i < n → after (codes ")") rest ≡ None → with_prefix parsed (fields_at (n - i) none_yet rest) ≡ out → next_field_at none_yet rest ≡ Some (name, tail) → with_prefix (parsed ++ name ∷ []) (fields_at (n - (i + 1)) false tail) ≡ out
+fields_at-step i n none_yet parsed rest out name tail l h inv f =
     sym (fields-step i n none_yet parsed rest out l h inv
     ∙ ap (λ o. with_prefix parsed (o >>= λ name. with_prefix (name.0 ∷ []) (fields_at (n - (i + 1)) false name.1))) f
     ∙ with_prefix-twice parsed name (fields_at (n - (i + 1)) false tail))
@@ -80,23 +80,23 @@ pub bodies-end : (i n : ℕ) (none_yet : Bool) (parsed : List SectionData) (rest
 bodies-end i n none_yet parsed rest out l h inv =
     let e : n - i ≡ suc (n - (i + 1)) = omega arith in
     sym inv ∙ ap (λ k. with_prefix parsed (bodies_at k none_yet rest)) e
-    ∙ ap (λ o. with_prefix parsed (bodies_on o rest (bodies_at (n - (i + 1)) false))) h
+    ∙ ap (λ o. with_prefix parsed (bodies_after o rest (bodies_at (n - (i + 1)) false))) h
     ∙ (λ k. Some (append_none parsed k, rest))
 
 bodies-step : (i n : ℕ) (none_yet : Bool) (parsed : List SectionData) (rest unread : List ℕ) (out : Option (List SectionData × List ℕ)) → i < n → after (lead none_yet (codes "BODY[")) rest ≡ Some unread → with_prefix parsed (bodies_at (n - i) none_yet rest) ≡ out → out ≡ with_prefix parsed (body_at unread >>= λ part. with_prefix (part.0 ∷ []) (bodies_at (n - (i + 1)) false part.1))
 bodies-step i n none_yet parsed rest unread out l h inv =
     let e : n - i ≡ suc (n - (i + 1)) = omega arith in
     sym inv ∙ ap (λ k. with_prefix parsed (bodies_at k none_yet rest)) e
-    ∙ ap (λ o. with_prefix parsed (bodies_on o rest (bodies_at (n - (i + 1)) false))) h
+    ∙ ap (λ o. with_prefix parsed (bodies_after o rest (bodies_at (n - (i + 1)) false))) h
 
-pub bodies-fail : (fault : ReadFault) (i n : ℕ) (none_yet : Bool) (parsed : List SectionData) (rest unread : List ℕ) (out : Option (List SectionData × List ℕ)) → i < n → after (lead none_yet (codes "BODY[")) rest ≡ Some unread → with_prefix parsed (bodies_at (n - i) none_yet rest) ≡ out → Fails fault (body_at unread) → Fails fault out
+pub bodies-fail : (fault : ReadFault) (i n : ℕ) (none_yet : Bool) (parsed : List SectionData) (rest unread : List ℕ) (out : Option (List SectionData × List ℕ)) → i < n → after (lead none_yet (codes "BODY[")) rest ≡ Some unread → with_prefix parsed (bodies_at (n - i) none_yet rest) ≡ out → IsFaultOfReading fault (body_at unread) → IsFaultOfReading fault out
 bodies-fail NoMemory i n none_yet parsed rest unread out l h inv f = tt
 bodies-fail NotPrinted i n none_yet parsed rest unread out l h inv f =
     bodies-step i n none_yet parsed rest unread out l h inv
     ∙ ap (λ o. with_prefix parsed (o >>= λ part. with_prefix (part.0 ∷ []) (bodies_at (n - (i + 1)) false part.1))) f
 
-pub bodies-more : (i n : ℕ) (none_yet : Bool) (parsed : List SectionData) (rest unread : List ℕ) (out : Option (List SectionData × List ℕ)) (part : SectionData) (tail : List ℕ) → i < n → after (lead none_yet (codes "BODY[")) rest ≡ Some unread → with_prefix parsed (bodies_at (n - i) none_yet rest) ≡ out → body_at unread ≡ Some (part, tail) → with_prefix (parsed ++ part ∷ []) (bodies_at (n - (i + 1)) false tail) ≡ out
-bodies-more i n none_yet parsed rest unread out part tail l h inv f =
+pub bodies_at-step : (i n : ℕ) (none_yet : Bool) (parsed : List SectionData) (rest unread : List ℕ) (out : Option (List SectionData × List ℕ)) (part : SectionData) (tail : List ℕ) → i < n → after (lead none_yet (codes "BODY[")) rest ≡ Some unread → with_prefix parsed (bodies_at (n - i) none_yet rest) ≡ out → body_at unread ≡ Some (part, tail) → with_prefix (parsed ++ part ∷ []) (bodies_at (n - (i + 1)) false tail) ≡ out
+bodies_at-step i n none_yet parsed rest unread out part tail l h inv f =
     sym (bodies-step i n none_yet parsed rest unread out l h inv
     ∙ ap (λ o. with_prefix parsed (o >>= λ part. with_prefix (part.0 ∷ []) (bodies_at (n - (i + 1)) false part.1))) f
     ∙ with_prefix-twice parsed part (bodies_at (n - (i + 1)) false tail))

@@ -6,12 +6,12 @@ use Rattle.std.specs.Prelude.{length, take}
 use Rattle.imap_answers.specs.Strings.{separated_by}
 
 -- The new octets are the old ones and a text after them.
-abbrev pub Appends : List ℕ → List ℕ → List ℕ → Type 0
-Appends old new text = new ≡ old ++ text
+abbrev pub AppendsText : List ℕ → List ℕ → List ℕ → Type 0
+AppendsText old new text = new ≡ old ++ text
 
 -- The new octets begin with the old ones.
-abbrev pub StartsWith : List ℕ → List ℕ → Type 0
-StartsWith old new = take (length old) new ≡ old
+abbrev pub IsPrefix : List ℕ → List ℕ → Type 0
+IsPrefix old new = take (length old) new ≡ old
 
 -- Whether a list has no texts.
 abbrev pub has_none : List (List ℕ) → Bool
@@ -24,7 +24,7 @@ spaced true texts = separated_by 32 texts
 spaced false texts = flat_map (λ next. 32 ∷ next) texts
 
 -- The texts were appended as part of a list; `none_yet` says whether the list is still empty.
-pub record Lists (is_first : Bool) (texts : List (List ℕ)) (old new : List ℕ) (none_yet : Bool) :
-    Type 0 where
+pub record AppendsToList (is_first : Bool) (texts : List (List ℕ)) (old new : List ℕ)
+    (none_yet : Bool) : Type 0 where
   pub none_yet_is : none_yet ≡ (is_first && has_none texts)
   pub text : new ≡ old ++ spaced is_first texts

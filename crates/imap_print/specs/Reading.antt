@@ -15,13 +15,13 @@ use Rattle.imap_print.specs.declared.scanner.ScanClass.{ScanClass}
 use Rattle.imap_print.specs.declared.scanner.ScanClass.TheVariants.{Tag, Astring, Atom}
 
 -- A fault means that nothing was read; `NoMemory` may replace any result.
-abbrev pub Fails : {Y : Type 0} → ReadFault → Option Y → Type 0
-Fails NoMemory read = Unit {0}
-Fails NotPrinted read = read ≡ None
+abbrev pub IsFaultOfReading : {Y : Type 0} → ReadFault → Option Y → Type 0
+IsFaultOfReading NoMemory read = Unit {0}
+IsFaultOfReading NotPrinted read = read ≡ None
 
 -- The code's result is that of a reading function, unless memory runs out.
 abbrev pub IsReading : {X Y : Type 0} → (X → Y) → Result X ReadFault → Option Y → Type 0
-IsReading = IsReadingBy Fails
+IsReading = IsReadingBy IsFaultOfReading
 
 -- A value and the rest, if the text after the value was skipped.
 abbrev pub value_with_rest : {A : Type 0} → A → Option (List ℕ) → Option (A × List ℕ)

@@ -93,15 +93,15 @@ sets_at bytes = do
   Some ((source.0, copies.0), copies.1)
 
 -- The UIDVALIDITY and the two sets of COPYUID.
-unfoldable pub copied_at : List ℕ → Option ((ℕ × List ℕ × List ℕ) × List ℕ)
-copied_at bytes = do
+unfoldable pub copyuid_at : List ℕ → Option ((ℕ × List ℕ × List ℕ) × List ℕ)
+copyuid_at bytes = do
   beyond ← after (codes " ") (number_from 0 bytes).1
   sets ← sets_at beyond
   Some ((capped_at_32_bits (number_from 0 bytes).0, sets.0.0, sets.0.1), sets.1)
 
 -- A number and the bracket that ends its code.
-unfoldable pub coded_at : List ℕ → Option (ℕ × List ℕ)
-coded_at bytes = do
+unfoldable pub number_code_at : List ℕ → Option (ℕ × List ℕ)
+number_code_at bytes = do
   rest ← after (codes "]") (number_from 0 bytes).1
   Some ((number_from 0 bytes).0, rest)
 
@@ -121,20 +121,20 @@ unfoldable pub notice_at : List ℕ → Option (Notice × List ℕ)
 notice_at bytes =
     read_or (after (codes "[CLOSED]") bytes) (λ rest. Some (notice.Closed, rest))
     (read_or (after (codes "[UIDVALIDITY ") bytes)
-    (λ rest. map_value (λ n. notice.UidValidity (capped_at_32_bits n)) (coded_at rest))
+    (λ rest. map_value (λ n. notice.UidValidity (capped_at_32_bits n)) (number_code_at rest))
     (read_or (after (codes "[UIDNEXT ") bytes)
-    (λ rest. map_value (λ n. notice.UidNext (capped_at_32_bits n)) (coded_at rest))
+    (λ rest. map_value (λ n. notice.UidNext (capped_at_32_bits n)) (number_code_at rest))
     (read_or (after (codes "[HIGHESTMODSEQ ") bytes)
-    (λ rest. map_value (λ n. notice.HighestModSeq n) (coded_at rest))
+    (λ rest. map_value (λ n. notice.HighestModSeq n) (number_code_at rest))
     (read_or (after (codes "[PERMANENTFLAGS ") bytes) (λ rest. permanent_notice_at rest)
     (read_or (after (codes "[COPYUID ") bytes)
-    (λ rest. map_value (λ c. notice.CopyUid c.0 c.1 c.2) (copied_at rest)) None)))))
+    (λ rest. map_value (λ c. notice.CopyUid c.0 c.1 c.2) (copyuid_at rest)) None)))))
 
 -- The UIDVALIDITY and the UID of APPENDUID.
 unfoldable pub appended_at : List ℕ → Option ((ℕ × ℕ) × List ℕ)
 appended_at bytes = do
   between ← after (codes " ") (number_from 0 bytes).1
-  uid ← coded_at between
+  uid ← number_code_at between
   Some ((capped_at_32_bits (number_from 0 bytes).0, capped_at_32_bits uid.0), uid.1)
 
 -- The set of MODIFIED, and the bracket that ends the code.
@@ -152,7 +152,7 @@ code_at bytes =
     (read_or (after (codes "[APPENDUID ") bytes)
     (λ rest. map_value (λ a. code.AppendUid a.0 a.1) (appended_at rest))
     (read_or (after (codes "[COPYUID ") bytes)
-    (λ rest. map_value (λ c. code.CopyUid c.0 c.1 c.2) (copied_at rest))
+    (λ rest. map_value (λ c. code.CopyUid c.0 c.1 c.2) (copyuid_at rest))
     (read_or (after (codes "[MODIFIED ") bytes) (λ rest. modified_at rest) None)))))
 
 -- A code and a space if a bracket comes next, else none.
@@ -221,17 +221,17 @@ abbrev pub next_field_at : Bool → List ℕ → Option (List ℕ × List ℕ)
 next_field_at is_first bytes = after (lead is_first []) bytes >>= field_at
 
 -- No further names if the parenthesis was skipped, else the next name and those after it.
-abbrev pub fields_on : Bool → Option (List ℕ) → List ℕ → (List ℕ → Option (List (List ℕ) × List ℕ))
-    → Option (List (List ℕ) × List ℕ)
-fields_on is_first (Some rest) bytes reader = Some ([], rest)
-fields_on is_first None bytes reader =
+abbrev pub fields_after : Bool → Option (List ℕ) → List ℕ
+    → (List ℕ → Option (List (List ℕ) × List ℕ)) → Option (List (List ℕ) × List ℕ)
+fields_after is_first (Some rest) bytes reader = Some ([], rest)
+fields_after is_first None bytes reader =
     next_field_at is_first bytes >>= λ name. with_prefix (name.0 ∷ []) (reader name.1)
 
 -- Fewer than `fuel` names of header fields, up to the closing parenthesis.
 abbrev pub fields_at : ℕ → Bool → List ℕ → Option (List (List ℕ) × List ℕ)
 fields_at zero is_first bytes = None
 fields_at (suc fuel) is_first bytes =
-    fields_on is_first (after (codes ")") bytes) bytes (fields_at fuel false)
+    fields_after is_first (after (codes ")") bytes) bytes (fields_at fuel false)
 
 -- The name of a section.
 unfoldable pub section_at : List ℕ → Option (Section × List ℕ)
@@ -268,17 +268,17 @@ body_at bytes = do
   Some (record { section = section.0; origin = parsed.0.0; octets = parsed.0.1 }, parsed.1)
 
 -- A section and those after it if `BODY[` was skipped, else none.
-abbrev pub bodies_on : Option (List ℕ) → List ℕ → (List ℕ → Option (List SectionData × List ℕ))
+abbrev pub bodies_after : Option (List ℕ) → List ℕ → (List ℕ → Option (List SectionData × List ℕ))
     → Option (List SectionData × List ℕ)
-bodies_on None bytes reader = Some ([], bytes)
-bodies_on (Some rest) bytes reader =
+bodies_after None bytes reader = Some ([], bytes)
+bodies_after (Some rest) bytes reader =
     body_at rest >>= λ part. with_prefix (part.0 ∷ []) (reader part.1)
 
 -- Fewer than `fuel` sections with their octets.
 abbrev pub bodies_at : ℕ → Bool → List ℕ → Option (List SectionData × List ℕ)
 bodies_at zero is_first bytes = None
 bodies_at (suc fuel) is_first bytes =
-    bodies_on (after (lead is_first (codes "BODY[")) bytes) bytes (bodies_at fuel false)
+    bodies_after (after (lead is_first (codes "BODY[")) bytes) bytes (bodies_at fuel false)
 
 -- The flags of a message, if their label was skipped.
 abbrev pub flags_or : Bool → Option (List ℕ) → List ℕ → Option (ListReading (Option Flags))
@@ -383,8 +383,8 @@ fixed_at bytes =
     (value_with_rest answer.LiteralTooLong (after (codes "NO [LIMIT] literal too long") bytes))))
 
 -- An untagged answer that begins with a word.
-unfoldable pub worded_at : List ℕ → Option (Answer × List ℕ)
-worded_at bytes =
+unfoldable pub word_answer_at : List ℕ → Option (Answer × List ℕ)
+word_answer_at bytes =
     read_or (after (codes "OK ") bytes) (λ rest. untagged_ok_at rest)
     (read_or (after (codes "FLAGS ") bytes)
     (λ rest. map_value (λ flags. answer.Flags flags) (flags_at rest))
@@ -401,7 +401,7 @@ numbered_at number rest bytes =
     (read_or (after (codes " EXPUNGE") rest)
     (λ closed. Some (answer.Expunge (capped_at_32_bits number), closed))
     (read_or (after (codes " FETCH (") rest) (λ items. fetch_at (capped_at_32_bits number) items)
-    (worded_at bytes)))
+    (word_answer_at bytes)))
 
 -- An untagged answer, after its `* `.
 unfoldable pub untagged_at : List ℕ → Option (Answer × List ℕ)

@@ -14,7 +14,7 @@ use imap_answers::Answer;
 use std::alloc::{AllocError, Global};
 
 /// The answer whose text the octets begin with, among those that may be sent, and the length of
-/// that text in octets; `None` exactly if there is no such answer. `Err` if memory runs out.
+/// that text in octets; `None` exactly when there is no such answer. `Err` if memory runs out.
 pub fn read(alloc: Global, text: &[u8]) -> Result<Option<(Answer, usize)>, AllocError>
     // The octets begin with the text of the answer that is read.
     ensures printed { IfOk result (λ read. IfSome read (λ x. (text.now

@@ -4,14 +4,14 @@
 ghost use Rattle.std.specs.Prelude.{codes};
 ghost use Rattle.imap_print.specs.Reading.{IsReading, after, map_value};
 ghost use Rattle.imap_print.specs.ReadingAnswers.{all_or, answer_at, appended_at, code_at};
-ghost use Rattle.imap_print.specs.ReadingAnswers.{code_before_at, coded_at, completed_at};
-ghost use Rattle.imap_print.specs.ReadingAnswers.{copied_at, done_at, fetch_at, fixed_at, flags_at};
+ghost use Rattle.imap_print.specs.ReadingAnswers.{code_before_at, number_code_at, completed_at};
+ghost use Rattle.imap_print.specs.ReadingAnswers.{copyuid_at, done_at, fetch_at, fixed_at};
 ghost use Rattle.imap_print.specs.ReadingAnswers.{last_set_at, line_at, list_at, modified_at};
 ghost use Rattle.imap_print.specs.ReadingAnswers.{notice_at, permanent_notice_at, results_at};
 ghost use Rattle.imap_print.specs.ReadingAnswers.{search_at, search_from, sets_at, star_at};
 ghost use Rattle.imap_print.specs.ReadingAnswers.{status_at, status_list_at, tagged_at};
 ghost use Rattle.imap_print.specs.ReadingAnswers.{tagged_done_at, untagged_ok_at, untagged_at};
-ghost use Rattle.imap_print.specs.ReadingAnswers.{worded_at};
+ghost use Rattle.imap_print.specs.ReadingAnswers.{flags_at, word_answer_at};
 ghost use Rattle.imap_answers.specs.declared.answer.Answer.TheVariants.{Flags};
 ghost use Rattle.imap_answers.specs.declared.codes.Code.TheVariants as code;
 ghost use Rattle.imap_answers.specs.declared.codes.Notice.TheVariants as notice;
@@ -101,9 +101,9 @@ fn untagged(alloc: Global, bytes: &[u8]) -> Result<(Answer, &[u8]), ReadFault>
 }
 
 /// Reads an untagged answer that begins with a word.
-#[tactic(auto, unfolding(crate::specs::ReadingAnswers::worded_at))]
+#[tactic(auto, unfolding(crate::specs::ReadingAnswers::word_answer_at))]
 fn answer_of_word(alloc: Global, bytes: &[u8]) -> Result<(Answer, &[u8]), ReadFault>
-    ensures { IsReading (λ x. (x.0, x.1.now)) result (worded_at bytes.now) }
+    ensures { IsReading (λ x. (x.0, x.1.now)) result (word_answer_at bytes.now) }
 {
     if let Some(rest) = skip(bytes, b"OK ") {
         return untagged_ok(alloc, rest);
@@ -351,9 +351,9 @@ fn completed_word(bytes: &[u8]) -> Result<(CompletedWord, &[u8]), ReadFault>
 }
 
 /// Reads a number and the bracket that ends its code.
-#[tactic(auto, unfolding(crate::specs::ReadingAnswers::coded_at))]
+#[tactic(auto, unfolding(crate::specs::ReadingAnswers::number_code_at))]
 fn number_in_code(bytes: &[u8]) -> Result<(u64, &[u8]), ReadFault>
-    ensures { IsReading (λ x. (x.0, x.1.now)) result (coded_at bytes.now) }
+    ensures { IsReading (λ x. (x.0, x.1.now)) result (number_code_at bytes.now) }
 {
     let (parsed, rest) = number(bytes);
     let rest = expect(rest, b"]")?;
@@ -361,12 +361,12 @@ fn number_in_code(bytes: &[u8]) -> Result<(u64, &[u8]), ReadFault>
 }
 
 /// Reads a UIDVALIDITY, two sets, and the bracket that ends their code.
-#[tactic(auto, unfolding(crate::specs::ReadingAnswers::copied_at))]
+#[tactic(auto, unfolding(crate::specs::ReadingAnswers::copyuid_at))]
 fn copyuid_code(
     alloc: Global,
     bytes: &[u8],
 ) -> Result<((u32, NumberSet, NumberSet), &[u8]), ReadFault>
-    ensures { IsReading (λ x. (x.0, x.1.now)) result (copied_at bytes.now) }
+    ensures { IsReading (λ x. (x.0, x.1.now)) result (copyuid_at bytes.now) }
 {
     let (uidvalidity, rest) = number(bytes);
     let rest = expect(rest, b" ")?;
@@ -450,7 +450,7 @@ fn permanent_notice(alloc: Global, bytes: &[u8]) -> Result<(Notice, &[u8]), Read
 /// Reads the UIDs of COPYUID in an untagged OK.
 fn copied_notice(alloc: Global, bytes: &[u8]) -> Result<(Notice, &[u8]), ReadFault>
     ensures { IsReading (λ x. (x.0, x.1.now)) result
-        (map_value (λ c. notice.CopyUid c.0 c.1 c.2) (copied_at bytes.now)) }
+        (map_value (λ c. notice.CopyUid c.0 c.1 c.2) (copyuid_at bytes.now)) }
 {
     let ((uidvalidity, source, copies), rest) = copyuid_code(alloc, bytes)?;
     let notice = Notice::CopyUid {
@@ -505,7 +505,7 @@ fn code(alloc: Global, bytes: &[u8]) -> Result<(Code, &[u8]), ReadFault>
 /// Reads the UIDs of COPYUID in a tagged OK.
 fn copied_code(alloc: Global, bytes: &[u8]) -> Result<(Code, &[u8]), ReadFault>
     ensures { IsReading (λ x. (x.0, x.1.now)) result
-        (map_value (λ c. code.CopyUid c.0 c.1 c.2) (copied_at bytes.now)) }
+        (map_value (λ c. code.CopyUid c.0 c.1 c.2) (copyuid_at bytes.now)) }
 {
     let ((uidvalidity, source, copies), rest) = copyuid_code(alloc, bytes)?;
     let code = Code::CopyUid {

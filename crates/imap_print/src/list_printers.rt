@@ -5,7 +5,7 @@
 ghost use Rattle.std.specs.Prelude.{◌≡◌, ◌++◌, [], ◌∷◌, codes, map, true, if◌then◌else◌, IfOk};
 ghost use Rattle.std.specs.Prelude.{OnOk};
 ghost use Rattle.imap_types.specs.Flags.{flag_texts, text_if_set};
-ghost use Rattle.imap_print.specs.Appending.{Appends, Lists};
+ghost use Rattle.imap_print.specs.Appending.{AppendsText, AppendsToList};
 ghost use Rattle.imap_answers.specs.AnswerText.{body_text, date_item, fetch_texts, flags_item};
 ghost use Rattle.imap_answers.specs.AnswerText.{modseq_item, status_texts};
 ghost use Rattle.imap_answers.specs.Strings.{item};
@@ -19,7 +19,7 @@ use std::alloc::AllocError;
 /// Appends the space before a text, unless it is the first.
 fn push_space(is_first: bool, out: &mut Vec<u8>) -> Result<(), AllocError>
     ensures { OnOk result
-        (Appends out.old.items out.new.items (if is_first then [] else codes " ")) }
+        (AppendsText out.old.items out.new.items (if is_first then [] else codes " ")) }
 {
     if is_first {
         return Ok(());
@@ -30,7 +30,7 @@ fn push_space(is_first: bool, out: &mut Vec<u8>) -> Result<(), AllocError>
 /// Appends one text of a list.
 fn push_word(is_first: bool, text: &[u8], out: &mut Vec<u8>) -> Result<bool, AllocError>
     ensures { IfOk result
-        (λ none_yet. Lists is_first (text.now ∷ []) out.old.items out.new.items none_yet) }
+        (λ none_yet. AppendsToList is_first (text.now ∷ []) out.old.items out.new.items none_yet) }
 {
     push_space(is_first, out)?;
     push_text(text, out)?;
@@ -45,7 +45,8 @@ fn push_item(
     out: &mut Vec<u8>,
 ) -> Result<bool, AllocError>
     ensures { IfOk result
-        (λ none_yet. Lists is_first (item label.now number) out.old.items out.new.items none_yet) }
+        (λ none_yet. AppendsToList is_first (item label.now number) out.old.items out.new.items
+        none_yet) }
 {
     match number {
         None => Ok(is_first),
@@ -64,8 +65,8 @@ fn push_flag(
     text: &[u8],
     out: &mut Vec<u8>,
 ) -> Result<bool, AllocError>
-    ensures { IfOk result (λ none_yet. Lists is_first (text_if_set is_set text.now) out.old.items
-        out.new.items none_yet) }
+    ensures { IfOk result (λ none_yet. AppendsToList is_first
+        (text_if_set is_set text.now) out.old.items out.new.items none_yet) }
 {
     if is_set {
         push_word(is_first, text, out)
@@ -77,7 +78,7 @@ fn push_flag(
 /// Appends keywords.
 fn push_keywords(is_first: bool, keywords: &[Octets], out: &mut Vec<u8>) -> Result<bool, AllocError>
     ensures { IfOk result
-        (λ none_yet. Lists is_first keywords.now out.old.items out.new.items none_yet) }
+        (λ none_yet. AppendsToList is_first keywords.now out.old.items out.new.items none_yet) }
 {
     let mut none_yet = is_first;
     for keyword in keywords {
@@ -89,7 +90,8 @@ fn push_keywords(is_first: bool, keywords: &[Octets], out: &mut Vec<u8>) -> Resu
 /// Appends flags in their order, and returns whether there are none.
 pub fn push_flag_texts(flags: &Flags, out: &mut Vec<u8>) -> Result<bool, AllocError>
     ensures { IfOk result
-        (λ none_yet. Lists true (flag_texts flags.now) out.old.items out.new.items none_yet) }
+        (λ none_yet. AppendsToList true (flag_texts flags.now) out.old.items out.new.items
+        none_yet) }
 {
     let none_yet = push_flag(true, flags.answered, b"\\Answered", out)?;
     let none_yet = push_flag(none_yet, flags.flagged, b"\\Flagged", out)?;
@@ -102,7 +104,7 @@ pub fn push_flag_texts(flags: &Flags, out: &mut Vec<u8>) -> Result<bool, AllocEr
 
 /// Appends flags and then `\*`, the flag for any new keyword.
 pub fn push_flags_and_any(flags: &Flags, out: &mut Vec<u8>) -> Result<bool, AllocError>
-    ensures { IfOk result (λ none_yet. Lists true (flag_texts flags.now ++ codes "\\*" ∷ [])
+    ensures { IfOk result (λ none_yet. AppendsToList true (flag_texts flags.now ++ codes "\\*" ∷ [])
         out.old.items out.new.items none_yet) }
 {
     let none_yet = push_flag_texts(flags, out)?;
@@ -113,7 +115,8 @@ pub fn push_flags_and_any(flags: &Flags, out: &mut Vec<u8>) -> Result<bool, Allo
 /// Appends the items of STATUS (RFC 9051, section 7.3.3).
 pub fn push_status_items(items: &StatusItems, out: &mut Vec<u8>) -> Result<bool, AllocError>
     ensures { IfOk result
-        (λ none_yet. Lists true (status_texts items.now) out.old.items out.new.items none_yet) }
+        (λ none_yet. AppendsToList true (status_texts items.now) out.old.items out.new.items
+        none_yet) }
 {
     let none_yet = push_item(true, b"MESSAGES ", widen(items.messages), out)?;
     let none_yet = push_item(none_yet, b"UIDNEXT ", widen(items.uidnext), out)?;
@@ -128,7 +131,8 @@ pub fn push_status_items(items: &StatusItems, out: &mut Vec<u8>) -> Result<bool,
 /// Appends the items of FETCH (RFC 9051, section 7.5.2).
 pub fn push_fetch_items(items: &FetchItems, out: &mut Vec<u8>) -> Result<bool, AllocError>
     ensures { IfOk result
-        (λ none_yet. Lists true (fetch_texts items.now) out.old.items out.new.items none_yet) }
+        (λ none_yet. AppendsToList true (fetch_texts items.now) out.old.items out.new.items
+        none_yet) }
 {
     let none_yet = push_item(true, b"UID ", widen(items.uid), out)?;
     let none_yet = push_flags_item(none_yet, &items.flags, out)?;
@@ -146,7 +150,8 @@ fn push_flags_item(
     out: &mut Vec<u8>,
 ) -> Result<bool, AllocError>
     ensures { IfOk result
-        (λ none_yet. Lists is_first (flags_item flags.now) out.old.items out.new.items none_yet) }
+        (λ none_yet. AppendsToList is_first (flags_item flags.now) out.old.items out.new.items
+        none_yet) }
 {
     match flags {
         None => Ok(is_first),
@@ -165,7 +170,8 @@ fn push_date_item(
     out: &mut Vec<u8>,
 ) -> Result<bool, AllocError>
     ensures { IfOk result
-        (λ none_yet. Lists is_first (date_item date.now) out.old.items out.new.items none_yet) }
+        (λ none_yet. AppendsToList is_first (date_item date.now) out.old.items out.new.items
+        none_yet) }
 {
     match date {
         None => Ok(is_first),
@@ -184,7 +190,8 @@ fn push_modseq_item(
     out: &mut Vec<u8>,
 ) -> Result<bool, AllocError>
     ensures { IfOk result
-        (λ none_yet. Lists is_first (modseq_item modseq) out.old.items out.new.items none_yet) }
+        (λ none_yet. AppendsToList is_first (modseq_item modseq) out.old.items out.new.items
+        none_yet) }
 {
     match modseq {
         None => Ok(is_first),
@@ -199,7 +206,7 @@ fn push_modseq_item(
 /// Appends sections with their octets.
 fn push_bodies(is_first: bool, parts: &[SectionData], out: &mut Vec<u8>) -> Result<bool, AllocError>
     ensures { IfOk result
-        (λ none_yet. Lists is_first (map body_text parts.now) out.old.items out.new.items
+        (λ none_yet. AppendsToList is_first (map body_text parts.now) out.old.items out.new.items
         none_yet) }
 {
     let mut none_yet = is_first;

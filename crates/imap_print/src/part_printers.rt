@@ -3,7 +3,7 @@
 
 ghost use Rattle.std.specs.Prelude.{◌≡◌, ◌++◌, codes, decimal, map, OnOk};
 ghost use Rattle.imap_types.specs.Flags.{flag_texts};
-ghost use Rattle.imap_print.specs.Appending.{Appends};
+ghost use Rattle.imap_print.specs.Appending.{AppendsText};
 ghost use Rattle.imap_answers.specs.AnswerText.{all_text, appenduid_text, body_text, code_prefix};
 ghost use Rattle.imap_answers.specs.AnswerText.{code_text, copyuid_text, notice_text, origin_text};
 ghost use Rattle.imap_answers.specs.AnswerText.{permanent_text, results_text, section_text};
@@ -27,7 +27,7 @@ pub fn push_flags(
     end: &[u8],
     out: &mut Vec<u8>,
 ) -> Result<(), AllocError>
-    ensures { OnOk result (Appends out.old.items out.new.items
+    ensures { OnOk result (AppendsText out.old.items out.new.items
         (front.now ++ separated_by 32 (flag_texts flags.now) ++ end.now)) }
 {
     push_text(front, out)?;
@@ -37,7 +37,7 @@ pub fn push_flags(
 
 /// Appends the code PERMANENTFLAGS.
 fn push_permanent_code(flags: &Option<Flags>, out: &mut Vec<u8>) -> Result<(), AllocError>
-    ensures { OnOk result (Appends out.old.items out.new.items
+    ensures { OnOk result (AppendsText out.old.items out.new.items
         (codes "[PERMANENTFLAGS " ++ permanent_text flags.now ++ codes "]")) }
 {
     push_text(b"[PERMANENTFLAGS ", out)?;
@@ -48,7 +48,7 @@ fn push_permanent_code(flags: &Option<Flags>, out: &mut Vec<u8>) -> Result<(), A
 
 /// Appends the flags that can be changed permanently, in parentheses (RFC 9051, section 7.1).
 fn push_permanent_flags(flags: &Option<Flags>, out: &mut Vec<u8>) -> Result<(), AllocError>
-    ensures { OnOk result (Appends out.old.items out.new.items (permanent_text flags.now)) }
+    ensures { OnOk result (AppendsText out.old.items out.new.items (permanent_text flags.now)) }
 {
     match flags {
         None => push_text(b"()", out),
@@ -62,7 +62,7 @@ fn push_permanent_flags(flags: &Option<Flags>, out: &mut Vec<u8>) -> Result<(), 
 
 /// Appends the code of an untagged OK (RFC 9051, section 7.1).
 pub fn push_notice(notice: &Notice, out: &mut Vec<u8>) -> Result<(), AllocError>
-    ensures { OnOk result (Appends out.old.items out.new.items (notice_text notice.now)) }
+    ensures { OnOk result (AppendsText out.old.items out.new.items (notice_text notice.now)) }
 {
     match notice {
         Notice::Closed => push_text(b"[CLOSED]", out),
@@ -81,7 +81,7 @@ pub fn push_notice(notice: &Notice, out: &mut Vec<u8>) -> Result<(), AllocError>
 /// Appends a code that is a label and a number.
 fn push_code(label: &[u8], number: u64, out: &mut Vec<u8>) -> Result<(), AllocError>
     ensures { OnOk result
-        (Appends out.old.items out.new.items (label.now ++ decimal number ++ codes "]")) }
+        (AppendsText out.old.items out.new.items (label.now ++ decimal number ++ codes "]")) }
 {
     push_label(label, number, out)?;
     push_text(b"]", out)
@@ -95,7 +95,7 @@ fn push_copyuid(
     out: &mut Vec<u8>,
 ) -> Result<(), AllocError>
     ensures { OnOk result
-        (Appends out.old.items out.new.items (copyuid_text uidvalidity source.now copies.now)) }
+        (AppendsText out.old.items out.new.items (copyuid_text uidvalidity source.now copies.now)) }
 {
     push_label(b"[COPYUID ", u64::from(uidvalidity), out)?;
     push_text(b" ", out)?;
@@ -106,7 +106,8 @@ fn push_copyuid(
 
 /// Appends the UIDs of the copied messages, and those of their copies.
 fn push_sets(source: &NumberSet, copies: &NumberSet, out: &mut Vec<u8>) -> Result<(), AllocError>
-    ensures { OnOk result (Appends out.old.items out.new.items (sets_text source.now copies.now)) }
+    ensures { OnOk result (AppendsText out.old.items out.new.items
+        (sets_text source.now copies.now)) }
 {
     push_set(source, out)?;
     push_text(b" ", out)?;
@@ -115,7 +116,7 @@ fn push_sets(source: &NumberSet, copies: &NumberSet, out: &mut Vec<u8>) -> Resul
 
 /// Appends the code of a tagged OK and a space, if there is a code (RFC 9051, section 7.1).
 pub fn push_code_prefix(code: &Option<Code>, out: &mut Vec<u8>) -> Result<(), AllocError>
-    ensures { OnOk result (Appends out.old.items out.new.items (code_prefix code.now)) }
+    ensures { OnOk result (AppendsText out.old.items out.new.items (code_prefix code.now)) }
 {
     match code {
         None => Ok(()),
@@ -128,7 +129,7 @@ pub fn push_code_prefix(code: &Option<Code>, out: &mut Vec<u8>) -> Result<(), Al
 
 /// Appends the code of a tagged OK.
 fn push_tagged_code(code: &Code, out: &mut Vec<u8>) -> Result<(), AllocError>
-    ensures { OnOk result (Appends out.old.items out.new.items (code_text code.now)) }
+    ensures { OnOk result (AppendsText out.old.items out.new.items (code_text code.now)) }
 {
     match code {
         Code::ReadWrite => push_text(b"[READ-WRITE]", out),
@@ -146,7 +147,7 @@ fn push_tagged_code(code: &Code, out: &mut Vec<u8>) -> Result<(), AllocError>
 
 /// Appends the code MODIFIED.
 fn push_modified(refused: &NumberSet, out: &mut Vec<u8>) -> Result<(), AllocError>
-    ensures { OnOk result (Appends out.old.items out.new.items
+    ensures { OnOk result (AppendsText out.old.items out.new.items
         (codes "[MODIFIED " ++ set_text refused.now ++ codes "]")) }
 {
     push_text(b"[MODIFIED ", out)?;
@@ -156,7 +157,8 @@ fn push_modified(refused: &NumberSet, out: &mut Vec<u8>) -> Result<(), AllocErro
 
 /// Appends the code APPENDUID.
 fn push_appenduid(uidvalidity: u32, uid: u32, out: &mut Vec<u8>) -> Result<(), AllocError>
-    ensures { OnOk result (Appends out.old.items out.new.items (appenduid_text uidvalidity uid)) }
+    ensures { OnOk result (AppendsText out.old.items out.new.items
+        (appenduid_text uidvalidity uid)) }
 {
     push_label(b"[APPENDUID ", u64::from(uidvalidity), out)?;
     push_text(b" ", out)?;
@@ -167,7 +169,7 @@ fn push_appenduid(uidvalidity: u32, uid: u32, out: &mut Vec<u8>) -> Result<(), A
 
 /// Appends the results of a search (RFC 9051, section 7.3.4).
 pub fn push_results(results: &SearchResults, out: &mut Vec<u8>) -> Result<(), AllocError>
-    ensures { OnOk result (Appends out.old.items out.new.items (results_text results.now)) }
+    ensures { OnOk result (AppendsText out.old.items out.new.items (results_text results.now)) }
 {
     push_labelled(b" MIN ", widen(results.min), out)?;
     push_labelled(b" MAX ", widen(results.max), out)?;
@@ -179,7 +181,7 @@ pub fn push_results(results: &SearchResults, out: &mut Vec<u8>) -> Result<(), Al
 
 /// Appends all hits, if any.
 fn push_all(hits: &NumberSet, out: &mut Vec<u8>) -> Result<(), AllocError>
-    ensures { OnOk result (Appends out.old.items out.new.items (all_text hits.now)) }
+    ensures { OnOk result (AppendsText out.old.items out.new.items (all_text hits.now)) }
 {
     if hits.is_empty() {
         return Ok(());
@@ -191,7 +193,8 @@ fn push_all(hits: &NumberSet, out: &mut Vec<u8>) -> Result<(), AllocError>
 /// Appends a mod-sequence of FETCH (RFC 7162, section 3.1.4.1).
 pub fn push_modseq(modseq: u64, out: &mut Vec<u8>) -> Result<(), AllocError>
     ensures { OnOk result
-        (Appends out.old.items out.new.items (codes "MODSEQ (" ++ decimal modseq ++ codes ")")) }
+        (AppendsText out.old.items out.new.items
+        (codes "MODSEQ (" ++ decimal modseq ++ codes ")")) }
 {
     push_label(b"MODSEQ (", modseq, out)?;
     push_text(b")", out)
@@ -200,7 +203,7 @@ pub fn push_modseq(modseq: u64, out: &mut Vec<u8>) -> Result<(), AllocError>
 /// Appends an internal date of FETCH (RFC 9051, section 7.5.2).
 pub fn push_date(date: &DateTime, out: &mut Vec<u8>) -> Result<(), AllocError>
     ensures { OnOk result
-        (Appends out.old.items out.new.items (codes "INTERNALDATE " ++ date.now)) }
+        (AppendsText out.old.items out.new.items (codes "INTERNALDATE " ++ date.now)) }
 {
     push_text(b"INTERNALDATE ", out)?;
     push_text(date.as_bytes(), out)?;
@@ -209,7 +212,7 @@ pub fn push_date(date: &DateTime, out: &mut Vec<u8>) -> Result<(), AllocError>
 
 /// Appends a section of a message with its octets (RFC 9051, section 7.5.2).
 pub fn push_body(part: &SectionData, out: &mut Vec<u8>) -> Result<(), AllocError>
-    ensures { OnOk result (Appends out.old.items out.new.items (body_text part.now)) }
+    ensures { OnOk result (AppendsText out.old.items out.new.items (body_text part.now)) }
 {
     push_text(b"BODY[", out)?;
     push_section(&part.section, out)?;
@@ -222,7 +225,7 @@ pub fn push_body(part: &SectionData, out: &mut Vec<u8>) -> Result<(), AllocError
 
 /// Appends the name of a section (RFC 9051, section 9, section-spec).
 fn push_section(section: &Section, out: &mut Vec<u8>) -> Result<(), AllocError>
-    ensures { OnOk result (Appends out.old.items out.new.items (section_text section.now)) }
+    ensures { OnOk result (AppendsText out.old.items out.new.items (section_text section.now)) }
 {
     match section {
         Section::Whole => Ok(()),
@@ -250,7 +253,7 @@ impl TextWriter for Fields {
 
 /// Appends a label, names of header fields and a closing parenthesis.
 fn push_named(label: &[u8], names: &FieldNames, out: &mut Vec<u8>) -> Result<(), AllocError>
-    ensures { OnOk result (Appends out.old.items out.new.items
+    ensures { OnOk result (AppendsText out.old.items out.new.items
         (label.now ++ separated_by 32 (map field_text names.now) ++ codes ")")) }
 {
     push_text(label, out)?;
@@ -260,7 +263,7 @@ fn push_named(label: &[u8], names: &FieldNames, out: &mut Vec<u8>) -> Result<(),
 
 /// Appends the offset of a partial range, if any.
 fn push_origin(origin: Option<u32>, out: &mut Vec<u8>) -> Result<(), AllocError>
-    ensures { OnOk result (Appends out.old.items out.new.items (origin_text origin)) }
+    ensures { OnOk result (AppendsText out.old.items out.new.items (origin_text origin)) }
 {
     match origin {
         None => Ok(()),

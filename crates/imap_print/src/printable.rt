@@ -270,7 +270,7 @@ fn are_in(class: ScanClass, octets: &[u8]) -> bool
     true
 }
 
-/// Whether a name is INBOX in capitals, or isn't INBOX in any case.
+/// Whether a name is INBOX in capitals, or isn't INBOX in any letter case.
 fn is_folded(name: &Name) -> bool
     ensures { IsTrue result ↔ IsFolded name.now }
 {

@@ -1,7 +1,7 @@
 //! Printing of whole answers.
 
 ghost use Rattle.std.specs.Prelude.{◌≡◌, ◌++◌, codes, decimal, IfSome, OnErr, OnOk};
-ghost use Rattle.imap_print.specs.Appending.{Appends, StartsWith};
+ghost use Rattle.imap_print.specs.Appending.{AppendsText, IsPrefix};
 ghost use Rattle.imap_print.specs.Lines.{EndsFlags, done_line, flags_end, numbered_line};
 ghost use Rattle.imap_print.specs.Lines.{only_flags};
 ghost use Rattle.imap_answers.specs.Words.{refusal_text};
@@ -45,8 +45,8 @@ pub fn print(answer: &Answer, out: &mut Vec<u8>) -> Result<(), AllocError>
 /// Appends an answer's text; an `Err` may leave part of it. The most frequent lines are appended in
 /// few pieces.
 fn push_line(answer: &Answer, out: &mut Vec<u8>) -> Result<(), AllocError>
-    ensures ok { OnOk result (Appends out.old.items out.new.items (text_of_answer answer.now)) }
-    ensures err { OnErr result (StartsWith out.old.items out.new.items) }
+    ensures ok { OnOk result (AppendsText out.old.items out.new.items (text_of_answer answer.now)) }
+    ensures err { OnErr result (IsPrefix out.old.items out.new.items) }
 {
     match answer {
         Answer::Fetch { number, items } => match usual_end(items) {
@@ -129,8 +129,9 @@ fn flags_end(flags: &Flags) -> Option<&'static [u8]>
 /// Appends a line from the number of its message and the text after that number.
 #[tactic(auto, using(crate::proofs::LineLemmas::starts_same, crate::proofs::LineLemmas::starts_after))]
 fn push_numbered_line(number: u32, end: &[u8], out: &mut Vec<u8>) -> Result<(), AllocError>
-    ensures ok { OnOk result (Appends out.old.items out.new.items (numbered_line number end.now)) }
-    ensures err { OnErr result (StartsWith out.old.items out.new.items) }
+    ensures ok { OnOk result (AppendsText out.old.items out.new.items
+        (numbered_line number end.now)) }
+    ensures err { OnErr result (IsPrefix out.old.items out.new.items) }
 {
     let mut buffer = Buffer::new();
     let digits = buffer.format(u64::from(number)).as_bytes();
@@ -143,8 +144,9 @@ fn push_numbered_line(number: u32, end: &[u8], out: &mut Vec<u8>) -> Result<(), 
 /// Appends the line of a command that is completed without a code.
 #[tactic(auto, using(crate::proofs::LineLemmas::starts_same, crate::proofs::LineLemmas::starts_after))]
 fn push_done_line(tag: &[u8], word: &[u8], out: &mut Vec<u8>) -> Result<(), AllocError>
-    ensures ok { OnOk result (Appends out.old.items out.new.items (done_line tag.now word.now)) }
-    ensures err { OnErr result (StartsWith out.old.items out.new.items) }
+    ensures ok { OnOk result (AppendsText out.old.items out.new.items
+        (done_line tag.now word.now)) }
+    ensures err { OnErr result (IsPrefix out.old.items out.new.items) }
 {
     out.extend_from_slice(tag)?;
     out.extend_from_slice(b" OK ")?;
@@ -157,8 +159,8 @@ fn push_done_line(tag: &[u8], word: &[u8], out: &mut Vec<u8>) -> Result<(), Allo
 /// unchanged.
 #[tactic(auto, using(crate::proofs::LineLemmas::starts_same))]
 fn push_apart(answer: &Answer, out: &mut Vec<u8>) -> Result<(), AllocError>
-    ensures ok { OnOk result (Appends out.old.items out.new.items (text_of_answer answer.now)) }
-    ensures err { OnErr result (StartsWith out.old.items out.new.items) }
+    ensures ok { OnOk result (AppendsText out.old.items out.new.items (text_of_answer answer.now)) }
+    ensures err { OnErr result (IsPrefix out.old.items out.new.items) }
 {
     let mut line = Vec::with_capacity(*out.allocator(), USUAL_LINE)?;
     push_any_line(answer, &mut line)?;
@@ -168,7 +170,7 @@ fn push_apart(answer: &Answer, out: &mut Vec<u8>) -> Result<(), AllocError>
 
 /// Appends an answer's text; an `Err` may leave part of it.
 fn push_any_line(answer: &Answer, out: &mut Vec<u8>) -> Result<(), AllocError>
-    ensures { OnOk result (Appends out.old.items out.new.items (text_of_answer answer.now)) }
+    ensures { OnOk result (AppendsText out.old.items out.new.items (text_of_answer answer.now)) }
 {
     push_answer(answer, out)?;
     push_text(b"\r\n", out)
@@ -177,7 +179,7 @@ fn push_any_line(answer: &Answer, out: &mut Vec<u8>) -> Result<(), AllocError>
 /// Appends an answer without its line end; an `Err` may leave part of it.
 #[tactic(auto, unfolding(imap_answers::specs::AnswerText::line_of_answer))]
 fn push_answer(answer: &Answer, out: &mut Vec<u8>) -> Result<(), AllocError>
-    ensures { OnOk result (Appends out.old.items out.new.items (line_of_answer answer.now)) }
+    ensures { OnOk result (AppendsText out.old.items out.new.items (line_of_answer answer.now)) }
 {
     match answer {
         Answer::Greeting { login } => push_text(login.text(), out),
@@ -211,7 +213,7 @@ fn push_answer(answer: &Answer, out: &mut Vec<u8>) -> Result<(), AllocError>
 
 /// Appends an untagged OK.
 fn push_notice_line(notice: &Notice, out: &mut Vec<u8>) -> Result<(), AllocError>
-    ensures { OnOk result (Appends out.old.items out.new.items
+    ensures { OnOk result (AppendsText out.old.items out.new.items
         (codes "* OK " ++ notice_text notice.now ++ codes " ok")) }
 {
     push_text(b"* OK ", out)?;
@@ -222,7 +224,7 @@ fn push_notice_line(notice: &Notice, out: &mut Vec<u8>) -> Result<(), AllocError
 /// Appends the tagged line of a refused command.
 fn push_refused(tag: &Octets, reason: Refusal, out: &mut Vec<u8>) -> Result<(), AllocError>
     ensures { OnOk result
-        (Appends out.old.items out.new.items (tag.now ++ codes " " ++ refusal_text reason)) }
+        (AppendsText out.old.items out.new.items (tag.now ++ codes " " ++ refusal_text reason)) }
 {
     push_text(tag.as_bytes(), out)?;
     push_text(b" ", out)?;
@@ -232,7 +234,7 @@ fn push_refused(tag: &Octets, reason: Refusal, out: &mut Vec<u8>) -> Result<(), 
 /// Appends `* `, a number and a word.
 fn push_numbered(number: u32, word: &[u8], out: &mut Vec<u8>) -> Result<(), AllocError>
     ensures { OnOk result
-        (Appends out.old.items out.new.items (codes "* " ++ decimal number ++ word.now)) }
+        (AppendsText out.old.items out.new.items (codes "* " ++ decimal number ++ word.now)) }
 {
     push_label(b"* ", u64::from(number), out)?;
     push_text(word, out)
@@ -246,7 +248,7 @@ fn push_list(
     out: &mut Vec<u8>,
 ) -> Result<(), AllocError>
     ensures { OnOk result
-        (Appends out.old.items out.new.items (list_text name.now state subscribed)) }
+        (AppendsText out.old.items out.new.items (list_text name.now state subscribed)) }
 {
     push_text(b"* LIST ", out)?;
     push_text(state.attributes(subscribed), out)?;
@@ -257,7 +259,8 @@ fn push_list(
 
 /// Appends a mailbox in STATUS.
 fn push_status(name: &Name, items: &StatusItems, out: &mut Vec<u8>) -> Result<(), AllocError>
-    ensures { OnOk result (Appends out.old.items out.new.items (status_text name.now items.now)) }
+    ensures { OnOk result (AppendsText out.old.items out.new.items
+        (status_text name.now items.now)) }
 {
     push_text(b"* STATUS ", out)?;
     push_name(name, out)?;
@@ -275,7 +278,7 @@ fn push_search(
     out: &mut Vec<u8>,
 ) -> Result<(), AllocError>
     ensures { OnOk result
-        (Appends out.old.items out.new.items (search_text tag.now by_uid results.now)) }
+        (AppendsText out.old.items out.new.items (search_text tag.now by_uid results.now)) }
 {
     push_text(b"* ESEARCH (TAG \"", out)?;
     push_text(tag.as_bytes(), out)?;
@@ -293,7 +296,7 @@ fn uid_label(by_uid: bool) -> &'static [u8]
 
 /// Appends the items of a message in FETCH.
 fn push_fetch(number: u32, items: &FetchItems, out: &mut Vec<u8>) -> Result<(), AllocError>
-    ensures { OnOk result (Appends out.old.items out.new.items (fetch_text number items.now)) }
+    ensures { OnOk result (AppendsText out.old.items out.new.items (fetch_text number items.now)) }
 {
     push_numbered(number, b" FETCH (", out)?;
     let _ = push_fetch_items(items, out)?;
@@ -309,7 +312,7 @@ fn push_completed(
     out: &mut Vec<u8>,
 ) -> Result<(), AllocError>
     ensures { OnOk result
-        (Appends out.old.items out.new.items (completed_text tag.now code.now command)) }
+        (AppendsText out.old.items out.new.items (completed_text tag.now code.now command)) }
 {
     push_text(tag.as_bytes(), out)?;
     push_text(b" OK ", out)?;

@@ -4,7 +4,7 @@
 ghost use Rattle.std.specs.Prelude.{◌≡◌, ◌++◌, [], ◌∷◌, codes, decimal, flat_map, map, OnOk};
 ghost use Rattle.std.specs.List.{list_all, list_any};
 ghost use Rattle.imap_types.specs.Keywords.{is_astring_octet};
-ghost use Rattle.imap_print.specs.Appending.{Appends};
+ghost use Rattle.imap_print.specs.Appending.{AppendsText};
 ghost use Rattle.imap_answers.specs.Strings.{escaped_octet, field_text, has_line_octet, is_plain};
 ghost use Rattle.imap_answers.specs.Strings.{labelled_number, literal_text, name_text};
 ghost use Rattle.imap_answers.specs.Strings.{quoted_string, run_text, separated_by, set_text};
@@ -15,14 +15,14 @@ use std::alloc::AllocError;
 
 /// Appends a text.
 pub fn push_text(text: &[u8], out: &mut Vec<u8>) -> Result<(), AllocError>
-    ensures { OnOk result (Appends out.old.items out.new.items text.now) }
+    ensures { OnOk result (AppendsText out.old.items out.new.items text.now) }
 {
     out.extend_from_slice(text)
 }
 
 /// Appends a number in decimal digits without leading zeros.
 pub fn push_number(number: u64, out: &mut Vec<u8>) -> Result<(), AllocError>
-    ensures { OnOk result (Appends out.old.items out.new.items (decimal number)) }
+    ensures { OnOk result (AppendsText out.old.items out.new.items (decimal number)) }
 {
     let mut buffer = Buffer::new();
     push_text(buffer.format(number).as_bytes(), out)
@@ -30,7 +30,7 @@ pub fn push_number(number: u64, out: &mut Vec<u8>) -> Result<(), AllocError>
 
 /// Appends a label and a number.
 pub fn push_label(label: &[u8], number: u64, out: &mut Vec<u8>) -> Result<(), AllocError>
-    ensures { OnOk result (Appends out.old.items out.new.items (label.now ++ decimal number)) }
+    ensures { OnOk result (AppendsText out.old.items out.new.items (label.now ++ decimal number)) }
 {
     push_text(label, out)?;
     push_number(number, out)
@@ -38,7 +38,8 @@ pub fn push_label(label: &[u8], number: u64, out: &mut Vec<u8>) -> Result<(), Al
 
 /// Appends a label and its number, if there is a number.
 pub fn push_labelled(label: &[u8], number: Option<u64>, out: &mut Vec<u8>) -> Result<(), AllocError>
-    ensures { OnOk result (Appends out.old.items out.new.items (labelled_number label.now number)) }
+    ensures { OnOk result (AppendsText out.old.items out.new.items
+        (labelled_number label.now number)) }
 {
     match number {
         None => Ok(()),
@@ -48,7 +49,7 @@ pub fn push_labelled(label: &[u8], number: Option<u64>, out: &mut Vec<u8>) -> Re
 
 /// Appends a mailbox name (RFC 9051, section 9, mailbox).
 pub fn push_name(name: &Name, out: &mut Vec<u8>) -> Result<(), AllocError>
-    ensures { OnOk result (Appends out.old.items out.new.items (name_text name.now)) }
+    ensures { OnOk result (AppendsText out.old.items out.new.items (name_text name.now)) }
 {
     if name.is_inbox() {
         push_text(b"INBOX", out)
@@ -61,7 +62,7 @@ pub fn push_name(name: &Name, out: &mut Vec<u8>) -> Result<(), AllocError>
 
 /// Appends the name of a header field (RFC 9051, section 9, header-fld-name).
 pub fn push_field(name: &[u8], out: &mut Vec<u8>) -> Result<(), AllocError>
-    ensures { OnOk result (Appends out.old.items out.new.items (field_text name.now)) }
+    ensures { OnOk result (AppendsText out.old.items out.new.items (field_text name.now)) }
 {
     if is_plain(name) {
         push_text(name, out)
@@ -74,7 +75,7 @@ pub fn push_field(name: &[u8], out: &mut Vec<u8>) -> Result<(), AllocError>
 
 /// Appends a literal with its length (RFC 9051, section 9, literal).
 pub fn push_literal(string: &[u8], out: &mut Vec<u8>) -> Result<(), AllocError>
-    ensures { OnOk result (Appends out.old.items out.new.items (literal_text string.now)) }
+    ensures { OnOk result (AppendsText out.old.items out.new.items (literal_text string.now)) }
 {
     push_text(b"{", out)?;
     push_number(string.len() as u64, out)?;
@@ -84,7 +85,7 @@ pub fn push_literal(string: &[u8], out: &mut Vec<u8>) -> Result<(), AllocError>
 
 /// Appends a string in quotes (RFC 9051, section 9, quoted).
 fn push_quoted(string: &[u8], out: &mut Vec<u8>) -> Result<(), AllocError>
-    ensures { OnOk result (Appends out.old.items out.new.items (quoted_string string.now)) }
+    ensures { OnOk result (AppendsText out.old.items out.new.items (quoted_string string.now)) }
 {
     push_text(b"\"", out)?;
     push_escaped(string, out)?;
@@ -94,7 +95,7 @@ fn push_quoted(string: &[u8], out: &mut Vec<u8>) -> Result<(), AllocError>
 /// Appends a string with its escapes.
 fn push_escaped(string: &[u8], out: &mut Vec<u8>) -> Result<(), AllocError>
     ensures { OnOk result
-        (Appends out.old.items out.new.items (flat_map escaped_octet string.now)) }
+        (AppendsText out.old.items out.new.items (flat_map escaped_octet string.now)) }
 {
     for octet in string {
         push_escaped_octet(*octet, out)?;
@@ -104,7 +105,7 @@ fn push_escaped(string: &[u8], out: &mut Vec<u8>) -> Result<(), AllocError>
 
 /// Appends an octet, after a `\` if it needs one.
 fn push_escaped_octet(octet: u8, out: &mut Vec<u8>) -> Result<(), AllocError>
-    ensures { OnOk result (Appends out.old.items out.new.items (escaped_octet octet)) }
+    ensures { OnOk result (AppendsText out.old.items out.new.items (escaped_octet octet)) }
 {
     if octet == b'"' || octet == b'\\' {
         push_text(&[b'\\', octet], out)
@@ -119,13 +120,13 @@ pub trait TextWriter {
     type Value;
 
     ghost use Rattle.std.specs.Prelude.{ℕ, List, OnOk};
-    ghost use Rattle.imap_print.specs.Appending.{Appends};
+    ghost use Rattle.imap_print.specs.Appending.{AppendsText};
 
     ghost text_of: { Self.Value → List ℕ };
 
     /// Appends the text of a value.
     fn push(value: &Self::Value, out: &mut Vec<u8>) -> Result<(), AllocError>
-        ensures { OnOk result (Appends out.old.items out.new.items (text_of value.now)) };
+        ensures { OnOk result (AppendsText out.old.items out.new.items (text_of value.now)) };
 }
 
 /// Appends the texts of values, joined by an octet.
@@ -135,7 +136,8 @@ pub fn push_separated<W: TextWriter>(
     out: &mut Vec<u8>,
 ) -> Result<(), AllocError>
     ensures { OnOk result
-        (Appends out.old.items out.new.items (separated_by between (map W.text_of values.now))) }
+        (AppendsText out.old.items out.new.items
+        (separated_by between (map W.text_of values.now))) }
 {
     if let [first, rest @ ..] = values {
         W::push(first, out)?;
@@ -150,7 +152,7 @@ fn push_after<W: TextWriter>(
     values: &[W::Value],
     out: &mut Vec<u8>,
 ) -> Result<(), AllocError>
-    ensures { OnOk result (Appends out.old.items out.new.items
+    ensures { OnOk result (AppendsText out.old.items out.new.items
         (flat_map (λ next. between ∷ next) (map W.text_of values.now))) }
 {
     for value in values {
@@ -177,14 +179,14 @@ impl TextWriter for Runs {
 
 /// Appends a set as runs separated by commas (RFC 9051, section 9, sequence-set).
 pub fn push_set(set: &NumberSet, out: &mut Vec<u8>) -> Result<(), AllocError>
-    ensures { OnOk result (Appends out.old.items out.new.items (set_text set.now)) }
+    ensures { OnOk result (AppendsText out.old.items out.new.items (set_text set.now)) }
 {
     push_separated::<Runs>(b',', set.runs(), out)
 }
 
 /// Appends a run: one number, or the first and last of several.
 fn push_run(run: Run, out: &mut Vec<u8>) -> Result<(), AllocError>
-    ensures { OnOk result (Appends out.old.items out.new.items (run_text run)) }
+    ensures { OnOk result (AppendsText out.old.items out.new.items (run_text run)) }
 {
     if run.first == run.last {
         return push_number(u64::from(run.first), out);

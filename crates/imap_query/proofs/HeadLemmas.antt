@@ -69,10 +69,10 @@ answer_alike items mode shown (Some row) h =
     λ i. if head_above_same mode.changed_since row i then Fetch shown.number (items_alike items mode row h i) ∷ [] else []
 
 -- FETCH of one further message.
-pub answers_more : (items : List FetchItem) (mode : FetchMode) (rows : List ListedMessage) (named : List ViewedMessage) (k : ℕ) (d : ViewedMessage) (result new total : List Answer) → are_answerable_by_heads (parts_of items) ≡ true → k < length named
+pub answers_drop_next : (items : List FetchItem) (mode : FetchMode) (rows : List ListedMessage) (named : List ViewedMessage) (k : ℕ) (d : ViewedMessage) (result new total : List Answer) → are_answerable_by_heads (parts_of items) ≡ true → k < length named
     → new ≡ result ++ head_answer items mode (get_or named k d) (option_map head_of (row_of (get_or named k d).uid rows))
     → result ++ fetch_answers items mode rows rows (drop k named) ≡ total → new ++ fetch_answers items mode rows rows (drop (k + 1) named) ≡ total
-answers_more items mode rows named k d result new total h l n i =
+answers_drop_next items mode rows named k d result new total h l n i =
     let shown = get_or named k d in
     let rest = fetch_answers items mode rows rows (drop (k + 1) named) in
     ap (λ xs. xs ++ rest) (n ∙ ap (λ xs. result ++ xs) (answer_alike items mode shown (row_of shown.uid rows) h))

@@ -4,7 +4,7 @@ use Rattle.std.specs.List.{list_any}
 use Rattle.imap_syntax.specs.declared.search.SearchStep.{SearchStep}
 use Rattle.imap_syntax.specs.declared.search.SearchStep.TheVariants.{Not, Or, And}
 use Rattle.imap_types.specs.Numbers.{AreRisingFrom, greatest}
-use Rattle.imap_query.specs.Hits.{MayAdd, last_number, step_names_modseq}
+use Rattle.imap_query.specs.Hits.{IsSameOrAppended, last_number, step_names_modseq}
 use Rattle.imap_query.specs.KeyHits.{Asks, Both, Either, Key, Lacks, steps_of}
 use Rattle.mailbox_rows.specs.ListedMessage.{ListedMessage}
 use Rattle.mailbox_rows.specs.RowViews.{row_of}
@@ -24,7 +24,7 @@ rising_without : (low : ℕ) (front : List ℕ) (n : ℕ) (rest : List ℕ) → 
 rising_without low [] n rest h = rising_lower low (n + 1) rest (omega (arith, h.0)) h.1
 rising_without low (m ∷ front) n rest h = (h.0, rising_without (m + 1) front n rest h.1)
 
-pub rising_on : (number : ℕ) (old new rest : List ℕ) → MayAdd number old new → AreRisingFrom 1 (old ++ number ∷ rest) → AreRisingFrom 1 (new ++ rest)
+pub rising_on : (number : ℕ) (old new rest : List ℕ) → IsSameOrAppended number old new → AreRisingFrom 1 (old ++ number ∷ rest) → AreRisingFrom 1 (new ++ rest)
 rising_on number old new rest m h =
     elim m [
       | inl e ↦ subst (λ xs. AreRisingFrom 1 (xs ++ rest)) (sym e) (rising_without 1 old number rest h)
@@ -52,7 +52,7 @@ or_assoc : (a b c : Bool) → (a || (b || c)) ≡ ((a || b) || c)
 or_assoc true b c = refl
 or_assoc false b c = refl
 
--- the steps of a key have a MODSEQ test exactly if the key has one
+-- the steps of a key have a MODSEQ test exactly when the key has one
 any_append : (xs ys : List SearchStep) → list_any step_names_modseq (xs ++ ys) ≡ (list_any step_names_modseq xs || list_any step_names_modseq ys)
 any_append [] ys = refl
 any_append (x ∷ xs) ys = ap (λ b. step_names_modseq x || b) (any_append xs ys) ∙ or_assoc (step_names_modseq x) (list_any step_names_modseq xs) (list_any step_names_modseq ys)
@@ -96,9 +96,9 @@ drop_at (x ∷ xs) zero d l = refl
 drop_at (x ∷ xs) (suc k) d l = let e : suc k + 1 ≡ suc (k + 1) = omega arith in rw e (drop_at xs k d (omega arith))
 
 -- one further hit in the set
-pub number_more : (numbers new : List ℕ) (hits : List Hit) (k : ℕ) (d : Hit) (total : List ℕ) → k < length hits → new ≡ numbers ++ (get_or hits k d).number ∷ []
+pub numbers_drop_next : (numbers new : List ℕ) (hits : List Hit) (k : ℕ) (d : Hit) (total : List ℕ) → k < length hits → new ≡ numbers ++ (get_or hits k d).number ∷ []
     → numbers ++ numbers_of_hits (drop k hits) ≡ total → new ++ numbers_of_hits (drop (k + 1) hits) ≡ total
-number_more numbers new hits k d total l n i =
+numbers_drop_next numbers new hits k d total l n i =
     ap (λ xs. xs ++ numbers_of_hits (drop (k + 1) hits)) n
     ∙ append_assoc numbers ((get_or hits k d).number ∷ []) (numbers_of_hits (drop (k + 1) hits))
     ∙ ap (λ xs. numbers ++ numbers_of_hits xs) (sym (drop_at hits k d l))
@@ -120,18 +120,18 @@ first_above numbers hits k d l i =
     omega arith
 
 -- one further message of the view
-pub hits_more : (by_uid : Bool) (key : Key) (last other : ViewedMessage) (rows : List ListedMessage) (view : List ViewedMessage) (k : ℕ) (d : ViewedMessage) (result new total : List Hit) → k < length view → last ≡ other
+pub hits_drop_next : (by_uid : Bool) (key : Key) (last other : ViewedMessage) (rows : List ListedMessage) (view : List ViewedMessage) (k : ℕ) (d : ViewedMessage) (result new total : List Hit) → k < length view → last ≡ other
     → new ≡ result ++ hit_of by_uid key last (get_or view k d) (row_of (get_or view k d).uid rows)
     → result ++ hits_of_rows by_uid key other rows (drop k view) ≡ total → new ++ hits_of_rows by_uid key other rows (drop (k + 1) view) ≡ total
-hits_more by_uid key last other rows view k d result new total l e n i =
+hits_drop_next by_uid key last other rows view k d result new total l e n i =
     let shown = get_or view k d in
     ap (λ xs. xs ++ hits_of_rows by_uid key other rows (drop (k + 1) view)) (n ∙ ap (λ s. result ++ hit_of by_uid key s shown (row_of shown.uid rows)) e)
     ∙ append_assoc result (hit_of by_uid key other shown (row_of shown.uid rows)) (hits_of_rows by_uid key other rows (drop (k + 1) view))
     ∙ ap (λ xs. result ++ hits_of_rows by_uid key other rows xs) (sym (drop_at view k d l))
     ∙ i
 
-pub names_more : (by_uid : Bool) (view : List ViewedMessage) (k : ℕ) (d : ViewedMessage) (old new : List ℕ) → k < length view → MayAdd (number_or_uid by_uid (get_or view k d)) old new
+pub rising_drop_next : (by_uid : Bool) (view : List ViewedMessage) (k : ℕ) (d : ViewedMessage) (old new : List ℕ) → k < length view → IsSameOrAppended (number_or_uid by_uid (get_or view k d)) old new
     → AreRisingFrom 1 (old ++ map (number_or_uid by_uid) (drop k view)) → AreRisingFrom 1 (new ++ map (number_or_uid by_uid) (drop (k + 1) view))
-names_more by_uid view k d old new l m h =
+rising_drop_next by_uid view k d old new l m h =
     rising_on (number_or_uid by_uid (get_or view k d)) old new (map (number_or_uid by_uid) (drop (k + 1) view)) m
     (subst (λ xs. AreRisingFrom 1 (old ++ map (number_or_uid by_uid) xs)) (drop_at view k d l) h)

@@ -7,8 +7,8 @@ use Rattle.imap_query.specs.KeyHits.{Key, Asks, Lacks, Either, Both, hits, steps
 use Rattle.imap_query.specs.Runs.{run, key_stack}
 
 -- the steps of one key, those of another and a last step, before the rest
-three : (these those : List SearchStep) (last : SearchStep) (rest : List SearchStep) → (these ++ those ++ last ∷ []) ++ rest ≡ these ++ (those ++ (last ∷ rest))
-three these those last rest = append_assoc (these ++ those) (last ∷ []) rest ∙ append_assoc these those (last ∷ rest)
+append_three : (these those : List SearchStep) (last : SearchStep) (rest : List SearchStep) → (these ++ those ++ last ∷ []) ++ rest ≡ these ++ (those ++ (last ∷ rest))
+append_three these those last rest = append_assoc (these ++ those) (last ∷ []) rest ∙ append_assoc these those (last ∷ rest)
 
 -- the steps of a key push whether the key matches
 pub run-key : (holds : SearchTest → Bool) (key : Key) (rest : List SearchStep) (results : List Bool) → run holds (steps_of key ++ rest) results ≡ run holds rest (hits holds key ∷ results)
@@ -16,11 +16,11 @@ run-key holds (Asks test) rest results = refl
 run-key holds (Lacks key) rest results =
     ap (λ xs. run holds xs results) (append_assoc (steps_of key) (Not ∷ []) rest) ∙ run-key holds key (Not ∷ rest) results
 run-key holds (Either this that) rest results =
-    ap (λ xs. run holds xs results) (three (steps_of this) (steps_of that) Or rest)
+    ap (λ xs. run holds xs results) (append_three (steps_of this) (steps_of that) Or rest)
     ∙ run-key holds this (steps_of that ++ (Or ∷ rest)) results
     ∙ run-key holds that (Or ∷ rest) (hits holds this ∷ results)
 run-key holds (Both this that) rest results =
-    ap (λ xs. run holds xs results) (three (steps_of this) (steps_of that) And rest)
+    ap (λ xs. run holds xs results) (append_three (steps_of this) (steps_of that) And rest)
     ∙ run-key holds this (steps_of that ++ (And ∷ rest)) results
     ∙ run-key holds that (And ∷ rest) (hits holds this ∷ results)
 
@@ -37,11 +37,11 @@ key_stack-key (Asks test) rest keys = refl
 key_stack-key (Lacks key) rest keys =
     ap (λ xs. key_stack xs keys) (append_assoc (steps_of key) (Not ∷ []) rest) ∙ key_stack-key key (Not ∷ rest) keys
 key_stack-key (Either this that) rest keys =
-    ap (λ xs. key_stack xs keys) (three (steps_of this) (steps_of that) Or rest)
+    ap (λ xs. key_stack xs keys) (append_three (steps_of this) (steps_of that) Or rest)
     ∙ key_stack-key this (steps_of that ++ (Or ∷ rest)) keys
     ∙ key_stack-key that (Or ∷ rest) (this ∷ keys)
 key_stack-key (Both this that) rest keys =
-    ap (λ xs. key_stack xs keys) (three (steps_of this) (steps_of that) And rest)
+    ap (λ xs. key_stack xs keys) (append_three (steps_of this) (steps_of that) And rest)
     ∙ key_stack-key this (steps_of that ++ (And ∷ rest)) keys
     ∙ key_stack-key that (And ∷ rest) (this ∷ keys)
 

@@ -2,7 +2,7 @@ pub mod RowLemmas
 pub mod MatchLemmas
 pub mod PlacingLemmas
 pub mod ListingLemmas
-pub mod SimplerLemmas
+pub mod PatternFormLemmas
 pub mod CountLemmas
 pub mod HitLemmas
 pub mod KeyLemmas

@@ -236,8 +236,8 @@ one_entry pattern folders x y h k e =
       ]
     ]
 
-pub listed_is : (pattern : List ℕ) (folders : List (List ℕ)) → AreListEntries folders pattern (insert_all (matched_entries pattern folders) [])
-listed_is pattern folders =
+pub list_entries_of_matched : (pattern : List ℕ) (folders : List (List ℕ)) → AreListEntries folders pattern (insert_all (matched_entries pattern folders) [])
+list_entries_of_matched pattern folders =
     let P : ListEntry → Type 0 = IsListEntry folders pattern in
     let one = one_entry pattern folders in
     record {
@@ -248,9 +248,9 @@ listed_is pattern folders =
       );
     }
 
-pub lists_is : (reference pattern : List ℕ) (folders : List (List ℕ)) (entries : List ListEntry) → (length pattern == 0) ≡ false → entries ≡ insert_all (matched_entries (reference ++ pattern) folders) [] → AreShown reference pattern folders entries
-lists_is reference [] folders entries h e = cc
-lists_is reference (octet ∷ pattern) folders entries h e = subst (AreListEntries folders (reference ++ octet ∷ pattern)) (sym e) (listed_is (reference ++ octet ∷ pattern) folders)
+pub shown_of_matched : (reference pattern : List ℕ) (folders : List (List ℕ)) (entries : List ListEntry) → (length pattern == 0) ≡ false → entries ≡ insert_all (matched_entries (reference ++ pattern) folders) [] → AreShown reference pattern folders entries
+shown_of_matched reference [] folders entries h e = cc
+shown_of_matched reference (octet ∷ pattern) folders entries h e = subst (AreListEntries folders (reference ++ octet ∷ pattern)) (sym e) (list_entries_of_matched (reference ++ octet ∷ pattern) folders)
 
 -- the last octet, by its place
 pub percent_at : (pattern : List ℕ) (d : ℕ) → 0 < length pattern → (get_or pattern (length pattern - 1) d == 37) ≡ ends_in_percent pattern
@@ -287,9 +287,9 @@ folder_read pattern folders at folder text entries next h is same e =
     ∙ sym (placed_all_joined (shown_among pattern folders (levels_from [] text)) (shown_levels pattern folders (drop (at + 1) folders)) entries)
     ∙ ap (λ some. insert_all (shown_levels pattern folders some) entries) (sym here)
 
-pub lists_when : (reference pattern joined : List ℕ) (folders : List (List ℕ)) (result : Result (Vec ListEntry Global) AllocError) → (length pattern == 0) ≡ false → joined ≡ reference ++ pattern → IfOk result (λ entries. entries.items ≡ insert_all (matched_entries joined folders) []) → IfOk result (λ entries. AreShown reference pattern folders entries.items)
-lists_when reference pattern joined folders (Ok entries) h j e = lists_is reference pattern folders entries.items h (e ∙ ap (λ p. insert_all (matched_entries p folders) []) j)
-lists_when reference pattern joined folders (Err error) h j e = e
+pub shown_if_ok : (reference pattern joined : List ℕ) (folders : List (List ℕ)) (result : Result (Vec ListEntry Global) AllocError) → (length pattern == 0) ≡ false → joined ≡ reference ++ pattern → IfOk result (λ entries. entries.items ≡ insert_all (matched_entries joined folders) []) → IfOk result (λ entries. AreShown reference pattern folders entries.items)
+shown_if_ok reference pattern joined folders (Ok entries) h j e = shown_of_matched reference pattern folders entries.items h (e ∙ ap (λ p. insert_all (matched_entries p folders) []) j)
+shown_if_ok reference pattern joined folders (Err error) h j e = e
 
 pub one_listing : (reference pattern : List ℕ) (folders : List (List ℕ)) (entries others : List ListEntry) → AreShown reference pattern folders entries → AreShown reference pattern folders others → entries ≡ others
 one_listing reference [] folders entries others h k = h ∙ sym k

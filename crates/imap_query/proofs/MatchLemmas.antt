@@ -27,14 +27,14 @@ joined true b h k = k
 joined false b h k = cc
 
 -- a wildcard is one of two octets
-pub which : (octet : ℕ) → is_wildcard octet ≡ true → (octet ≡ 42) ⊎ (octet ≡ 37)
-which octet w = elim (or_cases (octet == 42) (octet == 37) w) [ inl a ↦ inl ((Decides-eqb octet 42).0 a) | inr b ↦ inr ((Decides-eqb octet 37).0 b) ]
+pub wildcard_cases : (octet : ℕ) → is_wildcard octet ≡ true → (octet ≡ 42) ⊎ (octet ≡ 37)
+wildcard_cases octet w = elim (or_cases (octet == 42) (octet == 37) w) [ inl a ↦ inl ((Decides-eqb octet 42).0 a) | inr b ↦ inr ((Decides-eqb octet 37).0 b) ]
 
 no_star : (octet : ℕ) → is_wildcard octet ≡ false → (octet ≢ 42) × (octet ≢ 37)
 no_star octet w = (λ e. let q : is_wildcard octet ≡ true = ap is_wildcard e in cc, λ e. let q : is_wildcard octet ≡ true = ap is_wildcard e in cc)
 
 octet_match_nil : (octet : ℕ) → is_wildcard octet ≡ true → IsOctetMatch octet []
-octet_match_nil octet w = elim (which octet w) [ inl e ↦ inl e | inr e ↦ inr (inl (e, λ h. h)) ]
+octet_match_nil octet w = elim (wildcard_cases octet w) [ inl e ↦ inl e | inr e ↦ inr (inl (e, λ h. h)) ]
 
 held : (octet letter : ℕ) → may_hold octet letter ≡ true → octet ≡ 37 → letter ≡ 47 → ⊥
 held octet letter h e f = let q : may_hold octet letter ≡ false = λ k. may_hold (e k) (f k) in cc
@@ -48,7 +48,7 @@ octet_match_cons octet letter text w h s =
       | inl e ↦ inl e
       | inr more ↦ elim more [
         | inl p ↦ inr (inl (p.0, λ i. elim i [ inl q ↦ held octet letter h p.0 q | inr t ↦ p.1 t ]))
-        | inr o ↦ elim (which octet w) [ inl e ↦ inl e | inr e ↦ absurd (o.1 e) ]
+        | inr o ↦ elim (wildcard_cases octet w) [ inl e ↦ inl e | inr e ↦ absurd (o.1 e) ]
       ]
     ]
 
@@ -58,7 +58,7 @@ octet_match_tail octet letter text w s =
       | inl e ↦ (ap (λ o. may_hold o letter) e, inl e)
       | inr more ↦ elim more [
         | inl p ↦ (holds octet letter (λ q. p.1 (inl q)), inr (inl (p.0, λ i. p.1 (inr i))))
-        | inr o ↦ elim (which octet w) [ inl e ↦ absurd (o.0 e) | inr e ↦ absurd (o.1 e) ]
+        | inr o ↦ elim (wildcard_cases octet w) [ inl e ↦ absurd (o.0 e) | inr e ↦ absurd (o.1 e) ]
       ]
     ]
 
@@ -129,9 +129,9 @@ match_complete (octet ∷ pattern) name m =
     ]
 
 -- the test agrees with the definition
-match_is : (pattern name : List ℕ) (answer : Bool) → answer ≡ is_match pattern name → (answer ≡ true) ↔ IsPatternMatch pattern name
-match_is pattern name answer e = (λ t. match_sound pattern name (sym e ∙ t), λ m. e ∙ match_complete pattern name m)
+is_match_decides : (pattern name : List ℕ) (answer : Bool) → answer ≡ is_match pattern name → (answer ≡ true) ↔ IsPatternMatch pattern name
+is_match_decides pattern name answer e = (λ t. match_sound pattern name (sym e ∙ t), λ m. e ∙ match_complete pattern name m)
 
 pub answered : (pattern name : List ℕ) (result : Result Bool AllocError) → IfOk result (λ answer. answer ≡ is_match pattern name) → IfOk result (λ answer. (answer ≡ true) ↔ IsPatternMatch pattern name)
-answered pattern name (Ok answer) h = match_is pattern name answer h
+answered pattern name (Ok answer) h = is_match_decides pattern name answer h
 answered pattern name (Err e) h = h

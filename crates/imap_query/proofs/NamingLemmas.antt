@@ -35,8 +35,8 @@ one_mailbox : (pattern : List ℕ) (names : List (List ℕ)) (x y : ListEntry) �
 one_mailbox pattern names x y h k e = λ i. record { name = e i; is_mailbox = (h.1 ∙ sym k.1) i }
 
 -- the subscribed names that are inserted are those that match
-subscribed_is : (pattern : List ℕ) (names : List (List ℕ)) → AreSubscribedNames names pattern (names_of (insert_all (shown_mailboxes pattern names) []))
-subscribed_is pattern names =
+subscribed_names_of_shown : (pattern : List ℕ) (names : List (List ℕ)) → AreSubscribedNames names pattern (names_of (insert_all (shown_mailboxes pattern names) []))
+subscribed_names_of_shown pattern names =
     let P : ListEntry → Type 0 = IsMailboxOf pattern names in
     let one = one_mailbox pattern names in
     let matched = shown_mailboxes pattern names in
@@ -64,7 +64,7 @@ pub shows_subscribed : (mode : ListMode) (reference pattern : List ℕ) (folders
 shows_subscribed mode reference [] folders subscriptions answers l t e = absurd cc
 shows_subscribed mode reference (octet ∷ pattern) folders subscriptions answers l t e =
     subst (λ only. ListsMatching only mode.return_subscribed (reference ++ octet ∷ pattern) folders subscriptions answers) (sym t)
-    (names_of (insert_all (shown_mailboxes (reference ++ octet ∷ pattern) subscriptions) []), subscribed_is (reference ++ octet ∷ pattern) subscriptions, e)
+    (names_of (insert_all (shown_mailboxes (reference ++ octet ∷ pattern) subscriptions) []), subscribed_names_of_shown (reference ++ octet ∷ pattern) subscriptions, e)
 
 pub shows_listed : (mode : ListMode) (reference pattern : List ℕ) (folders subscriptions : List (List ℕ)) (entries : List ListEntry) (answers : List Answer) → (length pattern == 0) ≡ false → mode.subscribed_only ≡ false
     → AreShown reference pattern folders entries → answers ≡ map (name_answer mode.return_subscribed subscriptions) entries → ListsNames mode reference pattern folders subscriptions answers

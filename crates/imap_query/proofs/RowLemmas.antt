@@ -155,8 +155,8 @@ reaches_all accepts [] = refl
 reaches_all accepts (letter ∷ name) = ap (λ q. accepts (letter ∷ name) || q) (reaches_none accepts name) ∙ or_false _
 
 -- the answer of a pattern, read from its first octet, is the test's answer
-pub answer_is : (pattern name : List ℕ) (row : List Bool) → row ≡ replicate (length name) false → length row ≡ length name → answer_after pattern true row name ≡ is_match pattern name
-answer_is pattern name row e n = answer_reaches pattern true row name n ∙ ap (reaches (is_match pattern) true name) e ∙ reaches_all (is_match pattern) name
+pub answer_after_match : (pattern name : List ℕ) (row : List Bool) → row ≡ replicate (length name) false → length row ≡ length name → answer_after pattern true row name ≡ is_match pattern name
+answer_after_match pattern name row e n = answer_reaches pattern true row name n ∙ ap (reaches (is_match pattern) true name) e ∙ reaches_all (is_match pattern) name
 
 reaches_unset : (accepts : List ℕ → Bool) (name : List ℕ) (row : List Bool) → list_all not row ≡ true → reaches accepts false name row ≡ false
 unfolding reaches

@@ -14,8 +14,8 @@ step_names_modseq Or = false
 step_names_modseq And = false
 
 -- The new list is the old one, or the old one with this number after it.
-abbrev pub MayAdd : ℕ → List ℕ → List ℕ → Type 0
-MayAdd number numbers new = (new ≡ numbers) ⊎ (new ≡ numbers ++ number ∷ [])
+abbrev pub IsSameOrAppended : ℕ → List ℕ → List ℕ → Type 0
+IsSameOrAppended number numbers new = (new ≡ numbers) ⊎ (new ≡ numbers ++ number ∷ [])
 
 -- The number of the last hit, or the given number if there is no hit.
 abbrev pub last_number : ℕ → List Hit → ℕ

@@ -2,7 +2,7 @@ pub mod ListEntries
 pub mod Patterns
 pub mod Placing
 pub mod PatternRows
-pub mod Simpler
+pub mod PatternForms
 pub mod Messages
 pub mod Status
 pub mod Hits

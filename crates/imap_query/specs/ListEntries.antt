@@ -11,7 +11,8 @@ use Rattle.imap_query.specs.declared.list_entries.ListEntry.{ListEntry}
 abbrev pub IsSuperior : List ℕ → List ℕ → Type 0
 IsSuperior superior name = (rest : List ℕ) × (name ≡ superior ++ 47 ∷ rest)
 
--- A name is a superior level of one of the folders; a level that spells INBOX in any case is INBOX.
+-- A name is a superior level of one of the folders; a level that spells INBOX in any letter case is
+-- INBOX.
 abbrev pub IsSuperiorLevel : List (List ℕ) → List ℕ → Type 0
 IsSuperiorLevel folders name =
     (superior : List ℕ)

@@ -35,7 +35,7 @@ is_match (octet ∷ pattern) name =
     if is_wildcard octet then after_wildcard (is_match pattern) octet name
     else after_octet (is_match pattern) octet name
 
--- Whether a pattern matches a name, INBOX in any case.
+-- Whether a pattern matches a name, INBOX in any letter case.
 abbrev pub is_shown : List ℕ → List ℕ → Bool
 is_shown pattern name = is_match (pattern_for name pattern) (fold_inbox name)
 

@@ -39,7 +39,7 @@ IsPatternMatch (octet ∷ pattern) name =
 abbrev pub pattern_for : List ℕ → List ℕ → List ℕ
 pattern_for name pattern = if is_inbox name then map to_ascii_uppercase pattern else pattern
 
--- A pattern matches a name, with INBOX as a whole name in any case (RFC 9051, sections 5.1 and
--- 6.3.9).
+-- A pattern matches a name, with INBOX as a whole name in any letter case (RFC 9051, sections 5.1
+-- and 6.3.9).
 abbrev pub IsNameMatch : List ℕ → List ℕ → Type 0
 IsNameMatch pattern name = IsPatternMatch (pattern_for name pattern) (fold_inbox name)

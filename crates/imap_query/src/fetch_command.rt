@@ -477,7 +477,7 @@ fn whole(alloc: Global, row: &Row<'_>, partial: Option<Partial>) -> Result<Text,
         (λ octets. octets ≡ partial_octets partial (listed_message row.now).text) }
 {
     match partial {
-        None => row.copied_text(alloc),
+        None => row.copy_text(alloc),
         Some(_) => Text::from_slice(alloc, partial_octets(row.shown_text(), partial)),
     }
 }

@@ -7,7 +7,7 @@ ghost use Rattle.imap_query.specs.FetchCommand.{fetch_answers, parts_of, if_repo
 ghost use Rattle.imap_query.specs.Heads.{are_answerable_by_heads, flag_key, head_answer, head_hit};
 ghost use Rattle.imap_query.specs.Heads.{head_items};
 ghost use Rattle.imap_query.specs.Heads.{is_head_above_changed_since};
-ghost use Rattle.imap_query.specs.Hits.{MayAdd};
+ghost use Rattle.imap_query.specs.Hits.{IsSameOrAppended};
 ghost use Rattle.imap_query.specs.Search.{hits_in, number_or_uid};
 ghost use Rattle.mailbox_rows.specs.RowViews.{head_of, listed_head, row_of};
 
@@ -188,7 +188,7 @@ fn push_flagged(
     ensures hits { OnOk result (all_hits.new.items
         ≡ all_hits.old.items
         ++ head_hit by_uid test shown (option_map head_of (row_of shown.uid rows.now))) }
-    ensures numbers { OnOk result (MayAdd (number_or_uid by_uid shown)
+    ensures numbers { OnOk result (IsSameOrAppended (number_or_uid by_uid shown)
         (map (λ hit. hit.number) all_hits.old.items) (map (λ hit. hit.number) all_hits.new.items)) }
 {
     match rows.head_near(shown.place(), shown.uid) {

@@ -6,7 +6,8 @@ ghost use Rattle.std.specs.Char.{to_ascii_uppercase};
 ghost use Rattle.imap_query.specs.Patterns.{IsPatternMatch};
 ghost use Rattle.imap_query.specs.PatternRows.{answer_after, cell, cells, is_match, is_shown};
 ghost use Rattle.imap_query.specs.PatternRows.{is_unset, is_wildcard, last_of, may_hold};
-ghost use Rattle.imap_query.specs.Simpler.{Adds, AreAlike, IsAlike, ends_wild};
+ghost use Rattle.imap_query.specs.PatternForms.{IsPatternAppended, ArePatternForms, MatchSameNames};
+ghost use Rattle.imap_query.specs.PatternForms.{ends_with_wildcard};
 
 use imap_types::Name;
 use std::alloc::{AllocError, Global};
@@ -34,13 +35,13 @@ pub(crate) struct Pattern {
 
 impl Model for Pattern {
     ghost use Rattle.std.specs.Prelude.{ℕ, List};
-    ghost use Rattle.imap_query.specs.Simpler.{AreAlike};
+    ghost use Rattle.imap_query.specs.PatternForms.{ArePatternForms};
 
     ghost Value = { List ℕ };
 
     ghost view = { λ p. p.written.items };
 
-    ghost invariant = { λ p. AreAlike p.written.items p.plain.items p.capitals.items };
+    ghost invariant = { λ p. ArePatternForms p.written.items p.plain.items p.capitals.items };
 }
 
 impl Pattern {
@@ -68,7 +69,7 @@ impl Pattern {
     }
 }
 
-/// Whether a pattern matches a name, INBOX in any case. Each octet of the pattern that is no
+/// Whether a pattern matches a name, INBOX in any letter case. Each octet of the pattern that is no
 /// wildcard uses up one of the name's, and reading ends when none is left, so time is at most
 /// quadratic in the name's length. `Err` if memory runs out.
 pub(crate) fn is_shown(alloc: Global, pattern: &Pattern, name: &Name) -> Result<bool, AllocError>
@@ -82,7 +83,7 @@ pub(crate) fn is_shown(alloc: Global, pattern: &Pattern, name: &Name) -> Result<
 
 /// A pattern that matches the same names as this one in capitals, without neighbouring wildcards.
 fn in_capitals(alloc: Global, pattern: &[u8]) -> Result<Vec<u8>, AllocError>
-    ensures { IfOk result (λ made. IsAlike (map to_ascii_uppercase pattern.now) made.items) }
+    ensures { IfOk result (λ made. MatchSameNames (map to_ascii_uppercase pattern.now) made.items) }
 {
     let mut capitals = pattern.to_vec(alloc)?;
     capitals.make_ascii_uppercase();
@@ -91,7 +92,7 @@ fn in_capitals(alloc: Global, pattern: &[u8]) -> Result<Vec<u8>, AllocError>
 
 /// A pattern that matches the same names and has no neighbouring wildcards.
 fn simpler(alloc: Global, pattern: &[u8]) -> Result<Vec<u8>, AllocError>
-    ensures { IfOk result (λ made. IsAlike pattern.now made.items) }
+    ensures { IfOk result (λ made. MatchSameNames pattern.now made.items) }
 {
     let mut made = Vec::new(alloc);
     for octet in pattern {
@@ -102,7 +103,7 @@ fn simpler(alloc: Global, pattern: &[u8]) -> Result<Vec<u8>, AllocError>
 
 /// Adds an octet: `*` replaces a wildcard before it, and `%` is left out after one.
 fn add(made: &mut Vec<u8>, octet: u8) -> Result<(), AllocError>
-    ensures { OnOk result (Adds octet made.old.items made.new.items) }
+    ensures { OnOk result (IsPatternAppended octet made.old.items made.new.items) }
 {
     if !are_wildcards(made, octet) {
         made.push(octet)?;
@@ -117,13 +118,13 @@ fn add(made: &mut Vec<u8>, octet: u8) -> Result<(), AllocError>
 
 /// Whether this octet and the pattern's last octet are both wildcards.
 fn are_wildcards(made: &[u8], octet: u8) -> bool
-    ensures { result ≡ (ends_wild made.now && is_wildcard octet) }
+    ensures { result ≡ (ends_with_wildcard made.now && is_wildcard octet) }
 {
-    ends_wild(made) && is_wildcard(octet)
+    ends_with_wildcard(made) && is_wildcard(octet)
 }
 
-fn ends_wild(made: &[u8]) -> bool
-    ensures { result ≡ ends_wild made.now }
+fn ends_with_wildcard(made: &[u8]) -> bool
+    ensures { result ≡ ends_with_wildcard made.now }
 {
     match made {
         [] => false,

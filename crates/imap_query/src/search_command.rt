@@ -4,7 +4,7 @@ ghost use Rattle.std.specs.Prelude.{◌≡◌, ◌==◌, ◌&&◌, ◌++◌, [],
 ghost use Rattle.std.specs.Prelude.{if◌then◌else◌};
 ghost use Rattle.std.specs.List.{list_any};
 ghost use Rattle.imap_types.specs.Numbers.{AreRisingFrom, greatest};
-ghost use Rattle.imap_query.specs.Hits.{MayAdd, last_number, step_names_modseq};
+ghost use Rattle.imap_query.specs.Hits.{IsSameOrAppended, last_number, step_names_modseq};
 ghost use Rattle.imap_query.specs.KeyHits.{Key, steps_of};
 ghost use Rattle.imap_query.specs.Search.{asks_modseq, first_hit, hit_of, hits_in, last_hit};
 ghost use Rattle.imap_query.specs.Search.{last_shown, modseq_in, number_or_uid, number_in};
@@ -113,7 +113,7 @@ fn push_hit(
         → all_hits.new.items
         ≡ all_hits.old.items
         ++ hit_of spec.entry.by_uid key spec.entry.last shown (row_of shown.uid rows.now)) }
-    ensures numbers { OnOk result (MayAdd (number_or_uid spec.entry.by_uid shown)
+    ensures numbers { OnOk result (IsSameOrAppended (number_or_uid spec.entry.by_uid shown)
         (map (λ hit. hit.number) all_hits.old.items) (map (λ hit. hit.number) all_hits.new.items)) }
 {
     match rows.row_near(shown.place(), shown.uid) {
@@ -146,14 +146,14 @@ fn asks_modseq(steps: &[SearchStep]) -> bool
     ensures { result ≡ list_any step_names_modseq steps.now }
 {
     for step in steps {
-        if names_modseq(step) {
+        if step_names_modseq(step) {
             return true;
         }
     }
     false
 }
 
-fn names_modseq(step: &SearchStep) -> bool
+fn step_names_modseq(step: &SearchStep) -> bool
     ensures { result ≡ step_names_modseq step.now }
 {
     match step {
@@ -278,7 +278,8 @@ fn last_number(hits: &[Hit]) -> u32
     }
 }
 
-/// The mod-sequence of the results: the greatest of the hits that they name.
+/// The mod-sequence of the results (RFC 7162, section 3.1.5): the greatest of the first and last
+/// hit if only MIN or MAX or both are asked for, else of all hits.
 fn modseq_of_result(options: &[SearchOption], hits: &[Hit]) -> u64
     ensures { result ≡ modseq_of_result options.now hits.now }
 {

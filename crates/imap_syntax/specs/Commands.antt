@@ -153,7 +153,7 @@ arguments (commands.Copy asked) =
 arguments (commands.Move asked) =
     own_word asked.by_uid words.Move ⌢ sp ⌢ sequence_set asked.messages ⌢ sp ⌢ mailbox asked.name
 
--- A command without its tag: its word in any case, and its arguments.
+-- A command without its tag: its word in any letter case, and its arguments.
 abbrev pub command : Command → List ℕ → Type 0
 command this = word (command_word (word_of this)) ⌢ arguments this
 

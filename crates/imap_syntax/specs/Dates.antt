@@ -24,7 +24,7 @@ digits_to least most limit value text =
 abbrev pub day_of_month : ℕ → List ℕ → Type 0
 day_of_month = digits_to 1 2 31
 
--- A month, by the three letters of its name in any case (RFC 9051, section 9, date-month).
+-- A month, by the three letters of its name in any letter case (RFC 9051, section 9, date-month).
 abbrev pub month_name : ℕ → List ℕ → Type 0
 month_name month text = (length text ≡ 3) × (month_of text ≡ month)
 

@@ -19,15 +19,15 @@ abbrev pub HasTag : List ℕ → Type 0
 HasTag frame = (tag rest : List ℕ) × IsTagged frame tag rest
 
 -- Whether a text begins with an octet of a class.
-abbrev pub begins_in : OctetClass → List ℕ → Bool
-begins_in class [] = false
-begins_in class (octet ∷ octets) = is_in class octet
+abbrev pub begins_with_class : OctetClass → List ℕ → Bool
+begins_with_class class [] = false
+begins_with_class class (octet ∷ octets) = is_in class octet
 
--- The atom octets after the tag are the word of a command in any case: one of this grammar, or one
--- that it leaves out.
+-- The atom octets after the tag are the word of a command in any letter case: one of this grammar,
+-- or one that it leaves out.
 abbrev pub NamesCommand : List ℕ → Type 0
 NamesCommand frame =
     (tag letters rest : List ℕ) × (named : CommandWord) × IsTagged frame tag (letters ++ rest)
     × IsTrue (list_all (is_in Atom) letters)
-    × (begins_in Atom rest ≡ false)
+    × (begins_with_class Atom rest ≡ false)
     × word (command_word named) letters

@@ -32,7 +32,7 @@ is_system Seen (System Seen) = true
 is_system Draft (System Draft) = true
 is_system _ _ = false
 
--- Whether a written flag is this keyword, in any case.
+-- Whether a written flag is this keyword, in any letter case.
 abbrev pub is_keyword : List ℕ → Flag → Bool
 is_keyword word (System known) = false
 is_keyword word (Keyword keyword) = bytes_eq word (to_lower_case keyword)

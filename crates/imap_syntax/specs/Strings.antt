@@ -82,9 +82,9 @@ abbrev pub mailbox : List ℕ → List ℕ → Type 0
 mailbox name text = (written : List ℕ) × astring written text × (fold_inbox written ≡ name)
 
 -- Whether a text begins with an octet.
-abbrev pub begins : ℕ → List ℕ → Bool
-begins octet [] = false
-begins octet (first ∷ octets) = first == octet
+abbrev pub begins_with : ℕ → List ℕ → Bool
+begins_with octet [] = false
+begins_with octet (first ∷ octets) = first == octet
 
 -- A number up to a limit (RFC 9051, section 9, number64).
 abbrev pub number_to : ℕ → ℕ → List ℕ → Type 0
@@ -92,4 +92,4 @@ number_to limit value text = number value text × (value ≤ limit)
 
 -- A number from 1 to 4,294,967,295 without a leading zero (RFC 9051, section 9, nz-number).
 abbrev pub nz : ℕ → List ℕ → Type 0
-nz value text = number value text × (begins 48 text ≡ false) × (value ≤ 4294967295)
+nz value text = number value text × (begins_with 48 text ≡ false) × (value ≤ 4294967295)

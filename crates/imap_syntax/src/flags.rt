@@ -16,6 +16,6 @@ pub enum SystemFlag {
 #[derive(Drop)]
 pub enum Flag {
     System(SystemFlag),
-    /// One or more atom octets, in any case.
+    /// One or more atom octets, in any letter case.
     Keyword(Octets),
 }

@@ -9,23 +9,23 @@ by_place : (symbol octet : ℕ) (symbols octets : List ℕ) → fits_symbol symb
 by_place symbol octet symbols octets e h zero l = e
 by_place symbol octet symbols octets e h (suc k) l = h k (omega arith)
 
-picture_takes : (ms bs : List ℕ) → matches_picture ms bs ≡ true → HasPicture ms bs
-picture_takes [] [] h = (refl, λ k l. absurd (omega arith))
-picture_takes [] (b ∷ bs) h = cc
-picture_takes (m ∷ ms) [] h = cc
-picture_takes (m ∷ ms) (b ∷ bs) h =
+picture_sound : (ms bs : List ℕ) → matches_picture ms bs ≡ true → HasPicture ms bs
+picture_sound [] [] h = (refl, λ k l. absurd (omega arith))
+picture_sound [] (b ∷ bs) h = cc
+picture_sound (m ∷ ms) [] h = cc
+picture_sound (m ∷ ms) (b ∷ bs) h =
     let p = and_parts _ _ h in
-    let r = picture_takes ms bs p.1 in
+    let r = picture_sound ms bs p.1 in
     (ap suc r.0, by_place m b ms bs p.0 r.1)
 
-picture_again : (ms bs : List ℕ) → HasPicture ms bs → matches_picture ms bs ≡ true
-picture_again [] [] h = refl
-picture_again [] (b ∷ bs) h = absurd (omega (arith, h.0))
-picture_again (m ∷ ms) [] h = absurd (omega (arith, h.0))
-picture_again (m ∷ ms) (b ∷ bs) h = and_from _ _ (h.1 zero (omega arith)) (picture_again ms bs (omega (arith, h.0), λ k l. h.1 (suc k) (omega arith)))
+picture_complete : (ms bs : List ℕ) → HasPicture ms bs → matches_picture ms bs ≡ true
+picture_complete [] [] h = refl
+picture_complete [] (b ∷ bs) h = absurd (omega (arith, h.0))
+picture_complete (m ∷ ms) [] h = absurd (omega (arith, h.0))
+picture_complete (m ∷ ms) (b ∷ bs) h = and_from _ _ (h.1 zero (omega arith)) (picture_complete ms bs (omega (arith, h.0), λ k l. h.1 (suc k) (omega arith)))
 
-day_takes : (y m d : ℕ) → is_day y m d ≡ true → IsDate (pos y) (pos m) (pos d)
-day_takes y m d h =
+day_sound : (y m d : ℕ) → is_day y m d ≡ true → IsDate (pos y) (pos m) (pos d)
+day_sound y m d h =
     let p = and_parts _ _ h in
     let q = and_parts _ _ p.0 in
     let r = and_parts _ _ q.0 in
@@ -37,8 +37,8 @@ day_takes y m d h =
     let f : d ≤ days_in_month (pos y) m = leb-true _ _ p.1 in
     ((omega (arith, ints), omega (arith, ints)), (omega (arith, ints), omega (arith, ints)), (omega (arith, ints), omega (arith, ints)))
 
-day_again : (y m d : ℕ) → IsDate (pos y) (pos m) (pos d) → is_day y m d ≡ true
-day_again y m d h =
+day_complete : (y m d : ℕ) → IsDate (pos y) (pos m) (pos d) → is_day y m d ≡ true
+day_complete y m d h =
     let a : y ≤ 9999 = omega (arith, ints, h.0.1) in
     let b : 1 ≤ m = omega (arith, ints, h.1.0) in
     let c : m ≤ 12 = omega (arith, ints, h.1.1) in
@@ -46,24 +46,24 @@ day_again y m d h =
     let f : d ≤ days_in_month (pos y) m = omega (arith, ints, h.2.1) in
     and_from _ _ (and_from _ _ (and_from _ _ (and_from _ _ (le-leb _ _ a) (le-leb _ _ b)) (le-leb _ _ c)) (le-leb _ _ e)) (le-leb _ _ f)
 
-time_takes : (t : List ℕ) → is_time t ≡ true → HasTime t
-time_takes t h =
+time_sound : (t : List ℕ) → is_time t ≡ true → HasTime t
+time_sound t h =
     let p = and_parts _ _ h in
     let q = and_parts _ _ p.0 in
     let r = and_parts _ _ q.0 in
     let s = and_parts _ _ r.0 in
     record { hour = leb-true _ _ s.0; minute = leb-true _ _ s.1; second = leb-true _ _ r.1; zone_hour = leb-true _ _ q.1; zone_minute = leb-true _ _ p.1 }
 
-time_again : (t : List ℕ) → HasTime t → is_time t ≡ true
-time_again t h = and_from _ _ (and_from _ _ (and_from _ _ (and_from _ _ (le-leb _ _ h.hour) (le-leb _ _ h.minute)) (le-leb _ _ h.second)) (le-leb _ _ h.zone_hour)) (le-leb _ _ h.zone_minute)
+time_complete : (t : List ℕ) → HasTime t → is_time t ≡ true
+time_complete t h = and_from _ _ (and_from _ _ (and_from _ _ (and_from _ _ (le-leb _ _ h.hour) (le-leb _ _ h.minute)) (le-leb _ _ h.second)) (le-leb _ _ h.zone_hour)) (le-leb _ _ h.zone_minute)
 
 pub date_time_from_test : (t : List ℕ) → is_date_time t ≡ true → IsDateTime t
 unfolding is_date_time
 date_time_from_test t h =
     let p = and_parts _ _ h in
     let q = and_parts _ _ p.0 in
-    record { form = picture_takes date_time_picture t q.0; date = day_takes (year_at t) (month_at t) (day_at t) q.1; time = time_takes t p.1 }
+    record { form = picture_sound date_time_picture t q.0; date = day_sound (year_at t) (month_at t) (day_at t) q.1; time = time_sound t p.1 }
 
 pub test_from_date_time : (t : List ℕ) → IsDateTime t → is_date_time t ≡ true
 unfolding is_date_time
-test_from_date_time t h = and_from _ _ (and_from _ _ (picture_again date_time_picture t h.form) (day_again (year_at t) (month_at t) (day_at t) h.date)) (time_again t h.time)
+test_from_date_time t h = and_from _ _ (and_from _ _ (picture_complete date_time_picture t h.form) (day_complete (year_at t) (month_at t) (day_at t) h.date)) (time_complete t h.time)

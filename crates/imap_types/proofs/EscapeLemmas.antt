@@ -92,67 +92,67 @@ plain_taken e a rest octets octets' p o h =
     one_taken e a (a ∷ []) rest octets octets' (let k = plain_small e a p in omega arith) (escaped_plain e a p) o h
 
 -- a text is the spelling of the octets that are read from it
-pub unescaped_takes : (e : Escape) (text octets : List ℕ) → unescape e text ≡ Some octets → AreOctets octets × (text ≡ escape_text e octets)
-unescaped_takes e [] octets h =
+pub unescaped_sound : (e : Escape) (text octets : List ℕ) → unescape e text ≡ Some octets → AreOctets octets × (text ≡ escape_text e octets)
+unescaped_sound e [] octets h =
     let k : ◌≡◌ {A = List ℕ} [] octets = cc in subst (λ (os : List ℕ). AreOctets os × ([] ≡ escape_text e os)) k (tt, refl)
-unescaped_takes e (a ∷ []) octets h =
+unescaped_sound e (a ∷ []) octets h =
     elim (chosen (is_plain e a) (Some (a ∷ [])) None (Some octets) h) [
       | inl t ↦ plain_taken e a [] octets [] t.0 (let k : ◌≡◌ {A = List ℕ} (a ∷ []) octets = cc in sym k) (tt, refl)
       | inr f ↦ absurd (let k = f.1 in cc)
     ]
-unescaped_takes e (a ∷ b ∷ []) octets h =
+unescaped_sound e (a ∷ b ∷ []) octets h =
     elim (chosen (is_plain e a) (with_octets_before (a ∷ []) (unescape e (b ∷ []))) None (Some octets) h) [
       | inl t ↦
           let y = front_some (a ∷ []) (unescape e (b ∷ [])) octets t.1 in
-          plain_taken e a (b ∷ []) octets y.0 t.0 y.2 (unescaped_takes e (b ∷ []) y.0 y.1)
+          plain_taken e a (b ∷ []) octets y.0 t.0 y.2 (unescaped_sound e (b ∷ []) y.0 y.1)
       | inr f ↦ absurd (let k = f.1 in cc)
     ]
-unescaped_takes e (a ∷ b ∷ c ∷ rest) octets h =
+unescaped_sound e (a ∷ b ∷ c ∷ rest) octets h =
     elim (chosen (is_plain e a) (with_octets_before (a ∷ []) (unescape e (b ∷ c ∷ rest))) (cond (is_escape e a b c) (with_octets_before (hex_octet b c ∷ []) (unescape e rest)) None) (Some octets) h) [
       | inl t ↦
           let y = front_some (a ∷ []) (unescape e (b ∷ c ∷ rest)) octets t.1 in
-          plain_taken e a (b ∷ c ∷ rest) octets y.0 t.0 y.2 (unescaped_takes e (b ∷ c ∷ rest) y.0 y.1)
+          plain_taken e a (b ∷ c ∷ rest) octets y.0 t.0 y.2 (unescaped_sound e (b ∷ c ∷ rest) y.0 y.1)
       | inr f ↦ elim (chosen (is_escape e a b c) (with_octets_before (hex_octet b c ∷ []) (unescape e rest)) None (Some octets) f.1) [
         | inl t ↦
             let y = front_some (hex_octet b c ∷ []) (unescape e rest) octets t.1 in
             let s = escape_spells e a b c t.0 in
-            one_taken e (hex_octet b c) (a ∷ b ∷ c ∷ []) rest octets y.0 s.0 s.1 y.2 (unescaped_takes e rest y.0 y.1)
+            one_taken e (hex_octet b c) (a ∷ b ∷ c ∷ []) rest octets y.0 s.0 s.1 y.2 (unescaped_sound e rest y.0 y.1)
         | inr g ↦ absurd (let k = g.1 in cc)
       ]
     ]
 
 -- the spelling of octets is read as these octets
-pub unescaped_again : (e : Escape) (octets : List ℕ) → AreOctets octets → unescape e (escape_text e octets) ≡ Some octets
-unescaped_again e [] a = refl
-unescaped_again e (octet ∷ octets) a =
+pub unescaped_complete : (e : Escape) (octets : List ℕ) → AreOctets octets → unescape e (escape_text e octets) ≡ Some octets
+unescaped_complete e [] a = refl
+unescaped_complete e (octet ∷ octets) a =
     elim (cases_Bool (is_plain e octet)) [
-      | inl p ↦ ap (λ s. unescape e (s ++ escape_text e octets)) (escaped_plain e octet p) ∙ unescaped_plain e octet (escape_text e octets) p ∙ ap (with_octets_before (octet ∷ [])) (unescaped_again e octets a.1)
+      | inl p ↦ ap (λ s. unescape e (s ++ escape_text e octets)) (escaped_plain e octet p) ∙ unescaped_plain e octet (escape_text e octets) p ∙ ap (with_octets_before (octet ∷ [])) (unescaped_complete e octets a.1)
       | inr p ↦
           let s = spells_escape e octet a.0 p in
           ap (λ s. unescape e (s ++ escape_text e octets)) (escaped_other e octet p)
           ∙ unescaped_pair e 126 (hex_digit (octet / 16)) (hex_digit (octet % 16)) (escape_text e octets) (tilde_not_plain e) s.0
-          ∙ (λ i. with_octets_before (s.1 i ∷ []) (unescaped_again e octets a.1 i))
+          ∙ (λ i. with_octets_before (s.1 i ∷ []) (unescaped_complete e octets a.1 i))
     ]
 
 pub spelling_of_read : (e : Escape) (text : List ℕ) (r : Result (List ℕ) EscapeFault) → IsReading (λ o. o) r (unescape e text) → IfOk r (λ octets. AreOctets octets × (text ≡ escape_text e octets))
-spelling_of_read e text (Ok octets) g = unescaped_takes e text octets g
+spelling_of_read e text (Ok octets) g = unescaped_sound e text octets g
 spelling_of_read e text (Err f) g = tt
 
 pub only_by : (e : Escape) (text : List ℕ) (r : Result (List ℕ) EscapeFault) → IsReading (λ o. o) r (unescape e text) → (octets : List ℕ) → AreOctets octets → text ≡ escape_text e octets → IsReading (λ o. o) r (Some octets)
-only_by e text r g octets a k = subst (IsReading (λ o. o) r) (ap (unescape e) k ∙ unescaped_again e octets a) g
+only_by e text r g octets a k = subst (IsReading (λ o. o) r) (ap (unescape e) k ∙ unescaped_complete e octets a) g
 
 -- one further octet was read
-pub front_more : (octets : List ℕ) (octet : ℕ) (r : Option (List ℕ)) → with_octets_before (octets ++ octet ∷ []) r ≡ with_octets_before octets (with_octets_before (octet ∷ []) r)
-front_more octets octet None = refl
-front_more octets octet (Some more) = ap (λ (os : List ℕ). Some os) (append_assoc octets (octet ∷ []) more)
+pub with_octets_before_append : (octets : List ℕ) (octet : ℕ) (r : Option (List ℕ)) → with_octets_before (octets ++ octet ∷ []) r ≡ with_octets_before octets (with_octets_before (octet ∷ []) r)
+with_octets_before_append octets octet None = refl
+with_octets_before_append octets octet (Some more) = ap (λ (os : List ℕ). Some os) (append_assoc octets (octet ∷ []) more)
 
 front_whole : (rest : List ℕ) → 1 ≤ length rest → get_or rest 0 0 ∷ take (length rest - 1) (drop 1 rest) ≡ rest
 front_whole [] h = absurd (omega arith)
 front_whole (b ∷ bs) h = grind (arith, common_steps)
 
-pub read_more : (e : Escape) (text octets octets' rest after : List ℕ) (octet : ℕ) → 1 ≤ length rest → with_octets_before octets (unescape e rest) ≡ unescape e text → octets' ≡ octets ++ octet ∷ [] → unescape e (get_or rest 0 0 ∷ take (length rest - 1) (drop 1 rest)) ≡ with_octets_before (octet ∷ []) (unescape e after) → with_octets_before octets' (unescape e after) ≡ unescape e text
-read_more e text octets octets' rest after octet h inv o f =
+pub unescape_append : (e : Escape) (text octets octets' rest after : List ℕ) (octet : ℕ) → 1 ≤ length rest → with_octets_before octets (unescape e rest) ≡ unescape e text → octets' ≡ octets ++ octet ∷ [] → unescape e (get_or rest 0 0 ∷ take (length rest - 1) (drop 1 rest)) ≡ with_octets_before (octet ∷ []) (unescape e after) → with_octets_before octets' (unescape e after) ≡ unescape e text
+unescape_append e text octets octets' rest after octet h inv o f =
     ap (λ (os : List ℕ). with_octets_before os (unescape e after)) o
-    ∙ front_more octets octet (unescape e after)
+    ∙ with_octets_before_append octets octet (unescape e after)
     ∙ ap (with_octets_before octets) (sym f ∙ ap (unescape e) (front_whole rest h))
     ∙ inv

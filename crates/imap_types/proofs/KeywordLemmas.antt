@@ -31,13 +31,13 @@ all_with : (p : List ℕ → Bool) (w : List ℕ) (vs : List (List ℕ)) → p w
 all_with p w [] h i = and_from _ _ h refl
 all_with p w (v ∷ vs) h i = all_step p w v vs (with_word w vs) (octet_order w v) h i (all_with p w vs h (and_parts _ _ i).1)
 
-later : (w v : List ℕ) → octet_order w v ≡ Greater → IsBefore v w
-later w v e = nat_list_cmp_total.antisymm v w ∙ ap ordering_reverse e
+before_of_greater : (w v : List ℕ) → octet_order w v ≡ Greater → IsBefore v w
+before_of_greater w v e = nat_list_cmp_total.antisymm v w ∙ ap ordering_reverse e
 
 chain_step : (a w v : List ℕ) (vs rest : List (List ℕ)) (o : Ordering) → octet_order w v ≡ o → IsBefore a w → AreAscending (a ∷ v ∷ vs) → (IsBefore v w → AreAscending (v ∷ rest)) → AreAscending (a ∷ match_ordering o (w ∷ v ∷ vs) (v ∷ vs) (v ∷ rest))
 chain_step a w v vs rest Less e b h t = (b, (e, h.1))
 chain_step a w v vs rest Equal e b h t = h
-chain_step a w v vs rest Greater e b h t = (h.0, t (later w v e))
+chain_step a w v vs rest Greater e b h t = (h.0, t (before_of_greater w v e))
 
 chained : (a w : List ℕ) (vs : List (List ℕ)) → IsBefore a w → AreAscending (a ∷ vs) → AreAscending (a ∷ with_word w vs)
 chained a w [] b h = (b, tt)
@@ -46,7 +46,7 @@ chained a w (v ∷ vs) b h = chain_step a w v vs (with_word w vs) (octet_order w
 first_step : (w v : List ℕ) (vs rest : List (List ℕ)) (o : Ordering) → octet_order w v ≡ o → AreAscending (v ∷ vs) → (IsBefore v w → AreAscending (v ∷ rest)) → AreAscending (match_ordering o (w ∷ v ∷ vs) (v ∷ vs) (v ∷ rest))
 first_step w v vs rest Less e h t = (e, h)
 first_step w v vs rest Equal e h t = h
-first_step w v vs rest Greater e h t = t (later w v e)
+first_step w v vs rest Greater e h t = t (before_of_greater w v e)
 
 ascending_with : (w : List ℕ) (vs : List (List ℕ)) → AreAscending vs → AreAscending (with_word w vs)
 ascending_with w [] h = tt
@@ -57,22 +57,22 @@ pub keywords_with : (w : List ℕ) (vs : List (List ℕ)) → AreKeywords vs →
 keywords_with w vs h = (all_with is_lower_case (to_lower_case w) vs (is_lowered-lowered w) h.0, ascending_with (to_lower_case w) vs h.1)
 
 -- the first of the words that are left
-pub dropped : (ws : List (List ℕ)) (i : ℕ) (w : List ℕ) → i < length ws → w ≡ get_or ws i w → drop i ws ≡ w ∷ drop (i + 1) ws
-dropped ws i w l e = drop-cons ws i w l ∙ ap (λ v. v ∷ drop (suc i) ws) (sym e) ∙ ap (λ j. w ∷ drop j ws) (sym (add-one i))
+pub drop_head : (ws : List (List ℕ)) (i : ℕ) (w : List ℕ) → i < length ws → w ≡ get_or ws i w → drop i ws ≡ w ∷ drop (i + 1) ws
+drop_head ws i w l e = drop-cons ws i w l ∙ ap (λ v. v ∷ drop (suc i) ws) (sym e) ∙ ap (λ j. w ∷ drop j ws) (sym (add-one i))
 
 -- a word that is the keyword
-pub hit : (k w : List ℕ) (ws : List (List ℕ)) (i : ℕ) (b : Bool) → i < length ws → w ≡ get_or ws i w → IsTrue b ↔ (to_lower_case w ≡ to_lower_case k) → b ≡ true → has_keyword k (drop i ws) ≡ has_keyword k ws → true ≡ has_keyword k ws
-hit k w ws i b l e t h inv =
+pub has_keyword_drop_same : (k w : List ℕ) (ws : List (List ℕ)) (i : ℕ) (b : Bool) → i < length ws → w ≡ get_or ws i w → IsTrue b ↔ (to_lower_case w ≡ to_lower_case k) → b ≡ true → has_keyword k (drop i ws) ≡ has_keyword k ws → true ≡ has_keyword k ws
+has_keyword_drop_same k w ws i b l e t h inv =
     let f : bytes_eq (to_lower_case w) (to_lower_case k) ≡ true = (bytes_eq-Decides _ _).1 (t.0 h) in
     let g : has_keyword k (w ∷ drop (i + 1) ws) ≡ true = ap (λ c. c || has_keyword k (drop (i + 1) ws)) f in
-    sym (sym inv ∙ ap (has_keyword k) (dropped ws i w l e) ∙ g)
+    sym (sym inv ∙ ap (has_keyword k) (drop_head ws i w l e) ∙ g)
 
 -- a word that isn't the keyword
-pub miss : (k w : List ℕ) (ws : List (List ℕ)) (i : ℕ) (b : Bool) → i < length ws → w ≡ get_or ws i w → IsTrue b ↔ (to_lower_case w ≡ to_lower_case k) → b ≡ false → has_keyword k (drop i ws) ≡ has_keyword k ws → has_keyword k (drop (i + 1) ws) ≡ has_keyword k ws
-miss k w ws i b l e t h inv =
+pub has_keyword_drop_other : (k w : List ℕ) (ws : List (List ℕ)) (i : ℕ) (b : Bool) → i < length ws → w ≡ get_or ws i w → IsTrue b ↔ (to_lower_case w ≡ to_lower_case k) → b ≡ false → has_keyword k (drop i ws) ≡ has_keyword k ws → has_keyword k (drop (i + 1) ws) ≡ has_keyword k ws
+has_keyword_drop_other k w ws i b l e t h inv =
     let f : bytes_eq (to_lower_case w) (to_lower_case k) ≡ false = same_from_decides _ _ (bytes_eq-Decides (to_lower_case w) (to_lower_case k)) t ∙ h in
     let g : has_keyword k (w ∷ drop (i + 1) ws) ≡ has_keyword k (drop (i + 1) ws) = ap (λ c. c || has_keyword k (drop (i + 1) ws)) f in
-    sym (sym inv ∙ ap (has_keyword k) (dropped ws i w l e) ∙ g)
+    sym (sym inv ∙ ap (has_keyword k) (drop_head ws i w l e) ∙ g)
 
 ascending_step : (o : Ordering) (x : Bool) → (is_lt o && x) ≡ true → (o ≡ Less) × (x ≡ true)
 ascending_step Less x h = (refl, h)

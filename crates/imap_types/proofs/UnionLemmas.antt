@@ -10,10 +10,10 @@ use Rattle.std.specs.Str.{bytes_eq}
 use Rattle.imap_types.specs.Ascending.{AreAscending}
 use Rattle.imap_types.specs.Keywords.{with_word}
 use Rattle.imap_types.specs.declared.flags.Flags.{Flags}
-use Rattle.imap_types.specs.Members.{are_within, holds}
+use Rattle.imap_types.specs.Members.{are_within, has_word}
 use Rattle.imap_types.specs.Unions.{union_of, united_flags, with_flags}
 use Rattle.imap_types.specs.declared.version.Version.{Version}
-use Rattle.imap_types.proofs.WordLemmas.{all_by, all_held, any_folded, ascending_folded, one_ascending}
+use Rattle.imap_types.proofs.WordLemmas.{all_by, each_word_of_all, any_folded, ascending_folded, one_ascending}
 
 -- ---- one further version
 
@@ -24,8 +24,8 @@ or-false false = refl
 any_last : (p : Flags → Bool) (fs : List Flags) (f : Flags) → list_any p (fs ++ f ∷ []) ≡ (list_any p fs || p f)
 any_last p fs f = list_any-append p fs (f ∷ []) ∙ ap (λ (b : Bool). list_any p fs || b) (or-false (p f))
 
-pub union_more : (fs : List Flags) (f : Flags) → union_of (fs ++ f ∷ []) ≡ with_flags (union_of fs) f
-union_more fs f =
+pub union_of_append : (fs : List Flags) (f : Flags) → union_of (fs ++ f ∷ []) ≡ with_flags (union_of fs) f
+union_of_append fs f =
     λ j. record {
       answered = any_last (λ (f : Flags). f.answered) fs f j;
       flagged = any_last (λ (f : Flags). f.flagged) fs f j;
@@ -38,10 +38,10 @@ union_more fs f =
           ) j;
     }
 
-pub united_more : (vs : List Version) (old new : Flags) (i : ℕ) (v : Version) → i < length vs → v ≡ get_or vs i v → old ≡ united_flags (take i vs) → new ≡ with_flags old v.flags → new ≡ united_flags (take (i + 1) vs)
-united_more vs old new i v l e o n =
+pub united_flags_take : (vs : List Version) (old new : Flags) (i : ℕ) (v : Version) → i < length vs → v ≡ get_or vs i v → old ≡ united_flags (take i vs) → new ≡ with_flags old v.flags → new ≡ united_flags (take (i + 1) vs)
+united_flags_take vs old new i v l e o n =
     let flags : Version → Flags = λ v. v.flags in
-    n ∙ (λ j. with_flags (o j) (flags (e j))) ∙ sym (union_more (map flags (take i vs)) (flags (get_or vs i v)))
+    n ∙ (λ j. with_flags (o j) (flags (e j))) ∙ sym (union_of_append (map flags (take i vs)) (flags (get_or vs i v)))
     ∙ ap union_of (sym (map-append flags (take i vs) (get_or vs i v ∷ [])) ∙ ap (map flags) (sym (take-suc vs i v l) ∙ ap (λ j. take j vs) (sym (add-one i))))
 
 -- ---- what any of the versions has
@@ -66,41 +66,41 @@ ascending_united vs = ascending_folded [] (flat_map (λ (f : Flags). f.keywords)
 -- ---- the tests by which keywords are those of the union
 
 -- whether a version has the word
-abbrev pub one_holds : List Version → List ℕ → Bool
-one_holds vs z = list_any (λ v. holds v.flags.keywords z) vs
+abbrev pub any_version_has_word : List Version → List ℕ → Bool
+any_version_has_word vs z = list_any (λ v. has_word v.flags.keywords z) vs
 
 -- whether each version's keywords are among these
 abbrev pub all_within : List Version → List (List ℕ) → Bool
 all_within vs words = list_all (λ v. are_within v.flags.keywords words) vs
 
-within_each : (vs : List Version) (words : List (List ℕ)) (z : List ℕ) → all_within vs words ≡ true → one_holds vs z ≡ true → holds words z ≡ true
+within_each : (vs : List Version) (words : List (List ℕ)) (z : List ℕ) → all_within vs words ≡ true → any_version_has_word vs z ≡ true → has_word words z ≡ true
 within_each [] words z h i = absurd (false≢true i)
 within_each (v ∷ vs) words z h i =
     let both = and_parts (are_within v.flags.keywords words) (all_within vs words) h in
-    elim (or_cases (holds v.flags.keywords z) (one_holds vs z) i) [
-      | inl e ↦ all_held (holds words) v.flags.keywords z both.0 e
+    elim (or_cases (has_word v.flags.keywords z) (any_version_has_word vs z) i) [
+      | inl e ↦ each_word_of_all (has_word words) v.flags.keywords z both.0 e
       | inr t ↦ within_each vs words z both.1 t
     ]
 
-each_within : (vs : List Version) (words : List (List ℕ)) → ((z : List ℕ) → one_holds vs z ≡ true → holds words z ≡ true) → all_within vs words ≡ true
+each_within : (vs : List Version) (words : List (List ℕ)) → ((z : List ℕ) → any_version_has_word vs z ≡ true → has_word words z ≡ true) → all_within vs words ≡ true
 each_within [] words f = refl
 each_within (v ∷ vs) words f =
     and_from (are_within v.flags.keywords words) (all_within vs words)
-    (all_by (holds words) v.flags.keywords (λ z i. f z (or_left (holds v.flags.keywords z) (one_holds vs z) i)))
-    (each_within vs words (λ z i. f z (or_right (holds v.flags.keywords z) (one_holds vs z) i)))
+    (all_by (has_word words) v.flags.keywords (λ z i. f z (or_left (has_word v.flags.keywords z) (any_version_has_word vs z) i)))
+    (each_within vs words (λ z i. f z (or_right (has_word v.flags.keywords z) (any_version_has_word vs z) i)))
 
 -- if both tests pass, the keywords are those of the union
-pub same_from_tests : (vs : List Version) (words : List (List ℕ)) → AreAscending words → all_within vs words ≡ true → list_all (one_holds vs) words ≡ true → (united_flags vs).keywords ≡ words
+pub same_from_tests : (vs : List Version) (words : List (List ℕ)) → AreAscending words → all_within vs words ≡ true → list_all (any_version_has_word vs) words ≡ true → (united_flags vs).keywords ≡ words
 same_from_tests vs words a h k =
     one_ascending (united_flags vs).keywords words (ascending_united vs) a
     (λ z i. within_each vs words z h (sym (any_united (bytes_eq z) vs) ∙ i))
-    (λ z i. any_united (bytes_eq z) vs ∙ all_held (one_holds vs) words z k i)
+    (λ z i. any_united (bytes_eq z) vs ∙ each_word_of_all (any_version_has_word vs) words z k i)
 
 -- both tests pass for the keywords of the union
-pub tests_from_same : (vs : List Version) (words : List (List ℕ)) → (united_flags vs).keywords ≡ words → (all_within vs words ≡ true) × (list_all (one_holds vs) words ≡ true)
+pub tests_from_same : (vs : List Version) (words : List (List ℕ)) → (united_flags vs).keywords ≡ words → (all_within vs words ≡ true) × (list_all (any_version_has_word vs) words ≡ true)
 tests_from_same vs words e = (
-  each_within vs words (λ z i. sym (ap (λ ws. holds ws z) e) ∙ any_united (bytes_eq z) vs ∙ i),
-  all_by (one_holds vs) words (λ z i. sym (any_united (bytes_eq z) vs) ∙ ap (λ ws. holds ws z) e ∙ i),
+  each_within vs words (λ z i. sym (ap (λ ws. has_word ws z) e) ∙ any_united (bytes_eq z) vs ∙ i),
+  all_by (any_version_has_word vs) words (λ z i. sym (any_united (bytes_eq z) vs) ∙ ap (λ ws. has_word ws z) e ∙ i),
 )
 
 -- ---- the union added to other keywords

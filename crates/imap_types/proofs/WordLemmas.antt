@@ -12,7 +12,7 @@ use Rattle.std.specs.declared.cmp.Ordering.{Ordering}
 use Rattle.std.specs.declared.cmp.Ordering.TheVariants.{Less, Equal, Greater}
 use Rattle.imap_types.specs.Ascending.{AreAscending, IsBefore, octet_order}
 use Rattle.imap_types.specs.Keywords.{AreKeywords, is_lower_case, to_lower_case, with_word}
-use Rattle.imap_types.specs.Members.{holds}
+use Rattle.imap_types.specs.Members.{has_word}
 
 -- ---- what holds of a word when words are inserted
 
@@ -42,27 +42,27 @@ any_step p w v vs rest Less e h = refl
 any_step p w v vs rest Equal e h = sym (ap (λ (u : List ℕ). p u || (p v || list_any p vs)) (same_word w v e) ∙ or-twice (p v) (list_any p vs))
 any_step p w v vs rest Greater e h = ap (λ (b : Bool). p v || b) h ∙ or-turned (p w) (p v) (list_any p vs)
 
--- a test holds of some word of a list with one inserted exactly if it holds of that word or of
+-- a test holds of some word of a list with one inserted exactly when it holds of that word or of
 -- another
 any_with : (p : List ℕ → Bool) (w : List ℕ) (vs : List (List ℕ)) → list_any p (with_word w vs) ≡ (p w || list_any p vs)
 any_with p w [] = refl
 any_with p w (v ∷ vs) = any_step p w v vs (with_word w vs) (octet_order w v) refl (any_with p w vs)
 
--- a test holds of some word of a list with many inserted exactly if it holds of an inserted word or
--- of another
+-- a test holds of some word of a list with many inserted exactly when it holds of an inserted word
+-- or of another
 pub any_folded : (p : List ℕ → Bool) (start words : List (List ℕ)) → list_any p (fold (λ done word. with_word word done) start words) ≡ (list_any p start || list_any p words)
 any_folded p start [] = sym (or-none (list_any p start))
 any_folded p start (w ∷ ws) = any_folded p (with_word w start) ws ∙ ap (λ (b : Bool). b || list_any p ws) (any_with p w start) ∙ or-moved (p w) (list_any p start) (list_any p ws)
 
 -- ---- inserted words ascend
 
-later : (w v : List ℕ) → octet_order w v ≡ Greater → IsBefore v w
-later w v e = nat_list_cmp_total.antisymm v w ∙ ap ordering_reverse e
+before_of_greater : (w v : List ℕ) → octet_order w v ≡ Greater → IsBefore v w
+before_of_greater w v e = nat_list_cmp_total.antisymm v w ∙ ap ordering_reverse e
 
 chain_step : (a w v : List ℕ) (vs rest : List (List ℕ)) (o : Ordering) → octet_order w v ≡ o → IsBefore a w → AreAscending (a ∷ v ∷ vs) → (IsBefore v w → AreAscending (v ∷ rest)) → AreAscending (a ∷ match_ordering o (w ∷ v ∷ vs) (v ∷ vs) (v ∷ rest))
 chain_step a w v vs rest Less e b h t = (b, (e, h.1))
 chain_step a w v vs rest Equal e b h t = h
-chain_step a w v vs rest Greater e b h t = (h.0, t (later w v e))
+chain_step a w v vs rest Greater e b h t = (h.0, t (before_of_greater w v e))
 
 chained : (a w : List ℕ) (vs : List (List ℕ)) → IsBefore a w → AreAscending (a ∷ vs) → AreAscending (a ∷ with_word w vs)
 chained a w [] b h = (b, tt)
@@ -71,7 +71,7 @@ chained a w (v ∷ vs) b h = chain_step a w v vs (with_word w vs) (octet_order w
 first_step : (w v : List ℕ) (vs rest : List (List ℕ)) (o : Ordering) → octet_order w v ≡ o → AreAscending (v ∷ vs) → (IsBefore v w → AreAscending (v ∷ rest)) → AreAscending (match_ordering o (w ∷ v ∷ vs) (v ∷ vs) (v ∷ rest))
 first_step w v vs rest Less e h t = (e, h)
 first_step w v vs rest Equal e h t = h
-first_step w v vs rest Greater e h t = t (later w v e)
+first_step w v vs rest Greater e h t = t (before_of_greater w v e)
 
 ascending_with : (w : List ℕ) (vs : List (List ℕ)) → AreAscending vs → AreAscending (with_word w vs)
 ascending_with w [] h = tt
@@ -85,21 +85,21 @@ ascending_folded start (w ∷ ws) h = ascending_folded (with_word w start) ws (a
 
 -- each of the words is one of the others
 abbrev pub IsWithin : List (List ℕ) → List (List ℕ) → Type 0
-IsWithin xs ys = (z : List ℕ) → holds xs z ≡ true → holds ys z ≡ true
+IsWithin xs ys = (z : List ℕ) → has_word xs z ≡ true → has_word ys z ≡ true
 
-pub holds_cases : (z x : List ℕ) (xs : List (List ℕ)) → holds (x ∷ xs) z ≡ true → (z ≡ x) ⊎ (holds xs z ≡ true)
-holds_cases z x xs h = elim (or_cases (bytes_eq z x) (holds xs z) h) [ inl e ↦ inl ((bytes_eq-Decides z x).0 e) | inr t ↦ inr t ]
+pub has_word_cases : (z x : List ℕ) (xs : List (List ℕ)) → has_word (x ∷ xs) z ≡ true → (z ≡ x) ⊎ (has_word xs z ≡ true)
+has_word_cases z x xs h = elim (or_cases (bytes_eq z x) (has_word xs z) h) [ inl e ↦ inl ((bytes_eq-Decides z x).0 e) | inr t ↦ inr t ]
 
-pub holds_first : (x : List ℕ) (xs : List (List ℕ)) → holds (x ∷ xs) x ≡ true
-holds_first x xs = or_left (bytes_eq x x) (holds xs x) ((bytes_eq-Decides x x).1 refl)
+pub has_word_first : (x : List ℕ) (xs : List (List ℕ)) → has_word (x ∷ xs) x ≡ true
+has_word_first x xs = or_left (bytes_eq x x) (has_word xs x) ((bytes_eq-Decides x x).1 refl)
 
-pub holds_rest : (z x : List ℕ) (xs : List (List ℕ)) → holds xs z ≡ true → holds (x ∷ xs) z ≡ true
-holds_rest z x xs i = or_right (bytes_eq z x) (holds xs z) i
+pub has_word_rest : (z x : List ℕ) (xs : List (List ℕ)) → has_word xs z ≡ true → has_word (x ∷ xs) z ≡ true
+has_word_rest z x xs i = or_right (bytes_eq z x) (has_word xs z) i
 
-first_before : (x z : List ℕ) (xs : List (List ℕ)) → AreAscending (x ∷ xs) → holds xs z ≡ true → IsBefore x z
+first_before : (x z : List ℕ) (xs : List (List ℕ)) → AreAscending (x ∷ xs) → has_word xs z ≡ true → IsBefore x z
 first_before x z [] h i = absurd (false≢true i)
 first_before x z (y ∷ xs) h i =
-    elim (holds_cases z y xs i) [
+    elim (has_word_cases z y xs i) [
       | inl e ↦ subst (IsBefore x) (sym e) h.0
       | inr t ↦ nat_list_cmp_total.trans x y z h.0 (first_before y z xs h.1 t)
     ]
@@ -113,16 +113,16 @@ ascending_rest x (y ∷ xs) h = h.1
 
 tail_within : (x y : List ℕ) (xs ys : List (List ℕ)) → x ≡ y → AreAscending (x ∷ xs) → IsWithin (x ∷ xs) (y ∷ ys) → IsWithin xs ys
 tail_within x y xs ys e h f z i =
-    elim (holds_cases z y ys (f z (holds_rest z x xs i))) [
+    elim (has_word_cases z y ys (f z (has_word_rest z x xs i))) [
       | inl k ↦ absurd (not_itself x (subst (IsBefore x) (k ∙ sym e) (first_before x z xs h i)))
       | inr t ↦ t
     ]
 
-heads_same : (x y : List ℕ) (xs ys : List (List ℕ)) → AreAscending (x ∷ xs) → AreAscending (y ∷ ys) → holds (y ∷ ys) x ≡ true → holds (x ∷ xs) y ≡ true → x ≡ y
+heads_same : (x y : List ℕ) (xs ys : List (List ℕ)) → AreAscending (x ∷ xs) → AreAscending (y ∷ ys) → has_word (y ∷ ys) x ≡ true → has_word (x ∷ xs) y ≡ true → x ≡ y
 heads_same x y xs ys h k i j =
-    elim (holds_cases x y ys i) [
+    elim (has_word_cases x y ys i) [
       | inl e ↦ e
-      | inr t ↦ elim (holds_cases y x xs j) [
+      | inr t ↦ elim (has_word_cases y x xs j) [
         | inl e ↦ sym e
         | inr u ↦ absurd (not_itself x (nat_list_cmp_total.trans x y x (first_before x y xs h u) (first_before y x ys k t)))
       ]
@@ -130,29 +130,29 @@ heads_same x y xs ys h k i j =
 
 pub one_ascending : (xs ys : List (List ℕ)) → AreAscending xs → AreAscending ys → IsWithin xs ys → IsWithin ys xs → xs ≡ ys
 one_ascending [] [] h k f g = refl
-one_ascending [] (y ∷ ys) h k f g = absurd (false≢true (g y (holds_first y ys)))
-one_ascending (x ∷ xs) [] h k f g = absurd (false≢true (f x (holds_first x xs)))
+one_ascending [] (y ∷ ys) h k f g = absurd (false≢true (g y (has_word_first y ys)))
+one_ascending (x ∷ xs) [] h k f g = absurd (false≢true (f x (has_word_first x xs)))
 one_ascending (x ∷ xs) (y ∷ ys) h k f g =
-    let head : x ≡ y = heads_same x y xs ys h k (f x (holds_first x xs)) (g y (holds_first y ys)) in
+    let head : x ≡ y = heads_same x y xs ys h k (f x (has_word_first x xs)) (g y (has_word_first y ys)) in
     let tail : xs ≡ ys = one_ascending xs ys (ascending_rest x xs h) (ascending_rest y ys k) (tail_within x y xs ys head h f) (tail_within y x ys xs (sym head) k g) in
     λ i. head i ∷ tail i
 
 -- ---- tests of every word
 
 -- what holds of all words holds of each
-pub all_held : (p : List ℕ → Bool) (xs : List (List ℕ)) (z : List ℕ) → list_all p xs ≡ true → holds xs z ≡ true → p z ≡ true
-all_held p [] z h i = absurd (false≢true i)
-all_held p (x ∷ xs) z h i =
+pub each_word_of_all : (p : List ℕ → Bool) (xs : List (List ℕ)) (z : List ℕ) → list_all p xs ≡ true → has_word xs z ≡ true → p z ≡ true
+each_word_of_all p [] z h i = absurd (false≢true i)
+each_word_of_all p (x ∷ xs) z h i =
     let both = and_parts (p x) (list_all p xs) h in
-    elim (holds_cases z x xs i) [
+    elim (has_word_cases z x xs i) [
       | inl e ↦ ap p e ∙ both.0
-      | inr t ↦ all_held p xs z both.1 t
+      | inr t ↦ each_word_of_all p xs z both.1 t
     ]
 
 -- what holds of each word holds of all
-pub all_by : (p : List ℕ → Bool) (xs : List (List ℕ)) → ((z : List ℕ) → holds xs z ≡ true → p z ≡ true) → list_all p xs ≡ true
+pub all_by : (p : List ℕ → Bool) (xs : List (List ℕ)) → ((z : List ℕ) → has_word xs z ≡ true → p z ≡ true) → list_all p xs ≡ true
 all_by p [] f = refl
-all_by p (x ∷ xs) f = and_from (p x) (list_all p xs) (f x (holds_first x xs)) (all_by p xs (λ z i. f z (holds_rest z x xs i)))
+all_by p (x ∷ xs) f = and_from (p x) (list_all p xs) (f x (has_word_first x xs)) (all_by p xs (λ z i. f z (has_word_rest z x xs i)))
 
 -- ---- keywords added to others, one after another
 

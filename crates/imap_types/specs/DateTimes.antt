@@ -35,13 +35,13 @@ HasPicture picture text =
 abbrev pub two_digits : List ℕ → ℕ → ℕ
 two_digits text place = (slice_index text place - 48) * 10 + (slice_index text (place + 1) - 48)
 
--- Whether the letters are the name, in any case.
+-- Whether the letters are the name, in any letter case.
 abbrev pub are_letters_of : List ℕ → List ℕ → Bool
 are_letters_of name letters =
     bytes_eq (map to_ascii_lowercase letters) (map to_ascii_lowercase name)
 
--- The number of the month that three letters name in any case; 0 if they name none (RFC 9051,
--- section 9, date-month).
+-- The number of the month that three letters name in any letter case; 0 if they name none (RFC
+-- 9051, section 9, date-month).
 abbrev pub month_of : List ℕ → ℕ
 month_of letters =
     if are_letters_of (codes "jan") letters then 1

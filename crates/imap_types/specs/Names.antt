@@ -10,7 +10,7 @@ use Rattle.std.specs.Str.{IsUtf8, bytes_eq}
 abbrev pub inbox : List ℕ
 inbox = codes "INBOX"
 
--- Whether a name is INBOX in any case (RFC 9051, section 5.1).
+-- Whether a name is INBOX in any letter case (RFC 9051, section 5.1).
 abbrev pub is_inbox : List ℕ → Bool
 is_inbox name = bytes_eq (map to_ascii_lowercase name) (codes "inbox")
 

@@ -158,7 +158,7 @@ fn two_digits(octets: &[u8], place: usize) -> u8
     (octets[place] - b'0') * 10 + (octets[place + 1] - b'0')
 }
 
-/// The number of the month that the three letters name in any case; 0 if they name none.
+/// The number of the month that the three letters name in any letter case; 0 if they name none.
 pub fn month_of(letters: &[u8]) -> i8
     ensures value { result ≡ pos (month_of letters.now) }
 {

@@ -19,8 +19,8 @@ pub struct Day {
 }
 
 impl Day {
-    /// The day of the month that three letters name in any case (RFC 9051, section 9, date-month);
-    /// `None` if the letters name no month or the calendar has no such day.
+    /// The day of the month that three letters name in any letter case (RFC 9051, section 9,
+    /// date-month); `None` if the letters name no month or the calendar has no such day.
     pub fn from_month_name(year: u16, month: &[u8], day: u8) -> Option<Day>
         ensures exact { IsSome result ↔ IsDate (pos year) (pos (month_of month.now)) (pos day) }
         ensures value { IfSome result

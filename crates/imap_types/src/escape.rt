@@ -106,7 +106,7 @@ fn hex_digit(number: u8) -> u8
     }
 }
 
-/// The octets that a text in the escape stands for. `NotEscaped` exactly if the text is the
+/// The octets that a text in the escape stands for. `NotEscaped` exactly when the text is the
 /// spelling of no octets, and `NoMemory` if memory runs out.
 pub fn read_escaped(alloc: Global, escape: Escape, text: &[u8]) -> Result<Octets, EscapeFault>
     ensures value { IsReading (λ octets. octets) result (unescape escape text.now) }

@@ -5,7 +5,7 @@
 //!
 //! Contracts see each type as the value that it stands for: an octet string as the list of its
 //! octets, a set of numbers as the rising list of its numbers. A type with an invariant is made by
-//! a call that returns `None` exactly if the invariant fails: a date-time is one that RFC 9051
+//! a call that returns `None` exactly when the invariant fails: a date-time is one that RFC 9051
 //! spells, on an existing day; keywords are in lower case, distinct and ascending. What
 //! `write_escaped` writes, `read_escaped` reads back, and it reads nothing else.
 //!

@@ -96,7 +96,7 @@ impl Name {
         Name::from_slice(alloc, self.as_bytes())
     }
 
-    /// Whether the name is `INBOX` in any case (RFC 9051, section 5.1).
+    /// Whether the name is `INBOX` in any letter case (RFC 9051, section 5.1).
     pub fn is_inbox(&self) -> bool
         ensures { result ≡ is_inbox self.now }
     {
@@ -156,7 +156,7 @@ fn has_no_empty_level(octets: &[u8]) -> bool
         .all(|level| !level.is_empty())
 }
 
-/// Whether a name that is INBOX in any case is in capitals.
+/// Whether a name that is INBOX in any letter case is in capitals.
 fn is_folded(octets: &[u8]) -> bool
     ensures { IsTrue result ↔ (fold_inbox octets.now ≡ octets.now) }
 {

@@ -3,7 +3,7 @@
 ghost use Rattle.std.specs.Prelude.{◌≡◌, ◌↔◌, IsTrue, OnOk};
 ghost use Rattle.std.specs.List.{fold, flat_map, list_all, list_any};
 ghost use Rattle.imap_types.specs.Keywords.{with_word};
-ghost use Rattle.imap_types.specs.Members.{are_within, holds};
+ghost use Rattle.imap_types.specs.Members.{are_within, has_word};
 ghost use Rattle.imap_types.specs.Unions.{united_flags, with_flags};
 
 use crate::flags::Flags;
@@ -72,7 +72,7 @@ fn all_are_within(versions: &[Version], words: &[Octets]) -> bool
 /// Whether each word is a keyword of some version.
 fn each_is_in_a_version(versions: &[Version], words: &[Octets]) -> bool
     ensures { result
-        ≡ list_all (λ word. list_any (λ version. holds version.flags.keywords word) versions.now)
+        ≡ list_all (λ word. list_any (λ version. has_word version.flags.keywords word) versions.now)
         words.now }
 {
     words.iter().all(|word| is_in_a_version(versions, word))
@@ -80,23 +80,21 @@ fn each_is_in_a_version(versions: &[Version], words: &[Octets]) -> bool
 
 /// Whether some version has this keyword.
 fn is_in_a_version(versions: &[Version], word: &Octets) -> bool
-    ensures { result ≡ list_any (λ version. holds version.flags.keywords word.now) versions.now }
+    ensures { result ≡ list_any (λ version. has_word version.flags.keywords word.now) versions.now }
 {
-    versions
-        .iter()
-        .any(|version| holds(version.flags.keywords.as_slice(), word))
+    versions.iter().any(|version| has_word(version.flags.keywords.as_slice(), word))
 }
 
 /// Whether each of the words is one of the others.
 fn are_within(words: &[Octets], others: &[Octets]) -> bool
     ensures { result ≡ are_within words.now others.now }
 {
-    words.iter().all(|word| holds(others, word))
+    words.iter().all(|word| has_word(others, word))
 }
 
 /// Whether the word is one of these, octet by octet.
-fn holds(words: &[Octets], word: &Octets) -> bool
-    ensures { result ≡ holds words.now word.now }
+fn has_word(words: &[Octets], word: &Octets) -> bool
+    ensures { result ≡ has_word words.now word.now }
 {
     words
         .iter()

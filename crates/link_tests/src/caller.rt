@@ -92,7 +92,7 @@ impl<'a, R: Wait> Gate for Until<'a, R> {
 }
 
 /// The operations that the last call issued.
-fn issued<L: Ledger>(pass: &Pass<L>) -> &[SoundOp] {
+fn issued_ops<L: Ledger>(pass: &Pass<L>) -> &[SoundOp] {
     match pass.last() {
         Some(
             Outcome::Replied {
@@ -254,7 +254,7 @@ impl<L: Ledger> Caller<L> {
             return Ok(0);
         }
         let channels = &replica.channels;
-        let ops = copies(channels.alloc, issued(&self.pass))?;
+        let ops = copies(channels.alloc, issued_ops(&self.pass))?;
         let count = ops.len();
         let sent = channels.send(channels.peer(), LinkMsg::Ops(ops))?;
         Ok(if sent { count } else { 0 })

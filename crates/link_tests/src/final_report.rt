@@ -10,7 +10,7 @@ use std::alloc::{AllocError, Global};
 
 /// A replica after a scene: its book, or why it isn't returned, and the outcomes that its callers
 /// noted.
-pub struct Ended {
+pub struct FinalReplica {
     /// The book that was returned, or why there is none.
     pub book: Result<Book, FinishFault>,
     /// The outcomes that its callers noted.
@@ -18,7 +18,7 @@ pub struct Ended {
 }
 
 // By hand, so that its owners drop it whole.
-impl Drop for Ended {
+impl Drop for FinalReplica {
     fn drop(self) {
         let Self {
             book: _,
@@ -27,7 +27,7 @@ impl Drop for Ended {
     }
 }
 
-impl Ended {
+impl FinalReplica {
     /// Appends the number of entries of the journal, or why it isn't returned.
     fn write_entries(&self, text: &mut String) -> Result<(), AllocError> {
         match &self.book {
@@ -48,8 +48,8 @@ pub fn with_final_report(
     alloc: Global,
     output: Result<String, AllocError>,
     final_report: FinalReport,
-    one: Ended,
-    other: Ended,
+    one: FinalReplica,
+    other: FinalReplica,
 ) -> Result<String, AllocError> {
     let ended = text_of_both(alloc, final_report, &one, &other);
     drop(one);
@@ -62,8 +62,8 @@ pub fn with_final_report(
 fn text_of_both(
     alloc: Global,
     final_report: FinalReport,
-    one: &Ended,
-    other: &Ended,
+    one: &FinalReplica,
+    other: &FinalReplica,
 ) -> Result<String, AllocError> {
     let mut text = String::new(alloc);
     let books = match final_report {

@@ -223,7 +223,7 @@ const WORK: &[Action] = &[
 ];
 
 /// A replica at which these actions were done, and one that joined with copies of its operations.
-fn worked<L: Ledger, R: Wait + Clock>(
+fn work_and_join<L: Ledger, R: Wait + Clock>(
     rt: &R,
     alloc: Global,
     blank: Blank,
@@ -261,10 +261,19 @@ fn worked<L: Ledger, R: Wait + Clock>(
 
 /// A new replica at which the work was done, and one that joined with copies of its operations;
 /// `None` if one of them can't be made.
-fn worked_two<R: Wait + Clock>(rt: &R, alloc: Global) -> Result<Option<(Book, Book)>, AllocError> {
+fn make_joined_books<R: Wait + Clock>(
+    rt: &R,
+    alloc: Global,
+) -> Result<Option<(Book, Book)>, AllocError> {
     let lines = Lines::new(alloc, false)?;
     match book_from(alloc, 1, 1) {
-        Some(book) => Ok(worked::<Brand, R>(rt, alloc, Blank::new(4_294_967_295), book, &lines)),
+        Some(book) => Ok(work_and_join::<Brand, R>(
+            rt,
+            alloc,
+            Blank::new(4_294_967_295),
+            book,
+            &lines,
+        )),
         None => Ok(None),
     }
 }
@@ -291,9 +300,12 @@ const JOINED: Scene = Scene {
 
 /// The text of a replica that joined with copies of another one's operations, and of the scene in
 /// which it asks for what the other issued meanwhile.
-fn joined<R: Threads + Wait + Clock + Sync>(rt: &R, alloc: Global) -> Result<String, AllocError> {
+fn join_text<R: Threads + Wait + Clock + Sync>(
+    rt: &R,
+    alloc: Global,
+) -> Result<String, AllocError> {
     let mut text = String::new(alloc);
-    match worked_two(rt, alloc)? {
+    match make_joined_books(rt, alloc)? {
         Some((one, two)) => {
             let output = write_book(&mut text, &two);
             let played = output_of(rt, alloc, (one, two), &JOINED);
@@ -307,7 +319,7 @@ fn joined<R: Threads + Wait + Clock + Sync>(rt: &R, alloc: Global) -> Result<Str
 
 #[test]
 fn one_joins_and_asks(rt: HostRuntime) -> Result<(), Fail> {
-    let output = joined(&rt, rt.alloc())?;
+    let output = join_text(&rt, rt.alloc())?;
     let taken =
         "1:1 Applied 1\n1:2 Applied 1\n1:3 Applied 1\n1:4 Applied 1\n4 entries, 4 applied\n";
     assert_eq!(rt; output.strip_prefix(taken).unwrap_or(""), JOINED.expected);

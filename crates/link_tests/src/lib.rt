@@ -6,11 +6,14 @@
 //! have something to be sent, that four threads make one history, that lost messages are requested
 //! again, and that linked replicas end with the same operations. Replicas join with another one's
 //! operations, and a journal is returned only with the passes of all its calls. A table gives the
-//! order of the calls that a link's worker makes.
+//! order of the calls that a link's worker makes. Journals with a bound forget their oldest
+//! entries, and no others.
 #![tactic(auto)]
 
 #[cfg(test)]
 mod actions;
+#[cfg(test)]
+mod bounded_journals;
 #[cfg(test)]
 mod caller;
 #[cfg(test)]

@@ -65,7 +65,7 @@ const SCENES: &[Scene] = &[
         expected: "1 to 2: 1:1\n1 to 2: 1:2\n1 to 2: 1:3\n2 to 1: 2:1\n2 to 1: 2:2\n2 to 1: have 2=2\n2 to 1: have 2=2\n1 to 2: 1:1 1:2 1:3\n1 to 2: 1:1 1:2 1:3\n1 to 2: 1:1 1:2 1:3\n1 to 2: 1:1 1:2 1:3\n1 to 2: have 1=3\n2 to 1: 2:1 2:2\n2 to 1: 2:1 2:2\nat 1\n2:2 Held\n2:2 Repeat\n2:1 Applied 2\n2:1 Repeat\n2:1 Repeat\n2:2 Repeat\n2:1 Repeat\n2:2 Repeat\n2:1 Repeat\n2:2 Repeat\n2:1 Repeat\n2:2 Repeat\nat 2\n1:3 Held\n1:3 Repeat\n1:2 Held\n1:2 Repeat\n1:1 Applied 3\n1:1 Repeat\n1:1 Repeat\n1:2 Repeat\n1:3 Repeat\n1:1 Repeat\n1:2 Repeat\n1:3 Repeat\n1:1 Repeat\n1:2 Repeat\n1:3 Repeat\n1:1 Repeat\n1:2 Repeat\n1:3 Repeat\n1:1 Repeat\n1:2 Repeat\n1:3 Repeat\n1:1 Repeat\n1:2 Repeat\n1:3 Repeat\n1:1 Repeat\n1:2 Repeat\n1:3 Repeat\n1:1 Repeat\n1:2 Repeat\n1:3 Repeat\nagreed\n",
     },
     Scene {
-        name: "who lacks nothing is handed nothing",
+        name: "who lacks nothing is sent nothing",
         uid: 1,
         actions: &[
             (0, Action::GivesAndSends("CREATE a")),

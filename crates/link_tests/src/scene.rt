@@ -5,7 +5,7 @@ ghost use Rattle.std.specs.Prelude.{◌≡◌};
 use crate::actions::Scene;
 use crate::caller::{Caller, Replica, cut_callers};
 use crate::channels::{Channels, Lines};
-use crate::final_report::{Ended, with_final_report};
+use crate::final_report::{FinalReplica, with_final_report};
 use crate::fixtures::{book_from, join, operations};
 use replica_lock::{Book, Pass, Shared};
 use std::alloc::{AllocError, Global};
@@ -97,7 +97,7 @@ fn finish_replica<L: Ledger>(
     shared: Shared<L>,
     first: Caller<L>,
     callers: Callers<L>,
-) -> Ended
+) -> FinalReplica
     requires { L.parts ≡ 4294967295 }
 {
     let mut passes = Vec::new(alloc);
@@ -108,14 +108,14 @@ fn finish_replica<L: Ledger>(
         }
     }
     drop(first.into_outcomes(&mut passes));
-    Ended {
+    FinalReplica {
         book: shared.finish(passes),
         outcomes,
     }
 }
 
 /// The text of a scene at new replicas with these books.
-fn played<L: Ledger + Send + Sync, M: Ledger + Send + Sync, R: Threads + Wait + Clock + Sync>(
+fn play_scene<L: Ledger + Send + Sync, M: Ledger + Send + Sync, R: Threads + Wait + Clock + Sync>(
     rt: &R,
     alloc: Global,
     blank: Blank,
@@ -157,7 +157,7 @@ pub fn output_of<R: Threads + Wait + Clock + Sync>(
     let whole = 4_294_967_295;
     let reports_messages = scene.first.is_empty() && scene.second.is_empty();
     match Lines::new(alloc, reports_messages) {
-        Ok(lines) => played::<Brand, Brand, R>(
+        Ok(lines) => play_scene::<Brand, Brand, R>(
             rt,
             alloc,
             Blank::new(whole),

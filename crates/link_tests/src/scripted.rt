@@ -65,7 +65,7 @@ struct Case {
 /// A scripted replica that notes each call. It is also a gate and the links to the other replicas,
 /// and notes their calls too.
 #[derive(Drop)]
-struct Scripted<'a, R: Wait + rt::Clock> {
+struct ScriptedReplica<'a, R: Wait + rt::Clock> {
     rt: &'a R,
     alloc: Global,
     calls: &'a Sender<String>,
@@ -73,7 +73,7 @@ struct Scripted<'a, R: Wait + rt::Clock> {
     given: usize,
 }
 
-impl<'a, R: Wait + rt::Clock> Scripted<'a, R> {
+impl<'a, R: Wait + rt::Clock> ScriptedReplica<'a, R> {
     fn note(&self, call: Result<String, AllocError>) {
         if let Ok(call) = call {
             let _ = self.calls.send(self.rt, call);
@@ -81,7 +81,7 @@ impl<'a, R: Wait + rt::Clock> Scripted<'a, R> {
     }
 }
 
-impl<'a, R: Wait + rt::Clock> Taker for Scripted<'a, R> {
+impl<'a, R: Wait + rt::Clock> Taker for ScriptedReplica<'a, R> {
     ghost takes = { λ s op took t. Unit {0} };
 
     ghost drains = { λ s t. Unit {0} };
@@ -127,7 +127,7 @@ impl<'a, R: Wait + rt::Clock> Taker for Scripted<'a, R> {
     }
 }
 
-impl<'a, R: Wait + rt::Clock> PeerLinks for Scripted<'a, R> {
+impl<'a, R: Wait + rt::Clock> PeerLinks for ScriptedReplica<'a, R> {
     ghost asks = { λ p to clock q. Unit {0} };
 
     ghost sends = { λ p to ops q. Unit {0} };
@@ -144,7 +144,7 @@ impl<'a, R: Wait + rt::Clock> PeerLinks for Scripted<'a, R> {
     }
 }
 
-impl<'a, R: Wait + rt::Clock> Gate for Scripted<'a, R> {
+impl<'a, R: Wait + rt::Clock> Gate for ScriptedReplica<'a, R> {
     fn pass(&mut self, n: u64) {
         self.note(format!(in self.alloc; "pass {n}\n"));
         if self.case.takes > 0 {
@@ -199,21 +199,21 @@ fn work<R: Wait + rt::Clock>(rt: &R, alloc: Global, sender: Sender<String>, inpu
         rest: Duration::from_millis(case.rest),
     };
     let given = 0;
-    let mut gate = Scripted {
+    let mut gate = ScriptedReplica {
         rt,
         alloc,
         calls,
         case,
         given,
     };
-    let mut taker = Scripted {
+    let mut taker = ScriptedReplica {
         rt,
         alloc,
         calls,
         case,
         given,
     };
-    let mut links = Scripted {
+    let mut links = ScriptedReplica {
         rt,
         alloc,
         calls,
@@ -377,7 +377,7 @@ const CASES: &[Case] = &[
         expected: &["pass 1\ndeliver 1:1\ndrain\nclock\npass 2\nsince 1=2,4=1\n"],
     },
     Case {
-        name: "nothing is handed where nothing lacks",
+        name: "nothing is sent if nothing is lacking",
         answers: &[],
         clock: 9,
         gives: &[],

@@ -133,8 +133,8 @@ const SCENES: &[Scene] = &[
         final_report: FinalReport::Common,
         expected: "sent 1000\nsent 1000\n2000 applied, 2000 by both\n",
     },
-    // The first replica creates three folders, and the message with the third is lost. The link of
-    // the second asks every five milliseconds.
+    // The first replica creates three folders, and the third isn't sent, as if the message were
+    // lost. The link of the second asks every five milliseconds.
     Scene {
         name: "a last message that is lost is asked for",
         uid: 1,

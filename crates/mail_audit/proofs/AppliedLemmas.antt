@@ -32,12 +32,12 @@ clock_of op = op.clock
 -- ---- ascending operations
 
 -- ascending operations still ascend with one more that is above the last
-pub ordered_more : (ops : List Op) (op : Op) → IsAboveLast ops op.id → AreOrdered ops → AreOrdered (ops ++ op ∷ [])
-ordered_more [] op s a = (tt, tt)
-ordered_more (x ∷ []) op s a = (s, (tt, tt))
-ordered_more (x ∷ y ∷ ops) op s a = (a.0, ordered_more (y ∷ ops) op s a.1)
+pub ordered_append : (ops : List Op) (op : Op) → IsAboveLast ops op.id → AreOrdered ops → AreOrdered (ops ++ op ∷ [])
+ordered_append [] op s a = (tt, tt)
+ordered_append (x ∷ []) op s a = (s, (tt, tt))
+ordered_append (x ∷ y ∷ ops) op s a = (a.0, ordered_append (y ∷ ops) op s a.1)
 
--- an id is above that of the last operation exactly if `IsAboveLast` says so
+-- an id is above that of the last operation exactly when `IsAboveLast` says so
 pub above_last : (ops : List Op) (id : OpId) (op : Op) (n : ℕ) → length ops ≡ n + 1 → op ≡ get_or ops n op → (id_order op.id id ≡ Less) ↔ IsAboveLast ops id
 above_last [] id op n l e = absurd (omega (arith, l))
 above_last (x ∷ []) id op zero l e = (λ t. subst (λ (o : Op). id_order o.id id ≡ Less) e t, λ t. subst (λ (o : Op). id_order o.id id ≡ Less) (sym e) t)
@@ -75,8 +75,8 @@ ordered_determine (x ∷ ops) a o p h k s =
     ]
 
 -- what holds of the first `i` and of the next holds of the first `i + 1`
-pub all_more : {X : Type 0} (P : X → Type 0) (xs : List X) (i : ℕ) (x : X) → i < length xs → x ≡ get_or xs i x → ((y : X) → IsIn y (take i xs) → P y) → P x → (y : X) → IsIn y (take (i + 1) xs) → P y
-all_more P xs i x l is before here y h =
+pub all_take_next : {X : Type 0} (P : X → Type 0) (xs : List X) (i : ℕ) (x : X) → i < length xs → x ≡ get_or xs i x → ((y : X) → IsIn y (take i xs) → P y) → P x → (y : X) → IsIn y (take (i + 1) xs) → P y
+all_take_next P xs i x l is before here y h =
     let next : take (i + 1) xs ≡ take i xs ++ x ∷ [] = take_more xs i x l ∙ ap (λ z. take i xs ++ z ∷ []) (sym is) in
     elim (in_parts y (take i xs) (x ∷ []) (subst (IsIn y) next h)) [
       | inl t ↦ before y t
@@ -89,8 +89,8 @@ in_at (y ∷ xs) zero x l e = inl (sym e)
 in_at (y ∷ xs) (suc i) x l e = inr (in_at xs i x (omega (arith, l)) e)
 
 -- an inbox that has received only these operations still has after receiving one of them
-pub holds_more : {S : Type 0} (ops : List Op) (old new : ReceivedOps S Op) (op : Op) (i : ℕ) → i < length ops → op ≡ get_or ops i op → HasReceivedOnly ops old → ((o : Op) → IsReceived new o → IsReceived old o ⊎ (o ≡ op)) → HasReceivedOnly ops new
-holds_more ops old new op i l is h grown o r =
+pub received_only_grown : {S : Type 0} (ops : List Op) (old new : ReceivedOps S Op) (op : Op) (i : ℕ) → i < length ops → op ≡ get_or ops i op → HasReceivedOnly ops old → ((o : Op) → IsReceived new o → IsReceived old o ⊎ (o ≡ op)) → HasReceivedOnly ops new
+received_only_grown ops old new op i l is h grown o r =
     elim (grown o r) [
       | inl t ↦ h o t
       | inr e ↦ subst (λ (p : Op). IsIn p ops) (sym e) (in_at ops i op l is)

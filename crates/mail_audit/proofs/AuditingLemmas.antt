@@ -1,11 +1,11 @@
 use Rattle.std.proofs.Common.{◌≡◌, ◌≢◌, ℕ, suc, ◌+◌, ◌≤◌, List, [], ◌∷◌, ◌++◌, Option, Some, None, length, length-append, append_assoc, append-nil, arith, ap, sym, refl, subst, ◌∙◌}
 use Rattle.std.specs.Io.KnownBytes.{Appends, Consumes, IsAtEnd, Keeps}
-use Rattle.text_fields.proofs.FieldLemmas.{cut_takes}
+use Rattle.text_fields.proofs.FieldLemmas.{cut_sound}
 use Rattle.mail_script.specs.Lines.{lines_of}
 use Rattle.mail_script.specs.Reading.{cut_at}
 use Rattle.mail_script.proofs.LineLemmas.{lines_last, lines_next}
-use Rattle.mail_audit.specs.Audits.{Audits}
-use Rattle.mail_audit.specs.AuditProgress.{Advances, EndsAt, EndsWithin, HasTaken}
+use Rattle.mail_audit.specs.Audits.{IsVerdict}
+use Rattle.mail_audit.specs.AuditProgress.{HasAdvanced, EndsAt, EndsWithin, HasTaken}
 use Rattle.mail_audit.specs.declared.line_audit.Audit.{Audit}
 use Rattle.mail_audit.specs.declared.verdict.AuditEnd.{AuditEnd}
 
@@ -36,11 +36,11 @@ appends_keeps a b c xs h k = subst (λ (zs : List ℕ). Appends a c zs) (append-
 -- a line that is cut off, its end and the rest have the length of the whole text
 pub cut_parts : (text line rest : List ℕ) → cut_at 10 text ≡ Some (line, rest) → length text ≡ length line + 1 + length rest
 cut_parts text line rest e =
-    let n : length text ≡ length line + length (10 ∷ rest) = ap length (cut_takes 10 text (line, rest) e) ∙ length-append line (10 ∷ rest) in
+    let n : length text ≡ length line + length (10 ∷ rest) = ap length (cut_sound 10 text (line, rest) e) ∙ length-append line (10 ∷ rest) in
     let m : length (10 ∷ rest) ≡ suc (length rest) = refl in
     omega (arith, n, m)
 
-pub advance_at_first : (front : List (List ℕ)) (audit : Audit) (text : List ℕ) → HasTaken front audit → Advances front audit text audit text
+pub advance_at_first : (front : List (List ℕ)) (audit : Audit) (text : List ℕ) → HasTaken front audit → HasAdvanced front audit text audit text
 advance_at_first front audit text s = record {
   done = [];
   lines = λ more. refl;
@@ -48,13 +48,13 @@ advance_at_first front audit text s = record {
   fits = omega arith;
 }
 
-module _ (front : List (List ℕ)) (old : Audit) (text : List ℕ) (mid : Audit) (left : List ℕ) (a : Advances front old text mid left) (line rest : List ℕ) (cut : cut_at 10 left ≡ Some (line, rest)) where
+module _ (front : List (List ℕ)) (old : Audit) (text : List ℕ) (mid : Audit) (left : List ℕ) (a : HasAdvanced front old text mid left) (line rest : List ℕ) (cut : cut_at 10 left ≡ Some (line, rest)) where
   -- the lines of a text from which one more line is cut off
   lines_on : (more : List ℕ) → lines_of (text ++ more) ≡ a.done ++ line ∷ lines_of (rest ++ more)
   lines_on more = a.lines more ∙ ap (λ (ls : List (List ℕ)). a.done ++ ls) (lines_next left line rest more cut)
 
   -- one further line was taken
-  pub advance_on : (new : Audit) → HasTaken ((front ++ a.done) ++ line ∷ []) new → Advances front old text new rest
+  pub advance_on : (new : Audit) → HasTaken ((front ++ a.done) ++ line ∷ []) new → HasAdvanced front old text new rest
   advance_on new s =
       let n = cut_parts left line rest cut in
       let k = length-append (front ++ a.done) (line ∷ []) in
@@ -71,7 +71,7 @@ module _ (front : List (List ℕ)) (old : Audit) (text : List ℕ) (mid : Audit)
   -- the audit ends at that line
   pub ends_within : (end : AuditEnd) → EndsAt (front ++ a.done) line end → EndsWithin front text end
   ends_within end e more =
-      subst (λ (ls : List (List ℕ)). Audits ls end)
+      subst (λ (ls : List (List ℕ)). IsVerdict ls end)
       (append_assoc front a.done (line ∷ lines_of (rest ++ more)) ∙ ap (λ (ls : List (List ℕ)). front ++ ls) (sym (lines_on more)))
       (e (lines_of (rest ++ more)))
 
@@ -131,7 +131,7 @@ module _ (start left : Option (List ℕ)) (audit : Audit) (text : List ℕ) (has
       (p.0, p.1, i, ap lines_of i ∙ joined bs p.0)
 
   -- the lines that a piece completes are taken
-  pub read_on : (bs : List ℕ) (left' : Option (List ℕ)) (audit' : Audit) (text' : List ℕ) → Consumes left left' bs → Advances has_read.front audit (text ++ bs) audit' text' → HasRead start left' audit' text'
+  pub read_on : (bs : List ℕ) (left' : Option (List ℕ)) (audit' : Audit) (text' : List ℕ) → Consumes left left' bs → HasAdvanced has_read.front audit (text ++ bs) audit' text' → HasRead start left' audit' text'
   read_on bs left' audit' text' k a = record {
     read = has_read.read ++ bs;
     front = has_read.front ++ a.done;
@@ -141,24 +141,24 @@ module _ (start left : Option (List ℕ)) (audit : Audit) (text : List ℕ) (has
   }
 
   -- the audit ends within a piece that was read
-  pub read_to_line : (bs : List ℕ) (left' : Option (List ℕ)) (end : AuditEnd) → Consumes left left' bs → EndsWithin has_read.front (text ++ bs) end → (input : List ℕ) → start ≡ Some input → Audits (lines_of input) end
+  pub read_to_line : (bs : List ℕ) (left' : Option (List ℕ)) (end : AuditEnd) → Consumes left left' bs → EndsWithin has_read.front (text ++ bs) end → (input : List ℕ) → start ≡ Some input → IsVerdict (lines_of input) end
   read_to_line bs left' end k w input e =
       let b = after bs left' k input e in
-      subst (λ (ls : List (List ℕ)). Audits ls end) (sym b.3) (w b.0)
+      subst (λ (ls : List (List ℕ)). IsVerdict ls end) (sym b.3) (w b.0)
 
   -- the input ends
-  pub read_to_end : (left' : Option (List ℕ)) (end : AuditEnd) → Consumes left left' [] → IsAtEnd left' → Audits (has_read.front ++ lines_of text) end → (input : List ℕ) → start ≡ Some input → Audits (lines_of input) end
+  pub read_to_end : (left' : Option (List ℕ)) (end : AuditEnd) → Consumes left left' [] → IsAtEnd left' → IsVerdict (has_read.front ++ lines_of text) end → (input : List ℕ) → start ≡ Some input → IsVerdict (lines_of input) end
   read_to_end left' end k at w input e =
       let b = after [] left' k input e in
       let none : b.0 ≡ [] = subst (λ (o : Option (List ℕ)). IsAtEnd o) b.1 at in
       let t : (text ++ []) ++ b.0 ≡ text = ap (λ (zs : List ℕ). (text ++ []) ++ zs) none ∙ append-nil (text ++ []) ∙ append-nil text in
-      subst (λ (ls : List (List ℕ)). Audits ls end) (sym (b.3 ∙ ap (λ (zs : List ℕ). has_read.front ++ lines_of zs) t)) w
+      subst (λ (ls : List (List ℕ)). IsVerdict ls end) (sym (b.3 ∙ ap (λ (zs : List ℕ). has_read.front ++ lines_of zs) t)) w
 
 -- ---- the last line
 
-pub last_none : (front : List (List ℕ)) (text : List ℕ) (end : AuditEnd) → length text ≡ 0 → Audits front end → Audits (front ++ lines_of text) end
-last_none front [] end e a = subst (λ (ls : List (List ℕ)). Audits ls end) (sym (append-nil front)) a
+pub last_none : (front : List (List ℕ)) (text : List ℕ) (end : AuditEnd) → length text ≡ 0 → IsVerdict front end → IsVerdict (front ++ lines_of text) end
+last_none front [] end e a = subst (λ (ls : List (List ℕ)). IsVerdict ls end) (sym (append-nil front)) a
 last_none front (octet ∷ octets) end e a = absurd (omega (arith, e))
 
-pub last_one : (front : List (List ℕ)) (text : List ℕ) (end : AuditEnd) → cut_at 10 text ≡ None → length text ≢ 0 → Audits (front ++ text ∷ []) end → Audits (front ++ lines_of text) end
-last_one front text end c n a = subst (λ (ls : List (List ℕ)). Audits ls end) (ap (λ (ls : List (List ℕ)). front ++ ls) (sym (lines_last text c (λ e. n (ap length e))))) a
+pub last_one : (front : List (List ℕ)) (text : List ℕ) (end : AuditEnd) → cut_at 10 text ≡ None → length text ≢ 0 → IsVerdict (front ++ text ∷ []) end → IsVerdict (front ++ lines_of text) end
+last_one front text end c n a = subst (λ (ls : List (List ℕ)). IsVerdict ls end) (ap (λ (ls : List (List ℕ)). front ++ ls) (sym (lines_last text c (λ e. n (ap length e))))) a

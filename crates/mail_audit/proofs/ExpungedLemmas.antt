@@ -8,9 +8,9 @@ use Rattle.mail_audit.specs.KnownUids.{AreExpunged, places_from}
 use Rattle.mail_audit.specs.EventPasses.{numbers_upward}
 use Rattle.mail_audit.proofs.RunLemmas.{get_after, get_upward, length_upward, without_after, without_upward}
 
-pub gone_low : (from : ℕ) (expunged : List ℕ) (total : ℕ) → AreExpunged from expunged total → from + length expunged ≤ total
-gone_low from [] total a = let e : from ≤ total = a in omega (arith, e)
-gone_low from (g ∷ expunged) total a = let r = gone_low (g + 1) expunged total a.1 in let l : from ≤ g = a.0 in omega (arith, r, l)
+pub length_expunged : (from : ℕ) (expunged : List ℕ) (total : ℕ) → AreExpunged from expunged total → from + length expunged ≤ total
+length_expunged from [] total a = let e : from ≤ total = a in omega (arith, e)
+length_expunged from (g ∷ expunged) total a = let r = length_expunged (g + 1) expunged total a.1 in let l : from ≤ g = a.0 in omega (arith, r, l)
 
 -- the numbers of existing messages and of expunged ones add up to that of all messages
 pub length_places : (from : ℕ) (expunged : List ℕ) (total : ℕ) → AreExpunged from expunged total → length (places_from from expunged total) + length expunged ≡ total - from
@@ -19,25 +19,25 @@ length_places from (g ∷ expunged) total a =
     let l = length-append (numbers_upward from (g - from)) (places_from (g + 1) expunged total) in
     let u = length_upward from (g - from) in
     let r = length_places (g + 1) expunged total a.1 in
-    let b = gone_low (g + 1) expunged total a.1 in
+    let b = length_expunged (g + 1) expunged total a.1 in
     let f : from ≤ g = a.0 in
     omega (arith, l, u, r, b, f)
 
 -- the `j`th expunged place is at least `j` after the first place
-gone_least : (from : ℕ) (expunged : List ℕ) (total j : ℕ) → AreExpunged from expunged total → j < length expunged → from + j ≤ get_or expunged j 0
-gone_least from [] total j a l = absurd (omega (arith, l))
-gone_least from (g ∷ expunged) total zero a l = let f : from ≤ g = a.0 in omega (arith, f)
-gone_least from (g ∷ expunged) total (suc j) a l =
-    let r = gone_least (g + 1) expunged total j a.1 (omega (arith, l)) in
+expunged_at_least : (from : ℕ) (expunged : List ℕ) (total j : ℕ) → AreExpunged from expunged total → j < length expunged → from + j ≤ get_or expunged j 0
+expunged_at_least from [] total j a l = absurd (omega (arith, l))
+expunged_at_least from (g ∷ expunged) total zero a l = let f : from ≤ g = a.0 in omega (arith, f)
+expunged_at_least from (g ∷ expunged) total (suc j) a l =
+    let r = expunged_at_least (g + 1) expunged total j a.1 (omega (arith, l)) in
     let f : from ≤ g = a.0 in
     omega (arith, r, f)
 
-pub gone_apart : (from : ℕ) (expunged : List ℕ) (total i j : ℕ) → AreExpunged from expunged total → i ≤ j → j < length expunged → get_or expunged i 0 + (j - i) ≤ get_or expunged j 0
-gone_apart from [] total i j a k l = absurd (omega (arith, l))
-gone_apart from (g ∷ expunged) total zero zero a k l = omega arith
-gone_apart from (g ∷ expunged) total zero (suc j) a k l = let r = gone_least (g + 1) expunged total j a.1 (omega (arith, l)) in omega (arith, r)
-gone_apart from (g ∷ expunged) total (suc i) zero a k l = absurd (omega (arith, k))
-gone_apart from (g ∷ expunged) total (suc i) (suc j) a k l = let r = gone_apart (g + 1) expunged total i j a.1 (omega (arith, k)) (omega (arith, l)) in omega (arith, r)
+pub expunged_rising : (from : ℕ) (expunged : List ℕ) (total i j : ℕ) → AreExpunged from expunged total → i ≤ j → j < length expunged → get_or expunged i 0 + (j - i) ≤ get_or expunged j 0
+expunged_rising from [] total i j a k l = absurd (omega (arith, l))
+expunged_rising from (g ∷ expunged) total zero zero a k l = omega arith
+expunged_rising from (g ∷ expunged) total zero (suc j) a k l = let r = expunged_at_least (g + 1) expunged total j a.1 (omega (arith, l)) in omega (arith, r)
+expunged_rising from (g ∷ expunged) total (suc i) zero a k l = absurd (omega (arith, k))
+expunged_rising from (g ∷ expunged) total (suc i) (suc j) a k l = let r = expunged_rising (g + 1) expunged total i j a.1 (omega (arith, k)) (omega (arith, l)) in omega (arith, r)
 
 -- exactly `at` expunged messages come before the existing one that follows the first `k`
 abbrev pub AreBefore : ℕ → ℕ → ℕ → List ℕ → Type 0
@@ -134,7 +134,7 @@ place_below_total from k zero [] total a b h l = let u = length_upward from (tot
 place_below_total from k (suc at) [] total a b h l = absurd (omega (arith, b))
 place_below_total from k zero (g ∷ expunged) total a b h l =
     let z : from + k + 0 < g = h.1 0 (omega arith) (omega arith) in
-    let c = gone_low (g + 1) expunged total a.1 in
+    let c = length_expunged (g + 1) expunged total a.1 in
     omega (arith, z, c)
 place_below_total from k (suc at) (g ∷ expunged) total a b h l =
     let f : from ≤ g = a.0 in
@@ -145,24 +145,24 @@ place_below_total from k (suc at) (g ∷ expunged) total a b h l =
     omega (arith, r, z, f)
 
 -- the places of further messages
-upward_more : (from n m : ℕ) → numbers_upward from n ++ numbers_upward (from + n) m ≡ numbers_upward from (n + m)
-upward_more from zero m = let e : from + zero ≡ from = omega arith in let f : m ≡ zero + m = omega arith in λ i. numbers_upward (e i) (f i)
-upward_more from (suc n) m =
+upward_append : (from n m : ℕ) → numbers_upward from n ++ numbers_upward (from + n) m ≡ numbers_upward from (n + m)
+upward_append from zero m = let e : from + zero ≡ from = omega arith in let f : m ≡ zero + m = omega arith in λ i. numbers_upward (e i) (f i)
+upward_append from (suc n) m =
     let e : from + suc n ≡ suc from + n = omega arith in
     let f : suc (n + m) ≡ suc n + m = omega arith in
-    ap (λ (k : ℕ). from ∷ (numbers_upward (suc from) n ++ numbers_upward k m)) e ∙ ap (λ ps. from ∷ ps) (upward_more (suc from) n m) ∙ ap (numbers_upward from) f
+    ap (λ (k : ℕ). from ∷ (numbers_upward (suc from) n ++ numbers_upward k m)) e ∙ ap (λ ps. from ∷ ps) (upward_append (suc from) n m) ∙ ap (numbers_upward from) f
 
-pub places_more : (from : ℕ) (expunged : List ℕ) (total m : ℕ) → AreExpunged from expunged total → places_from from expunged total ++ numbers_upward total m ≡ places_from from expunged (total + m)
-places_more from [] total m a =
+pub places_append : (from : ℕ) (expunged : List ℕ) (total m : ℕ) → AreExpunged from expunged total → places_from from expunged total ++ numbers_upward total m ≡ places_from from expunged (total + m)
+places_append from [] total m a =
     let l : from ≤ total = a in
     let e : total ≡ from + (total - from) = omega (arith, l) in
     let f : total - from + m ≡ total + m - from = omega (arith, l) in
-    ap (λ (k : ℕ). numbers_upward from (total - from) ++ numbers_upward k m) e ∙ upward_more from (total - from) m ∙ ap (numbers_upward from) f
-places_more from (g ∷ expunged) total m a = append_assoc (numbers_upward from (g - from)) (places_from (g + 1) expunged total) (numbers_upward total m) ∙ ap (λ ps. numbers_upward from (g - from) ++ ps) (places_more (g + 1) expunged total m a.1)
+    ap (λ (k : ℕ). numbers_upward from (total - from) ++ numbers_upward k m) e ∙ upward_append from (total - from) m ∙ ap (numbers_upward from) f
+places_append from (g ∷ expunged) total m a = append_assoc (numbers_upward from (g - from)) (places_from (g + 1) expunged total) (numbers_upward total m) ∙ ap (λ ps. numbers_upward from (g - from) ++ ps) (places_append (g + 1) expunged total m a.1)
 
-pub expunged_more : (from : ℕ) (expunged : List ℕ) (total m : ℕ) → AreExpunged from expunged total → AreExpunged from expunged (total + m)
-expunged_more from [] total m a = let l : from ≤ total = a in omega (arith, l)
-expunged_more from (g ∷ expunged) total m a = (a.0, expunged_more (g + 1) expunged total m a.1)
+pub expunged_add : (from : ℕ) (expunged : List ℕ) (total m : ℕ) → AreExpunged from expunged total → AreExpunged from expunged (total + m)
+expunged_add from [] total m a = let l : from ≤ total = a in omega (arith, l)
+expunged_add from (g ∷ expunged) total m a = (a.0, expunged_add (g + 1) expunged total m a.1)
 
 -- ---- a search
 
@@ -170,7 +170,7 @@ expunged_more from (g ∷ expunged) total m a = (a.0, expunged_more (g + 1) expu
 pub first_in_front : (expunged : List ℕ) (total skipped : ℕ) → AreExpunged 0 expunged total → (i j d : ℕ) → i ≤ j → j < length expunged → leb (get_or expunged j d) (skipped + j) ≡ true → leb (get_or expunged i d) (skipped + i) ≡ true
 first_in_front expunged total skipped a i j d order inside front =
     let later : get_or expunged j 0 ≤ skipped + j = grind (arith, nat_tests, get_or_default_zero expunged j d inside) in
-    let apart = gone_apart 0 expunged total i j a order inside in
+    let apart = expunged_rising 0 expunged total i j a order inside in
     let first : get_or expunged i 0 ≤ skipped + i = omega (arith, apart, later, order) in
     let within : i < length expunged = omega (arith, order, inside) in
     grind (arith, nat_tests, get_or_default_zero expunged i d within)

@@ -7,7 +7,7 @@ use Rattle.crdt_ops.specs.Text.{clock_text, flags_text, id_text, ids_text, kind_
 use Rattle.crdt_ops.specs.declared.kind.Kind.{Kind}
 use Rattle.crdt_ops.specs.declared.kind.Kind.TheVariants.{Create, Delete, Append, Expunge, Store, Subscribe, Unsubscribe}
 use Rattle.crdt_ops.specs.declared.op.Op.{Op}
-use Rattle.text_fields.proofs.FieldLemmas.{chosen, cut_again, cut_takes, before_first_part_some, id_lacks}
+use Rattle.text_fields.proofs.FieldLemmas.{chosen, cut_complete, cut_sound, before_first_part_some, id_lacks}
 use Rattle.text_fields.specs.FieldReading.{cut_at, before_first_part}
 use Rattle.mail_audit.specs.Forms.{AreIdsText, AreAppendFields, AreMessageFields, AreTagFields}
 
@@ -43,12 +43,12 @@ unfolding front_of back_of
 after_id op id back form l e =
     let tail = clock_text op.clock ++ 32 ∷ kind_text op.kind in
     let both : ◌≡◌ {A = Option (List ℕ × List ℕ)} (Some (id, back)) (Some (id_text op.id, tail)) =
-    sym (cut_again 32 id back l) ∙ ap (cut_at 32) e ∙ cut_again 32 (id_text op.id) tail (id_lacks 32 op.id refl refl form.parts.id) in
+    sym (cut_complete 32 id back l) ∙ ap (cut_at 32) e ∙ cut_complete 32 (id_text op.id) tail (id_lacks 32 op.id refl refl form.parts.id) in
     (ap front_of both, ap back_of both)
 
 after_clock : (op : Op) (back : List ℕ) → IsInForm op → codes "- " ++ back ≡ clock_text op.clock ++ 32 ∷ kind_text op.kind → back ≡ kind_text op.kind
 unfolding back_of
-after_clock op back form e = ap back_of (ap (cut_at 32) e ∙ cut_again 32 (clock_text op.clock) (kind_text op.kind) (clock_lacks op.clock form.parts.entries))
+after_clock op back form e = ap back_of (ap (cut_at 32) e ∙ cut_complete 32 (clock_text op.clock) (kind_text op.kind) (clock_lacks op.clock form.parts.entries))
 
 by_delete : (kind : Kind) (fields : List ℕ) → HasFields kind → codes "delete " ++ fields ≡ kind_text kind → AreTagFields fields
 unfolding head_of
@@ -89,7 +89,7 @@ by_append op (Delete folder seen) id rest form i f d e = absurd (let k : 97 ≡ 
 by_append op (Append folder flags date text) id rest form i f d e =
     let tail = flags_text flags ++ 32 ∷ (date ++ 32 ∷ text_field text) in
     let after : codes "INBOX " ++ rest ≡ name_text folder ++ 32 ∷ tail = ap (drop 7) e in
-    let same : rest ≡ tail = ap back_of (ap (cut_at 32) after ∙ cut_again 32 (name_text folder) tail (name_lacks folder)) in
+    let same : rest ≡ tail = ap back_of (ap (cut_at 32) after ∙ cut_complete 32 (name_text folder) tail (name_lacks folder)) in
     (op.id, flags, date, text, form.parts.id, f.1, d, f.3, i, same)
 by_append op (Expunge folder old_ids) id rest form i f d e = absurd (let k : 97 ≡ 101 = ap head_of e in omega (arith, k))
 by_append op (Store folder flags old_ids origin) id rest form i f d e = absurd (let k : 97 ≡ 115 = ap head_of e in omega (arith, k))
@@ -107,7 +107,7 @@ pub listed_ids : (op : Op) (text : List ℕ) → IsSpelled op (codes "1:1 - dele
 unfolding back_of
 listed_ids op text s =
     let t = delete_fields op (codes "a " ++ text) s in
-    (t.1, t.3, ap back_of (ap (cut_at 32) t.4 ∙ cut_again 32 (name_text t.0) (ids_text t.1) (name_lacks t.0)))
+    (t.1, t.3, ap back_of (ap (cut_at 32) t.4 ∙ cut_complete 32 (name_text t.0) (ids_text t.1) (name_lacks t.0)))
 
 -- the fields of a message's line, part by part
 pub message_fields : (fields origin after versions rest : List ℕ) → Some (origin, after) ≡ cut_at 32 fields → Some (versions, rest) ≡ cut_at 32 after → AreIdsText versions → AreAppendFields origin rest → AreMessageFields fields
@@ -122,7 +122,7 @@ message_fields fields origin after versions rest c d v l = (
   l.5,
   l.6,
   l.7,
-  cut_takes 32 fields (origin, after) (sym c) ∙ (λ j. l.8 j ++ 32 ∷ (cut_takes 32 after (versions, rest) (sym d) ∙ (λ k. v.2 k ++ 32 ∷ l.9 k)) j),
+  cut_sound 32 fields (origin, after) (sym c) ∙ (λ j. l.8 j ++ 32 ∷ (cut_sound 32 after (versions, rest) (sym d) ∙ (λ k. v.2 k ++ 32 ∷ l.9 k)) j),
 )
 
 -- ---- the results of reading such fields
@@ -145,4 +145,4 @@ if_listed (Err why) text h = tt
 
 -- a line of a word and its fields
 pub line_of : (line word fields name : List ℕ) → Some (word, fields) ≡ cut_at 32 line → word ≡ name → line ≡ name ++ 32 ∷ fields
-line_of line word fields name c e = cut_takes 32 line (word, fields) (sym c) ∙ ap (λ (w : List ℕ). w ++ 32 ∷ fields) e
+line_of line word fields name c e = cut_sound 32 line (word, fields) (sym c) ∙ ap (λ (w : List ℕ). w ++ 32 ∷ fields) e

@@ -21,12 +21,12 @@ use Rattle.mail_audit.specs.declared.open_dump.OpenDump.{OpenDump}
 use Rattle.mail_audit.specs.Sessions.{Session}
 use Rattle.mail_audit.specs.declared.verdict.AuditEnd.TheVariants.{No, Unreadable}
 use Rattle.mail_audit.proofs.DumpLemmas.{open_first, open_last, open_more, open_wrong}
-use Rattle.mail_audit.proofs.KnownSessionLemmas.{audited_more, audited_not, audited_result, audited_right}
+use Rattle.mail_audit.proofs.KnownSessionLemmas.{audited_append, unexplained_append, audited_result, audited_right}
 use Rattle.mail_audit.proofs.SessionLemmas.{own_name, same_name}
 
 -- the number of a line is the number of all lines up to it
-pub one_more : (lines : List (List ℕ)) (line : List ℕ) (taken : ℕ) → taken ≡ length lines + 1 → taken ≡ length (lines ++ line ∷ [])
-one_more lines line taken e =
+pub length_append_one : (lines : List (List ℕ)) (line : List ℕ) (taken : ℕ) → taken ≡ length lines + 1 → taken ≡ length (lines ++ line ∷ [])
+length_append_one lines line taken e =
     let n = length-append lines (line ∷ []) in
     let m : length (line ∷ []) ≡ 1 = refl in
     omega (arith, n, m, e)
@@ -122,7 +122,7 @@ module _ (lines : List (List ℕ)) (parts : List Part) (old new : List Session) 
       (subst (λ (os : List ℕ). DecidesSent (known_for session old) (record { speaker = speaker; octets = os }) taken (known_for session new)) whole matches)
 
   pub is_sent_effect : taken ≡ true → ((other : List ℕ) → bytes_eq other session ≡ false → known_for other new ≡ known_for other old) → HasTakenDump (lines ++ spoken_line session speaker text ∷ []) new None
-  is_sent_effect e others = (parts ++ Spoken session speaker text ∷ [], audited_more same_name lines parts old new session speaker text audited named octets (decides_at true e) others)
+  is_sent_effect e others = (parts ++ Spoken session speaker text ∷ [], audited_append same_name lines parts old new session speaker text audited named octets (decides_at true e) others)
 
   pub is_no_sent_effect : (one_command : (this that : Tagged) (frame : List ℕ) → IsSpelled this frame → IsSpelled that frame → this ≡ that) → (one_answer : (one other : Answer) (rest more : List ℕ) → IsPrintable one → IsPrintable other → text_of_answer one ++ rest ≡ text_of_answer other ++ more → (one ≡ other) × (rest ≡ more)) → (number : ℕ) → number ≡ length lines + 1 → taken ≡ false → EndsAt lines (spoken_line session speaker text) (No number)
-  is_no_sent_effect one_command one_answer number n e more = audited_not one_command one_answer (λ xs. own_name xs xs refl) lines more parts old session speaker text number audited named octets (decides_at false e) n
+  is_no_sent_effect one_command one_answer number n e more = unexplained_append one_command one_answer (λ xs. own_name xs xs refl) lines more parts old session speaker text number audited named octets (decides_at false e) n

@@ -107,8 +107,8 @@ audited_right lines parts sessions h = record {
 
 module _ (same_name : (xs ys : List ℕ) → bytes_eq xs ys ≡ true → xs ≡ ys) where
   -- one more line of a transcript, whose octets can follow
-  pub audited_more : (lines : List (List ℕ)) (parts : List Part) (old new : List Session) (session : List ℕ) (speaker : Speaker) (text : List ℕ) → AreAudited lines parts old → IsTrue (is_session_name session) → AreOctets text → TakesSent (known_for session old) (sent_by speaker text) (known_for session new) → ((other : List ℕ) → bytes_eq other session ≡ false → known_for other new ≡ known_for other old) → AreAudited (lines ++ spoken_line session speaker text ∷ []) (parts ++ Spoken session speaker text ∷ []) new
-  audited_more lines parts old new session speaker text h named octets takes others = record {
+  pub audited_append : (lines : List (List ℕ)) (parts : List Part) (old new : List Session) (session : List ℕ) (speaker : Speaker) (text : List ℕ) → AreAudited lines parts old → IsTrue (is_session_name session) → AreOctets text → TakesSent (known_for session old) (sent_by speaker text) (known_for session new) → ((other : List ℕ) → bytes_eq other session ≡ false → known_for other new ≡ known_for other old) → AreAudited (lines ++ spoken_line session speaker text ∷ []) (parts ++ Spoken session speaker text ∷ []) new
+  audited_append lines parts old new session speaker text h named octets takes others = record {
     whole = whole_last lines (spoken_line session speaker text) parts (Spoken session speaker text) h.whole refl;
     right = each_last IsRightPart parts (Spoken session speaker text) h.right (named, octets);
     audited = λ other. elim (cases_Bool (bytes_eq other session)) [
@@ -152,8 +152,8 @@ module _ (one_command : (this that : Tagged) (frame : List ℕ) → IsSpelled th
   rejected sent new s a r x = rejected_at nothing_known new sent s x.0 a r x.1 ((explained x.0).0 x.2)
 
   -- one more line of a transcript, whose octets can't follow
-  pub audited_not : (same : (xs : List ℕ) → bytes_eq xs xs ≡ true) (lines more : List (List ℕ)) (parts : List Part) (old : List Session) (session : List ℕ) (speaker : Speaker) (text : List ℕ) (number : ℕ) → AreAudited lines parts old → IsTrue (is_session_name session) → AreOctets text → RejectsSent (known_for session old) (sent_by speaker text) → number ≡ length lines + 1 → IsNo (lines ++ spoken_line session speaker text ∷ more) number
-  audited_not same lines more parts old session speaker text number h named octets r n = inl (record {
+  pub unexplained_append : (same : (xs : List ℕ) → bytes_eq xs xs ≡ true) (lines more : List (List ℕ)) (parts : List Part) (old : List Session) (session : List ℕ) (speaker : Speaker) (text : List ℕ) (number : ℕ) → AreAudited lines parts old → IsTrue (is_session_name session) → AreOctets text → RejectsSent (known_for session old) (sent_by speaker text) → number ≡ length lines + 1 → IsNo (lines ++ spoken_line session speaker text ∷ more) number
+  unexplained_append same lines more parts old session speaker text number h named octets r n = inl (record {
     front = lines;
     back = more;
     parts = parts;

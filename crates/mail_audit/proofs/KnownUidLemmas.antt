@@ -33,18 +33,18 @@ length_slots from (t ∷ entries) total a =
 
 -- ---- further messages
 
-pub slots_more : (from : ℕ) (entries : List KnownUid) (total m : ℕ) → ArePlaces from entries total → slots_from from entries total ++ replicate m None ≡ slots_from from entries (total + m)
-slots_more from [] total m a =
+pub slots_append : (from : ℕ) (entries : List KnownUid) (total m : ℕ) → ArePlaces from entries total → slots_from from entries total ++ replicate m None ≡ slots_from from entries (total + m)
+slots_append from [] total m a =
     let l : from ≤ total = a in
     let f : total - from + m ≡ total + m - from = omega (arith, l) in
     replicate-append-replicate (total - from) m None ∙ ap (λ (n : ℕ). replicate n None) f
-slots_more from (t ∷ entries) total m a =
+slots_append from (t ∷ entries) total m a =
     append_assoc (replicate (t.place - from) None) (Some t.uid ∷ slots_from (t.place + 1) entries total) (replicate m None)
-    ∙ ap (λ ss. replicate (t.place - from) None ++ Some t.uid ∷ ss) (slots_more (t.place + 1) entries total m a.1)
+    ∙ ap (λ ss. replicate (t.place - from) None ++ Some t.uid ∷ ss) (slots_append (t.place + 1) entries total m a.1)
 
-pub places_more : (from : ℕ) (entries : List KnownUid) (total m : ℕ) → ArePlaces from entries total → ArePlaces from entries (total + m)
-places_more from [] total m a = let l : from ≤ total = a in omega (arith, l)
-places_more from (t ∷ entries) total m a = (a.0, places_more (t.place + 1) entries total m a.1)
+pub places_add : (from : ℕ) (entries : List KnownUid) (total m : ℕ) → ArePlaces from entries total → ArePlaces from entries (total + m)
+places_add from [] total m a = let l : from ≤ total = a in omega (arith, l)
+places_add from (t ∷ entries) total m a = (a.0, places_add (t.place + 1) entries total m a.1)
 
 pub gaps_for : (low from : ℕ) (entries : List KnownUid) (total other : ℕ) → HaveGaps low from entries total → HaveGaps low from entries other ↔ HasRoomFor low from entries other
 gaps_for low from [] total other h = (λ g. g, λ g. g)
@@ -162,7 +162,7 @@ places_with from zero entry (t ∷ entries) total a f c h = let l : entry.place 
 places_with from (suc at) entry [] total a f c h = absurd h
 places_with from (suc at) entry (t ∷ entries) total a f c h = let l : t.place < entry.place = h.0 in (a.0, places_with (t.place + 1) at entry entries total a.1 (omega (arith, l)) c h.1)
 
--- with one more UID the gaps are wide enough exactly if it fits between its neighbours
+-- with one more UID the gaps are wide enough exactly when it fits between its neighbours
 pub gaps_with : (low from at : ℕ) (entry : KnownUid) (entries : List KnownUid) (total : ℕ) → entry.uid ≤ 4294967295 → HaveGaps low from entries total → IsUidUnknown at entry.place entries → HaveGaps low from (insert entries at entry) total ↔ FitsAt low from at entries entry total
 gaps_with low from zero entry [] total u h n = (λ g. (g.0, g.2), λ g. (g.0, u, g.1))
 gaps_with low from zero entry (t ∷ entries) total u h n = (λ g. (g.0, g.2.0), λ g. (g.0, u, (g.1, h.1, h.2)))

@@ -2,7 +2,7 @@ use Rattle.std.proofs.Common.{◌≡◌, ℕ, List, ◌∷◌, ◌++◌, Option,
 use Rattle.std.specs.Fmt.{decimal}
 use Rattle.imap_types.specs.Escape.{AreOctets, escape_text}
 use Rattle.imap_types.specs.declared.escape.Escape.TheVariants.{Text}
-use Rattle.text_fields.proofs.FieldLemmas.{cut_again, cut_takes, replica_again, replica_takes}
+use Rattle.text_fields.proofs.FieldLemmas.{cut_complete, cut_sound, replica_complete, replica_sound}
 use Rattle.text_fields.specs.Fields.{IsReplica}
 use Rattle.text_fields.specs.FieldReading.{cut_at, replica_at}
 use Rattle.mail_script.proofs.FieldLemmas.{session_no_space}
@@ -18,19 +18,19 @@ use Rattle.mail_audit.specs.Dumps.{dump_line}
 pub dump_of : (line digits : List ℕ) (parsed : Option ℕ) → line ≡ codes "dump " ++ digits → parsed ≡ replica_at digits → MatchOption parsed (IsDumpBegin line → ⊥) (λ replica. IsReplica replica × (line ≡ dump_line replica))
 dump_of line digits None l e = λ d.
     let same : digits ≡ decimal d.0 = ap (λ (xs : List ℕ). drop 5 xs) (sym l ∙ d.2) in
-    let k : ◌≡◌ {A = Option ℕ} None (Some d.0) = e ∙ ap replica_at same ∙ replica_again d.0 d.1 in
+    let k : ◌≡◌ {A = Option ℕ} None (Some d.0) = e ∙ ap replica_at same ∙ replica_complete d.0 d.1 in
     cc
-dump_of line digits (Some replica) l e = let t = replica_takes digits replica (sym e) in (t.0, l ∙ ap (λ (d : List ℕ). codes "dump " ++ d) t.1)
+dump_of line digits (Some replica) l e = let t = replica_sound digits replica (sym e) in (t.0, l ∙ ap (λ (d : List ℕ). codes "dump " ++ d) t.1)
 
 -- ---- a line of a transcript
 
 pub spoken_of : (line name sent audited session octets : List ℕ) (speaker : Speaker) → Some (name, sent) ≡ cut_at 32 line → session ≡ name → 32 ∷ sent ≡ mark_of speaker ++ audited → audited ≡ escape_text Text octets → line ≡ spoken_line session speaker octets
-spoken_of line name sent audited session octets speaker c n m e = cut_takes 32 line (name, sent) (sym c) ∙ (λ i. sym n i ++ (m ∙ ap (λ (t : List ℕ). mark_of speaker ++ t) e) i)
+spoken_of line name sent audited session octets speaker c n m e = cut_sound 32 line (name, sent) (sym c) ∙ (λ i. sym n i ++ (m ∙ ap (λ (t : List ℕ). mark_of speaker ++ t) e) i)
 
 -- a line of a transcript is cut after its session's name
 cut_spoken : (session : List ℕ) (speaker : Speaker) (text : List ℕ) → IsTrue (is_session_name session) → (sent : List ℕ) × (cut_at 32 (spoken_line session speaker text) ≡ Some (session, sent)) × (32 ∷ sent ≡ mark_of speaker ++ escape_text Text text)
-cut_spoken session Client text n = let sent = codes "C: " ++ escape_text Text text in (sent, cut_again 32 session sent (session_no_space session n), refl)
-cut_spoken session Server text n = let sent = codes "S: " ++ escape_text Text text in (sent, cut_again 32 session sent (session_no_space session n), refl)
+cut_spoken session Client text n = let sent = codes "C: " ++ escape_text Text text in (sent, cut_complete 32 session sent (session_no_space session n), refl)
+cut_spoken session Server text n = let sent = codes "S: " ++ escape_text Text text in (sent, cut_complete 32 session sent (session_no_space session n), refl)
 
 pub not_cut : (line : List ℕ) → None ≡ cut_at 32 line → IsSpokenLine line → ⊥
 not_cut line e s =

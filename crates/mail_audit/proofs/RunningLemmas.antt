@@ -16,7 +16,7 @@ use Rattle.mail_audit.specs.Transcripts.{without_ended}
 use Rattle.mail_audit.specs.declared.in_progress.RunningCommand.{RunningCommand}
 use Rattle.mail_audit.proofs.SessionLemmas.{same_name}
 
--- some commands pass a test exactly if the count of these commands isn't 0
+-- some commands pass a test exactly when the count of these commands isn't 0
 pub any_counted : (p : RunningCommand → Bool) (rs : List RunningCommand) → ltb 0 (count_of p rs) ≡ list_any p rs
 any_counted p [] = refl
 any_counted p (r ∷ rs) =
@@ -34,14 +34,14 @@ counted_most p (r ∷ rs) =
       | inr f ↦ rw f (omega (arith, m))
     ]
 
-pub counted_more : (p : RunningCommand → Bool) (rs : List RunningCommand) (r : RunningCommand) → count_of p (rs ++ r ∷ []) ≡ count_of p rs + (if p r then 1 else 0)
-counted_more p [] r =
+pub counted_append : (p : RunningCommand → Bool) (rs : List RunningCommand) (r : RunningCommand) → count_of p (rs ++ r ∷ []) ≡ count_of p rs + (if p r then 1 else 0)
+counted_append p [] r =
     elim (cases_Bool (p r)) [
       | inl t ↦ rw t refl
       | inr f ↦ rw f refl
     ]
-counted_more p (x ∷ rs) r =
-    let m = counted_more p rs r in
+counted_append p (x ∷ rs) r =
+    let m = counted_append p rs r in
     elim (cases_Bool (p x)) [
       | inl t ↦ rw t (omega (arith, m))
       | inr f ↦ rw f m
@@ -66,43 +66,43 @@ rising_length low high [] a = omega (arith, a)
 rising_length low high (e ∷ es) a = let m = rising_length (1 + e.0) high es a.1 in omega (arith, a.0, m)
 
 -- a command with the next number is inserted at the end
-pub put_last : (low high : ℕ) (es : List Numbered) (r : RunningCommand) → AreRising low high es → insert_entry nat_cmp es high r ≡ es ++ (high, r) ∷ []
-put_last low high [] r a = refl
-put_last low high (e ∷ es) r a =
+pub insert_last : (low high : ℕ) (es : List Numbered) (r : RunningCommand) → AreRising low high es → insert_entry nat_cmp es high r ≡ es ++ (high, r) ∷ []
+insert_last low high [] r a = refl
+insert_last low high (e ∷ es) r a =
     let m = rising_bounds (1 + e.0) high es a.1 in
     let g : nat_cmp high e.0 ≡ Greater = grind (arith, nat_tests, m) in
-    rw g (ap (λ (xs : List Numbered). e ∷ xs) (put_last (1 + e.0) high es r a.1))
+    rw g (ap (λ (xs : List Numbered). e ∷ xs) (insert_last (1 + e.0) high es r a.1))
 
-pub rising_more : (low high : ℕ) (es : List Numbered) (r : RunningCommand) → AreRising low high es → AreRising low (high + 1) (es ++ (high, r) ∷ [])
-rising_more low high [] r a = (a, omega arith)
-rising_more low high (e ∷ es) r a = (a.0, rising_more (1 + e.0) high es r a.1)
+pub rising_append : (low high : ℕ) (es : List Numbered) (r : RunningCommand) → AreRising low high es → AreRising low (high + 1) (es ++ (high, r) ∷ [])
+rising_append low high [] r a = (a, omega arith)
+rising_append low high (e ∷ es) r a = (a.0, rising_append (1 + e.0) high es r a.1)
 
-pub values_more : (es : List Numbered) (n : ℕ) (r : RunningCommand) → values_of (es ++ (n, r) ∷ []) ≡ values_of es ++ r ∷ []
-values_more [] n r = refl
-values_more (e ∷ es) n r = ap (λ (rs : List RunningCommand). e.1 ∷ rs) (values_more es n r)
+pub values_append : (es : List Numbered) (n : ℕ) (r : RunningCommand) → values_of (es ++ (n, r) ∷ []) ≡ values_of es ++ r ∷ []
+values_append [] n r = refl
+values_append (e ∷ es) n r = ap (λ (rs : List RunningCommand). e.1 ∷ rs) (values_append es n r)
 
-pub numbers_more : (tag : List ℕ) (es : List Numbered) (n : ℕ) (r : RunningCommand) → numbers_of tag (es ++ (n, r) ∷ []) ≡ numbers_of tag es ++ (if bytes_eq tag r.tag then n ∷ [] else [])
-numbers_more tag [] n r =
+pub numbers_append : (tag : List ℕ) (es : List Numbered) (n : ℕ) (r : RunningCommand) → numbers_of tag (es ++ (n, r) ∷ []) ≡ numbers_of tag es ++ (if bytes_eq tag r.tag then n ∷ [] else [])
+numbers_append tag [] n r =
     elim (cases_Bool (bytes_eq tag r.tag)) [
       | inl t ↦ rw t refl
       | inr f ↦ rw f refl
     ]
-numbers_more tag (e ∷ es) n r =
-    let m = numbers_more tag es n r in
+numbers_append tag (e ∷ es) n r =
+    let m = numbers_append tag es n r in
     elim (cases_Bool (bytes_eq tag e.1.tag)) [
       | inl t ↦ rw t (ap (λ (ns : List ℕ). e.0 ∷ ns) m)
       | inr f ↦ rw f m
     ]
 
 -- removing that command gives the earlier commands
-pub taken_back : (low high : ℕ) (es : List Numbered) (r : RunningCommand) → AreRising low high es → remove_entry (is_at (nat_cmp high)) (es ++ (high, r) ∷ []) ≡ es
-taken_back low high [] r a =
+pub remove_appended : (low high : ℕ) (es : List Numbered) (r : RunningCommand) → AreRising low high es → remove_entry (is_at (nat_cmp high)) (es ++ (high, r) ∷ []) ≡ es
+remove_appended low high [] r a =
     let t : is_at (nat_cmp high) high ≡ true = grind (arith, nat_tests) in
     rw t refl
-taken_back low high (e ∷ es) r a =
+remove_appended low high (e ∷ es) r a =
     let m = rising_bounds (1 + e.0) high es a.1 in
     let f : is_at (nat_cmp high) e.0 ≡ false = grind (arith, nat_tests, m) in
-    rw f (ap (λ (xs : List Numbered). e ∷ xs) (taken_back (1 + e.0) high es r a.1))
+    rw f (ap (λ (xs : List Numbered). e ∷ xs) (remove_appended (1 + e.0) high es r a.1))
 
 -- ---- the first command with a tag
 
@@ -188,18 +188,18 @@ none_ended tag (x ∷ es) e =
     ]
 
 -- without one of the commands, the numbers still ascend
-pub rising_less : (low high : ℕ) (test : ℕ → Bool) (es : List Numbered) → AreRising low high es → AreRising low high (remove_entry test es)
-rising_less low high test [] a = a
-rising_less low high test (e ∷ es) a =
+pub rising_remove : (low high : ℕ) (test : ℕ → Bool) (es : List Numbered) → AreRising low high es → AreRising low high (remove_entry test es)
+rising_remove low high test [] a = a
+rising_remove low high test (e ∷ es) a =
     elim (cases_Bool (test e.0)) [
       | inl t ↦ rw t (rising_from low (1 + e.0) high es (omega (arith, a.0)) a.1)
-      | inr f ↦ rw f (a.0, rising_less (1 + e.0) high test es a.1)
+      | inr f ↦ rw f (a.0, rising_remove (1 + e.0) high test es a.1)
     ]
 
-pub counted_less : (p : RunningCommand → Bool) (test : ℕ → Bool) (es : List Numbered) (r : RunningCommand) → Some r ≡ lookup test es
+pub counted_remove : (p : RunningCommand → Bool) (test : ℕ → Bool) (es : List Numbered) (r : RunningCommand) → Some r ≡ lookup test es
     → count_of p (values_of (remove_entry test es)) + (if p r then 1 else 0) ≡ count_of p (values_of es)
-counted_less p test [] r e = absurd (cc e)
-counted_less p test (x ∷ es) r e =
+counted_remove p test [] r e = absurd (cc e)
+counted_remove p test (x ∷ es) r e =
     elim (cases_Bool (test x.0)) [
       | inl t ↦
           let k = rw t at e in
@@ -210,7 +210,7 @@ counted_less p test (x ∷ es) r e =
           ])
       | inr f ↦
           let k = rw f at e in
-          let m = counted_less p test es r k in
+          let m = counted_remove p test es r k in
           rw f (elim (cases_Bool (p x.1)) [
             | inl y ↦ rw y (omega (arith, m))
             | inr z ↦ rw z m
@@ -254,9 +254,9 @@ stored_same tag old new keeps e other =
       | inr f ↦ stored_elsewhere tag old new keeps other f
     ]
 
-pub stored_more : (tag : List ℕ) (old new : List Stored) (n : ℕ) → KeepsOthers same_key (has_tag tag) old new → stored_for tag new ≡ stored_for tag old ++ n ∷ []
+pub stored_append : (tag : List ℕ) (old new : List Stored) (n : ℕ) → KeepsOthers same_key (has_tag tag) old new → stored_for tag new ≡ stored_for tag old ++ n ∷ []
     → (other : List ℕ) → stored_for other new ≡ stored_for other old ++ (if bytes_eq other tag then n ∷ [] else [])
-stored_more tag old new n keeps e other =
+stored_append tag old new n keeps e other =
     elim (cases_Bool (bytes_eq other tag)) [
       | inl t ↦ rw t (subst (λ (o : List ℕ). stored_for o new ≡ stored_for o old ++ n ∷ []) (sym (same_name other tag t)) e)
       | inr f ↦ rw f (stored_elsewhere tag old new keeps other f ∙ sym (append-nil (stored_for other old)))

@@ -8,9 +8,9 @@ use Rattle.mail_audit.specs.KnownUids.{AreKnownUids, places_from, slots_from}
 use Rattle.mail_audit.specs.EventPasses.{HasRoomAbove, MayBeUid, numbers_upward}
 use Rattle.mail_audit.specs.SlotSteps.{SlotKnowledge, with_more}
 use Rattle.mail_audit.specs.declared.slots.KnownUid.{KnownUid}
-use Rattle.mail_audit.proofs.ExpungedLemmas.{AreBefore, expunged_more, expunged_with, place_after, place_below_total, places_more as live_more, places_without}
+use Rattle.mail_audit.proofs.ExpungedLemmas.{AreBefore, expunged_add, expunged_with, place_after, place_below_total, places_append, places_without}
 use Rattle.mail_audit.proofs.SlotStepLemmas.{room_in_gaps}
-use Rattle.mail_audit.proofs.KnownUidLemmas.{gaps_for, gaps_low, gaps_with, length_slots, places_more, places_with, set_known, set_unknown, slot_known, slot_unknown, slots_more}
+use Rattle.mail_audit.proofs.KnownUidLemmas.{gaps_for, gaps_low, gaps_with, length_slots, places_add, places_with, set_known, set_unknown, slot_known, slot_unknown, slots_append}
 
 -- the knowledge that the stored places and UIDs represent
 abbrev pub known_by : List ℕ → List KnownUid → ℕ → SlotKnowledge
@@ -42,30 +42,30 @@ slots_count expunged entries total k = let l = length_slots 0 entries total k.pl
 
 pub add_fits : (expunged : List ℕ) (entries : List KnownUid) (total m : ℕ) → AreKnownUids expunged entries total → HasRoomFor 0 0 entries (total + m) ↔ HasRoomAbove 0 (with_more (known_by expunged entries total) m).slots
 add_fits expunged entries total m k =
-    let e = slots_more 0 entries total m k.places_ascend in
+    let e = slots_append 0 entries total m k.places_ascend in
     let r = room_in_gaps 0 0 entries (total + m) (omega arith) in
     let g = gaps_for 0 0 entries total (total + m) k.gaps in
     (λ h. subst (HasRoomAbove 0) (sym e) (r.1 (g.1 h)), λ h. g.0 (r.0 (subst (HasRoomAbove 0) e h)))
 
 pub add_none : (expunged : List ℕ) (entries : List KnownUid) (total m : ℕ) → AreKnownUids expunged entries total → 4294967296 ≤ total + m → HasRoomAbove 0 (with_more (known_by expunged entries total) m).slots → ⊥
 add_none expunged entries total m k big h =
-    let e = slots_more 0 entries total m k.places_ascend in
+    let e = slots_append 0 entries total m k.places_ascend in
     let r = (room_in_gaps 0 0 entries (total + m) (omega arith)).0 (subst (HasRoomAbove 0) e h) in
-    let l = gaps_low 0 0 entries (total + m) (places_more 0 entries total m k.places_ascend) r in
+    let l = gaps_low 0 0 entries (total + m) (places_add 0 entries total m k.places_ascend) r in
     omega (arith, l, big)
 
 pub add_invariant : (expunged : List ℕ) (entries : List KnownUid) (total m : ℕ) → AreKnownUids expunged entries total → HasRoomFor 0 0 entries (total + m) → AreKnownUids expunged entries (total + m)
 add_invariant expunged entries total m k h = record {
-  expunged_ascend = expunged_more 0 expunged total m k.expunged_ascend;
-  places_ascend = places_more 0 entries total m k.places_ascend;
+  expunged_ascend = expunged_add 0 expunged total m k.expunged_ascend;
+  places_ascend = places_add 0 entries total m k.places_ascend;
   gaps = (gaps_for 0 0 entries total (total + m) k.gaps).1 h;
 }
 
 pub add_next : (expunged : List ℕ) (entries : List KnownUid) (total m : ℕ) → AreKnownUids expunged entries total → known_by expunged entries (total + m) ≡ with_more (known_by expunged entries total) m
 add_next expunged entries total m k =
     let n = slots_count expunged entries total k in
-    let t = sym (live_more 0 expunged total m k.expunged_ascend) ∙ ap (λ (c : ℕ). places_from 0 expunged total ++ numbers_upward c m) (sym n) in
-    let s = sym (slots_more 0 entries total m k.places_ascend) in
+    let t = sym (places_append 0 expunged total m k.expunged_ascend) ∙ ap (λ (c : ℕ). places_from 0 expunged total ++ numbers_upward c m) (sym n) in
+    let s = sym (slots_append 0 entries total m k.places_ascend) in
     λ i. record { live = t i; slots = s i }
 
 -- ---- an expunged message

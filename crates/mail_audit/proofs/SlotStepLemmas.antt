@@ -42,7 +42,7 @@ passes_last known (first ∷ events) event = (
       (passes_one known first (events ++ event ∷ [])).1 (q.0, (passes_last (after_event known first) events event).1 (q.1, p.1)),
 )
 
--- a further event is explained exactly if it fits
+-- a further event is explained exactly when it fits
 pub explained_last : (events : List SlotEvent) (event : SlotEvent) → IsExplained events → IsExplained (events ++ event ∷ []) ↔ EventFits (after_events no_slots events) event
 explained_last events event h = (
   λ g. ((passes_last no_slots events event).0 ((explained (events ++ event ∷ [])).0 g)).1,
@@ -60,7 +60,7 @@ room_unknown low (suc m) slots l =
       λ h. (omega (arith, h.0), (room_unknown (low + 1) m slots (omega (arith, h.0))).1 (omega (arith, h.0), subst (λ (n : ℕ). HasRoomAbove n slots) (sym e) h.1)),
     )
 
--- enough UIDs are left exactly if the gaps are wide enough
+-- enough UIDs are left exactly when the gaps are wide enough
 pub room_in_gaps : (low from : ℕ) (entries : List KnownUid) (total : ℕ) → low ≤ 4294967295 → HasRoomAbove low (slots_from from entries total) ↔ HaveGaps low from entries total
 room_in_gaps low from [] total l =
     let e : replicate (total - from) None ++ [] ≡ slots_from from [] total = append-nil (replicate (total - from) None) in

@@ -9,10 +9,10 @@ use Rattle.crdt_ops.specs.Form.{IsInForm, IsSpelled}
 use Rattle.crdt_ops.specs.declared.op.Op.{Op}
 use Rattle.merge_laws.proofs.Lists.{in_parts}
 use Rattle.merge_laws.specs.Orders.{AreSound}
-use Rattle.text_fields.proofs.FieldLemmas.{cut_takes}
+use Rattle.text_fields.proofs.FieldLemmas.{cut_sound}
 use Rattle.text_fields.specs.FieldReading.{cut_at}
 use Rattle.mail_audit.specs.Audits.{IsNoEnd, ended_line, text_of}
-use Rattle.mail_audit.specs.DumpLines.{IsClosed, IsCompared, IsEarly, IsExpected, IsLonger, IsStep, IsMatchStep, AreOps, IsPhase, Takes}
+use Rattle.mail_audit.specs.DumpLines.{AreLinesAfterOps, IsCompared, IsUnreadableStep, IsExpected, HasTakenOp, IsStep, IsMatchStep, AreOps, IsPhase, HasTakenLine}
 use Rattle.crdt_ops.specs.DumpLines.{op_line}
 use Rattle.mail_audit.specs.Dumps.{AreOrdered, inside_text}
 use Rattle.mail_audit.specs.declared.expected_lines.Expected.{Expected}
@@ -33,8 +33,8 @@ pub op_no_end : (line spelled : List ℕ) → line ≡ codes "op " ++ spelled �
 op_no_end line spelled e f = absurd (let k : ◌≡◌ {A = List ℕ} (111 ∷ 112 ∷ 32 ∷ spelled) (101 ∷ 110 ∷ 100 ∷ []) = sym e ∙ f in cc)
 
 -- one further op line
-pub longer_ops : (inside : List (List ℕ)) (line spelled : List ℕ) (old new : OpLines) (op : Op) → AreOps inside old → line ≡ codes "op " ++ spelled → IsSpelled op spelled → IsLonger old op new → AreOps (inside ++ line ∷ []) new
-longer_ops inside line spelled old new op s e p g =
+pub ops_append : (inside : List (List ℕ)) (line spelled : List ℕ) (old new : OpLines) (op : Op) → AreOps inside old → line ≡ codes "op " ++ spelled → IsSpelled op spelled → HasTakenOp old op new → AreOps (inside ++ line ∷ []) new
+ops_append inside line spelled old new op s e p g =
     let count : length (inside ++ line ∷ []) ≡ length inside + 1 = length-append inside (line ∷ []) in
     let fits : length old.ops.items ≤ length inside = s.0 in
     elim g [
@@ -107,11 +107,11 @@ compared_step first inside line number old new (Wrong named) s n c = (omega (ari
 compared_step first inside line number old new Unreadable s n c = tt
 
 -- the effect of a line that can't be read while op lines may still follow
-pub early_step : (first : ℕ) (inside : List (List ℕ)) (line : List ℕ) (lines : OpLines) (phase : DumpPhase) (step : DumpStep) → AreOps inside lines → IsEarly first lines step → IsStep first inside line phase step
-early_step first inside line lines phase Continues s e = absurd e
-early_step first inside line lines phase Ends s e = absurd e
-early_step first inside line lines phase (Wrong number) s e = (e.0, omega (arith, s.0, e.1))
-early_step first inside line lines phase Unreadable s e = tt
+pub unreadable_step : (first : ℕ) (inside : List (List ℕ)) (line : List ℕ) (lines : OpLines) (phase : DumpPhase) (step : DumpStep) → AreOps inside lines → IsUnreadableStep first lines step → IsStep first inside line phase step
+unreadable_step first inside line lines phase Continues s e = absurd e
+unreadable_step first inside line lines phase Ends s e = absurd e
+unreadable_step first inside line lines phase (Wrong number) s e = (e.0, omega (arith, s.0, e.1))
+unreadable_step first inside line lines phase Unreadable s e = tt
 
 -- ---- the end of the op lines
 
@@ -132,10 +132,10 @@ within_lines inside lines named place s e w f =
     ]
 
 -- the lines that must follow good op lines
-pub closed_of : {E : Type 0} (inside : List (List ℕ)) (lines : OpLines) (result : Result Expected E) → AreOps inside lines → lines.is_bad ≡ false → IfOk result (IsExpected lines.ops.items) → IfOk result (IsClosed inside)
-closed_of inside lines (Err e) s b h = tt
-closed_of inside lines (Ok (WrongOp place)) s b h = omega (arith, s.0, h)
-closed_of inside lines (Ok (Lines expected)) s b h =
+pub lines_after_good_ops : {E : Type 0} (inside : List (List ℕ)) (lines : OpLines) (result : Result Expected E) → AreOps inside lines → lines.is_bad ≡ false → IfOk result (IsExpected lines.ops.items) → IfOk result (AreLinesAfterOps inside)
+lines_after_good_ops inside lines (Err e) s b h = tt
+lines_after_good_ops inside lines (Ok (WrongOp place)) s b h = omega (arith, s.0, h)
+lines_after_good_ops inside lines (Ok (Lines expected)) s b h =
     let good = s.2 b in (
       lines.ops.items,
       record { in_form = good.1; sound = h.1; ascending = s.3; causes = h.0 },
@@ -156,17 +156,17 @@ no_ops lines e b = (
 -- ---- the next expected line
 
 pub next_is : (text whole line : List ℕ) (pos : ℕ) (parts : List ℕ × List ℕ) → text ≡ drop pos whole → Some parts ≡ cut_at 10 text → parts.0 ≡ line → (rest : List ℕ) × (drop pos whole ≡ line ++ 10 ∷ rest)
-next_is text whole line pos parts t e q = (parts.1, sym t ∙ cut_takes 10 text parts (sym e) ∙ ap (λ (l : List ℕ). l ++ 10 ∷ parts.1) q)
+next_is text whole line pos parts t e q = (parts.1, sym t ∙ cut_sound 10 text parts (sym e) ∙ ap (λ (l : List ℕ). l ++ 10 ∷ parts.1) q)
 
 -- the effect of the next expected line
-pub match_compared : (old new : Comparison) (line : List ℕ) (number : ℕ) (step : DumpStep) → Takes old line new → IsMatchStep new line number step → IsCompared old line number new step
+pub match_compared : (old new : Comparison) (line : List ℕ) (number : ℕ) (step : DumpStep) → HasTakenLine old line new → IsMatchStep new line number step → IsCompared old line number new step
 match_compared old new line number Continues t s = (t, s)
 match_compared old new line number Ends t s = (t, s)
 match_compared old new line number (Wrong named) t s = s
 match_compared old new line number Unreadable t s = tt
 
 -- the comparison begins
-pub closed_phase : (inside : List (List ℕ)) (closed : Expected) (comparison : Comparison) → closed ≡ Lines comparison.lines → comparison.pos ≡ 0 → IsClosed inside closed → IsPhase inside (State comparison)
-closed_phase inside closed comparison is none h =
-    let c : IsClosed inside (Lines comparison.lines) = subst (IsClosed inside) is h in
+pub phase_of_lines : (inside : List (List ℕ)) (closed : Expected) (comparison : Comparison) → closed ≡ Lines comparison.lines → comparison.pos ≡ 0 → AreLinesAfterOps inside closed → IsPhase inside (State comparison)
+phase_of_lines inside closed comparison is none h =
+    let c : AreLinesAfterOps inside (Lines comparison.lines) = subst (AreLinesAfterOps inside) is h in
     (c.0, c.1, omega (arith, none), ap (λ (n : ℕ). text_of inside ++ drop n comparison.lines.items) none ∙ c.2)

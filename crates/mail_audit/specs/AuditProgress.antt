@@ -1,10 +1,10 @@
--- The progress of an audit, line by line. The meaning of its verdicts is defined by `Audits`.
+-- The progress of an audit, line by line. The meaning of its verdicts is defined by `IsVerdict`.
 
 use Rattle.std.specs.Prelude.{◌≡◌, ℕ, ◌+◌, ◌≤◌, List, ◌∷◌, ◌++◌, Option, Some, None, length}
 use Rattle.std.specs.List.{flat_map}
 use Rattle.crdt_ops.specs.Form.{IsReplica}
 use Rattle.mail_script.specs.Lines.{lines_of}
-use Rattle.mail_audit.specs.Audits.{Audits, Each, IsNoEnd, IsRightPart, Part, part_text, sent_in}
+use Rattle.mail_audit.specs.Audits.{IsVerdict, Each, IsNoEnd, IsRightPart, Part, part_text, sent_in}
 use Rattle.mail_audit.specs.Audits.{text_of}
 use Rattle.mail_audit.specs.DumpLines.{IsPhase}
 use Rattle.mail_audit.specs.Dumps.{dump_line}
@@ -45,15 +45,15 @@ HasTaken lines audit = (audit.taken ≡ length lines) × HasTakenDump lines audi
 
 -- The audit ends at the line after these, whatever follows.
 abbrev pub EndsAt : List (List ℕ) → List ℕ → AuditEnd → Type 0
-EndsAt lines line end = (more : List (List ℕ)) → Audits (lines ++ line ∷ more) end
+EndsAt lines line end = (more : List (List ℕ)) → IsVerdict (lines ++ line ∷ more) end
 
 -- The audit ends within a text after these lines, whatever follows.
 abbrev pub EndsWithin : List (List ℕ) → List ℕ → AuditEnd → Type 0
-EndsWithin front text end = (more : List ℕ) → Audits (front ++ lines_of (text ++ more)) end
+EndsWithin front text end = (more : List ℕ) → IsVerdict (front ++ lines_of (text ++ more)) end
 
 -- After these first lines, all lines that a text completes were taken, and this rest of the text is
 -- left.
-pub record Advances (front : List (List ℕ)) (old : Audit) (text : List ℕ) (new : Audit)
+pub record HasAdvanced (front : List (List ℕ)) (old : Audit) (text : List ℕ) (new : Audit)
     (left : List ℕ) : Type 0 where
   pub done : List (List ℕ)
   pub lines : (more : List ℕ) → lines_of (text ++ more) ≡ done ++ lines_of (left ++ more)

@@ -165,13 +165,13 @@ abbrev pub IsUnreadable : List (List ℕ) → ℕ → Type 0
 IsUnreadable lines number = IsUnread lines number ⊎ IsOfDump lines number
 
 -- The meaning of a verdict on the lines of an input.
-abbrev pub Audits : List (List ℕ) → AuditEnd → Type 0
-Audits lines Yes = IsRight lines
-Audits lines (No number) = IsNo lines number
-Audits lines (Unreadable number) = IsUnreadable lines number
-Audits lines ReadFailed = Unit {0}
-Audits lines WriteFailed = Unit {0}
-Audits lines NoMemory = Unit {0}
+abbrev pub IsVerdict : List (List ℕ) → AuditEnd → Type 0
+IsVerdict lines Yes = IsRight lines
+IsVerdict lines (No number) = IsNo lines number
+IsVerdict lines (Unreadable number) = IsUnreadable lines number
+IsVerdict lines ReadFailed = Unit {0}
+IsVerdict lines WriteFailed = Unit {0}
+IsVerdict lines NoMemory = Unit {0}
 
 -- The text of a verdict.
 abbrev pub end_text : AuditEnd → List ℕ

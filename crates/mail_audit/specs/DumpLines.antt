@@ -40,8 +40,8 @@ IsDumpLine text line.Unreadable = (op : Op) → ¬ IsOp text op
 
 -- A further op line was taken: it is good and follows the others, or all lines from it on count as
 -- bad.
-abbrev pub IsLonger : OpLines → Op → OpLines → Type 0
-IsLonger old op new =
+abbrev pub HasTakenOp : OpLines → Op → OpLines → Type 0
+HasTakenOp old op new =
     ((old.is_bad ≡ false) × (new.is_bad ≡ false) × (new.ops.items ≡ old.ops.items ++ op ∷ [])
     × (AreOrdered old.ops.items → AreOrdered new.ops.items))
     ⊎ ((new.is_bad ≡ true) × (new.ops.items ≡ old.ops.items))
@@ -88,18 +88,18 @@ IsPhase inside (State comparison) =
     × (text_of inside ++ drop comparison.pos comparison.lines.items ≡ inside_text ops)
 
 -- The lines that must follow the op lines, or the place at which the op lines are wrong.
-abbrev pub IsClosed : List (List ℕ) → Expected → Type 0
-IsClosed inside (Lines lines) =
+abbrev pub AreLinesAfterOps : List (List ℕ) → Expected → Type 0
+AreLinesAfterOps inside (Lines lines) =
     (ops : List Op) × AreDumped ops × (text_of inside ++ lines.items ≡ inside_text ops)
-IsClosed inside (WrongOp place) = place ≤ length inside
+AreLinesAfterOps inside (WrongOp place) = place ≤ length inside
 
 -- The effect of a line that can't be read after op lines.
-abbrev pub IsEarly : ℕ → OpLines → DumpStep → Type 0
-IsEarly first lines Continues = ⊥
-IsEarly first lines Ends = ⊥
-IsEarly first lines (Wrong number) =
+abbrev pub IsUnreadableStep : ℕ → OpLines → DumpStep → Type 0
+IsUnreadableStep first lines Continues = ⊥
+IsUnreadableStep first lines Ends = ⊥
+IsUnreadableStep first lines (Wrong number) =
     (first < number) × (number ≤ first + 1 + length lines.ops.items)
-IsEarly first lines Unreadable = Unit {0}
+IsUnreadableStep first lines Unreadable = Unit {0}
 
 -- The effect of a line of a dump whose first line has this number and is followed by the lines
 -- `inside`.
@@ -112,15 +112,15 @@ IsStep first inside line phase (Wrong number) =
 IsStep first inside line phase Unreadable = Unit {0}
 
 -- The next line was taken.
-abbrev pub Takes : Comparison → List ℕ → Comparison → Type 0
-Takes old line new =
+abbrev pub HasTakenLine : Comparison → List ℕ → Comparison → Type 0
+HasTakenLine old line new =
     (new.lines.items ≡ old.lines.items) × (new.pos ≤ length new.lines.items)
     × (drop old.pos old.lines.items ≡ line ++ 10 ∷ drop new.pos old.lines.items)
 
 -- The effect of a line, of this number, that is compared with the next expected one.
 abbrev pub IsCompared : Comparison → List ℕ → ℕ → Comparison → DumpStep → Type 0
-IsCompared old line number new Continues = Takes old line new × IsNoEnd line
-IsCompared old line number new Ends = Takes old line new × (new.pos ≡ length new.lines.items)
+IsCompared old line number new Continues = HasTakenLine old line new × IsNoEnd line
+IsCompared old line number new Ends = HasTakenLine old line new × (new.pos ≡ length new.lines.items)
 IsCompared old line number new (Wrong named) = named ≡ number
 IsCompared old line number new Unreadable = Unit {0}
 

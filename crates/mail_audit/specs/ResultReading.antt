@@ -13,16 +13,17 @@ use Rattle.mail_script.specs.declared.outcome_line.DeliveryResult.TheVariants.{R
 use Rattle.mail_script.specs.declared.outcome_line.DeliveryResult.TheVariants.{HeldFull, Exhausted}
 use Rattle.mail_script.specs.declared.outcome_line.DeliveryResult.TheVariants.{NoMemory}
 use Rattle.mail_script.specs.declared.outcome_line.JoinResult.{JoinResult}
-use Rattle.mail_script.specs.declared.outcome_line.JoinResult.TheVariants.{Done as DoneJoining, Own}
+use Rattle.mail_script.specs.declared.outcome_line.JoinResult.TheVariants.{Done as DoneJoining}
 use Rattle.mail_script.specs.declared.outcome_line.JoinResult.TheVariants.{Exhausted as ExhaustedByJoin}
 use Rattle.mail_script.specs.declared.outcome_line.JoinResult.TheVariants.{NoMemory as NoMemoryToJoin}
+use Rattle.mail_script.specs.declared.outcome_line.JoinResult.TheVariants.{Own}
 use Rattle.mail_script.specs.declared.outcome_line.OutcomeLine.{OutcomeLine}
 use Rattle.mail_script.specs.declared.outcome_line.OutcomeLine.TheVariants.{Delivered, Forged}
 use Rattle.mail_script.specs.declared.outcome_line.OutcomeLine.TheVariants.{Unsound, Drained}
 use Rattle.mail_script.specs.declared.outcome_line.OutcomeLine.TheVariants.{Settled, Agreed, Joined}
 use Rattle.mail_script.specs.declared.outcome_line.SettleResult.{SettleResult}
-use Rattle.mail_script.specs.declared.outcome_line.SettleResult.TheVariants.{Done}
 use Rattle.mail_script.specs.declared.outcome_line.SettleResult.TheVariants.{Conflict as ConflictOfTwo}
+use Rattle.mail_script.specs.declared.outcome_line.SettleResult.TheVariants.{Done}
 use Rattle.mail_script.specs.declared.outcome_line.SettleResult.TheVariants.{Exhausted as ExhaustedInIt}
 use Rattle.mail_script.specs.declared.outcome_line.SettleResult.TheVariants.{NoMemory as NoMemoryToSettle}
 use Rattle.text_fields.specs.FieldReading.{◌>>=◌, cut_at, id_at, number_at, replica_at}

@@ -1,4 +1,4 @@
-//! Tests of whether enough UIDs are left between the known ones.
+//! Whether enough UIDs are left between the known ones.
 
 ghost use Rattle.std.specs.Prelude.{◌≡◌, ◌↔◌, ℕ, ◌+◌, ◌-◌, ◌<◌, ◌≤◌, List, IsTrue, drop, length};
 ghost use Rattle.mail_audit.specs.Gaps.{FitsAt, FitsAfter, FitsBefore, HasRoomFor, SplitsAt};
@@ -11,7 +11,7 @@ use tree_list::TreeList;
 const LAST_UID: u64 = 4_294_967_295;
 
 /// The number of known messages at lower places.
-pub fn known_before(entries: &TreeList<KnownUid>, place: u32) -> usize
+pub fn count_of_lower_places(entries: &TreeList<KnownUid>, place: u32) -> usize
     requires { (total : ℕ) × ArePlaces 0 entries.now total }
     ensures within { result ≤ length entries.now }
     ensures parts { SplitsAt place entries.now result }
@@ -19,7 +19,7 @@ pub fn known_before(entries: &TreeList<KnownUid>, place: u32) -> usize
     entries.partition_point(|_, entry| entry.place < place)
 }
 
-/// Whether UIDs are left for the messages after the last known one, `total` messages in all.
+/// Whether UIDs are left for the messages after the last known one, of `total` messages in all.
 pub fn has_room(entries: &TreeList<KnownUid>, total: u32) -> bool
     ensures { IsTrue result ↔ HasRoomFor 0 0 entries.now total }
 {
@@ -29,7 +29,7 @@ pub fn has_room(entries: &TreeList<KnownUid>, total: u32) -> bool
     }
 }
 
-/// Whether UIDs are left for the messages after a known one, `total` messages in all.
+/// Whether UIDs are left for the messages after a known one, of `total` messages in all.
 fn has_room_after(entry: KnownUid, total: u32) -> bool
     ensures { IsTrue result ↔ (entry.uid + (total - (entry.place + 1)) ≤ 4294967295) }
 {

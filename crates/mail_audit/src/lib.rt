@@ -11,7 +11,7 @@
 //! lines are sound operations, ascending, each with op lines for all its causes, followed by the
 //! lines that the set of them defines. After `No` or `Unreadable` everything before the named line,
 //! or before the dump that contains it, is right. `explained_if_it_passes` says that a transcript
-//! is explained exactly if each event fits what was known before it.
+//! is explained exactly when each event fits what was known before it.
 //!
 //! # Decided
 //!

@@ -4,7 +4,7 @@ ghost use Rattle.std.specs.Prelude.{◌≡◌, ◌+◌, ◌<◌, ◌^◌, ℕ, L
 ghost use Rattle.std.specs.Prelude.{MatchOption, None, length};
 ghost use Rattle.imap_types.specs.Escape.{AreOctets};
 ghost use Rattle.mail_script.specs.Fields.{is_session_name};
-ghost use Rattle.mail_audit.specs.Audits.{Audits, IsSpokenLine, Part, spoken_line};
+ghost use Rattle.mail_audit.specs.Audits.{IsVerdict, IsSpokenLine, Part, spoken_line};
 ghost use Rattle.mail_audit.specs.AuditProgress.{AreAudited, EndsAt, IsOpen, HasTaken};
 
 use crate::lines::{SpokenLine, read_spoken, replica_of_dump};
@@ -134,7 +134,7 @@ impl Audit {
     /// The verdict if the input ends here; `Err` if memory runs out.
     pub fn end(self, alloc: Global) -> Result<AuditEnd, AllocError>
         requires { (lines : List (List ℕ)) × HasTaken lines self }
-        ensures { (lines : List (List ℕ)) → HasTaken lines self → IfOk result (Audits lines) }
+        ensures { (lines : List (List ℕ)) → HasTaken lines self → IfOk result (IsVerdict lines) }
     {
         let Audit { dump, taken, .. } = self;
         match dump {

@@ -4,7 +4,7 @@ ghost use Rattle.std.specs.Prelude.{◌≡◌, ◌↔◌, ◌≤◌, ◌<◌, []
 ghost use Rattle.std.specs.Prelude.{IsTrue, OnOk, length};
 ghost use Rattle.std.specs.declared.cmp.Ordering.TheVariants.{Less};
 ghost use Rattle.crdt_ops.specs.SortedSets.{id_order};
-ghost use Rattle.mail_audit.specs.DumpLines.{IsLonger, IsAboveLast};
+ghost use Rattle.mail_audit.specs.DumpLines.{HasTakenOp, IsAboveLast};
 
 use crdt_ops::{Op, SoundOp, into_sound_op};
 use merge_laws::Caused;
@@ -35,7 +35,7 @@ impl OpLines {
 
     /// Takes the operation of the next line; `Err` if memory runs out.
     pub fn push(&mut self, op: Op) -> Result<(), AllocError>
-        ensures { OnOk result (IsLonger self.old op self.new) }
+        ensures { OnOk result (HasTakenOp self.old op self.new) }
     {
         let id = op.id;
         if self.is_bad || !is_above(&self.ops, &id) {

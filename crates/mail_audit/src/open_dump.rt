@@ -2,8 +2,9 @@
 
 ghost use Rattle.std.specs.Prelude.{◌≡◌, ◌+◌, ◌≤◌, ◌<◌, ◌^◌, ℕ, List, [], ◌∷◌, ◌++◌, IfOk, IsTrue};
 ghost use Rattle.std.specs.Prelude.{drop, length};
-ghost use Rattle.mail_audit.specs.Audits.{Audits};
-ghost use Rattle.mail_audit.specs.DumpLines.{IsClosed, IsCompared, IsEarly, IsStep, IsMatchStep};
+ghost use Rattle.mail_audit.specs.Audits.{IsVerdict};
+ghost use Rattle.mail_audit.specs.DumpLines.{AreLinesAfterOps, IsCompared, IsMatchStep, IsStep};
+ghost use Rattle.mail_audit.specs.DumpLines.{IsUnreadableStep};
 ghost use Rattle.mail_audit.specs.DumpLines.{AreOps, IsPhase};
 ghost use Rattle.mail_audit.specs.Dumps.{AreOrdered};
 ghost use Rattle.mail_audit.specs.AuditProgress.{IsOpen};
@@ -113,7 +114,7 @@ impl OpenDump {
             × (last ≡ length lines) }
         ensures { (lines : List (List ℕ)) (sessions : List Session)
             → IsOpen lines sessions self → last ≡ length lines
-            → IfOk result (Audits lines) }
+            → IfOk result (IsVerdict lines) }
     {
         match &self.phase {
             DumpPhase::State(_) => Ok(AuditEnd::Unreadable(last)),
@@ -129,7 +130,8 @@ impl OpenDump {
 /// wrong.
 fn lines_after_ops(alloc: Global, lines: &OpLines) -> Result<Expected, AllocError>
     requires { AreOrdered lines.now.ops.items }
-    ensures { (inside : List (List ℕ)) → AreOps inside lines.now → IfOk result (IsClosed inside) }
+    ensures { (inside : List (List ℕ))
+        → AreOps inside lines.now → IfOk result (AreLinesAfterOps inside) }
 {
     match lines.first_wrong(alloc, false)? {
         Some(place) => Ok(Expected::WrongOp(place)),
@@ -140,7 +142,7 @@ fn lines_after_ops(alloc: Global, lines: &OpLines) -> Result<Expected, AllocErro
 /// The effect of a line that can't be read while op lines may still follow.
 fn step_if_unreadable(alloc: Global, first: u64, lines: &OpLines) -> Result<DumpStep, AllocError>
     requires { first + 1 + length lines.now.ops.items < 2 ^ 64 }
-    ensures { IfOk result (IsEarly first lines.now) }
+    ensures { IfOk result (IsUnreadableStep first lines.now) }
 {
     match lines.first_wrong(alloc, true)? {
         Some(place) => Ok(DumpStep::Wrong(first + 1 + place as u64)),

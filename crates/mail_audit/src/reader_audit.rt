@@ -6,8 +6,8 @@ ghost use Rattle.std.specs.Fmt.{decimal};
 ghost use Rattle.std.specs.Io.KnownBytes.{Appends, Keeps};
 ghost use Rattle.mail_script.specs.Lines.{lines_of};
 ghost use Rattle.mail_script.specs.Reading.{cut_at};
-ghost use Rattle.mail_audit.specs.Audits.{Audits, end_text};
-ghost use Rattle.mail_audit.specs.AuditProgress.{Advances, EndsAt, EndsWithin, HasTaken};
+ghost use Rattle.mail_audit.specs.Audits.{IsVerdict, end_text};
+ghost use Rattle.mail_audit.specs.AuditProgress.{HasAdvanced, EndsAt, EndsWithin, HasTaken};
 ghost use Rattle.mail_audit.specs.declared.verdict.AuditEnd.TheVariants.{WriteFailed as NotWritten};
 
 use crate::line_audit::Audit;
@@ -32,7 +32,7 @@ pub const PIECE_OCTETS: usize = 65_536;
 pub fn audit<R: Read, W: Write>(alloc: Global, reader: &mut R, writer: &mut W) -> AuditEnd
     ensures audits { (input : List ℕ)
         → R.remaining reader.old ≡ Some input
-        → Audits (lines_of input) result }
+        → IsVerdict (lines_of input) result }
     ensures written { result ≢ NotWritten
         → Appends (W.contents writer.old) (W.contents writer.new) (end_text result) }
 {
@@ -59,7 +59,7 @@ fn judge<R: Read>(alloc: Global, reader: &mut R, piece: &mut [u8]) -> AuditEnd
     requires { length piece.old ≡ PIECE_OCTETS }
     ensures { (input : List ℕ)
         → R.remaining reader.old ≡ Some input
-        → Audits (lines_of input) result }
+        → IsVerdict (lines_of input) result }
 {
     let mut progress = Progress {
         audit: Audit::new(alloc),
@@ -98,7 +98,7 @@ fn take_piece(alloc: Global, progress: &mut Progress, piece: &[u8]) -> Option<Au
     ensures { (front : List (List ℕ))
         → HasTaken front progress.old.audit
         → MatchOption result
-        (Advances front progress.old.audit (progress.old.lines ++ piece.now) progress.new.audit
+        (HasAdvanced front progress.old.audit (progress.old.lines ++ piece.now) progress.new.audit
         progress.new.lines × (cut_at 10 progress.new.lines ≡ None))
         (EndsWithin front (progress.old.lines ++ piece.now)) }
 {
@@ -138,7 +138,7 @@ fn take_last(alloc: Global, progress: Progress) -> AuditEnd
     requires has_taken { (front : List (List ℕ)) × HasTaken front progress.audit }
     ensures { (front : List (List ℕ))
         → HasTaken front progress.audit
-        → Audits (front ++ lines_of progress.lines) result }
+        → IsVerdict (front ++ lines_of progress.lines) result }
 {
     let Progress { mut audit, lines } = progress;
     let line = lines.into_rest();
@@ -154,7 +154,7 @@ fn take_last(alloc: Global, progress: Progress) -> AuditEnd
 /// The verdict at the end of the input.
 fn end_of(alloc: Global, audit: Audit) -> AuditEnd
     requires { (lines : List (List ℕ)) × HasTaken lines audit }
-    ensures { (lines : List (List ℕ)) → HasTaken lines audit → Audits lines result }
+    ensures { (lines : List (List ℕ)) → HasTaken lines audit → IsVerdict lines result }
 {
     match audit.end(alloc) {
         Ok(end) => end,

@@ -12,7 +12,7 @@ ghost use Rattle.mail_audit.specs.declared.event.SlotEvent.TheVariants.{ReportsU
 
 use crate::event::SlotEvent;
 use crate::expunged_places::expunged_before;
-use crate::gaps::{fits_between, has_room, known_before};
+use crate::gaps::{count_of_lower_places, fits_between, has_room};
 use std::alloc::{AllocError, Global};
 use std::marker::Model;
 use tree_list::TreeList;
@@ -174,7 +174,7 @@ impl Slots {
         ensures next { IfOk result (λ noted. IsTrue noted
             → self.new ≡ record self.old { slots = set self.old.slots place (Known uid) }) }
     {
-        let at = known_before(&self.entries, place);
+        let at = count_of_lower_places(&self.entries, place);
         if let Some(known) = uid_at(&self.entries, at, place) {
             return Ok(known == uid);
         }

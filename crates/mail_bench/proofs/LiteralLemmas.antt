@@ -8,7 +8,7 @@ use Rattle.std.proofs.lemmas.Bool.Decides.{nat_tests}
 use Rattle.std.proofs.lemmas.Fmt.{decimal_nonempty, digits_decimal, digits_value-decimal}
 use Rattle.std.proofs.lemmas.Str.Parse.{IsNumeralModel, numerals_by_fold}
 use Rattle.mail_bench.specs.Answers.{number_from}
-use Rattle.mail_bench.specs.Replies.{LiteralsArePassed, announced, at_literal, count_more, scan, in_line, is_ended, is_text, longest_literal, next}
+use Rattle.mail_bench.specs.Replies.{LiteralsArePassed, announced, at_literal, count_more, scan, line_stage_after, is_ended, is_text, longest_literal, stage_after}
 use Rattle.mail_bench.specs.declared.replies.ReplyStage.{ReplyStage}
 use Rattle.mail_bench.specs.declared.replies.ReplyStage.TheVariants.{Announced, Closed, Count, Ended, Line, Literal, Open}
 use Rattle.mail_bench.proofs.AnswerLemmas.{number_grows}
@@ -27,20 +27,20 @@ is_not : (b : Bool) → not b ≡ true → b ≡ false
 is_not true e = absurd (false≢true e)
 is_not false e = refl
 
-in_line_text : (octet : ℕ) → (octet == 10) ≡ false → is_text (in_line octet) ≡ true
-in_line_text octet e = either (octet == 123) Open (if octet == 10 then Ended else Line) refl (rw e refl)
+is_text_line_stage_after : (octet : ℕ) → (octet == 10) ≡ false → is_text (line_stage_after octet) ≡ true
+is_text_line_stage_after octet e = either (octet == 123) Open (if octet == 10 then Ended else Line) refl (rw e refl)
 
-text_next : (stage : ReplyStage) (octet : ℕ) → is_text stage ≡ true → (octet == 10) ≡ false → is_text (next stage octet) ≡ true
-text_next Line octet k e = in_line_text octet e
-text_next Open octet k e = either (is_ascii_digit octet) (Count (count_more 0 octet)) (in_line octet) refl (in_line_text octet e)
-text_next (Count n) octet k e =
-    either (is_ascii_digit octet) (Count (count_more n octet)) (if octet == 125 then Closed n else in_line octet) refl (either (octet == 125) (Closed n) (in_line octet) refl (in_line_text octet e))
-text_next (Closed n) octet k e = either (octet == 13) (Announced n) (in_line octet) refl (in_line_text octet e)
-text_next (Announced n) octet k e = other (octet == 10) (at_literal n) (in_line octet) e (in_line_text octet e)
-text_next (Literal n) octet k e = absurd (false≢true k)
-text_next Ended octet k e = absurd (false≢true k)
+is_text_stage_after : (stage : ReplyStage) (octet : ℕ) → is_text stage ≡ true → (octet == 10) ≡ false → is_text (stage_after stage octet) ≡ true
+is_text_stage_after Line octet k e = is_text_line_stage_after octet e
+is_text_stage_after Open octet k e = either (is_ascii_digit octet) (Count (count_more 0 octet)) (line_stage_after octet) refl (is_text_line_stage_after octet e)
+is_text_stage_after (Count n) octet k e =
+    either (is_ascii_digit octet) (Count (count_more n octet)) (if octet == 125 then Closed n else line_stage_after octet) refl (either (octet == 125) (Closed n) (line_stage_after octet) refl (is_text_line_stage_after octet e))
+is_text_stage_after (Closed n) octet k e = either (octet == 13) (Announced n) (line_stage_after octet) refl (is_text_line_stage_after octet e)
+is_text_stage_after (Announced n) octet k e = other (octet == 10) (at_literal n) (line_stage_after octet) e (is_text_line_stage_after octet e)
+is_text_stage_after (Literal n) octet k e = absurd (false≢true k)
+is_text_stage_after Ended octet k e = absurd (false≢true k)
 
-opens : (stage : ReplyStage) → is_text stage ≡ true → next stage 123 ≡ Open
+opens : (stage : ReplyStage) → is_text stage ≡ true → stage_after stage 123 ≡ Open
 opens Line k = refl
 opens Open k = refl
 opens (Count n) k = refl
@@ -58,7 +58,7 @@ not_ended (Announced n) k = refl
 not_ended (Literal n) k = refl
 not_ended Ended k = absurd (false≢true k)
 
-scan_octet : (stage : ReplyStage) (line : List ℕ) (octet : ℕ) (rest : List ℕ) → is_text stage ≡ true → scan stage line (octet ∷ rest) ≡ scan (next stage octet) (line ++ octet ∷ []) rest
+scan_octet : (stage : ReplyStage) (line : List ℕ) (octet : ℕ) (rest : List ℕ) → is_text stage ≡ true → scan stage line (octet ∷ rest) ≡ scan (stage_after stage octet) (line ++ octet ∷ []) rest
 scan_octet stage line octet rest k = rw (not_ended stage k) (rw k refl)
 
 scan_line : (text : List ℕ) (stage : ReplyStage) (line rest : List ℕ) → is_text stage ≡ true → list_all (λ octet. not (octet == 10)) text ≡ true
@@ -66,7 +66,7 @@ scan_line : (text : List ℕ) (stage : ReplyStage) (line rest : List ℕ) → is
 scan_line [] stage line rest k all = (stage, k, ap (λ (l : List ℕ). scan stage l rest) (sym (append-nil line)))
 scan_line (octet ∷ text) stage line rest k all =
     let parts = and_parts (not (octet == 10)) (list_all (λ octet. not (octet == 10)) text) all in
-    let more = scan_line text (next stage octet) (line ++ octet ∷ []) rest (text_next stage octet k (is_not (octet == 10) parts.0)) parts.1 in
+    let more = scan_line text (stage_after stage octet) (line ++ octet ∷ []) rest (is_text_stage_after stage octet k (is_not (octet == 10) parts.0)) parts.1 in
     (more.0, more.1, scan_octet stage line octet (text ++ rest) k ∙ more.2 ∙ ap (λ (l : List ℕ). scan more.0 l rest) (append_assoc line (octet ∷ []) text))
 
 -- ---- the digits of an announcement

@@ -2,7 +2,7 @@ use Rattle.std.proofs.Common.{◌≡◌, ◌≤◌, ◌<◌, ◌+◌, ◌-◌, �
 use Rattle.std.proofs.lemmas.Bool.Decides.{nat_tests}
 use Rattle.std.proofs.lemmas.List.{drop-drop, drop_all, length-take, take_all, take_more}
 use Rattle.memchr.specs.Find.{Nowhere, Passes, is_byte2}
-use Rattle.mail_bench.specs.Replies.{at_literal, scan, in_line, is_ended, line_after, next}
+use Rattle.mail_bench.specs.Replies.{at_literal, scan, line_stage_after, is_ended, line_after, stage_after}
 use Rattle.mail_bench.specs.declared.replies.ReplyStage.{ReplyStage}
 use Rattle.mail_bench.specs.declared.replies.ReplyStage.TheVariants.{Line, Literal}
 
@@ -13,16 +13,16 @@ scan_ended stage line (octet ∷ octets) e = rw e refl
 
 -- one further octet
 scan_suc : (stage : ReplyStage) (line octets : List ℕ) (i : ℕ) → i < length octets → is_ended stage ≡ false
-    → scan stage line (drop i octets) ≡ scan (next stage (get_or octets i 0)) (line_after stage line (get_or octets i 0)) (drop (suc i) octets)
+    → scan stage line (drop i octets) ≡ scan (stage_after stage (get_or octets i 0)) (line_after stage line (get_or octets i 0)) (drop (suc i) octets)
 scan_suc stage line [] i l e = absurd (omega arith)
 scan_suc stage line (octet ∷ octets) zero l e = rw e refl
 scan_suc stage line (octet ∷ octets) (suc i) l e = scan_suc stage line octets i (omega arith) e
 
 pub scan_next : (stage : ReplyStage) (line octets : List ℕ) (i : ℕ) → i < length octets → is_ended stage ≡ false
-    → scan stage line (drop i octets) ≡ scan (next stage (get_or octets i 0)) (line_after stage line (get_or octets i 0)) (drop (i + 1) octets)
+    → scan stage line (drop i octets) ≡ scan (stage_after stage (get_or octets i 0)) (line_after stage line (get_or octets i 0)) (drop (i + 1) octets)
 scan_next stage line octets i l e =
     let k : suc i ≡ i + 1 = omega arith in
-    subst (λ (m : ℕ). scan stage line (drop i octets) ≡ scan (next stage (get_or octets i 0)) (line_after stage line (get_or octets i 0)) (drop m octets)) k (scan_suc stage line octets i l e)
+    subst (λ (m : ℕ). scan stage line (drop i octets) ≡ scan (stage_after stage (get_or octets i 0)) (line_after stage line (get_or octets i 0)) (drop m octets)) k (scan_suc stage line octets i l e)
 
 -- ---- a line's octets, up to one that may begin an announcement
 
@@ -44,12 +44,12 @@ scan_text (octet ∷ octets) line (suc count) short none =
 
 -- and so does the octet after them, which ends the answer or may begin an announcement
 pub scan_text_and_more : (octets line : List ℕ) (at : ℕ) → at < length octets → Nowhere (Passes (is_byte2 123 10) octets) 0 at
-    → scan Line line octets ≡ scan (in_line (get_or octets at 0)) (line ++ take (at + 1) octets) (drop (at + 1) octets)
+    → scan Line line octets ≡ scan (line_stage_after (get_or octets at 0)) (line ++ take (at + 1) octets) (drop (at + 1) octets)
 scan_text_and_more octets line at short none =
     let octet = get_or octets at 0 in
     let text : (line ++ take at octets) ++ octet ∷ [] ≡ line ++ take (at + 1) octets =
     append_assoc line (take at octets) (octet ∷ []) ∙ ap (λ (l : List ℕ). line ++ l) (sym (take_more octets at 0 short)) in
-    scan_text octets line at (omega arith) none ∙ scan_next Line (line ++ take at octets) octets at short refl ∙ ap (λ (l : List ℕ). scan (in_line octet) l (drop (at + 1) octets)) text
+    scan_text octets line at (omega arith) none ∙ scan_next Line (line ++ take at octets) octets at short refl ∙ ap (λ (l : List ℕ). scan (line_stage_after octet) l (drop (at + 1) octets)) text
 
 pub scan_all_text : (octets line : List ℕ) → Nowhere (Passes (is_byte2 123 10) octets) 0 (length octets) → scan Line line octets ≡ scan Line (line ++ octets) (drop (length octets) octets)
 scan_all_text octets line none =

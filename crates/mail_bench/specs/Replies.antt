@@ -21,8 +21,8 @@ longest_literal = 1073741824
 
 -- The stage after an octet that continues no announcement: `{` (123) may begin one, and LF (10)
 -- ends the answer.
-abbrev pub in_line : ℕ → ReplyStage
-in_line octet = if octet == 123 then Open else if octet == 10 then Ended else Line
+abbrev pub line_stage_after : ℕ → ReplyStage
+line_stage_after octet = if octet == 123 then Open else if octet == 10 then Ended else Line
 
 -- The count with one further digit. A count that is too large stays so.
 abbrev pub count_more : ℕ → ℕ → ℕ
@@ -34,16 +34,18 @@ at_literal octets = if octets == 0 then Line else Literal octets
 
 -- The stage after an octet: RFC 9051, section 9, `literal = "{" number64 "}" CRLF *CHAR8`, at the
 -- end of a line.
-abbrev pub next : ReplyStage → ℕ → ReplyStage
-next Line octet = in_line octet
-next Open octet = if is_ascii_digit octet then Count (count_more 0 octet) else in_line octet
-next (Count octets) octet =
+abbrev pub stage_after : ReplyStage → ℕ → ReplyStage
+stage_after Line octet = line_stage_after octet
+stage_after Open octet =
+    if is_ascii_digit octet then Count (count_more 0 octet) else line_stage_after octet
+stage_after (Count octets) octet =
     if is_ascii_digit octet then Count (count_more octets octet)
-    else if octet == 125 then Closed octets else in_line octet
-next (Closed octets) octet = if octet == 13 then Announced octets else in_line octet
-next (Announced octets) octet = if octet == 10 then at_literal octets else in_line octet
-next (Literal left) octet = at_literal (left - 1)
-next Ended octet = Ended
+    else if octet == 125 then Closed octets else line_stage_after octet
+stage_after (Closed octets) octet = if octet == 13 then Announced octets else line_stage_after octet
+stage_after (Announced octets) octet =
+    if octet == 10 then at_literal octets else line_stage_after octet
+stage_after (Literal left) octet = at_literal (left - 1)
+stage_after Ended octet = Ended
 
 -- Whether the octet at this stage is part of the line.
 abbrev pub is_text : ReplyStage → Bool
@@ -64,7 +66,7 @@ abbrev pub scan : ReplyStage → List ℕ → List ℕ → ReplyStage × List �
 scan stage line [] = (stage, line, [])
 scan stage line (octet ∷ octets) =
     if is_ended stage then (stage, line, octet ∷ octets)
-    else scan (next stage octet) (line_after stage line octet) octets
+    else scan (stage_after stage octet) (line_after stage line octet) octets
 
 -- Why an answer can't be read further at this stage, with a line of this length.
 abbrev pub refusal_at : ReplyStage → Option ReplyFault

@@ -3,7 +3,7 @@
 ghost use Rattle.std.specs.Prelude.{◌≤◌, IfOk, length, vec_len};
 
 use crate::answers::{Answer, answer_of};
-use crate::commands::{Ask, Command, MailboxAsk, push_line};
+use crate::commands::{Command, MailboxCommand, PlainCommand, push_line};
 use crate::fault::{BenchFault, read_fault, status_result};
 use crate::replies::Reading;
 use std::alloc::Global;
@@ -122,7 +122,7 @@ impl Client {
     pub fn select(&mut self, name: &str) -> Result<(), BenchFault> {
         self.messages = 0;
         self.run(Command::Mailbox {
-            ask: MailboxAsk::Select,
+            ask: MailboxCommand::Select,
             name,
         })
     }
@@ -130,7 +130,7 @@ impl Client {
     /// Logs out.
     pub fn logout(&mut self) -> Result<(), BenchFault> {
         self.leaves = true;
-        self.run(Command::Plain(Ask::Logout))
+        self.run(Command::Plain(PlainCommand::Logout))
     }
 
     /// Sends a command, and waits until it is answered OK.
@@ -144,7 +144,7 @@ impl Client {
         self.line.clear();
         let first = self.sent;
         for _ in 0..count {
-            self.push(Command::Plain(Ask::Noop))?;
+            self.push(Command::Plain(PlainCommand::Noop))?;
         }
         self.send()?;
         for number in first..first.saturating_add(count) {
@@ -166,7 +166,7 @@ impl Client {
 
     /// Begins to idle, and returns the command's number.
     pub fn idle(&mut self) -> Result<u64, BenchFault> {
-        self.announce(Command::Plain(Ask::Idle))
+        self.announce(Command::Plain(PlainCommand::Idle))
     }
 
     /// Waits until the server reports that the mailbox has at least `least` messages.

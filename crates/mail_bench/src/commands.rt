@@ -19,7 +19,7 @@ const TEXT: &[u8] = b"A line of sixty-four octets, which occurs in a message of 
 
 /// A command with no argument of its own.
 #[derive(Clone, Copy)]
-pub enum Ask {
+pub enum PlainCommand {
     /// NOOP.
     Noop,
     /// FETCH of the flags of all messages.
@@ -36,7 +36,7 @@ pub enum Ask {
 
 /// A command on one message, by its number in the selected mailbox.
 #[derive(Clone, Copy)]
-pub enum MessageAsk {
+pub enum MessageCommand {
     /// FETCH of the message's flags.
     FetchFlags,
     /// FETCH of the message's whole text.
@@ -49,7 +49,7 @@ pub enum MessageAsk {
 
 /// A command on a mailbox, by its name.
 #[derive(Clone, Copy)]
-pub enum MailboxAsk {
+pub enum MailboxCommand {
     /// SELECT.
     Select,
     /// CREATE.
@@ -60,18 +60,18 @@ pub enum MailboxAsk {
 #[derive(Clone, Copy)]
 pub enum Command<'a> {
     /// A command with no argument of its own.
-    Plain(Ask),
+    Plain(PlainCommand),
     /// A command on a message.
     Message {
         /// Which command.
-        ask: MessageAsk,
+        ask: MessageCommand,
         /// The message's number, from 1.
         number: u32,
     },
     /// A command on a mailbox.
     Mailbox {
         /// Which command.
-        ask: MailboxAsk,
+        ask: MailboxCommand,
         /// The mailbox's name.
         name: &'a str,
     },
@@ -122,20 +122,20 @@ fn push_command(command: Command<'_>, out: &mut Vec<u8>) -> Result<(), AllocErro
 }
 
 /// The text of a command with no argument of its own.
-fn plain(ask: Ask) -> &'static [u8]
+fn plain(ask: PlainCommand) -> &'static [u8]
     ensures { result.now ≡ plain_text ask }
 {
     match ask {
-        Ask::Noop => b"NOOP",
-        Ask::FetchAllFlags => b"FETCH 1:* (FLAGS)",
-        Ask::SearchUnseen => b"SEARCH UNSEEN",
-        Ask::SearchSubject => b"SEARCH SUBJECT \"x\"",
-        Ask::Idle => b"IDLE",
-        Ask::Logout => b"LOGOUT",
+        PlainCommand::Noop => b"NOOP",
+        PlainCommand::FetchAllFlags => b"FETCH 1:* (FLAGS)",
+        PlainCommand::SearchUnseen => b"SEARCH UNSEEN",
+        PlainCommand::SearchSubject => b"SEARCH SUBJECT \"x\"",
+        PlainCommand::Idle => b"IDLE",
+        PlainCommand::Logout => b"LOGOUT",
     }
 }
 
-fn push_message(ask: MessageAsk, number: u32, out: &mut Vec<u8>) -> Result<(), AllocError>
+fn push_message(ask: MessageCommand, number: u32, out: &mut Vec<u8>) -> Result<(), AllocError>
     ensures { OnOk result (out.new.items ≡ out.old.items ++ counted_text ask number) }
 {
     out.extend_from_slice(verb(ask))?;
@@ -144,28 +144,28 @@ fn push_message(ask: MessageAsk, number: u32, out: &mut Vec<u8>) -> Result<(), A
 }
 
 /// The text before a message's number.
-fn verb(ask: MessageAsk) -> &'static [u8]
+fn verb(ask: MessageCommand) -> &'static [u8]
     ensures { result.now ≡ verb_text ask }
 {
     match ask {
-        MessageAsk::FetchFlags | MessageAsk::FetchBody => b"FETCH ",
-        MessageAsk::Flag | MessageAsk::Unflag => b"STORE ",
+        MessageCommand::FetchFlags | MessageCommand::FetchBody => b"FETCH ",
+        MessageCommand::Flag | MessageCommand::Unflag => b"STORE ",
     }
 }
 
 /// The text after a message's number.
-fn message_verb_end(ask: MessageAsk) -> &'static [u8]
+fn message_verb_end(ask: MessageCommand) -> &'static [u8]
     ensures { result.now ≡ asked_text ask }
 {
     match ask {
-        MessageAsk::FetchFlags => b" (FLAGS)",
-        MessageAsk::FetchBody => b" (BODY.PEEK[])",
-        MessageAsk::Flag => b" +FLAGS (\\Flagged)",
-        MessageAsk::Unflag => b" -FLAGS (\\Flagged)",
+        MessageCommand::FetchFlags => b" (FLAGS)",
+        MessageCommand::FetchBody => b" (BODY.PEEK[])",
+        MessageCommand::Flag => b" +FLAGS (\\Flagged)",
+        MessageCommand::Unflag => b" -FLAGS (\\Flagged)",
     }
 }
 
-fn push_mailbox(ask: MailboxAsk, name: &str, out: &mut Vec<u8>) -> Result<(), AllocError>
+fn push_mailbox(ask: MailboxCommand, name: &str, out: &mut Vec<u8>) -> Result<(), AllocError>
     ensures { OnOk result (out.new.items ≡ out.old.items ++ named_text ask name.now) }
 {
     out.extend_from_slice(mailbox_verb(ask))?;
@@ -173,12 +173,12 @@ fn push_mailbox(ask: MailboxAsk, name: &str, out: &mut Vec<u8>) -> Result<(), Al
 }
 
 /// The text before a mailbox's name.
-fn mailbox_verb(ask: MailboxAsk) -> &'static [u8]
+fn mailbox_verb(ask: MailboxCommand) -> &'static [u8]
     ensures { result.now ≡ mailbox_verb_text ask }
 {
     match ask {
-        MailboxAsk::Select => b"SELECT ",
-        MailboxAsk::Create => b"CREATE ",
+        MailboxCommand::Select => b"SELECT ",
+        MailboxCommand::Create => b"CREATE ",
     }
 }
 

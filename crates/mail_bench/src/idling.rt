@@ -3,7 +3,7 @@
 
 use crate::client::{Client, Dial};
 use crate::fault::BenchFault;
-use crate::idle_board::Board;
+use crate::idle_state::SharedIdleState;
 use crate::measurement::measure;
 use crate::preparation::{connect_and_login, connect_and_select, connect_and_select_when};
 use crate::report::{Report, Tally};
@@ -21,7 +21,7 @@ use std::time::Duration;
 pub const LISTENERS: u32 = 32;
 
 /// The number of connections that idle while another is measured.
-pub const BYSTANDERS: u32 = 400;
+pub const IDLING_CLIENTS: u32 = 400;
 
 /// The largest number of messages that are sent.
 const MAX_ROUNDS: u32 = 10_000_000;
@@ -66,14 +66,14 @@ fn send_and_listen<R: Threads + Wait + Clock + Sync>(
     listeners: Vec<Client>,
     sender: &mut Client,
 ) -> Result<(Tally, Duration), BenchFault> {
-    let board = Board::new(alloc, listeners.len());
+    let shared = SharedIdleState::new(alloc, listeners.len());
     let (sent, received) = thread::join(
         rt,
-        || send_all(rt, alloc, seconds, plan, &board, sender),
+        || send_all(rt, alloc, seconds, plan, &shared, sender),
         || thread::map_vec(
             rt,
             listeners,
-            &|client: Client| listen(rt, &board, plan.messages, client),
+            &|client: Client| listen(rt, &shared, plan.messages, client),
         ),
     );
     first_fault(received?)?;
@@ -95,11 +95,11 @@ fn send_all<R: Wait + Clock>(
     alloc: Global,
     seconds: u32,
     plan: &WorkPlan<'_>,
-    board: &Board,
+    shared: &SharedIdleState,
     sender: &mut Client,
 ) -> Result<(Tally, Duration), BenchFault> {
     let mut tally = Tally::new(alloc);
-    let took = send_for(rt, seconds, plan, board, sender, &mut tally)?;
+    let took = send_for(rt, seconds, plan, shared, sender, &mut tally)?;
     Ok((tally, took))
 }
 
@@ -108,16 +108,16 @@ fn send_for<R: Wait + Clock>(
     rt: &R,
     seconds: u32,
     plan: &WorkPlan<'_>,
-    board: &Board,
+    shared: &SharedIdleState,
     sender: &mut Client,
     tally: &mut Tally,
 ) -> Result<Duration, BenchFault> {
-    board.await_all(rt)?;
+    shared.await_all(rt)?;
     let start = now(rt)?;
     for _ in 0..MAX_ROUNDS {
         let is_last = since(rt, start)?.as_secs() >= u64::from(seconds);
-        board.begin(rt, is_last);
-        send_one(rt, plan, board, sender, tally)?;
+        shared.begin(rt, is_last);
+        send_one(rt, plan, shared, sender, tally)?;
         if is_last {
             break;
         }
@@ -129,53 +129,53 @@ fn send_for<R: Wait + Clock>(
 fn send_one<R: Wait + Clock>(
     rt: &R,
     plan: &WorkPlan<'_>,
-    board: &Board,
+    shared: &SharedIdleState,
     sender: &mut Client,
     tally: &mut Tally,
 ) -> Result<(), BenchFault> {
     let number = sender.begin_append(plan.mailbox, plan.message.len())?;
     let sent = now(rt)?;
     sender.finish(&plan.message, number)?;
-    board.await_all(rt)?;
+    shared.await_all(rt)?;
     tally.commands = tally.commands.saturating_add(1);
-    board.add_times(rt, sent, tally)
+    shared.add_times(rt, sent, tally)
 }
 
 /// Idles, and notes when it receives each message after the first `messages`, until the last.
 fn listen<R: Wait + Clock>(
     rt: &R,
-    board: &Board,
+    shared: &SharedIdleState,
     messages: u32,
     mut client: Client,
 ) -> Result<(), BenchFault> {
-    let ended = listen_to_all(rt, board, messages, &mut client);
+    let ended = listen_to_all(rt, shared, messages, &mut client);
     if let Err(fault) = ended {
-        board.fail(rt, fault);
+        shared.fail(rt, fault);
     }
     ended
 }
 
 fn listen_to_all<R: Wait + Clock>(
     rt: &R,
-    board: &Board,
+    shared: &SharedIdleState,
     messages: u32,
     client: &mut Client,
 ) -> Result<(), BenchFault> {
     let number = client.idle()?;
-    receive_all(rt, board, messages, number, client)?;
+    receive_all(rt, shared, messages, number, client)?;
     client.logout()
 }
 
 /// Receives each message until the last, and ends the IDLE command with this number.
 fn receive_all<R: Wait + Clock>(
     rt: &R,
-    board: &Board,
+    shared: &SharedIdleState,
     messages: u32,
     number: u64,
     client: &mut Client,
 ) -> Result<(), BenchFault> {
     for round in 0..MAX_ROUNDS {
-        if board.note_now(rt)? {
+        if shared.note_now(rt)? {
             break;
         }
         client.await_messages(messages.saturating_add(round + 1))?;
@@ -185,33 +185,33 @@ fn receive_all<R: Wait + Clock>(
 
 /// Measures the NOOPs of one connection by itself, and then while 400 connections idle in the
 /// same mailbox.
-pub fn beside_idle<R: Threads + Clock + Sync + Dial>(
+pub fn measure_beside_idling<R: Threads + Clock + Sync + Dial>(
     rt: &R,
     alloc: Global,
     settings: &Settings<'_>,
     plan: &WorkPlan<'_>,
 ) -> Result<(Report, Report), BenchFault> {
     let alone = measure(rt, alloc, settings, plan, 1)?;
-    let _bystanders = bystanders(rt, alloc, settings)?;
+    let _idling_clients = idling_clients(rt, alloc, settings)?;
     let beside = measure(rt, alloc, settings, plan, 1)?;
     Ok((alone, beside))
 }
 
 /// 400 connections that idle in the mailbox.
-fn bystanders<R: Dial>(
+fn idling_clients<R: Dial>(
     rt: &R,
     alloc: Global,
     settings: &Settings<'_>,
 ) -> Result<Vec<Client>, BenchFault> {
-    let mut bystanders = Vec::new(alloc);
-    for _ in 0..BYSTANDERS {
-        let client = bystander(rt, alloc, settings)?;
-        bystanders.push(client)?;
+    let mut idling_clients = Vec::new(alloc);
+    for _ in 0..IDLING_CLIENTS {
+        let client = idling_client(rt, alloc, settings)?;
+        idling_clients.push(client)?;
     }
-    Ok(bystanders)
+    Ok(idling_clients)
 }
 
-fn bystander<R: Dial>(
+fn idling_client<R: Dial>(
     rt: &R,
     alloc: Global,
     settings: &Settings<'_>,

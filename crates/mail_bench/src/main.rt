@@ -18,7 +18,7 @@ mod bench_output;
 mod client;
 mod commands;
 mod fault;
-mod idle_board;
+mod idle_state;
 mod idling;
 mod laws;
 mod measurement;

@@ -4,7 +4,7 @@
 ghost use Rattle.std.specs.Prelude.{◌<◌, ◌≤◌, IfOk};
 
 use crate::client::{Client, Dial};
-use crate::commands::{Command, MailboxAsk, message};
+use crate::commands::{Command, MailboxCommand, message};
 use crate::fault::BenchFault;
 use crate::settings::Settings;
 use std::alloc::Global;
@@ -93,7 +93,7 @@ fn open(client: &mut Client, name: &str) -> Result<(), BenchFault> {
         selected => return selected,
     }
     client.run(Command::Mailbox {
-        ask: MailboxAsk::Create,
+        ask: MailboxCommand::Create,
         name,
     })?;
     client.select(name)

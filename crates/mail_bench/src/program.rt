@@ -3,7 +3,7 @@
 use crate::bench_output::{print_fault, settings_or_status};
 use crate::client::Dial;
 use crate::fault::BenchFault;
-use crate::idling::{BYSTANDERS, LISTENERS, beside_idle, fan_out};
+use crate::idling::{IDLING_CLIENTS, LISTENERS, fan_out, measure_beside_idling};
 use crate::measurement::{measure, measure_logins};
 use crate::preparation::prepare;
 use crate::report::Report;
@@ -89,9 +89,9 @@ fn measure_beside<R: Print + Threads + Wait + Clock + Sync + Dial>(
     settings: &Settings<'_>,
     plan: &WorkPlan<'_>,
 ) -> Result<(), BenchFault> {
-    let (alone, beside) = beside_idle(rt, alloc, settings, plan)?;
+    let (alone, beside) = measure_beside_idling(rt, alloc, settings, plan)?;
     print_report(rt, settings.workload, 0, &alone)?;
-    print_report(rt, settings.workload, BYSTANDERS, &beside)
+    print_report(rt, settings.workload, IDLING_CLIENTS, &beside)
 }
 
 /// Prints the line of a measurement during which `idling` connections idled.

@@ -3,9 +3,9 @@
 
 ghost use Rattle.std.specs.Prelude.{◌≡◌, ◌⊎◌, ◌≤◌, ◌<◌, ◌+◌, ◌++◌, [], IfErr, IfOk, None, OnOk};
 ghost use Rattle.std.specs.Prelude.{Some, drop, false, length, true};
-ghost use Rattle.mail_bench.specs.Replies.{at_literal, count_more, scan, in_line, is_ended};
-ghost use Rattle.mail_bench.specs.Replies.{is_text, line_after, longest_line, next, refusal};
-ghost use Rattle.mail_bench.specs.Replies.{refusal_at};
+ghost use Rattle.mail_bench.specs.Replies.{at_literal, count_more, is_ended, is_text};
+ghost use Rattle.mail_bench.specs.Replies.{line_after, line_stage_after, longest_line, refusal};
+ghost use Rattle.mail_bench.specs.Replies.{refusal_at, scan, stage_after};
 ghost use Rattle.mail_bench.specs.declared.replies.ReplyFault.TheVariants as faults;
 ghost use Rattle.mail_bench.specs.declared.replies.ReplyStage.TheVariants.{Line, Literal};
 
@@ -148,7 +148,7 @@ impl Reading {
     {
         match memchr2(b'{', b'\n', octets) {
             Some(at) => {
-                self.push_text(&octets[..at + 1], in_line(octets[at]))?;
+                self.push_text(&octets[..at + 1], line_stage_after(octets[at]))?;
                 Ok(at + 1)
             }
             None => {
@@ -158,8 +158,8 @@ impl Reading {
         }
     }
 
-    /// Adds octets to the line, and sets the stage after them. `LongLine` exactly if the line would
-    /// be too long.
+    /// Adds octets to the line, and sets the stage after them. `LongLine` exactly when the line
+    /// would be too long.
     fn push_text(&mut self, text: &[u8], after: ReplyStage) -> Result<(), ReplyFault>
         ensures stage { OnOk result (self.new.stage ≡ after) }
         ensures line { OnOk result (self.new.line.items ≡ self.old.line.items ++ text.now) }
@@ -207,22 +207,22 @@ impl Reading {
         Ok(1)
     }
 
-    /// Reads one octet of an answer that hasn't ended. `LongLine` and `LongLiteral` exactly if the
-    /// answer is too long with it.
+    /// Reads one octet of an answer that hasn't ended. `LongLine` and `LongLiteral` exactly when
+    /// the answer is too long with it.
     fn take(&mut self, octet: u8) -> Result<(), ReplyFault>
-        ensures stage { OnOk result (self.new.stage ≡ next self.old.stage octet) }
+        ensures stage { OnOk result (self.new.stage ≡ stage_after self.old.stage octet) }
         ensures line { OnOk result
             (self.new.line.items ≡ line_after self.old.stage self.old.line.items octet) }
-        ensures fine { OnOk result (refusal (next self.old.stage octet)
+        ensures fine { OnOk result (refusal (stage_after self.old.stage octet)
             (length (line_after self.old.stage self.old.line.items octet)) ≡ None) }
         ensures refused { IfErr result (λ fault. (fault ≡ faults.NoMemory)
-            ⊎ (refusal (next self.old.stage octet)
+            ⊎ (refusal (stage_after self.old.stage octet)
             (length (line_after self.old.stage self.old.line.items octet)) ≡ Some fault)) }
     {
         if is_text(self.stage) && self.line.push(octet).is_err() {
             return Err(ReplyFault::NoMemory);
         }
-        self.stage = next(self.stage, octet);
+        self.stage = stage_after(self.stage, octet);
         match refusal(self.stage, self.line.len()) {
             Some(fault) => Err(fault),
             None => Ok(()),
@@ -238,8 +238,8 @@ fn is_text(stage: ReplyStage) -> bool
 }
 
 /// The stage after an octet.
-fn next(stage: ReplyStage, octet: u8) -> ReplyStage
-    ensures { result ≡ next stage octet }
+fn stage_after(stage: ReplyStage, octet: u8) -> ReplyStage
+    ensures { result ≡ stage_after stage octet }
 {
     match stage {
         ReplyStage::Open if octet.is_ascii_digit() => ReplyStage::Count {
@@ -253,13 +253,13 @@ fn next(stage: ReplyStage, octet: u8) -> ReplyStage
         ReplyStage::Announced { octets } if octet == b'\n' => at_literal(octets),
         ReplyStage::Literal { left } => at_literal(left.saturating_sub(1)),
         ReplyStage::Ended => ReplyStage::Ended,
-        _ => in_line(octet),
+        _ => line_stage_after(octet),
     }
 }
 
 /// The stage after an octet that continues no announcement.
-fn in_line(octet: u8) -> ReplyStage
-    ensures { result ≡ in_line octet }
+fn line_stage_after(octet: u8) -> ReplyStage
+    ensures { result ≡ line_stage_after octet }
 {
     match octet {
         b'{' => ReplyStage::Open,

@@ -3,7 +3,7 @@
 ghost use Rattle.std.specs.Prelude.{◌≡◌, ◌≤◌, ◌<◌, IfNone, IfOk, map, true};
 ghost use Rattle.std.specs.Option.{option_map};
 ghost use Rattle.clap.specs.Words.{first_of, found_of, matches_of, rows_of};
-ghost use Rattle.clap_laws.specs.Words.{Add, IsWord};
+ghost use Rattle.clap_laws.specs.Words.{AddWords, IsWord};
 ghost use Rattle.mail_bench.specs.Options.{Asks, IsAmount, IsPlainText, bench_words, counted_word};
 ghost use Rattle.mail_bench.specs.Options.{word_with_value, required_word, text_in, with_amounts};
 ghost use Rattle.mail_bench.specs.Options.{with_server};
@@ -205,7 +205,7 @@ then beside 400 that idle.";
 /// The words that name the server and the workload, and then those that say how much is done, and
 /// where.
 fn known_words<'a>(alloc: Global) -> Result<Vec<Arg<'a>>, AllocError>
-    ensures { IfOk result (λ words. Add words.items (λ app. with_amounts (with_server app))) }
+    ensures { IfOk result (λ words. AddWords words.items (λ app. with_amounts (with_server app))) }
 {
     let words = vec![in alloc;
         required_word(alloc, "address", "The server's address, as 127.0.0.1:1143"),

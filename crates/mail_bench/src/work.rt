@@ -3,7 +3,7 @@
 ghost use Rattle.std.specs.Prelude.{◌+◌, ◌%◌, ◌≡◌, ◌≤◌, ◌<◌};
 
 use crate::client::{Client, Dial};
-use crate::commands::{Ask, Command, MessageAsk, message};
+use crate::commands::{Command, MessageCommand, PlainCommand, message};
 use crate::fault::BenchFault;
 use crate::preparation::{LARGE, SMALL, connect_and_login};
 use crate::report::Tally;
@@ -155,12 +155,12 @@ impl MailboxWork<'_> {
             Workload::AppendSmall | Workload::AppendLarge | Workload::IdleFanOut => {
                 return self.client.append(self.plan.mailbox, &self.plan.message);
             }
-            Workload::FetchBody => return self.ask(MessageAsk::FetchBody, number),
-            Workload::Store => return self.ask(store_ask(number), number / 2),
-            Workload::FetchFlags => Ask::FetchAllFlags,
-            Workload::SearchUnseen => Ask::SearchUnseen,
-            Workload::SearchSubject => Ask::SearchSubject,
-            _ => Ask::Noop,
+            Workload::FetchBody => return self.ask(MessageCommand::FetchBody, number),
+            Workload::Store => return self.ask(store_command(number), number / 2),
+            Workload::FetchFlags => PlainCommand::FetchAllFlags,
+            Workload::SearchUnseen => PlainCommand::SearchUnseen,
+            Workload::SearchSubject => PlainCommand::SearchSubject,
+            _ => PlainCommand::Noop,
         };
         self.client.run(Command::Plain(ask))
     }
@@ -169,9 +169,9 @@ impl MailboxWork<'_> {
     fn mixed(&mut self, number: u64) -> Result<(), BenchFault> {
         let round = number / 6;
         match number % 6 {
-            0 => self.ask(MessageAsk::FetchFlags, round),
-            1 => self.ask(MessageAsk::FetchBody, round),
-            2 => self.ask(store_ask(round), round / 2),
+            0 => self.ask(MessageCommand::FetchFlags, round),
+            1 => self.ask(MessageCommand::FetchBody, round),
+            2 => self.ask(store_command(round), round / 2),
             3 => self.one(Workload::Noop, number),
             4 => self.one(Workload::SearchUnseen, number),
             _ => self.one(Workload::AppendSmall, number),
@@ -179,18 +179,18 @@ impl MailboxWork<'_> {
     }
 
     /// Runs a command on the message of the turn with this number.
-    fn ask(&mut self, ask: MessageAsk, number: u64) -> Result<(), BenchFault> {
+    fn ask(&mut self, ask: MessageCommand, number: u64) -> Result<(), BenchFault> {
         let number = message_at(self.first, number, self.plan.messages);
         self.client.run(Command::Message { ask, number })
     }
 }
 
 /// The flag is set and cleared in turn.
-fn store_ask(number: u64) -> MessageAsk {
+fn store_command(number: u64) -> MessageCommand {
     if number % 2 == 0 {
-        MessageAsk::Flag
+        MessageCommand::Flag
     } else {
-        MessageAsk::Unflag
+        MessageCommand::Unflag
     }
 }
 

@@ -76,7 +76,7 @@ impl Workload {
         }
     }
 
-    /// The workload with this word; `None` exactly if there is none.
+    /// The workload with this word; `None` exactly when there is none.
     pub fn from_word(word: &str) -> Option<Workload>
         ensures some { IfSome result (λ workload. word_of workload ≡ word.now) }
         ensures none { IfNone result (NamesNone word.now) }

@@ -2,7 +2,7 @@ use Rattle.std.proofs.Common.{rules, ◌≡◌, ℕ, List, Option, None, Some, a
 use Rattle.std.specs.List.{slice_get}
 use Rattle.std.specs.Prelude.{IsNone, IsSome}
 use Rattle.imap_connection.specs.Replies.{idling_at}
-use Rattle.mail_replay.specs.Lines.{HasFirstUid, IsIdling, Feedable}
+use Rattle.mail_replay.specs.Lines.{HasFirstUid, IsIdling, IsFeedable}
 use Rattle.mail_replay.specs.ScriptState.{ScriptContents, replica_place, session_place}
 use Rattle.mail_replay.specs.declared.script_state.Connection.{Connection}
 use Rattle.mail_replay.specs.declared.script_state.ScriptReplica.{ScriptReplica}
@@ -13,7 +13,7 @@ use Rattle.mail_script.specs.declared.script.ScriptLine.{ScriptLine}
 use Rattle.mail_script.specs.declared.script.ScriptLine.TheVariants.{Blank, Node, Now, Open, Line, Send, Poll, Close, Show, Deliver, Forge, Drain, Settle, Agree, Join}
 
 -- a session has one connection, with one replica
-pub one_talking : (setup : ScriptContents) (name : List ℕ) (t u : Feedable setup name) → (u.replica ≡ t.replica) × (u.connection ≡ t.connection)
+pub one_talking : (setup : ScriptContents) (name : List ℕ) (t u : IsFeedable setup name) → (u.replica ≡ t.replica) × (u.connection ≡ t.connection)
 one_talking setup name t u =
     let place : u.place ≡ t.place = some_same (session_place setup.sessions name) u.place t.place u.session_place_is t.session_place_is in
     let session : u.session ≡ t.session =
@@ -29,7 +29,7 @@ none_some None n s = search rules
 none_some (Some x) n s = search rules
 
 -- a session whose connection doesn't idle doesn't idle
-pub not_idling : (setup : ScriptContents) (name : List ℕ) (t : Feedable setup name) → IsNone (idling_at t.replica.node.state t.connection.number) → IsIdling setup name → ⊥
+pub not_idling : (setup : ScriptContents) (name : List ℕ) (t : IsFeedable setup name) → IsNone (idling_at t.replica.node.state t.connection.number) → IsIdling setup name → ⊥
 not_idling setup name t none i =
     let same = one_talking setup name t i.0 in
     none_some (idling_at t.replica.node.state t.connection.number) none

@@ -4,16 +4,16 @@ use Rattle.mail_script.specs.Lines.{lines_of}
 use Rattle.mail_script.specs.Reading.{cut_at}
 use Rattle.mail_script.specs.Script.{Means}
 use Rattle.mail_script.specs.declared.script.ScriptLine.{ScriptLine}
-use Rattle.text_fields.proofs.FieldLemmas.{cut_takes}
+use Rattle.text_fields.proofs.FieldLemmas.{cut_sound}
 use Rattle.mail_script.proofs.LineLemmas.{lines_next}
-use Rattle.mail_replay.specs.Lines.{IsBad, Serves, ServesInPart}
-use Rattle.mail_replay.specs.Replays.{Advances, Breaks, FirstInPart, ServesAll, Stops}
+use Rattle.mail_replay.specs.Lines.{IsBad, ServesLine, ServesInPart}
+use Rattle.mail_replay.specs.Replays.{HasServedLines, HasBadLine, FirstInPart, ServesAll, HasLineWithoutMemory}
 use Rattle.mail_replay.specs.ScriptState.{ScriptContents}
 
 -- a line that is cut off, its end and the rest are the whole
 pub cut_parts : (text line rest : List ℕ) → cut_at 10 text ≡ Some (line, rest) → length text ≡ length line + 1 + length rest
 cut_parts text line rest e =
-    let n : length text ≡ length line + length (10 ∷ rest) = ap length (cut_takes 10 text (line, rest) e) ∙ length-append line (10 ∷ rest) in
+    let n : length text ≡ length line + length (10 ∷ rest) = ap length (cut_sound 10 text (line, rest) e) ∙ length-append line (10 ∷ rest) in
     let m : length (10 ∷ rest) ≡ suc (length rest) = refl in
     omega (arith, n, m)
 
@@ -44,11 +44,11 @@ nothing_in_part setup (line ∷ lines) = inl refl
 
 -- one more line after those that were served
 pub serves_one_more : (old mid new : ScriptContents) (lines : List (List ℕ)) (line out more : List ℕ) (meaning : ScriptLine)
-    → ServesAll old lines out mid → Means line meaning → Serves mid meaning more new → ServesAll old (lines ++ line ∷ []) (out ++ more) new
+    → ServesAll old lines out mid → Means line meaning → ServesLine mid meaning more new → ServesAll old (lines ++ line ∷ []) (out ++ more) new
 serves_one_more old mid new [] line out more meaning s means serves =
     let start : mid ≡ old = s.1 in
     let none : out ≡ [] = s.0 in
-    (meaning, more, new, [], means, subst (λ (z : ScriptContents). Serves z meaning more new) start serves, ap (λ zs. zs ++ more) none ∙ sym (append-nil more), (refl, refl))
+    (meaning, more, new, [], means, subst (λ (z : ScriptContents). ServesLine z meaning more new) start serves, ap (λ zs. zs ++ more) none ∙ sym (append-nil more), (refl, refl))
 serves_one_more old mid new (first ∷ lines) line out more meaning s means serves =
     (s.0, s.1, s.2, s.3 ++ more, s.4, s.5, ap (λ zs. zs ++ more) s.6 ∙ append_assoc s.1 s.3 more, serves_one_more s.2 mid new lines line s.3 more meaning s.7 means serves)
 
@@ -62,7 +62,7 @@ serves_both old mid new (first ∷ xs) ys out more s t =
     (s.0, s.1, s.2, s.3 ++ more, s.4, s.5, ap (λ zs. zs ++ more) s.6 ∙ append_assoc s.1 s.3 more, serves_both s.2 mid new xs ys s.3 more s.7 t)
 
 module _ (held : Option (List ℕ)) (setup : ScriptContents) (served : ℕ) (text : List ℕ) where
-  pub advance_at_first : Advances held setup served text held setup served text
+  pub advance_at_first : HasServedLines held setup served text held setup served text
   advance_at_first = record {
     front = [];
     out = [];
@@ -74,7 +74,7 @@ module _ (held : Option (List ℕ)) (setup : ScriptContents) (served : ℕ) (tex
   }
 
   -- memory runs out after some of the lines
-  pub stops_after : (held1 : Option (List ℕ)) (scene1 : ScriptContents) (served1 : ℕ) (text1 : List ℕ) → Advances held setup served text held1 scene1 served1 text1 → Stops held setup text held1
+  pub stops_after : (held1 : Option (List ℕ)) (scene1 : ScriptContents) (served1 : ℕ) (text1 : List ℕ) → HasServedLines held setup served text held1 scene1 served1 text1 → HasLineWithoutMemory held setup text held1
   stops_after held1 scene1 served1 text1 a = record {
     front = a.front;
     back = λ more. lines_of (text1 ++ more);
@@ -87,12 +87,12 @@ module _ (held : Option (List ℕ)) (setup : ScriptContents) (served : ℕ) (tex
     writes = subst (λ (zs : List ℕ). Appends held held1 zs) (sym (append-nil a.out)) a.writes;
   }
 
-  module _ (held1 : Option (List ℕ)) (scene1 : ScriptContents) (served1 : ℕ) (text1 : List ℕ) (a : Advances held setup served text held1 scene1 served1 text1) (line rest : List ℕ) (cut : cut_at 10 text1 ≡ Some (line, rest)) where
+  module _ (held1 : Option (List ℕ)) (scene1 : ScriptContents) (served1 : ℕ) (text1 : List ℕ) (a : HasServedLines held setup served text held1 scene1 served1 text1) (line rest : List ℕ) (cut : cut_at 10 text1 ≡ Some (line, rest)) where
     parts : (more : List ℕ) → lines_of (text ++ more) ≡ a.front ++ line ∷ lines_of (rest ++ more)
     parts more = a.lines more ∙ ap (λ ls. a.front ++ ls) (lines_next text1 line rest more cut)
 
-    pub advance_on : (held2 : Option (List ℕ)) (scene2 : ScriptContents) (served2 : ℕ) (meaning : ScriptLine) (more : List ℕ) → served2 ≡ served1 + 1 → Means line meaning → Serves scene1 meaning more scene2 → Appends held1 held2 more
-        → Advances held setup served text held2 scene2 served2 rest
+    pub advance_on : (held2 : Option (List ℕ)) (scene2 : ScriptContents) (served2 : ℕ) (meaning : ScriptLine) (more : List ℕ) → served2 ≡ served1 + 1 → Means line meaning → ServesLine scene1 meaning more scene2 → Appends held1 held2 more
+        → HasServedLines held setup served text held2 scene2 served2 rest
     advance_on held2 scene2 served2 meaning more next means serves writes =
         let n = cut_parts text1 line rest cut in
         let l : length (a.front ++ line ∷ []) ≡ length a.front + 1 = length-append a.front (line ∷ []) in
@@ -106,7 +106,7 @@ module _ (held : Option (List ℕ)) (setup : ScriptContents) (served : ℕ) (tex
           fits = omega (arith, next, n, a.fits);
         }
 
-    pub stops_here : (held2 : Option (List ℕ)) (part : List ℕ) → ServesInPart scene1 line part → Appends held1 held2 part → Stops held setup text held2
+    pub stops_here : (held2 : Option (List ℕ)) (part : List ℕ) → ServesInPart scene1 line part → Appends held1 held2 part → HasLineWithoutMemory held setup text held2
     stops_here held2 part h writes = record {
       front = a.front;
       back = λ more. line ∷ lines_of (rest ++ more);
@@ -119,7 +119,7 @@ module _ (held : Option (List ℕ)) (setup : ScriptContents) (served : ℕ) (tex
       writes = appends_both held held1 held2 a.out part a.writes writes;
     }
 
-    pub breaks_here : (held2 : Option (List ℕ)) (number : ℕ) → number ≡ served1 + 1 → IsBad scene1 line → Appends held1 held2 [] → Breaks held setup served text held2 number
+    pub breaks_here : (held2 : Option (List ℕ)) (number : ℕ) → number ≡ served1 + 1 → IsBad scene1 line → Appends held1 held2 [] → HasBadLine held setup served text held2 number
     breaks_here held2 number next bad writes = record {
       front = a.front;
       line = line;

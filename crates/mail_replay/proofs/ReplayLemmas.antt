@@ -6,8 +6,8 @@ use Rattle.mail_script.specs.Reading.{cut_at}
 use Rattle.mail_script.specs.Script.{Means}
 use Rattle.mail_script.specs.declared.script.ScriptLine.{ScriptLine}
 use Rattle.mail_script.proofs.LineLemmas.{lines_last}
-use Rattle.mail_replay.specs.Lines.{IsBad, Serves, ServesInPart}
-use Rattle.mail_replay.specs.Replays.{Advances, Breaks, EndsEarly, FirstInPart, Replays, ServesAll, Stops, empty_script_contents}
+use Rattle.mail_replay.specs.Lines.{IsBad, ServesLine, ServesInPart}
+use Rattle.mail_replay.specs.Replays.{HasServedLines, HasBadLine, EndsEarly, FirstInPart, Replays, ServesAll, HasLineWithoutMemory, empty_script_contents}
 use Rattle.mail_replay.specs.ScriptState.{ScriptContents}
 use Rattle.mail_replay.specs.declared.replay_end.ReplayEnd.{ReplayEnd}
 use Rattle.mail_replay.specs.declared.replay_end.ReplayEnd.TheVariants.{Done, BadScript, ReadFailed, WriteFailed, NoMemory}
@@ -85,7 +85,7 @@ module _ (start held left held' : Option (List ℕ)) (setup : ScriptContents) (s
 
   -- the lines of a piece that was read are served
   pub read_on : (bs : List ℕ) (left' held2 : Option (List ℕ)) (setup' : ScriptContents) (served' : ℕ) (text' : List ℕ) → Consumes left left' bs
-      → Advances held' setup served (text ++ bs) held2 setup' served' text' → HasRead start held left' held2 setup' served' text'
+      → HasServedLines held' setup served (text ++ bs) held2 setup' served' text' → HasRead start held left' held2 setup' served' text'
   read_on bs left' held2 setup' served' text' k a script e =
       let f = has_read script e in
       let p = consumes_known f.rest bs left' (subst (λ (o : Option (List ℕ)). Consumes o left' bs) f.left_is k) in
@@ -104,7 +104,7 @@ module _ (start held left held' : Option (List ℕ)) (setup : ScriptContents) (s
       }
 
   -- a line of a piece that was read is bad
-  pub read_to_bad : (bs : List ℕ) (left' held2 : Option (List ℕ)) (number : ℕ) → Consumes left left' bs → Breaks held' setup served (text ++ bs) held2 number
+  pub read_to_bad : (bs : List ℕ) (left' held2 : Option (List ℕ)) (number : ℕ) → Consumes left left' bs → HasBadLine held' setup served (text ++ bs) held2 number
       → (script : List ℕ) → start ≡ Some script → Replays script (BadScript number) left' held held2
   read_to_bad bs left' held2 number k b script e =
       let f = has_read script e in
@@ -123,7 +123,7 @@ module _ (start held left held' : Option (List ℕ)) (setup : ScriptContents) (s
       )
 
   -- memory runs out for a line of a piece that was read
-  pub read_to_stop : (bs : List ℕ) (left' held2 : Option (List ℕ)) → Consumes left left' bs → Stops held' setup (text ++ bs) held2
+  pub read_to_stop : (bs : List ℕ) (left' held2 : Option (List ℕ)) → Consumes left left' bs → HasLineWithoutMemory held' setup (text ++ bs) held2
       → (script : List ℕ) → start ≡ Some script → Replays script NoMemory left' held held2
   read_to_stop bs left' held2 k b script e =
       let f = has_read script e in
@@ -185,7 +185,7 @@ pub stopped_at_first : (script : List ℕ) (left held : Option (List ℕ)) → R
 stopped_at_first script left held = ([], lines_of script, [], [], empty_script_contents, refl, (refl, refl), nothing_in_part empty_script_contents (lines_of script), appends_none held)
 
 -- an early end for one cause is one for any cause that follows from it
-pub ends_by : (end : ReplayEnd) {Breaks Breaks' : ℕ → Type 0} {Stops Stops' : Type 0} → ((number : ℕ) → Breaks number → Breaks' number) → (Stops → Stops') → EndsEarly Breaks Stops end → EndsEarly Breaks' Stops' end
+pub ends_by : (end : ReplayEnd) {HasBadLine HasBadLine' : ℕ → Type 0} {HasLineWithoutMemory HasLineWithoutMemory' : Type 0} → ((number : ℕ) → HasBadLine number → HasBadLine' number) → (HasLineWithoutMemory → HasLineWithoutMemory') → EndsEarly HasBadLine HasLineWithoutMemory end → EndsEarly HasBadLine' HasLineWithoutMemory' end
 ends_by Done b s h = absurd h
 ends_by (BadScript number) b s h = b number h
 ends_by ReadFailed b s h = absurd h
@@ -193,8 +193,8 @@ ends_by WriteFailed b s h = tt
 ends_by NoMemory b s h = s h
 
 -- the result of a replay that ends early
-pub replays_by : (script : List ℕ) (left held held' : Option (List ℕ)) (end : ReplayEnd) {Breaks : ℕ → Type 0} {Stops : Type 0} → ((number : ℕ) → Breaks number → Replays script (BadScript number) left held held')
-    → (Stops → Replays script NoMemory left held held') → EndsEarly Breaks Stops end → Replays script end left held held'
+pub replays_by : (script : List ℕ) (left held held' : Option (List ℕ)) (end : ReplayEnd) {HasBadLine : ℕ → Type 0} {HasLineWithoutMemory : Type 0} → ((number : ℕ) → HasBadLine number → Replays script (BadScript number) left held held')
+    → (HasLineWithoutMemory → Replays script NoMemory left held held') → EndsEarly HasBadLine HasLineWithoutMemory end → Replays script end left held held'
 replays_by script left held held' Done b s h = absurd h
 replays_by script left held held' (BadScript number) b s h = b number h
 replays_by script left held held' ReadFailed b s h = absurd h
@@ -218,7 +218,7 @@ one_line text none n = lines_last text none (λ e. n (ap length e))
 
 -- a served line is the only line of a text that has one
 pub one_served : {T E : Type 0} (r : Result T E) (held held' : Option (List ℕ)) (setup new : ScriptContents) (text : List ℕ) (P : Type 0) → lines_of text ≡ text ∷ []
-    → OnOk r ((meaning : ScriptLine) × (more : List ℕ) × Means text meaning × Serves setup meaning more new × Appends held held' more × P)
+    → OnOk r ((meaning : ScriptLine) × (more : List ℕ) × Means text meaning × ServesLine setup meaning more new × Appends held held' more × P)
     → OnOk r ((out : List ℕ) × (new' : ScriptContents) × ServesAll setup (lines_of text) out new' × Appends held held' out)
 one_served (Err e) held held' setup new text P one o = tt
 one_served (Ok x) held held' setup new text P one o =

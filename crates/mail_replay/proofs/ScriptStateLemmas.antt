@@ -3,7 +3,7 @@ use Rattle.std.specs.List.{slice_get}
 use Rattle.std.specs.Prelude.{◌↔◌, IfOk, IsTrue, MatchResult, OnErr, OnOk}
 use Rattle.causal_inbox.specs.declared.delivery.DeliverFault.{DeliverFault}
 use Rattle.causal_inbox.specs.declared.delivery.Delivered.{Delivered}
-use Rattle.imap_node.specs.Deliveries.{Delivers, HoldsRipe, IsRefusedAt}
+use Rattle.imap_node.specs.Deliveries.{Delivers, HoldsRipeOp, IsRefusedAt}
 use Rattle.imap_node.specs.Nodes.{NodeState}
 use Rattle.std.proofs.lemmas.Option.{same_Some, slice_get-get_or}
 use Rattle.crdt_ops.specs.declared.op.Op.{Op}
@@ -38,7 +38,7 @@ never_issued setup id op at source place is_declared none i =
 
 -- a node's answer to a delivery
 pub answers_given : (old : NodeState) (op : Op) (answer : Result Delivered DeliverFault) (new : NodeState)
-    → MatchResult answer (λ d. Delivers old op d.arrival new) (λ e. IsRefusedAt old op e) → IfOk answer (λ d. IsTrue d.stalled ↔ HoldsRipe new) → OnErr answer (new ≡ old)
+    → MatchResult answer (λ d. Delivers old op d.arrival new) (λ e. IsRefusedAt old op e) → IfOk answer (λ d. IsTrue d.stalled ↔ HoldsRipeOp new) → OnErr answer (new ≡ old)
     → Answers old op answer new
 answers_given old op (Ok d) new arrives stalled unchanged = (arrives, stalled)
 answers_given old op (Err why) new refused stalled unchanged = (refused, unchanged)

@@ -14,7 +14,7 @@ use Rattle.crdt_ops.specs.declared.sound_op.Unsound.{Unsound as Fault}
 use Rattle.crdt_ops.specs.declared.sound_op.Unsound.TheVariants.{OwnClockEntry, UncoveredId}
 use Rattle.crdt_ops.specs.declared.sound_op.Unsound.TheVariants.{UnlawfulName, UnlawfulFlags}
 use Rattle.crdt_ops.specs.declared.sound_op.Unsound.TheVariants.{DeleteOfInbox, Count}
-use Rattle.imap_node.specs.Deliveries.{Delivers, Drains, HoldsRipe, IsRefusedAt}
+use Rattle.imap_node.specs.Deliveries.{Delivers, DrainsHeld, HoldsRipeOp, IsRefusedAt}
 use Rattle.imap_node.specs.Nodes.{NodeWithRoom, NodeState}
 use Rattle.mail_script.specs.Outcomes.{outcome_line}
 use Rattle.mail_script.specs.declared.outcome_line.BrokenRule.{BrokenRule}
@@ -63,7 +63,7 @@ broken_rule_of Count = rules.OldIdCount
 -- A node's answer to an operation that is delivered to it, and its state after that.
 abbrev pub Answers : NodeState → Op → Result Answer DeliverFault → NodeState → Type 0
 Answers old op (Ok answer) new =
-    Delivers old op answer.arrival new × (IsTrue answer.stalled ↔ HoldsRipe new)
+    Delivers old op answer.arrival new × (IsTrue answer.stalled ↔ HoldsRipeOp new)
 Answers old op (Err why) new = IsRefusedAt old op why × (new ≡ old)
 
 -- The replica with this name is declared, and has this place.
@@ -116,21 +116,21 @@ DeliversTo old id name more new =
 
 -- A forged operation is delivered to a replica if it is sound; otherwise the rule that it breaks is
 -- reported.
-abbrev pub Forges : ScriptContents → ℕ → Op → List ℕ → ScriptContents → Type 0
-Forges old name op more new =
+abbrev pub ForgesOp : ScriptContents → ℕ → Op → List ℕ → ScriptContents → Type 0
+ForgesOp old name op more new =
     (IsSound op × DeliversAndPrints old sources.Forged name op more new)
     ⊎ ((why : Fault) × IsFirstFault op why × (more ≡ outcome_line (Unsound (broken_rule_of why)))
     × (new ≡ old))
 
 -- An operation that a line spells, and that no replica need have issued, is delivered.
 abbrev pub ForgesAt : ScriptContents → ℕ → List ℕ → List ℕ → ScriptContents → Type 0
-ForgesAt old name text more new = (op : Op) × IsSpelled op text × Forges old name op more new
+ForgesAt old name text more new = (op : Op) × IsSpelled op text × ForgesOp old name op more new
 
 -- A replica applies its held operations that are ripe.
 abbrev pub DrainsAt : ScriptContents → ℕ → List ℕ → ScriptContents → Type 0
 DrainsAt old name more new =
     (at : ℕ) × (replica : ScriptReplica) × (node : NodeWithRoom) × (count : ℕ) × (stalled : Bool)
     × IsDeclaredAt old name at replica
-    × Drains replica.node.state count node.state
-    × (IsTrue stalled ↔ HoldsRipe node.state)
+    × DrainsHeld replica.node.state count node.state
+    × (IsTrue stalled ↔ HoldsRipeOp node.state)
     × (more ≡ outcome_line (Drained name count stalled)) × (new ≡ with_node old at replica node)

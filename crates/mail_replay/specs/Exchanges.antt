@@ -18,8 +18,8 @@ use Rattle.world_core.specs.declared.settlement.SettleFault.{SettleFault}
 use Rattle.world_core.specs.declared.settlement.SettleFault.TheVariants as faults
 
 -- The line printed for two replicas: whether they applied the same operations.
-abbrev pub Compares : ScriptContents → ℕ → ℕ → List ℕ → Type 0
-Compares setup first second more =
+abbrev pub ComparesReplicas : ScriptContents → ℕ → ℕ → List ℕ → Type 0
+ComparesReplicas setup first second more =
     (at : ℕ) × (one : ScriptReplica) × (by : ℕ) × (other : ScriptReplica) × (same : Bool)
     × IsDeclaredAt setup first at one × IsDeclaredAt setup second by other
     × (IsTrue same ↔ HaveSameElements one.node.state.applied other.node.state.applied)
@@ -46,8 +46,8 @@ settle_line (Err faults.NoMemory) = results.NoMemory
 -- Replicas exchange the operations that they received, applied or held, until all have applied the
 -- same set; otherwise the reason why they can't is reported. In either case each replica receives
 -- only operations that some of them had received, and loses none.
-abbrev pub Exchanges : List ScriptReplica → SettleResult → List ScriptReplica → Type 0
-Exchanges old out new =
+abbrev pub ExchangesOps : List ScriptReplica → SettleResult → List ScriptReplica → Type 0
+ExchangesOps old out new =
     (nodes : List NodeWithRoom) × (answer : Result (Unit {0}) SettleFault)
     × MatchResult answer
     (λ done. AreAgreed (all_without_room (nodes_in old))
@@ -58,9 +58,9 @@ Exchanges old out new =
     × (out ≡ settle_line answer) × (new ≡ with_nodes old nodes)
 
 -- All replicas exchange the operations that they received, and the result is printed.
-abbrev pub Settles : ScriptContents → List ℕ → ScriptContents → Type 0
-Settles old more new =
+abbrev pub SettlesReplicas : ScriptContents → List ℕ → ScriptContents → Type 0
+SettlesReplicas old more new =
     (out : SettleResult) × (replicas : List ScriptReplica)
-    × Exchanges old.replicas out replicas
+    × ExchangesOps old.replicas out replicas
     × (more ≡ outcome_line (Settled out))
     × (new ≡ record old { replicas = replicas })

@@ -36,8 +36,8 @@ JoinsAfter old name ops results.NoMemory new = IsLeastOwn id_of name ops None ×
 
 -- A replica that isn't declared begins with the operations that a declared one applied, and the
 -- result is printed.
-abbrev pub Joins : ScriptContents → ℕ → ℕ → List ℕ → ScriptContents → Type 0
-Joins old name peer more new =
+abbrev pub JoinsReplica : ScriptContents → ℕ → ℕ → List ℕ → ScriptContents → Type 0
+JoinsReplica old name peer more new =
     (at : ℕ) × (from : ScriptReplica) × (status : JoinResult) × (replicas : List ScriptReplica)
     × (replica_place old.replicas name ≡ None) × IsDeclaredAt old peer at from
     × JoinsAfter old.replicas name from.node.state.applied status replicas

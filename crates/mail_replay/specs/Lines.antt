@@ -20,11 +20,11 @@ use Rattle.mail_script.specs.declared.script.ScriptLine.TheVariants.{Deliver, Fo
 use Rattle.mail_script.specs.declared.script.ScriptLine.TheVariants.{Agree, Join}
 use Rattle.mail_script.specs.declared.transcript.Speaker.TheVariants.{Server}
 use Rattle.imap_node.specs.Nodes.{IsActive, NodeWithRoom, NodeState, with_session_closed}
-use Rattle.imap_node.specs.Sessions.{IsOpen, Opens}
+use Rattle.imap_node.specs.Sessions.{IsOpen, OpensSession}
 use Rattle.imap_node.specs.declared.sessions.Auth.TheVariants.{Preauth}
 use Rattle.mail_replay.specs.Deliveries.{DeliversTo, DrainsAt, ForgesAt, Issued, with_node}
-use Rattle.mail_replay.specs.Exchanges.{Compares, Settles}
-use Rattle.mail_replay.specs.Joins.{Joins}
+use Rattle.mail_replay.specs.Exchanges.{ComparesReplicas, SettlesReplicas}
+use Rattle.mail_replay.specs.Joins.{JoinsReplica}
 use Rattle.mail_replay.specs.ScriptState.{IsNew, ScriptContents, replica_place, session_place}
 use Rattle.mail_replay.specs.Transcript.{transcript}
 use Rattle.mail_replay.specs.declared.script_state.Connection.{Connection}
@@ -32,7 +32,7 @@ use Rattle.mail_replay.specs.declared.script_state.ScriptReplica.{ScriptReplica}
 use Rattle.mail_replay.specs.declared.script_state.ScriptSession.{ScriptSession}
 use Rattle.imap_connection.specs.Dumps.{IsDump}
 use Rattle.imap_connection.specs.Replies.{idling_at}
-use Rattle.imap_connection.specs.Talks.{BreaksPoll, EndsTalk, IsPoll, Talks, TimedCut, cut_at}
+use Rattle.imap_connection.specs.Talks.{BreaksPoll, EndsTalk, IsPoll, TakesPiece, TimedCut, cut_at}
 use Rattle.imap_connection.specs.declared.turn.TalkFaultKind.{TalkFaultKind}
 use Rattle.imap_connection.specs.declared.turn.TalkFaultKind.TheVariants.{Framing, NoMemory}
 use Rattle.imap_connection.specs.declared.turn.Turn.{Turn}
@@ -48,8 +48,8 @@ abbrev pub start_at : ℕ → ℕ → ℕ → Counters
 start_at name uid k = record { replica = name; uid = uid; k = k }
 
 -- A replica with these first counters is declared.
-abbrev pub Declares : ScriptContents → Counters → ScriptContents → Type 0
-Declares old first new =
+abbrev pub DeclaresReplica : ScriptContents → Counters → ScriptContents → Type 0
+DeclaresReplica old first new =
     (replica_place old.replicas first.replica ≡ None)
     × ((replica : ScriptReplica) × IsNew first replica
     × (new ≡ record old { replicas = old.replicas ++ replica ∷ [] }))
@@ -58,7 +58,7 @@ Declares old first new =
 -- are too many sessions, and the session has ended.
 abbrev pub BeginsSession : NodeState → Answer → NodeState → Option Connection → Type 0
 BeginsSession old answer new (Some connection) =
-    Opens old.sessions Preauth connection.number new.sessions
+    OpensSession old.sessions Preauth connection.number new.sessions
     × (new ≡ record old { sessions = new.sessions })
     × (connection.framer
     ≡ record { limits = record { line = 8192; literals = 1048576 }; state = Ok start })
@@ -87,18 +87,19 @@ TalksOn old connection moment octets turns new (Some left) =
     (left.number ≡ connection.number)
     × (left.framer.limits ≡ connection.framer.limits)
     × IsActive new left.number
-    × Talks old connection.number (cut_at_connection connection moment octets) turns new
+    × TakesPiece old connection.number (cut_at_connection connection moment octets) turns new
     left.framer.state
 TalksOn old connection moment octets turns new None =
     ((IsActive new connection.number → ⊥)
     × ((state : _)
-    × Talks old connection.number (cut_at_connection connection moment octets) turns new state))
+    × TakesPiece old connection.number (cut_at_connection connection moment octets) turns new
+    state))
     ⊎ ((why : TalkFaultKind) × IsReportedEnd why
     × EndsTalk why old connection.number connection.framer.state
     (cut_at_connection connection moment octets) turns new)
 
 -- A session that can be fed: it was opened, and has a connection with a declared replica.
-pub record Feedable (setup : ScriptContents) (name : List ℕ) : Type 0 where
+pub record IsFeedable (setup : ScriptContents) (name : List ℕ) : Type 0 where
   pub place : ℕ
   pub session : ScriptSession
   pub at : ℕ
@@ -120,7 +121,8 @@ replica_after_talk old node =
     record old { node = node; issued = old.issued ++ ops_applied_since old.node.state node.state }
 
 -- The script's state with this node and this connection in place of a session's.
-abbrev pub with_talk : (setup : ScriptContents) (name : List ℕ) → Feedable setup name → NodeWithRoom
+abbrev pub with_talk : (setup : ScriptContents) (name : List ℕ) → IsFeedable setup name
+    → NodeWithRoom
     → Option Connection
     → ScriptContents
 with_talk setup name t node left =
@@ -131,18 +133,19 @@ with_talk setup name t node left =
 
 -- The session can be fed, and hasn't logged out.
 abbrev pub IsTalking : ScriptContents → List ℕ → Type 0
-IsTalking setup name = (t : Feedable setup name) × IsActive t.replica.node.state t.connection.number
+IsTalking setup name =
+    (t : IsFeedable setup name) × IsActive t.replica.node.state t.connection.number
 
 -- The session idles: a line of IDLE is awaited (RFC 2177, section 3).
 abbrev pub IsIdling : ScriptContents → List ℕ → Type 0
 IsIdling setup name =
-    (t : Feedable setup name) × IsSome (idling_at t.replica.node.state t.connection.number)
+    (t : IsFeedable setup name) × IsSome (idling_at t.replica.node.state t.connection.number)
 
 -- A session is fed these octets, at the time on the clock: the turns of its conversation are
 -- printed.
-abbrev pub Feeds : ScriptContents → List ℕ → List ℕ → List ℕ → ScriptContents → Type 0
-Feeds old name octets more new =
-    (t : Feedable old name)
+abbrev pub FeedsSession : ScriptContents → List ℕ → List ℕ → List ℕ → ScriptContents → Type 0
+FeedsSession old name octets more new =
+    (t : IsFeedable old name)
     × (turns : List Turn)
     × (node : NodeWithRoom)
     × (left : Option Connection)
@@ -153,7 +156,7 @@ Feeds old name octets more new =
 -- An idling session is polled: the answers that report changes are printed.
 abbrev pub PollsAt : ScriptContents → List ℕ → List ℕ → ScriptContents → Type 0
 PollsAt old name more new =
-    (t : Feedable old name)
+    (t : IsFeedable old name)
     × (turns : List Turn)
     × (node : NodeWithRoom)
     × IsSome (idling_at t.replica.node.state t.connection.number)
@@ -162,9 +165,9 @@ PollsAt old name more new =
     × (new ≡ with_node old t.at t.replica node)
 
 -- A session is closed.
-abbrev pub Closes : ScriptContents → List ℕ → ScriptContents → Type 0
-Closes old name new =
-    (t : Feedable old name)
+abbrev pub ClosesSession : ScriptContents → List ℕ → ScriptContents → Type 0
+ClosesSession old name new =
+    (t : IsFeedable old name)
     × (node : NodeWithRoom)
     × (node.state ≡ with_session_closed t.replica.node.state t.connection.number)
     × (new ≡ record old {
@@ -189,8 +192,8 @@ OpensAt old replica name more new =
     }))
 
 -- The dump of a replica is printed.
-abbrev pub Shows : ScriptContents → ℕ → List ℕ → Type 0
-Shows setup name more =
+abbrev pub ShowsDump : ScriptContents → ℕ → List ℕ → Type 0
+ShowsDump setup name more =
     (at : ℕ)
     × (replica : ScriptReplica)
     × (replica_place setup.replicas name ≡ Some at)
@@ -198,22 +201,23 @@ Shows setup name more =
     × IsDump replica.node.state.start.replica replica.node.state.applied more
 
 -- The effect of a line on the script's state, and the line's output.
-abbrev pub Serves : ScriptContents → ScriptLine → List ℕ → ScriptContents → Type 0
-Serves old Blank more new = (more ≡ []) × (new ≡ old)
-Serves old (Node replica uid k) more new = (more ≡ []) × Declares old (start_at replica uid k) new
-Serves old (Now moment) more new = (more ≡ []) × (new ≡ record old { moment = moment })
-Serves old (Open replica name) more new = OpensAt old replica name more new
-Serves old (Line name text) more new = Feeds old name (text ++ crlf) more new
-Serves old (Send name text) more new = Feeds old name text more new
-Serves old (Poll name) more new = PollsAt old name more new
-Serves old (Close name) more new = (more ≡ []) × Closes old name new
-Serves old (Show replica) more new = Shows old replica more × (new ≡ old)
-Serves old (Deliver id replica) more new = DeliversTo old id replica more new
-Serves old (Forge replica operation) more new = ForgesAt old replica operation more new
-Serves old (Drain replica) more new = DrainsAt old replica more new
-Serves old Settle more new = Settles old more new
-Serves old (Agree first second) more new = Compares old first second more × (new ≡ old)
-Serves old (Join replica peer) more new = Joins old replica peer more new
+abbrev pub ServesLine : ScriptContents → ScriptLine → List ℕ → ScriptContents → Type 0
+ServesLine old Blank more new = (more ≡ []) × (new ≡ old)
+ServesLine old (Node replica uid k) more new =
+    (more ≡ []) × DeclaresReplica old (start_at replica uid k) new
+ServesLine old (Now moment) more new = (more ≡ []) × (new ≡ record old { moment = moment })
+ServesLine old (Open replica name) more new = OpensAt old replica name more new
+ServesLine old (Line name text) more new = FeedsSession old name (text ++ crlf) more new
+ServesLine old (Send name text) more new = FeedsSession old name text more new
+ServesLine old (Poll name) more new = PollsAt old name more new
+ServesLine old (Close name) more new = (more ≡ []) × ClosesSession old name new
+ServesLine old (Show replica) more new = ShowsDump old replica more × (new ≡ old)
+ServesLine old (Deliver id replica) more new = DeliversTo old id replica more new
+ServesLine old (Forge replica operation) more new = ForgesAt old replica operation more new
+ServesLine old (Drain replica) more new = DrainsAt old replica more new
+ServesLine old Settle more new = SettlesReplicas old more new
+ServesLine old (Agree first second) more new = ComparesReplicas old first second more × (new ≡ old)
+ServesLine old (Join replica peer) more new = JoinsReplica old replica peer more new
 
 -- A line that can't be served in this state: it names something that isn't declared, or declares
 -- something that is, or names a session that has ended or an operation that was never issued, or
@@ -251,7 +255,7 @@ IsBad setup line = (meaning : ScriptLine) → Means line meaning → IsMisplaced
 abbrev pub HasTurns : NodeState → Connection → ℕ → List ℕ → List Turn → Type 0
 HasTurns old connection moment octets turns =
     ((new : NodeState) × (state : _)
-    × Talks old connection.number (cut_at_connection connection moment octets) turns new state)
+    × TakesPiece old connection.number (cut_at_connection connection moment octets) turns new state)
     ⊎ ((why : TalkFaultKind) × (new : NodeState)
     × EndsTalk why old connection.number connection.framer.state
     (cut_at_connection connection moment octets) turns new)
@@ -259,7 +263,7 @@ HasTurns old connection moment octets turns =
 -- A session is fed these octets, and some of the first turns of its conversation are printed.
 abbrev pub FeedsInPart : ScriptContents → List ℕ → List ℕ → List ℕ → Type 0
 FeedsInPart setup name octets more =
-    (t : Feedable setup name) × (turns : List Turn) × (count : ℕ)
+    (t : IsFeedable setup name) × (turns : List Turn) × (count : ℕ)
     × HasTurns t.replica.node.state t.connection setup.moment octets turns
     × (more ≡ transcript name (take count turns))
 
@@ -272,7 +276,7 @@ HasPolledTurns old session turns =
 -- A session is polled, and some of the first answers are printed.
 abbrev pub PollsInPart : ScriptContents → List ℕ → List ℕ → Type 0
 PollsInPart setup name more =
-    (t : Feedable setup name) × (turns : List Turn) × (count : ℕ)
+    (t : IsFeedable setup name) × (turns : List Turn) × (count : ℕ)
     × HasPolledTurns t.replica.node.state t.connection.number turns
     × (more ≡ transcript name (take count turns))
 

@@ -6,7 +6,7 @@ use Rattle.mail_script.specs.Lines.{lines_of}
 use Rattle.mail_script.specs.Reading.{cut_at}
 use Rattle.mail_script.specs.Script.{Means}
 use Rattle.mail_script.specs.declared.script.ScriptLine.{ScriptLine}
-use Rattle.mail_replay.specs.Lines.{IsBad, Serves, ServesInPart}
+use Rattle.mail_replay.specs.Lines.{IsBad, ServesLine, ServesInPart}
 use Rattle.mail_replay.specs.ScriptState.{ScriptContents}
 use Rattle.mail_replay.specs.declared.replay_end.ReplayEnd.{ReplayEnd}
 use Rattle.mail_replay.specs.declared.replay_end.ReplayEnd.TheVariants.{Done, BadScript, ReadFailed}
@@ -25,7 +25,7 @@ ServesAll old (line ∷ lines) out new =
     × (mid : ScriptContents)
     × (rest : List ℕ)
     × Means line meaning
-    × Serves old meaning first mid
+    × ServesLine old meaning first mid
     × (out ≡ first ++ rest) × ServesAll mid lines rest new
 
 -- A text consists of these whole lines and a part of the next line, whatever follows.
@@ -83,19 +83,19 @@ Replays script NoMemory left held held' =
     × FirstInPart setup back more
     × Appends held held' (out ++ more)
 
--- A part of a replay that reads nothing ends it early: at a bad line, and then `Breaks` is true;
--- for lack of memory, and then `Stops` is true; or because the writer failed.
+-- A part of a replay that reads nothing ends it early: at a bad line, and then `HasBadLine` is
+-- true; for lack of memory, and then `HasLineWithoutMemory` is true; or because the writer failed.
 abbrev pub EndsEarly : (ℕ → Type 0) → Type 0 → ReplayEnd → Type 0
-EndsEarly Breaks Stops Done = ⊥
-EndsEarly Breaks Stops (BadScript number) = Breaks number
-EndsEarly Breaks Stops ReadFailed = ⊥
-EndsEarly Breaks Stops WriteFailed = Unit {0}
-EndsEarly Breaks Stops NoMemory = Stops
+EndsEarly HasBadLine HasLineWithoutMemory Done = ⊥
+EndsEarly HasBadLine HasLineWithoutMemory (BadScript number) = HasBadLine number
+EndsEarly HasBadLine HasLineWithoutMemory ReadFailed = ⊥
+EndsEarly HasBadLine HasLineWithoutMemory WriteFailed = Unit {0}
+EndsEarly HasBadLine HasLineWithoutMemory NoMemory = HasLineWithoutMemory
 
 -- Some of a text's first lines were served, and another text is left.
-pub record Advances (held : Option (List ℕ)) (setup : ScriptContents) (served : ℕ) (text : List ℕ)
-    (held' : Option (List ℕ)) (setup' : ScriptContents) (served' : ℕ) (text' : List ℕ) :
-    Type 0 where
+pub record HasServedLines (held : Option (List ℕ)) (setup : ScriptContents) (served : ℕ)
+    (text : List ℕ) (held' : Option (List ℕ)) (setup' : ScriptContents) (served' : ℕ)
+    (text' : List ℕ) : Type 0 where
   pub front : List (List ℕ)
   pub out : List ℕ
   pub lines : (more : List ℕ) → lines_of (text ++ more) ≡ front ++ lines_of (text' ++ more)
@@ -105,7 +105,7 @@ pub record Advances (held : Option (List ℕ)) (setup : ScriptContents) (served 
   pub fits : served' + length text' ≤ served + length text
 
 -- Some of a text's first lines were served, and the next, which has this number, can't be served.
-pub record Breaks (held : Option (List ℕ)) (setup : ScriptContents) (served : ℕ) (text : List ℕ)
+pub record HasBadLine (held : Option (List ℕ)) (setup : ScriptContents) (served : ℕ) (text : List ℕ)
     (held' : Option (List ℕ)) (number : ℕ) : Type 0 where
   pub front : List (List ℕ)
   pub line : List ℕ
@@ -120,7 +120,7 @@ pub record Breaks (held : Option (List ℕ)) (setup : ScriptContents) (served : 
 
 -- Some of a text's first lines were served, and memory runs out for the next, whatever follows the
 -- text.
-pub record Stops (held : Option (List ℕ)) (setup : ScriptContents) (text : List ℕ)
+pub record HasLineWithoutMemory (held : Option (List ℕ)) (setup : ScriptContents) (text : List ℕ)
     (held' : Option (List ℕ)) : Type 0 where
   pub front : List (List ℕ)
   pub back : List ℕ → List (List ℕ)

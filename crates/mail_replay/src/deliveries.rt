@@ -4,7 +4,8 @@
 ghost use Rattle.std.specs.Prelude.{◌≡◌, ◌⊎◌, ◌++◌, ℕ, List, Err, IfOk, IsNone, OnErr, OnOk};
 ghost use Rattle.crdt_ops.specs.Form.{IsSpelled};
 ghost use Rattle.crdt_ops.specs.declared.op.Op.{Op};
-ghost use Rattle.mail_replay.specs.Deliveries.{DeliversTo, DrainsAt, Forges, ForgesAt, DeliversOp};
+ghost use Rattle.mail_replay.specs.Deliveries.{DeliversOp, DeliversTo, DrainsAt, ForgesAt};
+ghost use Rattle.mail_replay.specs.Deliveries.{ForgesOp};
 ghost use Rattle.mail_replay.specs.Deliveries.{DeliversAndPrints, Issued, delivery_result_of};
 ghost use Rattle.mail_replay.specs.Deliveries.{arrival_result_of, broken_rule_of, outcome_line_of};
 ghost use Rattle.mail_replay.specs.ScriptState.{replica_place, script_contents_of};
@@ -140,7 +141,7 @@ fn forge_if_sound(
     printed: &mut Vec<u8>,
 ) -> Result<(), ServeFault>
     ensures ok { OnOk result ((more : List ℕ)
-        × Forges (script_contents_of setup.old) replica op more (script_contents_of setup.new)
+        × ForgesOp (script_contents_of setup.old) replica op more (script_contents_of setup.new)
         × (printed.new.items ≡ printed.old.items ++ more)) }
     ensures bad { result ≡ Err BadScript → IsNone (replica_place setup.old.replicas.items replica) }
     ensures err { OnErr result (printed.new.items ≡ printed.old.items) }

@@ -3,8 +3,8 @@
 
 ghost use Rattle.std.specs.Prelude.{◌≡◌, ◌⊎◌, ◌++◌, ◌↔◌, ℕ, List, Err, IfErr, IfOk, IsNone, IsTrue};
 ghost use Rattle.std.specs.Prelude.{OnErr, OnOk, length};
-ghost use Rattle.mail_replay.specs.Exchanges.{Compares, Exchanges, Settles, nodes_in, settle_line};
-ghost use Rattle.mail_replay.specs.Exchanges.{with_nodes};
+ghost use Rattle.mail_replay.specs.Exchanges.{ComparesReplicas, ExchangesOps, SettlesReplicas};
+ghost use Rattle.mail_replay.specs.Exchanges.{nodes_in, settle_line, with_nodes};
 ghost use Rattle.mail_replay.specs.ScriptState.{replica_place, script_contents_of};
 ghost use Rattle.mail_replay.specs.declared.script_service.ServeFault.TheVariants.{BadScript};
 ghost use Rattle.mail_replay.specs.declared.script_service.ServeFault.TheVariants.{NoMemory};
@@ -29,7 +29,7 @@ pub fn compare(
     printed: &mut Vec<u8>,
 ) -> Result<(), ServeFault>
     ensures ok { OnOk result ((more : List ℕ)
-        × Compares (script_contents_of setup.now) first second more
+        × ComparesReplicas (script_contents_of setup.now) first second more
         × (printed.new.items ≡ printed.old.items ++ more)) }
     ensures bad { result ≡ Err BadScript
         → IsNone (replica_place setup.now.replicas.items first)
@@ -69,7 +69,7 @@ pub fn exchange(
     printed: &mut Vec<u8>,
 ) -> Result<(), ServeFault>
     ensures ok { OnOk result ((more : List ℕ)
-        × Settles (script_contents_of setup.old) more (script_contents_of setup.new)
+        × SettlesReplicas (script_contents_of setup.old) more (script_contents_of setup.new)
         × (printed.new.items ≡ printed.old.items ++ more)) }
     ensures err { IfErr result (λ fault. fault ≡ NoMemory) }
     ensures unchanged { OnErr result (printed.new.items ≡ printed.old.items) }
@@ -82,7 +82,7 @@ pub fn exchange(
 /// Has replicas exchange the operations that they received. `Err` if memory runs out before the
 /// exchange, and then nothing changes.
 fn exchange_all(alloc: Global, replicas: &mut [ScriptReplica]) -> Result<SettleResult, AllocError>
-    ensures { IfOk result (λ status. Exchanges replicas.old status replicas.new) }
+    ensures { IfOk result (λ status. ExchangesOps replicas.old status replicas.new) }
 {
     let mut nodes = blank_nodes(alloc, replicas)?;
     Ok(exchange_with(alloc, replicas, &mut nodes))
@@ -92,7 +92,7 @@ fn exchange_all(alloc: Global, replicas: &mut [ScriptReplica]) -> Result<SettleR
 /// place of theirs.
 fn exchange_with(alloc: Global, replicas: &mut [ScriptReplica], nodes: &mut [Node]) -> SettleResult
     requires { length nodes.old ≡ length replicas.old }
-    ensures { Exchanges replicas.old result replicas.new }
+    ensures { ExchangesOps replicas.old result replicas.new }
 {
     swap_nodes(replicas, nodes);
     let answer = settle(alloc, nodes);

@@ -7,9 +7,9 @@ ghost use Rattle.mail_script.specs.Lines.{lines_of};
 ghost use Rattle.mail_script.specs.Reading.{cut_at};
 ghost use Rattle.mail_script.specs.Script.{Means};
 ghost use Rattle.mail_script.specs.declared.script.ScriptLine.{ScriptLine};
-ghost use Rattle.mail_replay.specs.Lines.{IsBad, Serves, ServesInPart};
-ghost use Rattle.mail_replay.specs.Replays.{Advances, Breaks, EndsEarly, FirstInPart, Replays};
-ghost use Rattle.mail_replay.specs.Replays.{ServesAll, Stops};
+ghost use Rattle.mail_replay.specs.Lines.{IsBad, ServesLine, ServesInPart};
+ghost use Rattle.mail_replay.specs.Replays.{EndsEarly, FirstInPart, HasBadLine, HasServedLines};
+ghost use Rattle.mail_replay.specs.Replays.{HasLineWithoutMemory, Replays, ServesAll};
 ghost use Rattle.mail_replay.specs.ScriptState.{ScriptContents, script_contents_of};
 ghost use Rattle.mail_replay.specs.declared.replay_end.ReplayEnd.TheVariants.{Done, WriteFailed};
 
@@ -119,16 +119,16 @@ fn serve_piece<W: Write>(
     writer: &mut W,
 ) -> Result<(), ReplayEnd>
     requires { progress.old.served + length progress.old.lines + length piece.now < 2 ^ 64 }
-    ensures ok { OnOk result (Advances (W.contents writer.old)
+    ensures ok { OnOk result (HasServedLines (W.contents writer.old)
         (script_contents_of progress.old.setup) progress.old.served
         (progress.old.lines ++ piece.now) (W.contents writer.new)
         (script_contents_of progress.new.setup) progress.new.served progress.new.lines) }
     ensures rest { OnOk result (cut_at 10 progress.new.lines ≡ None) }
     ensures err { IfErr result (EndsEarly
-        (Breaks (W.contents writer.old) (script_contents_of progress.old.setup) progress.old.served
-        (progress.old.lines ++ piece.now) (W.contents writer.new)) (Stops (W.contents writer.old)
-        (script_contents_of progress.old.setup) (progress.old.lines ++ piece.now)
-        (W.contents writer.new))) }
+        (HasBadLine (W.contents writer.old) (script_contents_of progress.old.setup)
+        progress.old.served (progress.old.lines ++ piece.now) (W.contents writer.new))
+        (HasLineWithoutMemory (W.contents writer.old) (script_contents_of progress.old.setup)
+        (progress.old.lines ++ piece.now) (W.contents writer.new))) }
 {
     let Ok(()) = progress.lines.push(piece) else {
         return Err(ReplayEnd::NoMemory);
@@ -152,7 +152,7 @@ fn serve_next<W: Write>(
     requires { progress.old.served + 1 < 2 ^ 64 }
     ensures lines { progress.new.lines ≡ progress.old.lines }
     ensures ok { OnOk result ((meaning : ScriptLine) × (more : List ℕ) × Means line.now meaning
-        × Serves (script_contents_of progress.old.setup) meaning more
+        × ServesLine (script_contents_of progress.old.setup) meaning more
         (script_contents_of progress.new.setup)
         × Appends (W.contents writer.old) (W.contents writer.new) more
         × (progress.new.served ≡ progress.old.served + 1)) }

@@ -3,7 +3,7 @@
 
 ghost use Rattle.std.specs.Prelude.{◌≡◌, ◌<◌, ◌⊎◌, ◌++◌, [], ℕ, List, Err, IsNone, IsSome, OnErr};
 ghost use Rattle.std.specs.Prelude.{OnOk, Some, length, slice_get};
-ghost use Rattle.mail_replay.specs.Joins.{IsJoined, Joins, JoinsAfter};
+ghost use Rattle.mail_replay.specs.Joins.{IsJoined, JoinsReplica, JoinsAfter};
 ghost use Rattle.mail_replay.specs.ScriptState.{replica_place, script_contents_of};
 ghost use Rattle.mail_replay.specs.declared.script_service.ServeFault.TheVariants.{BadScript};
 ghost use Rattle.mail_replay.specs.declared.script_state.ScriptReplica.{ScriptReplica};
@@ -14,7 +14,7 @@ use causal_inbox::least_own;
 use mail_script::{JoinResult, OutcomeLine, write_outcome};
 use std::alloc::Global;
 use tags_clocks::ReplicaId;
-use world_core::{JoinRefusal, with_operations_of};
+use world_core::{JoinRefusal, joined_node};
 
 /// Declares a replica that begins with the operations that another one applied, and prints the
 /// result; if the join is refused, the replica stays undeclared. `BadScript` if the replica is
@@ -27,7 +27,7 @@ pub fn join(
     printed: &mut Vec<u8>,
 ) -> Result<(), ServeFault>
     ensures ok { OnOk result ((more : List ℕ)
-        × Joins (script_contents_of setup.old) name peer more (script_contents_of setup.new)
+        × JoinsReplica (script_contents_of setup.old) name peer more (script_contents_of setup.new)
         × (printed.new.items ≡ printed.old.items ++ more)) }
     ensures bad { result ≡ Err BadScript
         → IsSome (replica_place setup.old.replicas.items name)
@@ -69,7 +69,7 @@ fn join_after(
     let Ok(()) = replicas.reserve(1) else {
         return JoinResult::NoMemory;
     };
-    match with_operations_of(alloc, name, &replicas[place].node) {
+    match joined_node(alloc, name, &replicas[place].node) {
         Ok(node) => {
             replicas.push_reserved(ScriptReplica {
                 name,

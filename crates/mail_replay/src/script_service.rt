@@ -11,11 +11,13 @@ ghost use Rattle.mail_script.specs.Script.{Means};
 ghost use Rattle.mail_script.specs.Transcript.{transcript_line};
 ghost use Rattle.mail_script.specs.declared.script.ScriptLine.{ScriptLine};
 ghost use Rattle.mail_script.specs.declared.transcript.Speaker.TheVariants.{Server};
-ghost use Rattle.imap_node.specs.Nodes.{Idles, IsActive, with_session_closed};
-ghost use Rattle.mail_replay.specs.Lines.{BeginsSession, Closes, Declares, Feeds, FeedsInPart};
+ghost use Rattle.imap_node.specs.Nodes.{IsActive, IsIdlingAt, with_session_closed};
+ghost use Rattle.mail_replay.specs.Lines.{BeginsSession, ClosesSession, DeclaresReplica};
+ghost use Rattle.mail_replay.specs.Lines.{FeedsInPart, FeedsSession};
 ghost use Rattle.mail_replay.specs.Lines.{HasFirstUid, HasPolledTurns, HasTurns, IsBad, IsIdling};
 ghost use Rattle.mail_replay.specs.Lines.{IsMisplaced, IsTalking, OpensAt, PollsAt, PollsInPart};
-ghost use Rattle.mail_replay.specs.Lines.{PrintsInPart, Serves, ServesInPart, Shows, TalksOn, crlf};
+ghost use Rattle.mail_replay.specs.Lines.{PrintsInPart, ServesInPart, ServesLine, ShowsDump};
+ghost use Rattle.mail_replay.specs.Lines.{TalksOn, crlf};
 ghost use Rattle.mail_replay.specs.ScriptState.{ScriptContents, replica_place, script_contents_of};
 ghost use Rattle.mail_replay.specs.ScriptState.{session_place};
 ghost use Rattle.mail_replay.specs.Transcript.{transcript};
@@ -103,7 +105,7 @@ pub fn serve_line(
     printed: &mut Vec<u8>,
 ) -> Result<(), ServeFault>
     ensures ok { OnOk result ((meaning : ScriptLine) × (more : List ℕ) × Means line.now meaning
-        × Serves (script_contents_of setup.old) meaning more (script_contents_of setup.new)
+        × ServesLine (script_contents_of setup.old) meaning more (script_contents_of setup.new)
         × (printed.new.items ≡ printed.old.items ++ more)) }
     ensures bad { result ≡ Err BadScript
         → IsBad (script_contents_of setup.old) line.now × (printed.new.items ≡ printed.old.items) }
@@ -124,7 +126,7 @@ fn serve(
 ) -> Result<(), ServeFault>
     requires { HasFirstUid meaning }
     ensures ok { OnOk result ((more : List ℕ)
-        × Serves (script_contents_of setup.old) meaning more (script_contents_of setup.new)
+        × ServesLine (script_contents_of setup.old) meaning more (script_contents_of setup.new)
         × (printed.new.items ≡ printed.old.items ++ more)) }
     ensures bad { result ≡ Err BadScript
         → IsMisplaced (script_contents_of setup.old) meaning
@@ -176,7 +178,7 @@ fn with_line_end(text: Octets) -> Result<Vec<u8>, AllocError>
 fn declare(alloc: Global, setup: &mut ScriptState, start: Counters) -> Result<(), ServeFault>
     requires { 1 ≤ start.uid }
     ensures ok { OnOk result
-        (Declares (script_contents_of setup.old) start (script_contents_of setup.new)) }
+        (DeclaresReplica (script_contents_of setup.old) start (script_contents_of setup.new)) }
     ensures bad { result ≡ Err BadScript
         ↔ IsSome (replica_place setup.old.replicas.items start.replica) }
     ensures err { OnErr result (script_contents_of setup.new ≡ script_contents_of setup.old) }
@@ -289,7 +291,7 @@ fn feed(
     printed: &mut Vec<u8>,
 ) -> Result<(), ServeFault>
     ensures ok { OnOk result ((more : List ℕ)
-        × Feeds (script_contents_of setup.old) name.now octets.now more
+        × FeedsSession (script_contents_of setup.old) name.now octets.now more
         (script_contents_of setup.new) × (printed.new.items ≡ printed.old.items ++ more)) }
     ensures bad { result ≡ Err BadScript
         → (IsTalking (script_contents_of setup.old) name.now → ⊥)
@@ -318,7 +320,7 @@ fn feed(
     session.connection = converse(alloc, &mut replica.node, connection, &piece, name, printed)?;
     replica
         .issued
-        .add_after(alloc, replica.node.op_list(), applied)?;
+        .add_ops_after(alloc, replica.node.op_list(), applied)?;
     Ok(())
 }
 
@@ -458,7 +460,7 @@ fn poll_node(
 /// Whether the session is open and idles.
 fn is_idling(node: &Node, session: SessionNo) -> bool
     ensures idling { IsTrue result ↔ IsSome (idling_at node.now.state session) }
-    ensures idles { IsTrue result → Idles node.now.state session }
+    ensures idles { IsTrue result → IsIdlingAt node.now.state session }
 {
     match node.session(session) {
         Some(session) => session.idling.is_some(),
@@ -469,7 +471,7 @@ fn is_idling(node: &Node, session: SessionNo) -> bool
 /// Closes a session.
 fn close(setup: &mut ScriptState, name: &SessionName) -> Result<(), ServeFault>
     ensures ok { OnOk result
-        (Closes (script_contents_of setup.old) name.now (script_contents_of setup.new)) }
+        (ClosesSession (script_contents_of setup.old) name.now (script_contents_of setup.new)) }
     ensures bad { OnErr result (IsTalking (script_contents_of setup.old) name.now → ⊥) }
     ensures err { IfErr result (λ fault. fault ≡ BadScript) }
 {
@@ -498,7 +500,7 @@ fn show(
     name: ReplicaId,
     printed: &mut Vec<u8>,
 ) -> Result<(), ServeFault>
-    ensures ok { OnOk result ((more : List ℕ) × Shows (script_contents_of setup.now) name more
+    ensures ok { OnOk result ((more : List ℕ) × ShowsDump (script_contents_of setup.now) name more
         × (printed.new.items ≡ printed.old.items ++ more)) }
     ensures bad { result ≡ Err BadScript → IsNone (replica_place setup.now.replicas.items name) }
     ensures err { OnErr result (printed.new.items ≡ printed.old.items) }

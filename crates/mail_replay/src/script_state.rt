@@ -57,7 +57,7 @@ impl IssuedOps {
 
     /// Adds copies of the operations after the first `first`; `Err` if memory runs out, and
     /// then some may have been added.
-    pub fn add_after(
+    pub fn add_ops_after(
         &mut self,
         alloc: Global,
         ops: &[SoundOp],

@@ -4,7 +4,7 @@ use Rattle.std.proofs.Math.Seq.{drop-append_seam, take-append_seam}
 use Rattle.std.proofs.lemmas.List.{length-take-le, drop-drop, take-append-drop}
 use Rattle.mail_script.specs.Lines.{IsSearched, prepend_octet, lines_of}
 use Rattle.mail_script.specs.Reading.{cut_at, before_first_part}
-use Rattle.text_fields.proofs.FieldLemmas.{chosen, cut_takes, before_first_part_some}
+use Rattle.text_fields.proofs.FieldLemmas.{chosen, cut_sound, before_first_part_some}
 
 -- a cut stays the same if text is added at the end
 pub lines_next : (text line rest more : List ℕ) → cut_at 10 text ≡ Some (line, rest) → lines_of (text ++ more) ≡ line ∷ lines_of (rest ++ more)
@@ -84,7 +84,7 @@ all_searched taken searched len octets own h l c o =
 -- the end of the line is in range
 pub end_fits : (taken searched : ℕ) (octets front after : List ℕ) → IsSearched taken searched octets → ◌≡◌ {A = Option (List ℕ × List ℕ)} (Some (front, after)) (cut_at 10 (drop searched octets)) → searched + length front + 1 + length after ≡ length octets
 end_fits taken searched octets front after h c =
-    let e : drop searched octets ≡ front ++ 10 ∷ after = cut_takes 10 (drop searched octets) (front, after) (sym c) in
+    let e : drop searched octets ≡ front ++ 10 ∷ after = cut_sound 10 (drop searched octets) (front, after) (sym c) in
     let m = ap length e in
     let n = length-append front (10 ∷ after) in
     let d = length-drop searched octets in
@@ -107,7 +107,7 @@ next_line_is taken searched octets own front after copied h o c k =
     let d = length-drop taken octets in
     let b : length before ≡ searched - taken = length-take-le (searched - taken) (drop taken octets) (omega arith) in
     let cut_is : cut_at 10 (drop taken octets) ≡ Some (before ++ front, after) = cut_on taken searched octets h ∙ ap (before_first_part before) (sym c) in
-    let whole : drop taken octets ≡ (before ++ front) ++ 10 ∷ after = cut_takes 10 (drop taken octets) (before ++ front, after) cut_is in
+    let whole : drop taken octets ≡ (before ++ front) ++ 10 ∷ after = cut_sound 10 (drop taken octets) (before ++ front, after) cut_is in
     let count : searched - taken + length front ≡ length (before ++ front) = sym (length-append before front ∙ ap (λ n. n + length front) b) in
     let f = front_of (searched - taken + length front) (before ++ front) after count in
     let line : copied ≡ before ++ front = k ∙ ap (take (searched - taken + length front)) (o ∙ whole) ∙ f.0 in

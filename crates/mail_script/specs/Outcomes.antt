@@ -11,17 +11,19 @@ use Rattle.mail_script.specs.declared.outcome_line.BrokenRule.TheVariants.{Unlaw
 use Rattle.mail_script.specs.declared.outcome_line.BrokenRule.TheVariants.{UnlawfulFlags}
 use Rattle.mail_script.specs.declared.outcome_line.BrokenRule.TheVariants.{InboxDeleted, OldIdCount}
 use Rattle.mail_script.specs.declared.outcome_line.DeliveryResult.{DeliveryResult}
-use Rattle.mail_script.specs.declared.outcome_line.DeliveryResult.TheVariants.{Applied, Held}
-use Rattle.mail_script.specs.declared.outcome_line.DeliveryResult.TheVariants.{Repeat, Conflict}
-use Rattle.mail_script.specs.declared.outcome_line.DeliveryResult.TheVariants.{HeldFull, Exhausted}
+use Rattle.mail_script.specs.declared.outcome_line.DeliveryResult.TheVariants.{Applied, Conflict}
+use Rattle.mail_script.specs.declared.outcome_line.DeliveryResult.TheVariants.{Exhausted, Held}
+use Rattle.mail_script.specs.declared.outcome_line.DeliveryResult.TheVariants.{HeldFull}
 use Rattle.mail_script.specs.declared.outcome_line.DeliveryResult.TheVariants.{NoMemory as NoMemoryForIt}
+use Rattle.mail_script.specs.declared.outcome_line.DeliveryResult.TheVariants.{Repeat}
 use Rattle.mail_script.specs.declared.outcome_line.JoinResult.{JoinResult}
-use Rattle.mail_script.specs.declared.outcome_line.JoinResult.TheVariants.{Done as DoneJoining, Own}
+use Rattle.mail_script.specs.declared.outcome_line.JoinResult.TheVariants.{Done as DoneJoining}
 use Rattle.mail_script.specs.declared.outcome_line.JoinResult.TheVariants.{Exhausted as ExhaustedByJoin}
 use Rattle.mail_script.specs.declared.outcome_line.JoinResult.TheVariants.{NoMemory as NoMemoryToJoin}
+use Rattle.mail_script.specs.declared.outcome_line.JoinResult.TheVariants.{Own}
 use Rattle.mail_script.specs.declared.outcome_line.SettleResult.{SettleResult}
-use Rattle.mail_script.specs.declared.outcome_line.SettleResult.TheVariants.{Done}
 use Rattle.mail_script.specs.declared.outcome_line.SettleResult.TheVariants.{Conflict as ConflictOfTwo}
+use Rattle.mail_script.specs.declared.outcome_line.SettleResult.TheVariants.{Done}
 use Rattle.mail_script.specs.declared.outcome_line.SettleResult.TheVariants.{Exhausted as ExhaustedInIt}
 use Rattle.mail_script.specs.declared.outcome_line.SettleResult.TheVariants.{NoMemory as NoMemoryToSettle}
 use Rattle.mail_script.specs.declared.outcome_line.OutcomeLine.{OutcomeLine}

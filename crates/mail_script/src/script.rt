@@ -145,7 +145,7 @@ pub enum ScriptWord {
 }
 
 /// Reads a line, which is passed without its LF; a CR before the LF belongs to the line. `NotALine`
-/// exactly if it is no line of a script, and `NoMemory` if memory runs out.
+/// exactly when it is no line of a script, and `NoMemory` if memory runs out.
 pub fn read_line(alloc: Global, line: &[u8]) -> Result<ScriptLine, LineFault>
     ensures ok { IfOk result (λ value. Means line.now value) }
     ensures only { (meaning : ScriptLine) → Means line.now meaning

@@ -2,7 +2,7 @@ use Rattle.std.proofs.Common.{◌≡◌, ℕ, zero, suc, ◌+◌, ◌-◌, ◌<�
 use Rattle.std.proofs.lemmas.Bool.{cases_Bool}
 use Rattle.std.specs.List.{concat, list_all}
 use Rattle.memchr.specs.Find.{Nowhere, Passes, is_byte}
-use Rattle.mail_text.specs.HeaderFields.{asked_fields_in, is_asked_field, before_colon, empty_line, field_lines, fields_in, fields_of, is_continuation, is_blank, trim_end_blanks, with_octet}
+use Rattle.mail_text.specs.HeaderFields.{asked_fields_in, is_requested_field, before_colon, empty_line, field_lines, fields_in, fields_of, is_continuation, is_blank, trim_end_blanks, with_octet}
 use Rattle.mail_text.specs.SelectedLines.{selected_lines, line_if_selected, selects_line}
 use Rattle.mail_text.specs.TextLines.{in_first, is_empty_line, lines_of}
 
@@ -78,9 +78,9 @@ selected_nonempty-first : (asked : List ℕ → Bool) (line : List ℕ) (lines :
 selected_nonempty-first asked line lines = elim (cases_Bool (is_continuation line)) [ inl t ↦ rw t refl | inr f ↦ rw f refl ]
 
 -- the selected fields are the lines that are selected one by one
-pub fields-selection : (named : Bool) (names : List (List ℕ)) (text line tail : List ℕ) → lines_of text ≡ line ∷ lines_of tail → selected_lines (is_asked_field named names) (is_asked_field named names line) (lines_of text) ≡ fields_of named names text
+pub fields-selection : (named : Bool) (names : List (List ℕ)) (text line tail : List ℕ) → lines_of text ≡ line ∷ lines_of tail → selected_lines (is_requested_field named names) (is_requested_field named names line) (lines_of text) ≡ fields_of named names text
 fields-selection named names text line tail e =
-    let asked : List ℕ → Bool = is_asked_field named names in
+    let asked : List ℕ → Bool = is_requested_field named names in
     rw e (elim (cases_Bool (is_empty_line line)) [
       | inl t ↦ rw t refl
       | inr f ↦
@@ -143,9 +143,9 @@ passes xs text l b e = sym (trimmed-blank (take (length xs - 1) xs) _ b) ∙ ap 
 pub stays : (xs text : List ℕ) → 1 ≤ length xs → is_blank (get_or xs (length xs - 1) 0) ≡ false → trim_end_blanks xs ≡ trim_end_blanks text → xs ≡ trim_end_blanks text
 stays xs text l b e = last-split xs l ∙ sym (trimmed-other (take (length xs - 1) xs) _ b) ∙ ap trim_end_blanks (sym (last-split xs l)) ∙ e
 
-pub asked_start : (named : Bool) (names : List (List ℕ)) (text line tail output : List ℕ) (selected : Bool) → output ≡ [] → selected ≡ is_asked_field named names line → lines_of text ≡ line ∷ lines_of tail
-    → output ++ selected_lines (is_asked_field named names) selected (lines_of text) ≡ fields_of named names text
-asked_start named names text line tail output selected n k e = (λ i. n i ++ selected_lines (is_asked_field named names) (k i) (lines_of text)) ∙ fields-selection named names text line tail e
+pub asked_start : (named : Bool) (names : List (List ℕ)) (text line tail output : List ℕ) (selected : Bool) → output ≡ [] → selected ≡ is_requested_field named names line → lines_of text ≡ line ∷ lines_of tail
+    → output ++ selected_lines (is_requested_field named names) selected (lines_of text) ≡ fields_of named names text
+asked_start named names text line tail output selected n k e = (λ i. n i ++ selected_lines (is_requested_field named names) (k i) (lines_of text)) ∙ fields-selection named names text line tail e
 
 -- one step over the lines
 pub asked_step : (asked : List ℕ → Bool) (selected next : Bool) (output new : List ℕ) (rest line tail total : List ℕ) → lines_of rest ≡ line ∷ lines_of tail → is_empty_line line ≡ false → next ≡ selects_line asked selected line → new ≡ output ++ line_if_selected next line

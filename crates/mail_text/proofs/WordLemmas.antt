@@ -4,7 +4,7 @@ use Rattle.std.proofs.lemmas.List.{length-append}
 use Rattle.std.specs.List.{concat, list_any}
 use Rattle.memchr.specs.Find.{Nowhere, Passes, is_byte}
 use Rattle.mail_text.specs.Cuts.{IsInContinuation, IsAfterContinuation, IsFirstField, continuation_lines, after_continuations}
-use Rattle.mail_text.specs.HeaderFields.{field_lines, fields_in, is_continuation, is_blank, has_asked_name}
+use Rattle.mail_text.specs.HeaderFields.{field_lines, fields_in, is_continuation, is_blank, has_requested_name}
 use Rattle.mail_text.specs.TextLines.{in_first, is_crlf, is_empty_line, lines_of}
 use Rattle.mail_text.specs.TextSearch.{any_field_holds, after_colon, field_holds, occurs_in}
 
@@ -133,11 +133,11 @@ no_text [] l = refl
 no_text (x ∷ text) l = absurd (omega arith)
 
 -- one further field
-pub passes : (name word text line octets rest : List ℕ) (is : Bool) → IsFirstField text line octets rest → is ≡ (has_asked_name (name ∷ []) line && occurs_in word (after_colon octets))
+pub passes : (name word text line octets rest : List ℕ) (is : Bool) → IsFirstField text line octets rest → is ≡ (has_requested_name (name ∷ []) line && occurs_in word (after_colon octets))
     → any_field_holds name word text ≡ (is || any_field_holds name word rest)
 passes name word text line octets rest is f e =
     ap (list_any (field_holds name word)) f.fields
-    ∙ (λ i. (has_asked_name (name ∷ []) line && occurs_in word (after_colon (f.joined i))) || any_field_holds name word rest)
+    ∙ (λ i. (has_requested_name (name ∷ []) line && occurs_in word (after_colon (f.joined i))) || any_field_holds name word rest)
     ∙ ap (λ b. b || any_field_holds name word rest) (sym e)
 
 pub none_holds : (name word text : List ℕ) → fields_in (field_lines (lines_of text)) ≡ [] → any_field_holds name word text ≡ false

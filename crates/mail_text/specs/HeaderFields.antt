@@ -48,14 +48,14 @@ is_among names (Some name) = has_keyword name names
 
 -- Whether a line begins a field with one of these names: the name precedes the first colon, without
 -- blanks at its end.
-abbrev pub has_asked_name : List (List ℕ) → List ℕ → Bool
-has_asked_name names line = is_among names (option_map trim_end_blanks (before_colon line))
+abbrev pub has_requested_name : List (List ℕ) → List ℕ → Bool
+has_requested_name names line = is_among names (option_map trim_end_blanks (before_colon line))
 
 -- Whether a line begins a selected field: with one of these names if `named`, else with another
 -- name or none.
-abbrev pub is_asked_field : Bool → List (List ℕ) → List ℕ → Bool
-is_asked_field named names line =
-    if named then has_asked_name names line else not (has_asked_name names line)
+abbrev pub is_requested_field : Bool → List (List ℕ) → List ℕ → Bool
+is_requested_field named names line =
+    if named then has_requested_name names line else not (has_requested_name names line)
 
 abbrev pub first_asked : (List ℕ → Bool) → List (List ℕ) → Bool
 first_asked asked [] = false
@@ -78,5 +78,5 @@ asked_fields_in asked fields = concat (map concat (filter (first_asked asked) fi
 -- line if there is one (RFC 9051, section 6.4.5.1, HEADER.FIELDS and HEADER.FIELDS.NOT).
 abbrev pub fields_of : Bool → List (List ℕ) → List ℕ → List ℕ
 fields_of named names text =
-    asked_fields_in (is_asked_field named names) (fields_in (field_lines (lines_of text)))
+    asked_fields_in (is_requested_field named names) (fields_in (field_lines (lines_of text)))
     ++ empty_line (lines_of text)

@@ -4,7 +4,7 @@ use Rattle.std.specs.Prelude.{ℕ, Bool, ◌&&◌, ◌||◌, ◌==◌, List, [],
 use Rattle.std.specs.List.{concat, list_any}
 use Rattle.std.specs.Str.{bytes_eq}
 use Rattle.imap_types.specs.Keywords.{to_lower_case}
-use Rattle.mail_text.specs.HeaderFields.{field_lines, fields_in, first_asked, has_asked_name}
+use Rattle.mail_text.specs.HeaderFields.{field_lines, fields_in, first_asked, has_requested_name}
 use Rattle.mail_text.specs.TextLines.{lines_of}
 
 -- Whether a text begins with a word, compared without case.
@@ -25,7 +25,8 @@ after_colon (octet ∷ octets) = if octet == 58 then octets else after_colon oct
 -- Whether a field, given as its lines, has this name and contains a word after its first colon.
 abbrev pub field_holds : List ℕ → List ℕ → List (List ℕ) → Bool
 field_holds name word field =
-    first_asked (has_asked_name (name ∷ [])) field && occurs_in word (after_colon (concat field))
+    first_asked (has_requested_name (name ∷ [])) field
+    && occurs_in word (after_colon (concat field))
 
 -- Whether a field of this name in a text's header contains a word (RFC 9051, section 6.4.4,
 -- HEADER).

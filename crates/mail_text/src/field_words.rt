@@ -2,7 +2,7 @@
 
 ghost use Rattle.std.specs.Prelude.{◌≡◌, ◌≤◌, ◌&&◌, [], ◌∷◌, length, IfOk, MatchOption};
 ghost use Rattle.mail_text.specs.Cuts.{IsAfterContinuation, IsFirstField};
-ghost use Rattle.mail_text.specs.HeaderFields.{field_lines, fields_in, has_asked_name};
+ghost use Rattle.mail_text.specs.HeaderFields.{field_lines, fields_in, has_requested_name};
 ghost use Rattle.mail_text.specs.TextLines.{lines_of};
 ghost use Rattle.mail_text.specs.TextSearch.{any_field_holds, after_colon, occurs_in};
 
@@ -59,7 +59,7 @@ fn occurs_in(
     word: &[u8],
 ) -> Result<bool, AllocError>
     ensures { IfOk result (λ is. is
-        ≡ (has_asked_name (name.now ∷ []) line.now
+        ≡ (has_requested_name (name.now ∷ []) line.now
         && occurs_in word.now (after_colon octets.now))) }
 {
     if !has_field_name(line, name) {
@@ -104,7 +104,7 @@ fn after_continuations(text: &[u8]) -> &[u8]
 
 /// Whether a line begins a field of this name.
 fn has_field_name(line: &[u8], name: &[u8]) -> bool
-    ensures { result ≡ has_asked_name (name.now ∷ []) line.now }
+    ensures { result ≡ has_requested_name (name.now ∷ []) line.now }
 {
     match before_colon(line) {
         None => false,

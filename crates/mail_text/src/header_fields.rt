@@ -3,9 +3,9 @@
 ghost use Rattle.std.specs.Prelude.{◌≡◌, ◌≢◌, true, false, ◌++◌, [], OnOk, IfOk};
 ghost use Rattle.std.specs.Option.{option_map};
 ghost use Rattle.imap_types.specs.Keywords.{has_keyword};
-ghost use Rattle.mail_text.specs.HeaderFields.{is_asked_field, before_colon, fields_of};
-ghost use Rattle.mail_text.specs.HeaderFields.{is_continuation, is_among, is_blank, has_asked_name};
-ghost use Rattle.mail_text.specs.HeaderFields.{trim_end_blanks};
+ghost use Rattle.mail_text.specs.HeaderFields.{is_requested_field, before_colon, fields_of};
+ghost use Rattle.mail_text.specs.HeaderFields.{is_continuation, is_among, is_blank};
+ghost use Rattle.mail_text.specs.HeaderFields.{has_requested_name, trim_end_blanks};
 ghost use Rattle.mail_text.specs.SelectedLines.{line_if_selected, selects_line};
 
 use crate::text_lines::{first_line, is_empty_line};
@@ -45,7 +45,7 @@ fn select_fields(
         return Ok(output);
     }
     let (line, _) = first_line(text);
-    let mut selected = is_asked_field(line, names, named);
+    let mut selected = is_requested_field(line, names, named);
     let mut rest = text;
     for _ in 0..text.len() {
         if rest.is_empty() {
@@ -56,7 +56,7 @@ fn select_fields(
             output.extend_from_slice(line)?;
             return Ok(output);
         }
-        selected = selects(line, selected, names, named);
+        selected = selects_line(line, selected, names, named);
         push_selected(&mut output, selected, line)?;
         rest = tail;
     }
@@ -74,13 +74,13 @@ fn push_selected(output: &mut Vec<u8>, selected: bool, line: &[u8]) -> Result<()
 }
 
 /// Whether a line is selected; `selected` says whether the line before it was.
-fn selects(line: &[u8], selected: bool, names: &[Octets], named: bool) -> bool
-    ensures { result ≡ selects_line (is_asked_field named names.now) selected line.now }
+fn selects_line(line: &[u8], selected: bool, names: &[Octets], named: bool) -> bool
+    ensures { result ≡ selects_line (is_requested_field named names.now) selected line.now }
 {
     if is_continuation(line) {
         selected
     } else {
-        is_asked_field(line, names, named)
+        is_requested_field(line, names, named)
     }
 }
 
@@ -101,15 +101,15 @@ fn is_blank(octet: u8) -> bool
 }
 
 /// Whether a line begins a selected field.
-fn is_asked_field(line: &[u8], names: &[Octets], named: bool) -> bool
-    ensures { result ≡ is_asked_field named names.now line.now }
+fn is_requested_field(line: &[u8], names: &[Octets], named: bool) -> bool
+    ensures { result ≡ is_requested_field named names.now line.now }
 {
-    let is = has_asked_name(line, names);
-    if named { is } else { !is }
+    let has_name = has_requested_name(line, names);
+    if named { has_name } else { !has_name }
 }
 
-fn has_asked_name(line: &[u8], names: &[Octets]) -> bool
-    ensures { result ≡ has_asked_name names.now line.now }
+fn has_requested_name(line: &[u8], names: &[Octets]) -> bool
+    ensures { result ≡ has_requested_name names.now line.now }
 {
     match before_colon(line) {
         None => false,

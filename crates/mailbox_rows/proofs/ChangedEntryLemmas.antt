@@ -67,17 +67,17 @@ pub noted_over : (stored own : List ModSeqEntry) (e : ListingEntry) → IsNoted 
 noted_over [] own e h = h
 noted_over (c ∷ stored) own e h = noted_cons c (stored ++ own) e (noted_over stored own e h)
 
-pub noted_over_more : (stored old new : List ModSeqEntry) (e : ListingEntry) → (IsNoted old e → IsNoted new e) → IsNoted (stored ++ old) e → IsNoted (stored ++ new) e
-noted_over_more [] old new e f h = f h
-noted_over_more (c ∷ stored) old new e f h =
+pub noted_append_weaker : (stored old new : List ModSeqEntry) (e : ListingEntry) → (IsNoted old e → IsNoted new e) → IsNoted (stored ++ old) e → IsNoted (stored ++ new) e
+noted_append_weaker [] old new e f h = f h
+noted_append_weaker (c ∷ stored) old new e f h =
     elim (cases_Bool (is_of e c)) [
       | inl t ↦ rw t refl
-      | inr n ↦ rw n (noted_over_more stored old new e f (rw n at h))
+      | inr n ↦ rw n (noted_append_weaker stored old new e f (rw n at h))
     ]
 
-pub are_noted_more : (cs ds : List ModSeqEntry) (es : List ListingEntry) → ((e : ListingEntry) → IsNoted cs e → IsNoted ds e) → AreNoted cs es → AreNoted ds es
-are_noted_more cs ds [] f h = tt
-are_noted_more cs ds (e ∷ es) f h = (f e h.0, are_noted_more cs ds es f h.1)
+pub are_noted_weaker : (cs ds : List ModSeqEntry) (es : List ListingEntry) → ((e : ListingEntry) → IsNoted cs e → IsNoted ds e) → AreNoted cs es → AreNoted ds es
+are_noted_weaker cs ds [] f h = tt
+are_noted_weaker cs ds (e ∷ es) f h = (f e h.0, are_noted_weaker cs ds es f h.1)
 
 pub noted_put : (cs : List ModSeqEntry) (es : List ListingEntry) (x : ListingEntry) → IsNoted cs x → AreNoted cs es → AreNoted cs (es ++ x ∷ [])
 noted_put cs [] x n h = (n, tt)
@@ -100,7 +100,7 @@ noted_own stored own x = noted_over stored (own ++ record { modseq = x.modseq; u
 
 -- Entries that were noted still are after one further entry of the index.
 pub noted_still : (stored own : List ModSeqEntry) (c : ModSeqEntry) (es : List ListingEntry) → AreNoted (stored ++ own) es → AreNoted (stored ++ (own ++ c ∷ [])) es
-noted_still stored own c es h = are_noted_more (stored ++ own) (stored ++ (own ++ c ∷ [])) es (λ e. noted_over_more stored own (own ++ c ∷ []) e (noted_longer own (c ∷ []) e)) h
+noted_still stored own c es h = are_noted_weaker (stored ++ own) (stored ++ (own ++ c ∷ [])) es (λ e. noted_append_weaker stored own (own ++ c ∷ []) e (noted_longer own (c ∷ []) e)) h
 
 pub noted_all : (es : List ListingEntry) → AreNoted (modseq_entries_of es) es
 noted_all [] = tt
@@ -108,7 +108,7 @@ noted_all (e ∷ es) =
     let own : ModSeqEntry = record { modseq = e.modseq; uid = e.uid } in
     let is : is_of e own ≡ true = own_change e own refl refl in (
       rw is refl,
-      are_noted_more (modseq_entries_of es) (own ∷ modseq_entries_of es) es (λ x h. noted_cons own (modseq_entries_of es) x h) (noted_all es),
+      are_noted_weaker (modseq_entries_of es) (own ∷ modseq_entries_of es) es (λ x h. noted_cons own (modseq_entries_of es) x h) (noted_all es),
     )
 
 -- ---- the latest mod-sequence
@@ -151,14 +151,14 @@ latest_rebuilt cs ds es p h =
     latest_below m ds (sym (list_any-IsPermutation (λ (c : ModSeqEntry). nat_lt m c.modseq) (modseq_entries_of es) ds p) ∙ above_latest m (modseq_entries_of es) (latest_noted cs es h))
 
 pub noted_permuted : (cs ds : List ModSeqEntry) (es : List ListingEntry) → IsPermutation cs ds → AreNoted cs es → AreNoted ds es
-noted_permuted cs ds es p h = are_noted_more cs ds es (λ e n. sym (list_any-IsPermutation (is_of e) cs ds p) ∙ n) h
+noted_permuted cs ds es p h = are_noted_weaker cs ds es (λ e n. sym (list_any-IsPermutation (is_of e) cs ds p) ∙ n) h
 
 -- ---- a search for each UID
 
 -- The results of searches for these UIDs; those below a number were searched for before.
-abbrev pub picked : ℕ → ℕ → List ℕ → List ListingEntry → List ListingEntry
-picked m low [] es = []
-picked m low (u ∷ us) es = if leb low u then changed_with m u es ++ picked m (u + 1) us es else picked m low us es
+abbrev pub search_results : ℕ → ℕ → List ℕ → List ListingEntry → List ListingEntry
+search_results m low [] es = []
+search_results m low (u ∷ us) es = if leb low u then changed_with m u es ++ search_results m (u + 1) us es else search_results m low us es
 
 abbrev beyond : ℕ → List ListingEntry → List ListingEntry
 beyond u es = filter (λ (e : ListingEntry). nat_lt u e.uid) es
@@ -175,14 +175,14 @@ with_beyond m u v (e ∷ es) k =
       | inr f ↦ (let no : nat_eq e.uid v ≡ false = grind (arith, nat_tests) in rw f (rw no rest))
     ]
 
-picked_beyond : (m u low : ℕ) (us : List ℕ) (es : List ListingEntry) → u < low → picked m low us (beyond u es) ≡ picked m low us es
-picked_beyond m u low [] es k = refl
-picked_beyond m u low (v ∷ us) es k =
+search_results_beyond : (m u low : ℕ) (us : List ℕ) (es : List ListingEntry) → u < low → search_results m low us (beyond u es) ≡ search_results m low us es
+search_results_beyond m u low [] es k = refl
+search_results_beyond m u low (v ∷ us) es k =
     elim (cases_Bool (leb low v)) [
       | inl t ↦
           let from : low ≤ v = leb_true low v t in
-          rw t (ap (λ x. x ++ picked m (v + 1) us (beyond u es)) (with_beyond m u v es (omega (arith, from, k))) ∙ ap (λ x. changed_with m v es ++ x) (picked_beyond m u (v + 1) us es (omega (arith, from, k))))
-      | inr f ↦ rw f (picked_beyond m u low us es k)
+          rw t (ap (λ x. x ++ search_results m (v + 1) us (beyond u es)) (with_beyond m u v es (omega (arith, from, k))) ∙ ap (λ x. changed_with m v es ++ x) (search_results_beyond m u (v + 1) us es (omega (arith, from, k))))
+      | inr f ↦ rw f (search_results_beyond m u low us es k)
     ]
 
 none_with : (m u low : ℕ) (es : List ListingEntry) → u < low → AreRising low es → changed_with m u es ≡ []
@@ -292,16 +292,16 @@ quiet_below m u us (e ∷ es) a h = (
   quiet_below m u us es a h.1,
 )
 
-pub picked_all : (m from low least : ℕ) (us : List ℕ) (es : List ListingEntry) → AreAscending from us → AreRising least es → low ≤ least → AreAmong m us es → picked m low us es ≡ changed_since m es
-picked_all m from low least [] es a r l h = sym (none_among m es h)
-picked_all m from low least (u ∷ us) es a r l h =
+pub search_results_all : (m from low least : ℕ) (us : List ℕ) (es : List ListingEntry) → AreAscending from us → AreRising least es → low ≤ least → AreAmong m us es → search_results m low us es ≡ changed_since m es
+search_results_all m from low least [] es a r l h = sym (none_among m es h)
+search_results_all m from low least (u ∷ us) es a r l h =
     elim (cases_Bool (leb low u)) [
       | inl t ↦
-          let rest = picked_all m u (u + 1) (u + 1) us (beyond u es) a.1 (rising_beyond u least es r) (omega arith) (among_beyond m u us es h) in
-          rw t (ap (λ x. changed_with m u es ++ x) (sym (picked_beyond m u (u + 1) us es (omega arith)) ∙ rest) ∙ sym (parts_around m u least es r (quiet_below m u us es a.1 h)))
+          let rest = search_results_all m u (u + 1) (u + 1) us (beyond u es) a.1 (rising_beyond u least es r) (omega arith) (among_beyond m u us es h) in
+          rw t (ap (λ x. changed_with m u es ++ x) (sym (search_results_beyond m u (u + 1) us es (omega arith)) ∙ rest) ∙ sym (parts_around m u least es r (quiet_below m u us es a.1 h)))
       | inr f ↦
           let less : u < low = leb_false low u f in
-          rw f (picked_all m u low least us es a.1 r l (among_rest m u least us es (omega (arith, less, l)) r h))
+          rw f (search_results_all m u low least us es a.1 r l (among_rest m u least us es (omega (arith, less, l)) r h))
     ]
 
 -- ---- which UIDs an index has above a mod-sequence
@@ -327,12 +327,12 @@ pub all_among : (m : ℕ) (cs : List ModSeqEntry) (us : List ℕ) (es : List Lis
 all_among m cs us [] s h = tt
 all_among m cs us (e ∷ es) s h = ((λ k. s e.uid ∙ among_noted m cs e k h.0), all_among m cs us es s h.1)
 
-pub above_over : (m : ℕ) (cs ds : List ModSeqEntry) → uids_above m cs ++ uids_above m ds ≡ uids_above m (cs ++ ds)
-above_over m [] ds = refl
-above_over m (c ∷ cs) ds =
+pub uids_above_append : (m : ℕ) (cs ds : List ModSeqEntry) → uids_above m cs ++ uids_above m ds ≡ uids_above m (cs ++ ds)
+uids_above_append m [] ds = refl
+uids_above_append m (c ∷ cs) ds =
     elim (cases_Bool (nat_lt m c.modseq)) [
-      | inl t ↦ rw t (ap (λ x. c.uid ∷ x) (above_over m cs ds))
-      | inr f ↦ rw f (above_over m cs ds)
+      | inl t ↦ rw t (ap (λ x. c.uid ∷ x) (uids_above_append m cs ds))
+      | inr f ↦ rw f (uids_above_append m cs ds)
     ]
 
 pub ascending_from : (low : ℕ) (us : List ℕ) → ((d : ℕ) → 0 < length us → low ≤ slice_index_or us 0 d) → IsNonDecreasingBy (λ (u : ℕ). u) us → AreAscending low us

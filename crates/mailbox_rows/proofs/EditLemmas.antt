@@ -11,7 +11,7 @@ use Rattle.mailbox_rows.specs.declared.pieces.PieceSource.{PieceSource}
 use Rattle.mailbox_rows.specs.declared.pieces.PieceSource.TheVariants.{Base, Own}
 use Rattle.mailbox_rows.specs.Pieces.{ArePieces, IsAlone, IsPiece, IsInPiece, items_of, with_one_less, piece_items, source_items}
 use Rattle.mailbox_rows.proofs.PlaceLemmas.{slice_get_between, remove_between, set_between}
-use Rattle.mailbox_rows.proofs.SplitLemmas.{down_items, down_pieces, from_at, front_at, items_around, items_with, joined, piece_is}
+use Rattle.mailbox_rows.proofs.SplitLemmas.{down_items, down_pieces, pieces_from_place, pieces_before_place, items_around, items_with, joined, piece_is}
 
 -- Two pieces in the place of one, as an insertion and a change leave them.
 pub two_for_one : {X : Type 0} (xs : List X) (i : ℕ) (x y : X) → i < length xs → set (insert xs (suc i) y) i x ≡ take i xs ++ x ∷ y ∷ drop (suc i) xs
@@ -59,8 +59,8 @@ slice_get_drop (suc n) [] i = refl
 slice_get_drop (suc n) (x ∷ xs) i = let e : suc (n + i) ≡ suc n + i = omega arith in slice_get_drop n xs i ∙ ap (slice_get (x ∷ xs)) e
 
 -- The items that a piece takes from a list are within the list.
-pub base_within : {T : Type 0} (b : List T) (from len : ℕ) → 0 < len → length (take len (drop from b)) ≡ len → from + len ≤ length b
-base_within b from len some item_count = omega (arith, some, item_count, length-take len (drop from b), length-drop from b)
+pub base_piece_within : {T : Type 0} (b : List T) (from len : ℕ) → 0 < len → length (take len (drop from b)) ≡ len → from + len ≤ length b
+base_piece_within b from len some item_count = omega (arith, some, item_count, length-take len (drop from b), length-drop from b)
 
 -- A piece of the list below, cut in two.
 pub base_parts : {T : Type 0} (b : List T) (from len count : ℕ) → count < len → take count (drop from b) ++ take (len - count) (drop (from + count) b) ≡ take len (drop from b)
@@ -97,12 +97,12 @@ slice_get_own b ps index at p x h place is source =
     sym (ap (λ k. slice_get (piece_items b p) k) none ∙ ap (λ s. slice_get (source_items b p.len s) 0) source) ∙ ap (λ q. slice_get (piece_items b q) (index - q.start)) is ∙ slice_get_in b ps index at p h place
 
 -- The place of a piece's item in the list below.
-pub held_place : {T : Type 0} (b : List T) (ps : List (Piece T)) (index at : ℕ) (p : Piece T) (from : ℕ) → ArePieces b 0 ps → IsInPiece ps index at → p ≡ get_or ps at p → p.source ≡ Base from → from + (index - p.start) < length b
-held_place b ps index at p from h place is source =
+pub base_place : {T : Type 0} (b : List T) (ps : List (Piece T)) (index at : ℕ) (p : Piece T) (from : ℕ) → ArePieces b 0 ps → IsInPiece ps index at → p ≡ get_or ps at p → p.source ≡ Base from → from + (index - p.start) < length b
+base_place b ps index at p from h place is source =
     let whole : IsPiece b (length (items_of b (take at ps))) p = subst (λ q. IsPiece b (length (items_of b (take at ps))) q) (sym is) (piece_is b ps at p place.within h) in
     let inside : index - p.start < p.len = subst (λ q. index - q.start < q.len) (sym is) (let low = place.start p in let end = place.end p in omega (arith, low, end)) in
     let item_count : length (take p.len (drop from b)) ≡ p.len = ap (λ s. length (source_items b p.len s)) (sym source) ∙ whole.item_count in
-    omega (arith, inside, base_within b from p.len whole.some item_count)
+    omega (arith, inside, base_piece_within b from p.len whole.some item_count)
 
 -- One piece has become two.
 module _ {T : Type 0} (b : List T) (ps : List (Piece T)) (at : ℕ) (p x y : Piece T) (h : ArePieces b 0 ps) (inside : at < length ps) (is : p ≡ get_or ps at p) (both : piece_items b x ++ piece_items b y ≡ piece_items b p) where
@@ -120,29 +120,29 @@ module _ {T : Type 0} (b : List T) (ps : List (Piece T)) (at : ℕ) (p x y : Pie
       let here = subst (IsPiece b n) (sym is) (piece_is b ps at p inside h) in
       let item_count : p.len ≡ x.len + y.len = omega (arith, here.item_count, ap (λ zs. length zs) both, length-append (piece_items b x) (piece_items b y), xmany, ymany) in
       let same : n + p.len ≡ n + x.len + y.len = omega (arith, item_count) in
-      let rest = (from_at b ps at p inside h).1 in
+      let rest = (pieces_from_place b ps at p inside h).1 in
       let tail = subst (λ m. ArePieces b m (drop (suc at) ps)) same (subst (λ q. ArePieces b (n + q.len) (drop (suc at) ps)) (sym is) rest) in
-      joined b 0 n (take at ps) (x ∷ y ∷ drop (suc at) ps) (omega arith) (front_at b ps at h) (record { start = omega (arith, xs, here.start); some = xsome; item_count = xmany }, (record { start = omega (arith, ys, here.start); some = ysome; item_count = ymany }, tail))
+      joined b 0 n (take at ps) (x ∷ y ∷ drop (suc at) ps) (omega arith) (pieces_before_place b ps at h) (record { start = omega (arith, xs, here.start); some = xsome; item_count = xmany }, (record { start = omega (arith, ys, here.start); some = ysome; item_count = ymany }, tail))
 
 -- Edits of a piece of one item.
 module _ {T : Type 0} (b : List T) (ps : List (Piece T)) (index at : ℕ) (d : Piece T) (h : ArePieces b 0 ps) (place : IsAlone ps index at) where
   alone_is : IsPiece b (length (items_of b (take at ps))) (get_or ps at d)
   alone_is = piece_is b ps at d place.within h
 
-  far : length (items_of b (take at ps)) ≡ index
-  far = omega (arith, alone_is.start, place.start d)
+  length_before : length (items_of b (take at ps)) ≡ index
+  length_before = omega (arith, alone_is.start, place.start d)
 
   single : length (piece_items b (get_or ps at d)) ≡ 1
   single = omega (arith, alone_is.item_count, place.one d)
 
   front_low : length (items_of b (take at ps)) ≤ index
-  front_low = omega (arith, far)
+  front_low = omega (arith, length_before)
 
   front_high : index < length (items_of b (take at ps)) + length (piece_items b (get_or ps at d))
-  front_high = omega (arith, far, single)
+  front_high = omega (arith, length_before, single)
 
   at_first : index - length (items_of b (take at ps)) ≡ 0
-  at_first = omega (arith, far)
+  at_first = omega (arith, length_before)
 
   pub set_items : (x : T) (n : ℕ) → items_of b (set ps at (record { start = n; len = 1; source = Own x })) ≡ set (items_of b ps) index x
   set_items x n =
@@ -162,7 +162,7 @@ module _ {T : Type 0} (b : List T) (ps : List (Piece T)) (index at : ℕ) (d : P
   set_pieces x n e =
       let p : Piece T = record { start = n; len = 1; source = Own x } in
       let m = length (items_of b (take at ps)) in
-      subst (ArePieces b 0) (sym (set_split ps at p place.within)) (joined b 0 m (take at ps) (p ∷ drop (suc at) ps) (omega arith) (front_at b ps at h) (record { start = e ∙ alone_is.start; some = omega arith; item_count = refl }, subst (λ k. ArePieces b (m + k) (drop (suc at) ps)) (place.one d) (from_at b ps at d place.within h).1))
+      subst (ArePieces b 0) (sym (set_split ps at p place.within)) (joined b 0 m (take at ps) (p ∷ drop (suc at) ps) (omega arith) (pieces_before_place b ps at h) (record { start = e ∙ alone_is.start; some = omega arith; item_count = refl }, subst (λ k. ArePieces b (m + k) (drop (suc at) ps)) (place.one d) (pieces_from_place b ps at d place.within h).1))
 
   pub lost_items : items_of b (take at ps ++ map with_one_less (drop (suc at) ps)) ≡ remove (items_of b ps) index
   lost_items =
@@ -180,7 +180,7 @@ module _ {T : Type 0} (b : List T) (ps : List (Piece T)) (index at : ℕ) (d : P
   pub lost_pieces : ArePieces b 0 (take at ps ++ map with_one_less (drop (suc at) ps))
   lost_pieces =
       let m = length (items_of b (take at ps)) in
-      joined b 0 m (take at ps) (map with_one_less (drop (suc at) ps)) (omega arith) (front_at b ps at h) (down_pieces b m (m + (get_or ps at d).len) (drop (suc at) ps) (omega (arith, place.one d)) (from_at b ps at d place.within h).1)
+      joined b 0 m (take at ps) (map with_one_less (drop (suc at) ps)) (omega arith) (pieces_before_place b ps at h) (down_pieces b m (m + (get_or ps at d).len) (drop (suc at) ps) (omega (arith, place.one d)) (pieces_from_place b ps at d place.within h).1)
 
 -- An item is appended.
 pub pushed_items : {T : Type 0} (b : List T) (ps : List (Piece T)) (x : T) (n : ℕ) → items_of b (ps ++ record { start = n; len = 1; source = Own x } ∷ []) ≡ items_of b ps ++ x ∷ []

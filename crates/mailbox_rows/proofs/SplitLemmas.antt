@@ -33,14 +33,14 @@ joined b n m [] ys e front back = let same : m ≡ n = omega (arith, e) in subst
 joined b n m (p ∷ xs) ys e front back = (front.0, joined b (n + p.len) m xs ys (omega (arith, e, front.0.item_count, length-append (piece_items b p) (items_of b xs))) front.1 back)
 
 -- All before one piece, the piece, and all after it.
-pub front_at : {T : Type 0} (b : List T) (ps : List (Piece T)) (i : ℕ) → ArePieces b 0 ps → ArePieces b 0 (take i ps)
-front_at b ps i h = front_of b 0 (take i ps) (drop i ps) (subst (ArePieces b 0) (sym (take-append-drop i ps)) h)
+pub pieces_before_place : {T : Type 0} (b : List T) (ps : List (Piece T)) (i : ℕ) → ArePieces b 0 ps → ArePieces b 0 (take i ps)
+pieces_before_place b ps i h = front_of b 0 (take i ps) (drop i ps) (subst (ArePieces b 0) (sym (take-append-drop i ps)) h)
 
-pub from_at : {T : Type 0} (b : List T) (ps : List (Piece T)) (i : ℕ) (d : Piece T) → i < length ps → ArePieces b 0 ps → ArePieces b (length (items_of b (take i ps))) (get_or ps i d ∷ drop (suc i) ps)
-from_at b ps i d inside h = back_of b 0 _ (take i ps) (get_or ps i d ∷ drop (suc i) ps) (omega arith) (subst (ArePieces b 0) (parts_around ps i d inside) h)
+pub pieces_from_place : {T : Type 0} (b : List T) (ps : List (Piece T)) (i : ℕ) (d : Piece T) → i < length ps → ArePieces b 0 ps → ArePieces b (length (items_of b (take i ps))) (get_or ps i d ∷ drop (suc i) ps)
+pieces_from_place b ps i d inside h = back_of b 0 _ (take i ps) (get_or ps i d ∷ drop (suc i) ps) (omega arith) (subst (ArePieces b 0) (parts_around ps i d inside) h)
 
 pub piece_is : {T : Type 0} (b : List T) (ps : List (Piece T)) (i : ℕ) (d : Piece T) → i < length ps → ArePieces b 0 ps → IsPiece b (length (items_of b (take i ps))) (get_or ps i d)
-piece_is b ps i d inside h = (from_at b ps i d inside h).0
+piece_is b ps i d inside h = (pieces_from_place b ps i d inside h).0
 
 -- The place at which the next piece starts.
 pub next_start : {T : Type 0} (b : List T) (ps : List (Piece T)) (i : ℕ) (d : Piece T) → i + 1 < length ps → ArePieces b 0 ps → (get_or ps (i + 1) d).start ≡ (get_or ps i d).start + (get_or ps i d).len
@@ -88,13 +88,13 @@ down_pieces b n m [] e h = tt
 down_pieces b n m (p ∷ ps) e h = (record { start = omega (arith, h.0.start, e); some = h.0.some; item_count = h.0.item_count }, down_pieces b (n + p.len) (m + p.len) ps (omega (arith, e)) h.1)
 
 -- After some items, no piece starts at 0.
-pub starts_late : {T : Type 0} (b : List T) (n : ℕ) (ps : List (Piece T)) → ArePieces b n ps → 0 < n → (k : ℕ) (d : Piece T) → k < length ps → 0 < (get_or ps k d).start
-starts_late b n [] h some k d inside = absurd (omega (arith, inside))
-starts_late b n (p ∷ ps) h some zero d inside = omega (arith, h.0.start, some)
-starts_late b n (p ∷ ps) h some (suc k) d inside = starts_late b (n + p.len) ps h.1 (omega (arith, some)) k d (omega (arith, inside))
+pub start_positive_after : {T : Type 0} (b : List T) (n : ℕ) (ps : List (Piece T)) → ArePieces b n ps → 0 < n → (k : ℕ) (d : Piece T) → k < length ps → 0 < (get_or ps k d).start
+start_positive_after b n [] h some k d inside = absurd (omega (arith, inside))
+start_positive_after b n (p ∷ ps) h some zero d inside = omega (arith, h.0.start, some)
+start_positive_after b n (p ∷ ps) h some (suc k) d inside = start_positive_after b (n + p.len) ps h.1 (omega (arith, some)) k d (omega (arith, inside))
 
 -- No piece after the first starts at 0.
-pub late_starts : {T : Type 0} (b : List T) (ps : List (Piece T)) → ArePieces b 0 ps → (k : ℕ) (d : Piece T) → 0 < k → k < length ps → 0 < (get_or ps k d).start
-late_starts b [] h k d late inside = absurd (omega (arith, inside))
-late_starts b (p ∷ ps) h zero d late inside = absurd (omega (arith, late))
-late_starts b (p ∷ ps) h (suc k) d late inside = starts_late b (0 + p.len) ps h.1 (omega (arith, h.0.some)) k d (omega (arith, inside))
+pub start_positive_at : {T : Type 0} (b : List T) (ps : List (Piece T)) → ArePieces b 0 ps → (k : ℕ) (d : Piece T) → 0 < k → k < length ps → 0 < (get_or ps k d).start
+start_positive_at b [] h k d late inside = absurd (omega (arith, inside))
+start_positive_at b (p ∷ ps) h zero d late inside = absurd (omega (arith, late))
+start_positive_at b (p ∷ ps) h (suc k) d late inside = start_positive_after b (0 + p.len) ps h.1 (omega (arith, h.0.some)) k d (omega (arith, inside))

@@ -35,11 +35,11 @@ rows_uid fresh mailbox (e ∷ es) (suc k) = rows_uid fresh mailbox es k
 
 -- ---- ascending UIDs
 
-pub few_rising : (low : ℕ) (rows : List ListedMessage) → AreRisingRows (low + 1) rows → low + length rows ≤ last_uid low rows
-few_rising low [] h = omega arith
-few_rising low (row ∷ rows) h =
+pub length_of_rising : (low : ℕ) (rows : List ListedMessage) → AreRisingRows (low + 1) rows → low + length rows ≤ last_uid low rows
+length_of_rising low [] h = omega arith
+length_of_rising low (row ∷ rows) h =
     let first : low + 1 ≤ row.uid = h.0 in
-    let rest : row.uid + length rows ≤ last_uid row.uid rows = few_rising row.uid rows h.1 in
+    let rest : row.uid + length rows ≤ last_uid row.uid rows = length_of_rising row.uid rows h.1 in
     omega arith
 
 pub last_some : (low : ℕ) (rows : List ListedMessage) (uid : ℕ) → Some uid ≡ option_map (λ (row : ListedMessage). row.uid) (slice_get rows (length rows - 1)) → uid ≡ last_uid low rows
@@ -51,12 +51,12 @@ last_some low (x ∷ y ∷ rows) uid h =
 
 pub last_none : (rows : List ListedMessage) → None ≡ option_map (λ (row : ListedMessage). row.uid) (slice_get rows (length rows - 1)) → 0 ≡ last_uid 0 rows
 last_none [] e = refl
-last_none (x ∷ rows) e = absurd (lost (x ∷ rows) (length (x ∷ rows) - 1) x (omega arith) e)
+last_none (x ∷ rows) e = absurd (uid_at_not_none (x ∷ rows) (length (x ∷ rows) - 1) x (omega arith) e)
   where
-    lost : (xs : List ListedMessage) (i : ℕ) (d : ListedMessage) → i < length xs → None ≡ option_map (λ (row : ListedMessage). row.uid) (slice_get xs i) → ⊥
-    lost [] i d h e = omega (arith, h)
-    lost (y ∷ xs) zero d h e = cc e
-    lost (y ∷ xs) (suc i) d h e = lost xs i d (omega (arith, h)) e
+    uid_at_not_none : (xs : List ListedMessage) (i : ℕ) (d : ListedMessage) → i < length xs → None ≡ option_map (λ (row : ListedMessage). row.uid) (slice_get xs i) → ⊥
+    uid_at_not_none [] i d h e = omega (arith, h)
+    uid_at_not_none (y ∷ xs) zero d h e = cc e
+    uid_at_not_none (y ∷ xs) (suc i) d h e = uid_at_not_none xs i d (omega (arith, h)) e
 
 rising_from : (low : ℕ) (rows : List ListedMessage) → AreRisingRows low rows → (j : ℕ) (d : ListedMessage) → j < length rows → low ≤ (get_or rows j d).uid
 rising_from low [] h j d k = absurd (omega (arith, k))
@@ -210,21 +210,21 @@ same_number a b h = grind (arith, nat_tests)
 
 -- If the message at a place has this UID, a message with this UID exists.
 pub uid_listed : (rows : List ListedMessage) (place uid : ℕ) → AreRisingRows 1 rows → option_map (λ (row : ListedMessage). row.uid) (slice_get rows place) ≡ Some uid → is_some (row_of uid rows) ≡ true
-uid_listed rows place uid h e = listed (slice_get rows place) refl e
+uid_listed rows place uid h e = listed_at (slice_get rows place) refl e
   where
-    listed : (o : Option ListedMessage) → slice_get rows place ≡ o → option_map (λ (row : ListedMessage). row.uid) o ≡ Some uid → is_some (row_of uid rows) ≡ true
-    listed None is k = absurd (cc k)
-    listed (Some row) is k =
+    listed_at : (o : Option ListedMessage) → slice_get rows place ≡ o → option_map (λ (row : ListedMessage). row.uid) o ≡ Some uid → is_some (row_of uid rows) ≡ true
+    listed_at None is k = absurd (cc k)
+    listed_at (Some row) is k =
         let same : row.uid ≡ uid = cc k in
         ap is_some (subst (λ u. row_of u rows ≡ Some row) same (row_of_get 1 rows place row h is))
 
 -- If the message at a place has this UID, its head is that of the message with this UID.
 pub head_listed : (rows : List ListedMessage) (place uid : ℕ) (head : ListedHead) → AreRisingRows 1 rows → Some head ≡ option_map head_of (slice_get rows place) → head.uid ≡ uid → Some head ≡ option_map head_of (row_of uid rows)
-head_listed rows place uid head h e u = listed (slice_get rows place) refl e
+head_listed rows place uid head h e u = listed_at (slice_get rows place) refl e
   where
-    listed : (o : Option ListedMessage) → slice_get rows place ≡ o → Some head ≡ option_map head_of o → Some head ≡ option_map head_of (row_of uid rows)
-    listed None is k = absurd (cc k)
-    listed (Some row) is k =
+    listed_at : (o : Option ListedMessage) → slice_get rows place ≡ o → Some head ≡ option_map head_of o → Some head ≡ option_map head_of (row_of uid rows)
+    listed_at None is k = absurd (cc k)
+    listed_at (Some row) is k =
         let same : row.uid ≡ uid = sym (ap (λ (o : Option ListedHead). (unwrap_or o head).uid) k) ∙ u in
         k ∙ ap (option_map head_of) (sym (subst (λ n. row_of n rows ≡ Some row) same (row_of_get 1 rows place row h is)))
 

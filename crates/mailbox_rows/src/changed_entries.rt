@@ -6,7 +6,7 @@ ghost use Rattle.mailbox_rows.specs.ChangedEntries.{changed_since, changed_with}
 ghost use Rattle.mailbox_rows.specs.ListingEntries.{AreRising};
 
 use crate::entry::ListingEntry;
-use crate::entry_search::first_from;
+use crate::entry_search::first_place_from;
 use crate::patched_list::PatchedList;
 use std::alloc::{AllocError, Global};
 
@@ -61,7 +61,7 @@ fn push_with(
     ensures { OnOk result
         (changed.new.items ≡ changed.old.items ++ changed_with modseq uid list.now.items) }
 {
-    match list.get(first_from(list, uid)) {
+    match list.get(first_place_from(list, uid)) {
         Some(entry) => {
             if entry.uid == uid {
                 push_changed(changed, entry, modseq)

@@ -55,7 +55,7 @@ pub trait EntryList {
         ensures room { (n : ℕ) → has_room self.old n → has_room self.new n };
 
     /// Removes the entry at `place`.
-    fn take_out(&mut self, place: usize)
+    fn remove(&mut self, place: usize)
         requires within { place < length (entries self.old) }
         requires edits { has_edits self.old 1 }
         ensures entries { entries self.new ≡ remove (entries self.old) place }
@@ -65,7 +65,7 @@ pub trait EntryList {
 
     /// Appends an entry. Its UID is above all others, its origin is new, and no edit gave a greater
     /// mod-sequence.
-    fn put(&mut self, entry: ListingEntry)
+    fn push(&mut self, entry: ListingEntry)
         requires first { 1 ≤ entry.uid }
         requires beyond { AreBelow entry.uid (entries self.old) }
         requires fresh { Lacks entry.origin (entries self.old) }

@@ -51,7 +51,7 @@ pub fn place_with<L: EntryPlaces>(list: &L, uid: u32, origin: &OpId) -> Option<u
     ensures { MatchOption result (LacksAt uid origin.now (L.entries list.now))
         (IsAt origin.now (L.entries list.now)) }
 {
-    let place = first_from(list, uid);
+    let place = first_place_from(list, uid);
     match list.at(place) {
         Some(entry) => {
             if entry.origin == *origin {
@@ -65,7 +65,7 @@ pub fn place_with<L: EntryPlaces>(list: &L, uid: u32, origin: &OpId) -> Option<u
 }
 
 /// The place of the first entry whose UID is `uid` or above; the length if there is none.
-pub fn first_from<L: EntryPlaces>(list: &L, uid: u32) -> usize
+pub fn first_place_from<L: EntryPlaces>(list: &L, uid: u32) -> usize
     ensures within { result ≤ length (L.entries list.now) }
     ensures edge { (d : ListingEntry)
         → IsEdge (λ i. ltb (get_or (L.entries list.now) i d).uid uid) (length (L.entries list.now))

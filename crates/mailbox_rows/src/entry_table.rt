@@ -123,7 +123,7 @@ impl EntryTable {
         ensures latest { self.new.latest ≡ self.old.latest }
     {
         let old = self.list.remove(place);
-        uid_index::forget(&mut self.uids, &old.origin);
+        uid_index::remove_origin(&mut self.uids, &old.origin);
     }
 
     /// An overlay of the entries, without edits yet: edits there leave this table unchanged. `Err`
@@ -172,11 +172,11 @@ impl EntryList for EntryTable {
         }
     }
 
-    fn take_out(&mut self, place: usize) {
+    fn remove(&mut self, place: usize) {
         self.remove_at(place);
     }
 
-    fn put(&mut self, entry: ListingEntry) {
+    fn push(&mut self, entry: ListingEntry) {
         uid_index::note(&mut self.uids, &entry.origin, entry.uid);
         self.modseqs.note(entry.modseq, entry.uid);
         self.list.push_reserved(entry);

@@ -15,8 +15,8 @@
 //! # Decided
 //!
 //! - Rows of a listing are borrowed: a row has numbers, and references to versions, date and text.
-//!   Views and queries ask for rows by UID and by place, so that a table of rows needs no copy and
-//!   changes no contract.
+//!   Views and queries ask for rows by UID and by place, so that rows can come from a table with
+//!   no copy and under the same contracts.
 //! - A listing is a window: the entries as they are stored, or with edits over them, and the
 //!   folder's messages as they are stored or as pending operations leave them. It shows an entry
 //!   without a message as an empty message, so that making a window requires nothing; that there is
@@ -24,12 +24,12 @@
 //! - Entries are indexed by mod-sequence too (`modseq_index`). That each entry's mod-sequence and
 //!   UID are in the index is an invariant. A new mod-sequence is no less than the latest, so it
 //!   goes to the end, and the entries that changed since a mod-sequence are after a place that a
-//!   binary search finds. Earlier mod-sequences of an entry stay until there are two for each
-//!   entry; then, when room is made for pending operations, the index is rebuilt.
-//! - An edit never fails for the index: it requires room there, and a mod-sequence no less than the
+//!   binary search finds. Earlier mod-sequences of an entry stay until the index has more than two
+//!   items per entry; then, when room is made for pending operations, the index is rebuilt.
+//! - An edit never fails in the index: it requires room there, and a mod-sequence no less than the
 //!   latest, and contracts see both as numbers. An overlay has an index of its own edits.
 //! - The stored index by origin has all entries and nothing else. An overlay borrows it, and can't
-//!   remove from it what its edits remove, so there an indexed origin may have no entry.
+//!   remove from it what its edits remove, so in an overlay an indexed origin may have no entry.
 #![tactic(auto)]
 
 mod changed_entries;

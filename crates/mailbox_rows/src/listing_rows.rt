@@ -104,7 +104,7 @@ impl<'a> Rows<'a> {
     pub fn row_of(&self, uid: u32) -> Option<Row<'_>>
         ensures { option_map listed_message result ≡ row_of uid self.now }
     {
-        match self.row_at(self.first_from(u64::from(uid))) {
+        match self.row_at(self.first_place_from(u64::from(uid))) {
             Some(row) => { if row.uid == uid { Some(row) } else { None } }
             None => None,
         }
@@ -162,7 +162,7 @@ impl<'a> Rows<'a> {
         ensures bound { result ≤ length self.now }
         ensures beyond { drop result self.now ≡ rows_after_uid uid self.now }
     {
-        self.first_from(u64::from(uid) + 1)
+        self.first_place_from(u64::from(uid) + 1)
     }
 
     /// The messages whose mod-sequences are above this one (RFC 7162, section 3.1.4); `Err` if
@@ -243,7 +243,7 @@ impl<'a> Rows<'a> {
     }
 
     /// The place of the first row whose UID is no less than this number.
-    fn first_from(&self, uid: u64) -> usize
+    fn first_place_from(&self, uid: u64) -> usize
         ensures within { result ≤ length self.now }
         ensures edge { (d : ListedMessage)
             → IsEdge (λ i. ltb (get_or self.now i d).uid uid) (length self.now) result }

@@ -147,7 +147,7 @@ impl<'a> EntryList for EntryOverlay<'a> {
     }
 
     fn place_of(&self, origin: &OpId) -> Option<usize> {
-        match uid_over(&self.own, self.stored, origin) {
+        match uid_of_origin(&self.own, self.stored, origin) {
             Some(uid) => entry_search::place_with(&self.list, uid, origin),
             None => None,
         }
@@ -170,11 +170,11 @@ impl<'a> EntryList for EntryOverlay<'a> {
         }
     }
 
-    fn take_out(&mut self, place: usize) {
+    fn remove(&mut self, place: usize) {
         self.list.remove(place);
     }
 
-    fn put(&mut self, entry: ListingEntry) {
+    fn push(&mut self, entry: ListingEntry) {
         uid_index::note(&mut self.own, &entry.origin, entry.uid);
         self.own_modseqs.note(entry.modseq, entry.uid);
         self.list.push(entry);
@@ -182,7 +182,11 @@ impl<'a> EntryList for EntryOverlay<'a> {
 }
 
 /// The UID of an origin by the first index that has it.
-fn uid_over(own: &IndexMap<OpId, u32>, stored: &IndexMap<OpId, u32>, origin: &OpId) -> Option<u32>
+fn uid_of_origin(
+    own: &IndexMap<OpId, u32>,
+    stored: &IndexMap<OpId, u32>,
+    origin: &OpId,
+) -> Option<u32>
     ensures { result ≡ indexed_over own.now.entries stored.now.entries origin.now }
 {
     match uid_index::uid_of(own, origin) {

@@ -74,7 +74,7 @@ impl Row<'_> {
 
     /// The octets as a text of its own, sharing the memory of the message's text if that is known;
     /// `Err` if memory runs out, or as `Text::copy`.
-    pub fn copied_text(&self, alloc: Global) -> Result<Text, AllocError>
+    pub fn copy_text(&self, alloc: Global) -> Result<Text, AllocError>
         ensures { IfOk result (λ copied. copied ≡ (listed_message self.now).text) }
     {
         match self.text {

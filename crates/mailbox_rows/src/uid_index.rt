@@ -29,7 +29,7 @@ pub fn note(uids: &mut IndexMap<OpId, u32>, origin: &OpId, uid: u32)
 }
 
 /// Removes an origin from the index.
-pub fn forget(uids: &mut IndexMap<OpId, u32>, origin: &OpId)
+pub fn remove_origin(uids: &mut IndexMap<OpId, u32>, origin: &OpId)
     ensures lookups { (i : OpId)
         → indexed_value uids.new.entries i
         ≡ (if is_id origin.now i then None else indexed_value uids.old.entries i) }

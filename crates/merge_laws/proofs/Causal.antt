@@ -68,8 +68,8 @@ module _ {O : Type 0} (id : O → OpId) (clock : O → List (ℕ × ℕ)) where
   causal_from os c = cuts_from_after [] [] os (λ i. (λ t. t, λ t. t)) c
 
   -- A causal list with a further ripe operation is causal.
-  pub causal_more : (os : List O) (o : O) → IsCausal id clock os → IsRipe id clock os o → IsCausal id clock (os ++ o ∷ [])
-  causal_more os o c r front p back k =
+  pub causal_append_one : (os : List O) (o : O) → IsCausal id clock os → IsRipe id clock os o → IsCausal id clock (os ++ o ∷ [])
+  causal_append_one os o c r front p back k =
       elim (cut_last os front back o p k) [
         | inl same ↦ subst (λ (x : O). IsRipe id clock front x) same.1 (subst (λ (xs : List O). IsRipe id clock xs o) same.0 r)
         | inr inner ↦ c front p inner.0 inner.1
@@ -113,5 +113,5 @@ module _ {O : Type 0} (id : O → OpId) (clock : O → List (ℕ × ℕ)) where
   causal_append os (o ∷ ops) c r =
       let first : IsRipe id clock os o = subst (λ (xs : List O). IsRipe id clock xs o) (append-nil os) (r [] o ops refl) in
       subst (IsCausal id clock) (append_assoc os (o ∷ []) ops)
-      (causal_append (os ++ o ∷ []) ops (causal_more os o c first) (λ front p back k.
+      (causal_append (os ++ o ∷ []) ops (causal_append_one os o c first) (λ front p back k.
       subst (λ (xs : List O). IsRipe id clock xs p) (sym (append_assoc os (o ∷ []) front)) (r (o ∷ front) p back (ap (λ xs. o ∷ xs) k))))

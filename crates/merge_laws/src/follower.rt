@@ -39,7 +39,7 @@ pub trait Follower<R: Replicated> {
     ghost exhausts: { Self.Start → List R.Op → List R.Op → Type 0 };
 
     /// Makes room for noting `ops`, in this order, given the value after the operations noted so
-    /// far. If these and `ops` together are causal, the error is `Exhausted` exactly if a counter
+    /// far. If these and `ops` together are causal, the error is `Exhausted` exactly when a counter
     /// has no number left for one of `ops`. An error leaves all that the follower shows as it was.
     fn ready(&mut self, alloc: Global, value: &R, ops: &[R::Op]) -> Result<(), NotReady>
         ensures start { start self.new ≡ start self.old }

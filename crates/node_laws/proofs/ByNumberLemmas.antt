@@ -6,7 +6,7 @@ use Rattle.imap_answers.specs.declared.answer.Answer.{Answer}
 use Rattle.imap_answers.specs.declared.answer.Answer.TheVariants as answers
 use Rattle.imap_answers.specs.declared.codes.Code.{Code}
 use Rattle.imap_commands.specs.Arguments.{FetchArgs, OpenMailbox, StoreArgs}
-use Rattle.imap_commands.specs.FetchCommand.{fetch_report, mode_of, shown_of}
+use Rattle.imap_commands.specs.FetchCommand.{fetch_report, mode_of, viewed_messages_at}
 use Rattle.imap_commands.specs.StoreCommand.{store_report, stored_answer, stored_answers, taken_messages}
 use Rattle.imap_commands.specs.Report.{CommandReport, message_at}
 use Rattle.imap_commands.specs.declared.session.Session.{Session}
@@ -96,7 +96,7 @@ none_tail tag command code = elim (cases_Bool (is_idle command)) [ inl t ↦ rw 
 
 fetch_none : (mailbox : OpenMailbox) (after : List ListedMessage) (condstore : Bool) (request : FetchArgs) → HasNoExpunge (fetch_report mailbox after condstore request).own
 fetch_none mailbox after condstore request =
-    none_fetched request.items (mode_of mailbox condstore request) mailbox.rows after (shown_of mailbox.view (numbers_in_set request.by_uid request.messages mailbox.view))
+    none_fetched request.items (mode_of mailbox condstore request) mailbox.rows after (viewed_messages_at mailbox.view (numbers_in_set request.by_uid request.messages mailbox.view))
 
 store_none : (mailbox : OpenMailbox) (after : List ListedMessage) (condstore : Bool) (request : StoreArgs) → HasNoExpunge (store_report mailbox after condstore request).own
 store_none mailbox after condstore request =
@@ -184,9 +184,9 @@ fetched_uids : (es : List ViewEntry) (k : ℕ) (flags : Option Flags) → uids_o
 fetched_uids es k None = refl
 fetched_uids es k (Some flags) = flagged_uids es k flags
 
-more_uids : (es more : List ViewEntry) → uids_of (es ++ more) ≡ uids_of es ++ uids_of more
-more_uids [] more = refl
-more_uids (e ∷ es) more = ap (λ us. e.uid ∷ us) (more_uids es more)
+uids_of_append : (es more : List ViewEntry) → uids_of (es ++ more) ≡ uids_of es ++ uids_of more
+uids_of_append [] more = refl
+uids_of_append (e ∷ es) more = ap (λ us. e.uid ∷ us) (uids_of_append es more)
 
 begins_itself : (us : List ℕ) → BeginsWith us us
 begins_itself us = ([], sym (append-nil us))
@@ -199,7 +199,7 @@ begins_again us vs ws (m, e) (k, f) = (m ++ k, f ∙ ap (λ xs. xs ++ k) e ∙ a
 
 after_answer_begins : (rows : List ListedMessage) (view : List ViewEntry) (answer : Answer) → IsNoExpunge answer → BeginsWith (uids_of view) (uids_of (after_answer rows view answer))
 after_answer_begins rows view (answers.Expunge k) h = absurd h
-after_answer_begins rows view (answers.Exists n) h = (uids_of (arrivals_up_to rows view n), more_uids view (arrivals_up_to rows view n))
+after_answer_begins rows view (answers.Exists n) h = (uids_of (arrivals_up_to rows view n), uids_of_append view (arrivals_up_to rows view n))
 after_answer_begins rows view (answers.Fetch k items) h = begins_same (uids_of view) (uids_of (with_fetched_flags view k items.flags)) (fetched_uids view k items.flags)
 after_answer_begins rows view _ h = begins_itself (uids_of view)
 

@@ -17,13 +17,13 @@ use Rattle.mailbox_rows.specs.RowViews.{row_of}
 use Rattle.merge_laws.specs.Orders.{IsIn}
 use Rattle.session_view.specs.declared.view_entry.ViewEntry.{ViewEntry}
 use Rattle.node_laws.specs.Copies.{AreCopied, appends_among, is_append_to}
-use Rattle.node_laws.proofs.IdLemmas.{filter_more}
+use Rattle.node_laws.proofs.IdLemmas.{filter_append}
 use Rattle.crdt_ops.specs.Ops.{id_of}
 
 -- ---- the code of a COPY
 
-gone_is : (rows : List ListedMessage) (view : List ViewEntry) (numbers : List ℕ) (v : ℕ) (sources copies : List ℕ) → ◌≡◌ {A = Option Code} (gone_code rows view numbers) (Some (codes.CopyUid v sources copies)) → ⊥
-gone_is rows view numbers v sources copies e =
+gone_code_not_copy_uid : (rows : List ListedMessage) (view : List ViewEntry) (numbers : List ℕ) (v : ℕ) (sources copies : List ℕ) → ◌≡◌ {A = Option Code} (gone_code rows view numbers) (Some (codes.CopyUid v sources copies)) → ⊥
+gone_code_not_copy_uid rows view numbers v sources copies e =
     elim (cases_Bool (are_some_gone rows view numbers)) [
       | inl t ↦ let k : ◌≡◌ {A = Option Code} (Some codes.ExpungeIssued) (Some (codes.CopyUid v sources copies)) = rw t at e in absurd cc
       | inr f ↦ let k : ◌≡◌ {A = Option Code} None (Some (codes.CopyUid v sources copies)) = rw f at e in absurd cc
@@ -31,7 +31,7 @@ gone_is rows view numbers v sources copies e =
 
 pub code_parts : (rows : List ListedMessage) (view : List ViewEntry) (numbers : List ℕ) (u v : ℕ) (ss sources cs copies : List ℕ) → ◌≡◌ {A = Option Code} (copied_code u ss cs (gone_code rows view numbers)) (Some (codes.CopyUid v sources copies))
     → (u ≡ v) × (ss ≡ sources) × (cs ≡ copies)
-code_parts rows view numbers u v [] sources cs copies e = absurd (gone_is rows view numbers v sources copies e)
+code_parts rows view numbers u v [] sources cs copies e = absurd (gone_code_not_copy_uid rows view numbers v sources copies e)
 code_parts rows view numbers u v (s ∷ ss) sources cs copies e = (cc, cc, cc)
 
 -- ---- the Appends among the operations issued
@@ -52,7 +52,7 @@ pub appends_filtered : (folder : List ℕ) (rows : List ListedMessage) (view : L
 appends_filtered folder rows view [] = refl
 appends_filtered folder rows view (n ∷ numbers) =
     let m = message_at rows view n in
-    filter_more (is_append_to folder) (append_of folder m) (appends_of folder rows view numbers)
+    filter_append (is_append_to folder) (append_of folder m) (appends_of folder rows view numbers)
     ∙ ap (λ (ks : List Kind). ks ++ filter (is_append_to folder) (appends_of folder rows view numbers)) (append_filtered folder m)
     ∙ ap (λ (ks : List Kind). append_of folder m ++ ks) (appends_filtered folder rows view numbers)
 
@@ -64,7 +64,7 @@ removals_out : (folder destination : List ℕ) (rows : List ListedMessage) (view
 removals_out folder destination rows view [] = refl
 removals_out folder destination rows view (n ∷ numbers) =
     let m = message_at rows view n in
-    filter_more (is_append_to destination) (expunge_of_moved folder m) (expunges_of_moved folder rows view numbers)
+    filter_append (is_append_to destination) (expunge_of_moved folder m) (expunges_of_moved folder rows view numbers)
     ∙ ap (λ (ks : List Kind). ks ++ filter (is_append_to destination) (expunges_of_moved folder rows view numbers)) (removal_out folder destination m)
     ∙ removals_out folder destination rows view numbers
 
@@ -73,7 +73,7 @@ pub moves_filtered : (folder destination : List ℕ) (rows : List ListedMessage)
     → filter (is_append_to destination) (appends_of destination rows view numbers ++ expunges_of_moved folder rows view numbers) ≡ appends_of destination rows view numbers
 moves_filtered folder destination rows view numbers =
     let appends = appends_of destination rows view numbers in
-    filter_more (is_append_to destination) appends (expunges_of_moved folder rows view numbers)
+    filter_append (is_append_to destination) appends (expunges_of_moved folder rows view numbers)
     ∙ ap (λ (ks : List Kind). ks ++ filter (is_append_to destination) (expunges_of_moved folder rows view numbers)) (appends_filtered destination rows view numbers)
     ∙ ap (λ (ks : List Kind). appends ++ ks) (removals_out folder destination rows view numbers)
     ∙ append-nil appends

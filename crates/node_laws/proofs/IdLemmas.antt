@@ -27,7 +27,7 @@ use Rattle.uid_projection.proofs.RowLemmas.{rising_chart, rows_listed}
 use Rattle.uid_projection.proofs.Steps.{uid_new}
 use Rattle.uid_projection.proofs.Versions.{origin_applied, origin_new, version_in}
 use Rattle.imap_node.proofs.ExistingFolderLemmas.{IsNoDelete, added_present}
-use Rattle.imap_node.proofs.CopyTargetLemmas.{IsCopying, appends_to, added_origins, rows_are_added}
+use Rattle.imap_node.proofs.CopyTargetLemmas.{IsCopying, appends_message_to, added_origins, rows_are_added}
 use Rattle.node_laws.specs.Copies.{IsAddedRow, appends_among, is_append_to}
 use Rattle.crdt_ops.specs.Ops.{id_of}
 
@@ -42,13 +42,13 @@ copying_stays before (kinds.Store name flags old_ids origin) h = tt
 copying_stays before (kinds.Subscribe name) h = tt
 copying_stays before (kinds.Unsubscribe name seen) h = tt
 
-pub filter_more : {X : Type 0} (test : X → Bool) (xs ys : List X) → filter test (xs ++ ys) ≡ filter test xs ++ filter test ys
-filter_more test [] ys = refl
-filter_more test (x ∷ xs) ys = elim (cases_Bool (test x)) [ inl t ↦ rw t (ap (λ zs. x ∷ zs) (filter_more test xs ys)) | inr f ↦ rw f (filter_more test xs ys) ]
+pub filter_append : {X : Type 0} (test : X → Bool) (xs ys : List X) → filter test (xs ++ ys) ≡ filter test xs ++ filter test ys
+filter_append test [] ys = refl
+filter_append test (x ∷ xs) ys = elim (cases_Bool (test x)) [ inl t ↦ rw t (ap (λ zs. x ∷ zs) (filter_append test xs ys)) | inr f ↦ rw f (filter_append test xs ys) ]
 
 -- ---- the rows after operations that copy
 
-one_test : (folder : List ℕ) (kind : Kind) → appends_to folder kind ≡ is_append_to folder kind
+one_test : (folder : List ℕ) (kind : Kind) → appends_message_to folder kind ≡ is_append_to folder kind
 one_test folder (kinds.Create name) = refl
 one_test folder (kinds.Delete name seen) = refl
 one_test folder (kinds.Append name flags date text) = refl

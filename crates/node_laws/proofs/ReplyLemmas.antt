@@ -57,7 +57,7 @@ use Rattle.imap_node.specs.Nodes.{NodeState}
 use Rattle.imap_node.specs.Replays.{view_at, view_in, view_of}
 use Rattle.imap_node.specs.Responses.{Responds, command_effect, condstore_is_on, tagged_lines_of}
 use Rattle.imap_node.specs.declared.reply.Reply.TheVariants.{Done}
-use Rattle.imap_node.proofs.IssueLemmas.{issues_well}
+use Rattle.imap_node.proofs.IssueLemmas.{issues_of_responds}
 use Rattle.imap_node.proofs.CopyTargetLemmas.{HasAll, IsCopying, appends_copying, removals_copying}
 use Rattle.imap_node.proofs.MomentLemmas.{validity_is}
 use Rattle.imap_node.proofs.ExistingFolderLemmas.{IsNoDelete, append_target_exists, copy_is, copy_target_exists, mapped_in, folder_still_exists, move_is, move_target_exists}
@@ -233,7 +233,7 @@ copies_reported old new n moment tag transfer output silent issued view v ss cs 
     let after = old.applied ++ issued in
     let report = c.taken.0 in
     let is = c.taken.1 in
-    let a = whole_of old new issued c.becomes.applied (issues_well old new n (request moment tag command) (Done output silent issued) b r).whole in
+    let a = whole_of old new issued c.becomes.applied (issues_of_responds old new n (request moment tag command) (Done output silent issued) b r).whole in
     let here : view_of session.state ≡ Some view = ap view_in (sym r.1) ∙ selected in
     let none : report.own ≡ [] = ap (λ (x : CommandReport). x.own) is ∙ copy_owns start old.applied after session.state (condstore_is_on session command) transfer in
     let sent : output ≡ answers_of_effect start after (command_effect start after session tag command report) = c.answers_are ∙ ap (answers_of_effect start after) c.taken.2 in
@@ -265,7 +265,7 @@ append_reported old new n moment tag append output silent issued v number b r co
     let after = old.applied ++ issued in
     let report = c.taken.0 in
     let is = c.taken.1 in
-    let a = whole_of old new issued c.becomes.applied (issues_well old new n (request moment tag command) (Done output silent issued) b r).whole in
+    let a = whole_of old new issued c.becomes.applied (issues_of_responds old new n (request moment tag command) (Done output silent issued) b r).whole in
     let none : report.own ≡ [] = ap (λ (x : CommandReport). x.own) is in
     let sent : output ≡ answers_of_effect start after (command_effect start after session tag command report) = c.answers_are ∙ ap (answers_of_effect start after) c.taken.2 in
     let code_is = effect_code start after session tag report (codes.AppendUid v number) none command refl refl (subst (HasCode (codes.AppendUid v number)) sent code) in
@@ -347,7 +347,7 @@ moves_reported old new n moment tag transfer output silent issued view v ss cs l
     let after = old.applied ++ issued in
     let report = c.taken.0 in
     let is = c.taken.1 in
-    let a = whole_of old new issued c.becomes.applied (issues_well old new n (request moment tag command) (Done output silent issued) b r).whole in
+    let a = whole_of old new issued c.becomes.applied (issues_of_responds old new n (request moment tag command) (Done output silent issued) b r).whole in
     let here : view_of session.state ≡ Some view = ap view_in (sym r.1) ∙ selected in
     let sent : output ≡ answers_of_effect start after (command_effect start after session tag command report) = c.answers_are ∙ ap (answers_of_effect start after) c.taken.2 in
     let own = move_own start after session tag report transfer v ss cs (subst (IsIn (answers.UntaggedOk (notices.CopyUid v ss cs))) sent i) in

@@ -5,7 +5,7 @@ use Rattle.std.specs.List.{flat_map, list_any}
 use Rattle.std.specs.Str.{bytes_eq}
 use Rattle.imap_types.specs.Ascending.{AreAscending}
 use Rattle.imap_types.specs.declared.flags.Flags.{Flags}
-use Rattle.imap_types.specs.Members.{holds}
+use Rattle.imap_types.specs.Members.{has_word}
 use Rattle.imap_types.specs.Unions.{union_of, with_flags}
 use Rattle.imap_types.proofs.WordLemmas.{any_folded, ascending_folded, one_ascending}
 use Rattle.node_laws.specs.Unions.{IsUnion}
@@ -45,6 +45,6 @@ union_of_two flags more h = record {
   deleted = or_last flags.deleted more.deleted;
   seen = or_last flags.seen more.seen;
   draft = or_last flags.draft more.draft;
-  words = λ word. any_folded (bytes_eq word) flags.keywords more.keywords ∙ or_last (holds flags.keywords word) (holds more.keywords word);
+  words = λ word. any_folded (bytes_eq word) flags.keywords more.keywords ∙ or_last (has_word flags.keywords word) (has_word more.keywords word);
   ascending = ascending_folded flags.keywords more.keywords h;
 }

@@ -7,8 +7,8 @@ use std::alloc::Global;
 use std::sync::Wait;
 use std::test::*;
 
-/// The client's input: a line without a tag, commands in and out of the profile, a literal, an
-/// IDLE, and a command after a LOGOUT.
+/// The client's input: a line without a tag, an unknown command and known ones, a literal, two
+/// IDLEs, and a command after a LOGOUT.
 pub const INPUT: &[u8] =
     b"a NOOP\r\n\r\nb XYZ\r\nc LOGIN {1}\r\nu p\r\nd IDLE\r\nDONE\r\ne IDLE\r\nx\r\nf LOGOUT\r\ng NOOP\r\n";
 
@@ -41,8 +41,8 @@ fn run_conversation<R: Wait>(
     let mut sink = MemorySink::new(Vec::new(alloc), room);
     let mut port = FakePort::new();
     let ended = converse(rt, alloc, &mut source, &mut sink, &mut port);
-    let reads_failed = source.failed();
-    let writes_failed = sink.failed();
+    let reads_failed = source.failures();
+    let writes_failed = sink.failures();
     Conversation {
         ended,
         output: sink.into_octets(),
@@ -54,7 +54,7 @@ fn run_conversation<R: Wait>(
 }
 
 /// Whether a conversation is lawful: a prefix of the whole output was sent, it ended with a failed
-/// read or write exactly if one failed, and the session was closed once.
+/// read or write exactly when one failed, and the session was closed once.
 fn is_lawful(conversation: &Conversation, whole: &[u8]) -> bool {
     whole.starts_with(&conversation.output)
         && (conversation.ended == Ended::ReadFailed) == (conversation.reads_failed > 0)

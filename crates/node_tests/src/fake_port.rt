@@ -2,7 +2,7 @@
 
 use imap_answers::{Answer, CompletedWord, Continuation, Login, Notice, Refusal};
 use imap_connection::{Port, PortFault};
-use imap_node::{Answers, Issued, Reply, Silents};
+use imap_node::{Answers, Reply, ReplyOps, ReplySilentFlags};
 use imap_syntax::{Command, IdleLine, Tagged};
 use imap_types::Octets;
 use std::alloc::{AllocError, Global};
@@ -115,7 +115,7 @@ fn reply_of(alloc: Global, answer: Answer) -> Result<Reply, AllocError> {
     answers.push(answer)?;
     Ok(Reply::Done {
         answers: Answers::new(answers)?,
-        silent: Silents::new(Vec::new(alloc))?,
-        issued: Issued::new(Vec::new(alloc))?,
+        silent: ReplySilentFlags::new(Vec::new(alloc))?,
+        issued: ReplyOps::new(Vec::new(alloc))?,
     })
 }

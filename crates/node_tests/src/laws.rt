@@ -5,7 +5,7 @@ use imap_connection::{
     others_come_between, pieces_are_one_stream,
 };
 use imap_grammar::one_reading;
-use imap_lex::{any_cuts, faults_come_first, frames_are_read, read_items_are_frames};
+use imap_lex::{cuts_change_nothing, faults_come_first, frames_are_read, read_items_are_frames};
 use imap_node::{answers_are_printable, listings_are_showable};
 use uid_projection::{
     concurrent_store_and_expunge, concurrent_stores_leave_one_message, keywords_are_lawful,
@@ -15,7 +15,7 @@ use uid_projection::{
 
 #[test]
 fn laws_of_frames_can_be_called() {
-    any_cuts();
+    cuts_change_nothing();
     frames_are_read();
     read_items_are_frames();
     faults_come_first();

@@ -8,7 +8,8 @@ fn a_node_lists_folders_and_subscriptions(rt: HostRuntime) {
     assert!(rt; lists_both(rt.alloc()) == Some(true));
 }
 
-/// Whether the names of folders, and then those of subscriptions, are those that a session created.
+/// Whether the names of folders are INBOX and those that a session created, and the names of
+/// subscriptions are those to which it subscribed.
 fn lists_both(alloc: Global) -> Option<bool> {
     let mut session = begin(alloc, "joe", "secret")?;
     let output = answers(

@@ -2,9 +2,10 @@
 
 use crdt_ops::SoundOp;
 use imap_connection::{
-    Deliveries, Ended, MemorySink, MemorySource, NoOthers, NodePort, Others, converse,
+    Deliveries, Ended, MemorySink, MemorySource, NoOthers, NodePort, Others, converse, log_text_of,
     nodes_converse,
 };
+use imap_lex::FrameFaultKind;
 use imap_node::{Auth, Credentials, Node};
 use imap_types::{Moment, Octets};
 use std::alloc::Global;
@@ -14,36 +15,49 @@ use tags_clocks::{Clock, ReplicaId};
 use uid_projection::Counters;
 
 /// The commands of a known user of a new replica.
-const KNOWN: &[u8] =
+const KNOWN_INPUT: &[u8] =
     b"a APPEND INBOX {3+}\r\nabc\r\nb STATUS INBOX (MESSAGES UIDNEXT)\r\nc IDLE\r\nDONE\r\nz LOGOUT\r\n";
 
 /// The answers to that user.
-const OUTPUT: &[u8] =
+const KNOWN_OUTPUT: &[u8] =
     b"* PREAUTH [CAPABILITY IMAP4rev2 IDLE CONDSTORE] ready\r\na OK [APPENDUID 1 1] APPEND completed\r\n* STATUS INBOX (MESSAGES 1 UIDNEXT 2)\r\nb OK STATUS completed\r\n+ idling\r\nc OK IDLE completed\r\n* BYE logging out\r\nz OK LOGOUT completed\r\n";
 
 /// The commands of a user who must log in.
-const UNKNOWN: &[u8] =
+const LOGIN_INPUT: &[u8] =
     b"a LIST \"\" *\r\nb LOGIN secret me\r\nc LOGIN me secret\r\nd CREATE work\r\n";
 
 /// The answers to that user.
-const LET_IN: &[u8] =
+const LOGIN_OUTPUT: &[u8] =
     b"* OK [CAPABILITY IMAP4rev2 IDLE CONDSTORE] ready\r\na BAD not now\r\nb NO [AUTHENTICATIONFAILED] login failed\r\nc OK LOGIN completed\r\nd OK CREATE completed\r\n";
 
 /// The commands of a user of another replica.
-const ELSEWHERE: &[u8] = b"a APPEND INBOX {3+}\r\nabc\r\nb APPEND INBOX {3+}\r\ndef\r\n";
+const OTHER_INPUT: &[u8] = b"a APPEND INBOX {3+}\r\nabc\r\nb APPEND INBOX {3+}\r\ndef\r\n";
 
 /// The answers to that user.
-const MADE: &[u8] =
+const OTHER_OUTPUT: &[u8] =
     b"* PREAUTH [CAPABILITY IMAP4rev2 IDLE CONDSTORE] ready\r\na OK [APPENDUID 2 1] APPEND completed\r\nb OK [APPENDUID 2 2] APPEND completed\r\n";
 
 /// The commands of a user whose replica receives the other one's operations, one before each
 /// command.
-const ASKED: &[u8] =
+const RECEIVER_INPUT: &[u8] =
     b"a STATUS INBOX (MESSAGES UIDNEXT)\r\nb STATUS INBOX (MESSAGES UIDNEXT)\r\nc STATUS INBOX (MESSAGES UIDNEXT)\r\n";
 
 /// The answers to that user.
-const GROWN: &[u8] =
+const RECEIVER_OUTPUT: &[u8] =
     b"* PREAUTH [CAPABILITY IMAP4rev2 IDLE CONDSTORE] ready\r\n* STATUS INBOX (MESSAGES 1 UIDNEXT 2)\r\na OK STATUS completed\r\n* STATUS INBOX (MESSAGES 2 UIDNEXT 3)\r\nb OK STATUS completed\r\n* STATUS INBOX (MESSAGES 2 UIDNEXT 3)\r\nc OK STATUS completed\r\n";
+
+/// Each end of a conversation, with its text in the log.
+const LOG_TEXTS: [(Ended, &str); 9] = [
+    (Ended::Logout, "logout"),
+    (Ended::PeerClosed, "closed by the client"),
+    (Ended::TooManySessions, "too many sessions"),
+    (Ended::Framing(FrameFaultKind::NulByte), "bad framing"),
+    (Ended::Framing(FrameFaultKind::NoMemory), "bad framing"),
+    (Ended::ReadFailed, "read failed"),
+    (Ended::WriteFailed, "write failed"),
+    (Ended::NoMemory, "no memory"),
+    (Ended::Torn, "replica changed"),
+];
 
 /// A new replica with this number.
 fn node(alloc: Global, number: u32) -> Option<Node> {
@@ -67,9 +81,9 @@ fn issued<R: Wait>(rt: &R, alloc: Global, most: usize) -> Option<Vec<SoundOp>> {
         rt,
         alloc,
         &mut port,
-        (ELSEWHERE, most),
+        (OTHER_INPUT, most),
         Ended::PeerClosed,
-        MADE,
+        OTHER_OUTPUT,
     ) {
         return None;
     }
@@ -107,12 +121,19 @@ fn ends_with_output<R: Wait, O: Others>(
 /// Whether a known user is served up to the LOGOUT, and no other user after it.
 fn is_known_served<R: Wait>(rt: &R, alloc: Global, most: usize) -> Option<bool> {
     let mut port = port(alloc, 1, Auth::Preauth)?;
-    let served = ends_with_output(rt, alloc, &mut port, (KNOWN, most), Ended::Logout, OUTPUT);
+    let served = ends_with_output(
+        rt,
+        alloc,
+        &mut port,
+        (KNOWN_INPUT, most),
+        Ended::Logout,
+        KNOWN_OUTPUT,
+    );
     let again = ends_with_output(
         rt,
         alloc,
         &mut port,
-        (KNOWN, most),
+        (KNOWN_INPUT, most),
         Ended::Torn,
         b"* BYE replica changed\r\n",
     );
@@ -123,7 +144,14 @@ fn is_known_served<R: Wait>(rt: &R, alloc: Global, most: usize) -> Option<bool> 
 fn is_unknown_served<R: Wait>(rt: &R, alloc: Global, most: usize) -> Option<bool> {
     let mut port = port(alloc, 1, user(alloc, b"me", b"secret")?)?;
     let ended = Ended::PeerClosed;
-    Some(ends_with_output(rt, alloc, &mut port, (UNKNOWN, most), ended, LET_IN))
+    Some(ends_with_output(
+        rt,
+        alloc,
+        &mut port,
+        (LOGIN_INPUT, most),
+        ended,
+        LOGIN_OUTPUT,
+    ))
 }
 
 /// Whether each answer to a user includes what was received from another replica before it.
@@ -131,7 +159,14 @@ fn are_others_shown<R: Wait>(rt: &R, alloc: Global, most: usize) -> Option<bool>
     let others = Deliveries::new(Moment::epoch(), issued(rt, alloc, most)?);
     let mut port = NodePort::new(node(alloc, 1)?, Auth::Preauth, others);
     let ended = Ended::PeerClosed;
-    Some(ends_with_output(rt, alloc, &mut port, (ASKED, most), ended, GROWN))
+    Some(ends_with_output(
+        rt,
+        alloc,
+        &mut port,
+        (RECEIVER_INPUT, most),
+        ended,
+        RECEIVER_OUTPUT,
+    ))
 }
 
 #[test]
@@ -148,4 +183,13 @@ fn operations_arrive_between_commands(rt: HostRuntime) {
     for most in [1usize, 4_096] {
         assert_eq!(rt; are_others_shown(&rt, rt.alloc(), most), Some(true));
     }
+}
+
+#[test]
+fn each_end_has_its_text_in_the_log(rt: HostRuntime) {
+    assert!(rt;
+        LOG_TEXTS
+            .iter()
+            .all(|(ended, text)| log_text_of(*ended) == *text)
+    );
 }

@@ -12,14 +12,14 @@ use std::test::*;
 /// A device that moves one octet per call and is interrupted at each third call. After `most` calls
 /// it fails with `fault`, or moves nothing if that is `None`.
 #[derive(Drop)]
-struct Trickle<T> {
+struct OneOctetDevice<T> {
     inner: T,
     calls: u64,
     most: u64,
     fault: Option<ErrorKind>,
 }
 
-impl<T> Trickle<T> {
+impl<T> OneOctetDevice<T> {
     /// The number of octets that this call moves, of `count`.
     fn turn(&mut self, count: usize) -> io::Result<usize> {
         self.calls = self.calls.saturating_add(1);
@@ -36,14 +36,14 @@ impl<T> Trickle<T> {
     }
 }
 
-impl<T: Read> Read for Trickle<T> {
+impl<T: Read> Read for OneOctetDevice<T> {
     fn read(&mut self, buf: &mut [u8]) -> io::Result<usize> {
         let count = self.turn(buf.len())?.min(buf.len());
         self.inner.read(&mut buf[..count])
     }
 }
 
-impl<T: Write> Write for Trickle<T> {
+impl<T: Write> Write for OneOctetDevice<T> {
     fn write(&mut self, buf: &[u8]) -> io::Result<usize> {
         let count = self.turn(buf.len())?.min(buf.len());
         self.inner.write(&buf[..count])
@@ -66,7 +66,7 @@ struct Conversation {
 
 /// A conversation over devices of std, which fail with `fault` after `reads` reads and `writes`
 /// writes, or move nothing if it is `None`.
-fn run_trickled<R: Wait>(
+fn run_with_devices<R: Wait>(
     rt: &R,
     alloc: Global,
     reads: u64,
@@ -74,13 +74,13 @@ fn run_trickled<R: Wait>(
     fault: Option<ErrorKind>,
 ) -> Conversation {
     let mut output = Vec::new(alloc);
-    let mut source = Wire::new(Trickle {
+    let mut source = Wire::new(OneOctetDevice {
         inner: INPUT,
         calls: 0,
         most: reads,
         fault,
     });
-    let mut sink = Wire::new(Trickle {
+    let mut sink = Wire::new(OneOctetDevice {
         inner: &mut output,
         calls: 0,
         most: writes,
@@ -88,7 +88,7 @@ fn run_trickled<R: Wait>(
     });
     let mut port = FakePort::new();
     let ended = converse(rt, alloc, &mut source, &mut sink, &mut port);
-    let failed = (source.failed(), sink.failed());
+    let failed = (source.failures(), sink.failures());
     drop(sink);
     Conversation {
         ended,
@@ -142,7 +142,7 @@ fn is_lawful_with_reads<R: Wait>(
     reads: u64,
     fault: Option<ErrorKind>,
 ) -> bool {
-    is_lawful_reading(&run_trickled(rt, alloc, reads, u64::MAX, fault), fault)
+    is_lawful_reading(&run_with_devices(rt, alloc, reads, u64::MAX, fault), fault)
 }
 
 /// The first number of reads after which a failure makes the conversation unlawful; the last
@@ -153,7 +153,7 @@ fn first_unlawful_read<R: Wait>(rt: &R, alloc: Global, fault: Option<ErrorKind>)
 
 /// The first number of writes after which a failure makes the conversation unlawful.
 fn first_unlawful_write<R: Wait>(rt: &R, alloc: Global, fault: Option<ErrorKind>) -> Option<u64> {
-    (0..500u64).find(|writes| !is_lawful_writing(&run_trickled(
+    (0..500u64).find(|writes| !is_lawful_writing(&run_with_devices(
         rt,
         alloc,
         u64::MAX,
@@ -164,7 +164,7 @@ fn first_unlawful_write<R: Wait>(rt: &R, alloc: Global, fault: Option<ErrorKind>
 
 #[test]
 fn octets_move_one_at_a_time(rt: HostRuntime) {
-    let conversation = run_trickled(&rt, rt.alloc(), u64::MAX, u64::MAX, None);
+    let conversation = run_with_devices(&rt, rt.alloc(), u64::MAX, u64::MAX, None);
     assert!(rt; conversation.ended == Ended::Logout);
     assert!(rt; conversation.output.as_slice() == OUTPUT);
     assert_eq!(rt; conversation.failed, (0, 0));
@@ -173,13 +173,13 @@ fn octets_move_one_at_a_time(rt: HostRuntime) {
 #[test]
 fn a_device_of_std_fails(rt: HostRuntime) {
     let fault = Some(ErrorKind::WouldBlock);
-    let conversation = run_trickled(&rt, rt.alloc(), 20, u64::MAX, fault);
+    let conversation = run_with_devices(&rt, rt.alloc(), 20, u64::MAX, fault);
     assert!(rt; conversation.ended == Ended::ReadFailed);
     assert!(rt;
         conversation.output.len() < OUTPUT.len() && OUTPUT.starts_with(&conversation.output)
     );
     assert_eq!(rt; conversation.failed, (1, 0));
-    let conversation = run_trickled(&rt, rt.alloc(), u64::MAX, 30, fault);
+    let conversation = run_with_devices(&rt, rt.alloc(), u64::MAX, 30, fault);
     assert!(rt; conversation.ended == Ended::WriteFailed);
     assert!(rt; conversation.output.as_slice() == &OUTPUT[..20]);
     assert_eq!(rt; conversation.failed, (0, 1));

@@ -46,7 +46,7 @@ fn put_checked_id(fields: &str, answer: &mut Words) {
 }
 
 /// The clock after these raises, one after another.
-pub fn raised(alloc: Global, text: &str) -> Result<Clock, Trouble> {
+pub fn clock_of_raises(alloc: Global, text: &str) -> Result<Clock, Trouble> {
     let mut clock = Clock::new(alloc);
     if text != "-" {
         take_each(alloc, &mut clock, ',', text)?;
@@ -65,7 +65,7 @@ impl Gathers for Clock {
 
 /// Puts the answer about the clock after these raises, and about what the line names before it.
 fn put_raised(word: ClockWord, first: &str, raises: &str, answer: &mut Words) {
-    match raised(answer.alloc(), raises) {
+    match clock_of_raises(answer.alloc(), raises) {
         Ok(clock) => put_clock_answer(word, first, &clock, answer),
         Err(trouble) => answer.put_trouble(" ", trouble),
     }
@@ -107,7 +107,7 @@ fn put_covered(of: &str, clock: &Clock, answer: &mut Words) {
 
 /// Puts how the clock after these raises compares with another, or their join.
 fn put_comparison(word: ClockWord, raises: &str, other: &Clock, answer: &mut Words) {
-    match raised(answer.alloc(), raises) {
+    match clock_of_raises(answer.alloc(), raises) {
         Ok(mut clock) => {
             if matches!(word, ClockWord::Compare) {
                 put_order(&clock, other, answer);

@@ -84,14 +84,14 @@ pub fn put_pairs(given: &Given, answer: &mut Words) {
 /// from itself.
 fn odd_pair(ops: &[SoundOp]) -> Option<(usize, usize)> {
     for (at, op) in ops.iter().enumerate() {
-        if let Some(other) = odd_one(ops, at, op) {
+        if let Some(other) = odd_place(ops, at, op) {
             return Some((at, other));
         }
     }
     None
 }
 
-fn odd_one(ops: &[SoundOp], at: usize, op: &SoundOp) -> Option<usize> {
+fn odd_place(ops: &[SoundOp], at: usize, op: &SoundOp) -> Option<usize> {
     for (place, other) in ops.iter().enumerate() {
         if op.same(other) != (at == place) {
             return Some(place);

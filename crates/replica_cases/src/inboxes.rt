@@ -1,6 +1,6 @@
 //! Questions about the inbox of a case.
 
-use crate::clocks::raised;
+use crate::clocks::clock_of_raises;
 use crate::dump::{put_id_list, put_state};
 use crate::issue_line::put_issue;
 use crate::mutations::put_damage;
@@ -134,7 +134,7 @@ fn put_applied(ops: &[SoundOp], answer: &mut Words) {
 }
 
 fn put_since(inbox: &Node, fields: &str, answer: &mut Words) {
-    match raised(answer.alloc(), fields) {
+    match clock_of_raises(answer.alloc(), fields) {
         Ok(clock) => put_uncovered(inbox, &clock, answer),
         Err(trouble) => answer.put_trouble(" ", trouble),
     }

@@ -3,8 +3,9 @@
 //! printed.
 //!
 //! A case is a line, a question. It is printed again with the answer that the code gives now, so a
-//! text is printed unchanged exactly if every answer is right. docs/formats.md lists the questions
-//! of the first kind, the head of the cases in `crates/node_cases/stdin` those of the second.
+//! text is printed unchanged exactly when every answer is right. docs/formats.md lists the
+//! questions of the first kind, the head of the cases in `crates/node_cases/stdin` those of the
+//! second.
 //!
 //! What no contract says is tested here: that a text, even a damaged one, is written as it was
 //! read, and that sets of operations have the same effect in every order of delivery. The contracts

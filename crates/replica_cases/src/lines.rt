@@ -11,7 +11,11 @@ pub trait Plays {
 
 /// Plays the lines of a text and returns them, each with its new answer in place of the old one.
 /// `Err` if memory runs out.
-pub fn played<P: Plays + Drop>(alloc: Global, setup: P, text: &str) -> Result<Vec<u8>, AllocError> {
+pub fn play_text<P: Plays + Drop>(
+    alloc: Global,
+    setup: P,
+    text: &str,
+) -> Result<Vec<u8>, AllocError> {
     let mut setup = setup;
     let mut page = Words::new(alloc);
     for line in text.split_terminator('\n') {

@@ -48,8 +48,8 @@ const STRANGE: [u8; 5] = [0, 10, 32, 126, 255];
 /// Puts how many of the text's shorter prefixes, and of the texts with one octet replaced by 0, 10,
 /// 32, 126 or 255, aren't written as they were read; nothing if all are.
 pub fn put_damage(text: &[u8], answer: &mut Words) {
-    let cut = of_cuts(answer.alloc(), text).changed;
-    let replaced = of_octets(answer.alloc(), text, &STRANGE).changed;
+    let cut = findings_of_cuts(answer.alloc(), text).changed;
+    let replaced = findings_of_octets(answer.alloc(), text, &STRANGE).changed;
     if cut > 0 || replaced > 0 {
         answer.put_number(", changed where it is cut ", cut);
         answer.put_number(" and damaged ", replaced);
@@ -57,7 +57,7 @@ pub fn put_damage(text: &[u8], answer: &mut Words) {
 }
 
 /// The findings on the shorter prefixes of a text.
-pub fn of_cuts(alloc: Global, text: &[u8]) -> Findings {
+pub fn findings_of_cuts(alloc: Global, text: &[u8]) -> Findings {
     let mut findings = Findings::none();
     for length in 0..text.len() {
         findings.note(finding_of(alloc, &text[..length]));
@@ -66,7 +66,7 @@ pub fn of_cuts(alloc: Global, text: &[u8]) -> Findings {
 }
 
 /// The findings on a text with each of these octets at each place.
-pub fn of_octets(alloc: Global, text: &[u8], octets: &[u8]) -> Findings {
+pub fn findings_of_octets(alloc: Global, text: &[u8], octets: &[u8]) -> Findings {
     let mut findings = Findings::none();
     for octet in octets {
         note_octet(alloc, text, *octet, &mut findings);

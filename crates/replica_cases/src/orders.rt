@@ -121,13 +121,13 @@ fn replica(alloc: Global, given: &Given) -> Option<Node> {
 
 fn deliver_all(alloc: Global, inbox: &mut Node, ops: &[SoundOp]) {
     for op in ops {
-        delivered(alloc, inbox, op);
+        deliver_copy(alloc, inbox, op);
     }
 }
 
 /// Delivers a copy of the operation; `None` if it is refused, if the inbox stalls, or if memory
 /// runs out.
-fn delivered(alloc: Global, inbox: &mut Node, op: &SoundOp) -> Option<Arrival> {
+fn deliver_copy(alloc: Global, inbox: &mut Node, op: &SoundOp) -> Option<Arrival> {
     match op.copy(alloc) {
         Ok(copied) => match deliver(alloc, inbox, copied) {
             Ok(
@@ -143,9 +143,9 @@ fn delivered(alloc: Global, inbox: &mut Node, op: &SoundOp) -> Option<Arrival> {
 }
 
 /// Delivers a copy of the operation at this place.
-fn delivered_at(alloc: Global, inbox: &mut Node, given: &Given, at: usize) -> Option<Arrival> {
+fn deliver_copy_at(alloc: Global, inbox: &mut Node, given: &Given, at: usize) -> Option<Arrival> {
     match given.any.get(at) {
-        Some(op) => delivered(alloc, inbox, op),
+        Some(op) => deliver_copy(alloc, inbox, op),
         None => None,
     }
 }
@@ -223,8 +223,8 @@ fn each_twice(alloc: Global, inbox: &mut Node, given: &Given, order: &[usize]) -
 }
 
 fn is_repeated(alloc: Global, inbox: &mut Node, given: &Given, order: &[usize], at: usize) -> bool {
-    let arrival = delivered_at(alloc, inbox, given, at);
-    let again = delivered_at(alloc, inbox, given, at);
+    let arrival = deliver_copy_at(alloc, inbox, given, at);
+    let again = deliver_copy_at(alloc, inbox, given, at);
     let is_held = arrival == Some(Arrival::Held);
     is_held == precedes_a_cause(&given.causes, order, at) && again == Some(Arrival::Repeat)
 }
@@ -241,7 +241,7 @@ fn all_twice(alloc: Global, inbox: &mut Node, given: &Given, order: &[usize]) ->
 fn applied_in_round(alloc: Global, inbox: &mut Node, given: &Given, order: &[usize]) -> usize {
     let mut applied: usize = 0;
     for at in order {
-        if let Some(Arrival::Applied(count)) = delivered_at(alloc, inbox, given, *at) {
+        if let Some(Arrival::Applied(count)) = deliver_copy_at(alloc, inbox, given, *at) {
             applied = applied.saturating_add(count);
         }
     }
@@ -252,7 +252,7 @@ fn applied_in_round(alloc: Global, inbox: &mut Node, given: &Given, order: &[usi
 /// this order.
 fn as_delivered(alloc: Global, inbox: &mut Node, given: &Given, order: &[usize]) -> bool {
     for at in order {
-        if delivered_at(alloc, inbox, given, *at) != Some(Arrival::Applied(1)) {
+        if deliver_copy_at(alloc, inbox, given, *at) != Some(Arrival::Applied(1)) {
             return false;
         }
     }

@@ -4,8 +4,8 @@ use crate::clocks::{ClockWord, answer_clock};
 use crate::fields::add_op;
 use crate::given::{Given, add_any, put_pairs, put_replay};
 use crate::inboxes::{InboxWord, answer_inbox};
-use crate::lines::{Plays, played};
-use crate::mutations::{of_cuts, of_octets, put_damage, put_findings};
+use crate::lines::{Plays, play_text};
+use crate::mutations::{findings_of_cuts, findings_of_octets, put_damage, put_findings};
 use crate::operations::{finding_of, put_finding};
 use crate::orders::put_orders;
 use crate::sets::{SetWord, answer_set};
@@ -101,7 +101,7 @@ const WORDS: &[(&str, Word)] = &[
 /// memory runs out.
 pub fn play(alloc: Global, text: &str) -> Result<Vec<u8>, AllocError> {
     match Setup::new(alloc) {
-        Ok(setup) => played(alloc, setup, text),
+        Ok(setup) => play_text(alloc, setup, text),
         Err(AllocError) => Err(AllocError),
     }
 }
@@ -155,7 +155,7 @@ fn answer_asked(setup: &mut Setup, asks: Asks, fields: &str, answer: &mut Words)
 fn answer_text(word: TextWord, fields: &str, answer: &mut Words) {
     match word {
         TextWord::Op => put_finding_of(fields.as_bytes(), answer),
-        TextWord::Cuts => put_findings(of_cuts(answer.alloc(), fields.as_bytes()), answer),
+        TextWord::Cuts => put_findings(findings_of_cuts(answer.alloc(), fields.as_bytes()), answer),
         TextWord::Octets => put_spelled(fields, answer),
         TextWord::Replaced => put_replaced(fields, answer),
     }
@@ -177,7 +177,7 @@ fn put_replaced(fields: &str, answer: &mut Words) {
     let (field, line) = parts_around(fields, " ");
     match octets(answer.alloc(), Escape::Field, field) {
         Ok(octets) => {
-            let findings = of_octets(answer.alloc(), line.as_bytes(), octets.as_bytes());
+            let findings = findings_of_octets(answer.alloc(), line.as_bytes(), octets.as_bytes());
             put_findings(findings, answer);
         }
         Err(trouble) => answer.put_trouble(" ", trouble),

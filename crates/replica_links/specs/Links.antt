@@ -42,17 +42,18 @@ total_intake [] = complete_intake
 total_intake (g ∷ deliveries) = joined_intake g.took (total_intake deliveries)
 
 -- The taker's steps for these deliveries and results lead from one state to the other.
-abbrev pub Steps : {S : Type 0} → (S → Op → Took → S → Type 0) → S → List Delivery → S → Type 0
-Steps takes s [] t = s ≡ t
-Steps {S} takes s (g ∷ deliveries) t =
-    (next : S) × takes s g.op g.took next × Steps takes next deliveries t
+abbrev pub AreDeliveries : {S : Type 0} → (S → Op → Took → S → Type 0) → S → List Delivery → S
+    → Type 0
+AreDeliveries takes s [] t = s ≡ t
+AreDeliveries {S} takes s (g ∷ deliveries) t =
+    (next : S) × takes s g.op g.took next × AreDeliveries takes next deliveries t
 
 -- Exactly these operations were delivered to the taker, each once and in this order, and the result
 -- is that of all deliveries.
-pub record Takes {S : Type 0} (takes : S → Op → Took → S → Type 0) (s : S) (ops : List Op)
+pub record HasTakenOps {S : Type 0} (takes : S → Op → Took → S → Type 0) (s : S) (ops : List Op)
     (result : Took) (t : S) : Type 0 where
   pub deliveries : List Delivery
-  pub steps : Steps takes s deliveries t
+  pub steps : AreDeliveries takes s deliveries t
   pub in_order : map (λ (g : Delivery). g.op) deliveries ≡ ops
   pub total : result ≡ total_intake deliveries
 
@@ -97,7 +98,7 @@ module _ {S P : Type 0} (lacks : S → Type 0) (has : S → List (ℕ × ℕ) �
   AreAsked s p [] q = p ≡ q
   AreAsked s p (to ∷ rest) q = (next : P) × MayAsk s p to next × AreAsked s next rest q
 
-  -- The sender is asked exactly if an operation is lacking.
+  -- The sender is asked exactly when an operation is lacking.
   abbrev pub IsAsked : S → P → ℕ → Bool → P → Type 0
   IsAsked s p from true q = MayAsk s p from q
   IsAsked s p from false q = p ≡ q
@@ -117,7 +118,7 @@ module _ {S P : Type 0} (takes : S → Op → Took → S → Type 0) (drains : S
   pub record IsTaken (s : S) (p : P) (from : ℕ) (ops : List Op) (t : S) (q : P) : Type 0 where
     pub took : Took
     pub between : S
-    pub delivered : Takes takes s ops took between
+    pub delivered : HasTakenOps takes s ops took between
     pub drained : IsDrained drains between took.stalled t
     pub asked : IsAsked lacks has asks t p from took.lacking q
 
@@ -180,14 +181,14 @@ module _ {S P : Type 0} (takes : S → Op → Took → S → Type 0) (drains : S
   IsTurn peers None s p t q = (s ≡ t) × AreAsked lacks has asks s p peers q
 
   -- These turns, one after another.
-  abbrev pub Turns : List ℕ → List (Option PeerMsg) → S → P → S → P → Type 0
-  Turns peers [] s p t q = (s ≡ t) × (p ≡ q)
-  Turns peers (turn ∷ turns) s p t q =
-      (next : S) × (sent : P) × IsTurn peers turn s p next sent × Turns peers turns next sent t q
+  abbrev pub AreTurns : List ℕ → List (Option PeerMsg) → S → P → S → P → Type 0
+  AreTurns peers [] s p t q = (s ≡ t) × (p ≡ q)
+  AreTurns peers (turn ∷ turns) s p t q =
+      (next : S) × (sent : P) × IsTurn peers turn s p next sent × AreTurns peers turns next sent t q
 
   -- Only such turns change a replica and its way to the others.
   abbrev pub TakesTurns : List ℕ → S → P → S → P → Type 0
-  TakesTurns peers s p t q = (turns : List (Option PeerMsg)) × Turns peers turns s p t q
+  TakesTurns peers s p t q = (turns : List (Option PeerMsg)) × AreTurns peers turns s p t q
 
   -- The run of a link's worker: it asks the others first, if it is to, and then only takes turns.
   abbrev pub IsWorkerRun : List ℕ → Bool → S → P → S → P → Type 0

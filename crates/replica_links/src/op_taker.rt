@@ -2,7 +2,7 @@
 
 ghost use Rattle.std.specs.Prelude.{◌≡◌, ℕ, List, MatchOption};
 ghost use Rattle.crdt_ops.specs.declared.op.Op.{Op};
-ghost use Rattle.replica_links.specs.Links.{Takes};
+ghost use Rattle.replica_links.specs.Links.{HasTakenOps};
 ghost use Rattle.replica_links.specs.declared.took.Took.{Took};
 
 use crate::took::Took;
@@ -48,7 +48,7 @@ pub trait Taker {
 /// Delivers the operations, each once and in their order, whatever the results. Each field of the
 /// result is true if it is true in one of the results.
 pub fn hand_on<T: Taker>(taker: &mut T, ops: Vec<SoundOp>) -> Took
-    ensures { Takes T.takes taker.old ops.items result taker.new }
+    ensures { HasTakenOps T.takes taker.old ops.items result taker.new }
 {
     let mut took = Took::complete();
     for op in ops {

@@ -1,20 +1,21 @@
-use Rattle.std.proofs.Common.{◌≡◌, ◌↔◌, inl, inr, ℕ, zero, suc, ◌+◌, ◌<◌, Bool, true, false, None, Result, Ok, Err, List, [], ◌∷◌, ◌++◌, length, take, map, append-nil, refl, sym, ap, ◌∙◌, subst, arith, IsTrue}
+use Rattle.std.proofs.Common.{◌≡◌, ◌↔◌, inl, inr, ℕ, zero, suc, ◌+◌, ◌<◌, Bool, true, false, None, Result, Ok, Err, List, [], ◌∷◌, ◌++◌, length, length-append, take, map, append-nil, refl, sym, ap, ◌∙◌, subst, arith, IsTrue}
 use Rattle.std.proofs.Common.{get_or}
 use Rattle.std.specs.Prelude.{IfErr, IfOk, OnOk, IsErrAnd}
 use Rattle.std.proofs.lemmas.List.{take_more}
 use Rattle.merge_laws.specs.Orders.{HasId, IsCausal, IsIn, IsRipe}
-use Rattle.merge_laws.proofs.Causal.{causal_more}
+use Rattle.merge_laws.proofs.Causal.{causal_append_one}
 use Rattle.merge_laws.proofs.Lists.{id_in_parts, id_of_element}
 use Rattle.causal_inbox.specs.Inbox.{AreReleasedInTurn, IsClockOf, IsReceived, ReceivedOps}
 use Rattle.causal_inbox.specs.declared.delivery.Arrival.{Arrival}
 use Rattle.causal_inbox.specs.declared.delivery.Arrival.TheVariants.{Applied, Held, Repeat}
 use Rattle.causal_inbox.specs.declared.delivery.DeliverFault.TheVariants as delivering
 use Rattle.crdt_ops.specs.declared.op.Op.{Op}
-use Rattle.imap_node.specs.Deliveries.{Delivers, HoldsRipe}
+use Rattle.imap_node.specs.Deliveries.{Delivers, HoldsRipeOp}
 use Rattle.imap_node.specs.Nodes.{NodeState, first_numbers, joined_node, received_ops}
 use Rattle.replica_lock.specs.Histories.{BookState}
 use Rattle.imap_node.specs.Operations.{clock_of, id_of}
-use Rattle.replica_lock.specs.JoinedBook.{IsJoinFault, IsApplyFault, HasFirstFault, joined_book, applied_entry, join_fault_of, join_fault_of_arrival}
+use Rattle.replica_lock.specs.JoinedBook.{IsJoinFault, IsApplyFault, IsRestoreFault, HasFirstFault, book_with_op, book_with_restored_op, joined_book, restored_book, applied_entry, join_fault_of, join_fault_of_arrival}
+use Rattle.tags_clocks.specs.declared.id.OpId.{OpId}
 use Rattle.causal_inbox.specs.OwnIds.{IsLeastOwn}
 use Rattle.replica_lock.specs.Steps.{IsStep}
 use Rattle.replica_lock.specs.declared.book.JournalEntry.{JournalEntry}
@@ -57,10 +58,10 @@ module _ (old : NodeState) (op : Op) (nothing : old.held ≡ []) where
   conflict_not_ripe : HasId id_of (old.applied ++ old.held) op.id → ¬ IsRipe id_of clock_of old.applied op
   conflict_not_ripe h ripe = elim (id_in_parts id_of op.id old.applied old.held h) [ inl t ↦ ripe.1 t | inr t ↦ absurd (subst (λ (os : List Op). HasId id_of os op.id) nothing t) ]
 
-  none_ripe : (new : NodeState) → new.held ≡ [] → ¬ HoldsRipe new
+  none_ripe : (new : NodeState) → new.held ≡ [] → ¬ HoldsRipeOp new
   none_ripe new e h = absurd (subst (IsIn h.0) e h.1)
 
-  applied_at_once : (count : ℕ) (stalled : Bool) (new : NodeState) → Delivers old op (Applied count) new → IsTrue stalled ↔ HoldsRipe new → HasApplied old op (Delivered (Ok (record { arrival = Applied count; stalled = stalled }))) new
+  applied_at_once : (count : ℕ) (stalled : Bool) (new : NodeState) → Delivers old op (Applied count) new → IsTrue stalled ↔ HoldsRipeOp new → HasApplied old op (Delivered (Ok (record { arrival = Applied count; stalled = stalled }))) new
   applied_at_once count stalled new h s =
       let released = none_released h.arrives.2.0 (record { start = old.start; applied = old.applied ++ op ∷ []; held = old.held }) (received_ops new) nothing h.arrives.2.2 in
       let same = released.1 in
@@ -70,7 +71,7 @@ module _ (old : NodeState) (op : Op) (nothing : old.held ≡ []) where
         ((λ i. record { start = (same i).start; applied = (same i).applied; held = (same i).held; sessions = h.sessions i }), (h.arrives.1.0, h.arrives.1.1)),
       )
 
-  ok_by : (arrival : Arrival) (stalled : Bool) (new : NodeState) → Delivers old op arrival new → IsTrue stalled ↔ HoldsRipe new → (r : Result (Unit {0}) JoinFault) → r ≡ join_fault_of_arrival op.id arrival
+  ok_by : (arrival : Arrival) (stalled : Bool) (new : NodeState) → Delivers old op arrival new → IsTrue stalled ↔ HoldsRipeOp new → (r : Result (Unit {0}) JoinFault) → r ≡ join_fault_of_arrival op.id arrival
       → OnOk r (HasApplied old op (Delivered (Ok (record { arrival = arrival; stalled = stalled }))) new)
   ok_by (Applied count) stalled new h s r e = subst (λ (x : Result (Unit {0}) JoinFault). OnOk x (HasApplied old op (Delivered (Ok (record { arrival = Applied count; stalled = stalled }))) new)) (sym e) (applied_at_once count stalled new h s)
   ok_by Held stalled new h s r e = subst (λ (x : Result (Unit {0}) JoinFault). OnOk x (HasApplied old op (Delivered (Ok (record { arrival = Held; stalled = stalled }))) new)) (sym e) tt
@@ -112,12 +113,12 @@ module _ (old : NodeState) (op : Op) (nothing : old.held ≡ []) where
 
 -- the book after a delivery, which has one further entry
 pub take_written : (old new : BookState) (op given : Op) (outcome : Outcome) (r : Result (Unit {0}) JoinFault) → given ≡ op → new.journal ≡ old.journal ++ record { event = Deliver given; outcome = outcome } ∷ []
-    → OnOk r (HasApplied old.node op outcome new.node)
-    → OnOk r ((new ≡ record { node = record old.node { applied = old.node.applied ++ op ∷ [] }; journal = old.journal ++ applied_entry op ∷ [] }) × IsRipe id_of clock_of old.node.applied op × (¬ Exhausts old.node.start old.node.applied (op ∷ [])))
-take_written old new op given outcome (Ok x) e j h =
+    → new.forgotten_count ≡ old.forgotten_count → OnOk r (HasApplied old.node op outcome new.node)
+    → OnOk r ((new ≡ book_with_op old op) × IsRipe id_of clock_of old.node.applied op × (¬ Exhausts old.node.start old.node.applied (op ∷ [])))
+take_written old new op given outcome (Ok x) e j f h =
     let entry : new.journal ≡ old.journal ++ applied_entry op ∷ [] = j ∙ (λ i. old.journal ++ record { event = Deliver (e i); outcome = h.0 i } ∷ []) in
-    ((λ i. record { node = h.1.0 i; journal = entry i }), h.1.1.0, h.1.1.1)
-take_written old new op given outcome (Err why) e j h = tt
+    ((λ i. record { node = h.1.0 i; forgotten_count = f i; journal = entry i }), h.1.1.0, h.1.1.1)
+take_written old new op given outcome (Err why) e j f h = tt
 
 -- ---- a list of operations
 
@@ -134,29 +135,32 @@ applied_entries_append : (ops : List Op) (op : Op) → map applied_entry (ops ++
 applied_entries_append [] op = refl
 applied_entries_append (x ∷ ops) op = ap (λ (es : List JournalEntry). applied_entry x ∷ es) (applied_entries_append ops op)
 
--- The book after the first operations of a list.
-pub record IsJoinedBook (name : ℕ) (front : List Op) (book : BookState) : Type 0 where
-  pub is : book ≡ joined_book name front
+-- The book after the first operations of a list, which `book_of` gives.
+pub record IsBookAfterOps (name : ℕ) (book_of : List Op → BookState) (front : List Op) (book : BookState) : Type 0 where
+  pub is : book ≡ book_of front
   pub causal : IsCausal id_of clock_of front
   pub not_exhausted : ¬ Exhausts (first_numbers name) [] front
 
-module _ (name : ℕ) (ops : List Op) (i : ℕ) (op : Op) (l : i < length ops) (at : op ≡ get_or ops i op) (book : BookState) (s : IsJoinedBook name (take i ops) book) where
-  pub holds_nothing : book.node.held ≡ []
-  holds_nothing = ap (λ (b : BookState). b.node.held) s.is
+module _ (name : ℕ) (book_of : List Op → BookState) (joins : (front : List Op) → (book_of front).node ≡ joined_node name front) (book_with : BookState → Op → BookState)
+    (grows : (front : List Op) (op : Op) → book_with (book_of front) op ≡ book_of (front ++ op ∷ []))
+    (ops : List Op) (i : ℕ) (op : Op) (l : i < length ops) (at : op ≡ get_or ops i op) (book : BookState) (s : IsBookAfterOps name book_of (take i ops) book) where
+  node_is : book.node ≡ joined_node name (take i ops)
+  node_is = ap (λ (b : BookState). b.node) s.is ∙ joins (take i ops)
 
-  pub joined_book_next : (new : BookState) → new ≡ record { node = record book.node { applied = book.node.applied ++ op ∷ [] }; journal = book.journal ++ applied_entry op ∷ [] }
-      → IsRipe id_of clock_of book.node.applied op → ¬ Exhausts book.node.start book.node.applied (op ∷ []) → IsJoinedBook name (take (i + 1) ops) new
-  joined_book_next new e ripe not_exhausted =
+  holds_none : book.node.held ≡ []
+  holds_none = ap (λ (n : NodeState). n.held) node_is
+
+  book_after_next : (new : BookState) → new ≡ book_with book op → IsRipe id_of clock_of book.node.applied op → ¬ Exhausts book.node.start book.node.applied (op ∷ [])
+      → IsBookAfterOps name book_of (take (i + 1) ops) new
+  book_after_next new e ripe not_exhausted =
       let next = take_next ops i op l at in
       record {
-        is = e ∙ ap (λ (b : BookState). record { node = record b.node { applied = b.node.applied ++ op ∷ [] }; journal = b.journal ++ applied_entry op ∷ [] }) s.is
-            ∙ ap (λ (es : List JournalEntry). record { node = joined_node name (take i ops ++ op ∷ []); journal = es }) (sym (applied_entries_append (take i ops) op))
-            ∙ ap (joined_book name) (sym next);
-        causal = subst (IsCausal id_of clock_of) (sym next) (causal_more id_of clock_of (take i ops) op s.causal (subst (λ (b : BookState). IsRipe id_of clock_of b.node.applied op) s.is ripe));
+        is = e ∙ ap (λ (b : BookState). book_with b op) s.is ∙ grows (take i ops) op ∙ ap book_of (sym next);
+        causal = subst (IsCausal id_of clock_of) (sym next) (causal_append_one id_of clock_of (take i ops) op s.causal (subst (λ (n : NodeState). IsRipe id_of clock_of n.applied op) node_is ripe));
         not_exhausted = λ h.
             elim (more_exhausted (first_numbers name) [] (take i ops) op (subst (λ (os : List Op). Exhausts (first_numbers name) [] os) next h)) [
               | inl t ↦ s.not_exhausted t
-              | inr t ↦ subst (λ (b : BookState). ¬ Exhausts b.node.start b.node.applied (op ∷ [])) s.is not_exhausted
+              | inr t ↦ subst (λ (n : NodeState). ¬ Exhausts n.start n.applied (op ∷ [])) node_is not_exhausted
                   ([], op, [], refl, subst (λ (os : List Op). IsExhausted (first_numbers name) os op) (sym (append-nil (take i ops))) t)
             ];
       }
@@ -164,24 +168,30 @@ module _ (name : ℕ) (ops : List Op) (i : ℕ) (op : Op) (l : i < length ops) (
   first_fault : (Why : List Op → Op → Type 0) → Why (take i ops) op → HasFirstFault name ops Why
   first_fault Why h = let c = cut_at ops i op l at in record { front = take i ops; op = op; back = c.0; cut = c.1; causal = s.causal; not_exhausted = s.not_exhausted; why = h }
 
-  -- the fault if an operation of the list isn't applied
-  pub join_fault_at : (why : JoinFault) → IsApplyFault book.node op why → IsLeastOwn id_of name ops None → IsJoinFault name ops why
-  join_fault_at (Own id) h none = absurd h
-  join_fault_at (NotCausal id) h none = (
-    none,
-    first_fault (λ front o. (o.id ≡ id) × ¬ IsRipe id_of clock_of front o) (h.0, subst (λ (b : BookState). ¬ IsRipe id_of clock_of b.node.applied op) s.is h.1),
-  )
-  join_fault_at Exhausted h none = (
-    none,
-    first_fault (λ front o. IsRipe id_of clock_of front o × Exhausts (first_numbers name) front (o ∷ [])) (
-      subst (λ (b : BookState). IsRipe id_of clock_of b.node.applied op) s.is h.0,
-      subst (λ (b : BookState). Exhausts b.node.start b.node.applied (op ∷ [])) s.is h.1,
-    ),
-  )
-  join_fault_at NoMemory h none = none
+  not_ripe : (id : OpId) → IsApplyFault book.node op (NotCausal id) → HasFirstFault name ops (λ front o. (o.id ≡ id) × ¬ IsRipe id_of clock_of front o)
+  not_ripe id h = first_fault (λ front o. (o.id ≡ id) × ¬ IsRipe id_of clock_of front o) (h.0, subst (λ (n : NodeState). ¬ IsRipe id_of clock_of n.applied op) node_is h.1)
 
-pub joined_book_none : (name : ℕ) (book : BookState) → book ≡ joined_book name [] → IsJoinedBook name [] book
-joined_book_none name book e = record {
+  used_up : IsApplyFault book.node op Exhausted → HasFirstFault name ops (λ front o. IsRipe id_of clock_of front o × Exhausts (first_numbers name) front (o ∷ []))
+  used_up h = first_fault (λ front o. IsRipe id_of clock_of front o × Exhausts (first_numbers name) front (o ∷ [])) (
+    subst (λ (n : NodeState). IsRipe id_of clock_of n.applied op) node_is h.0,
+    subst (λ (n : NodeState). Exhausts n.start n.applied (op ∷ [])) node_is h.1,
+  )
+
+  -- if it stops
+  join_fault_here : (why : JoinFault) → IsApplyFault book.node op why → IsLeastOwn id_of name ops None → IsJoinFault name ops why
+  join_fault_here (Own id) h none = absurd h
+  join_fault_here (NotCausal id) h none = (none, not_ripe id h)
+  join_fault_here Exhausted h none = (none, used_up h)
+  join_fault_here NoMemory h none = none
+
+  restore_fault_here : (why : JoinFault) → IsApplyFault book.node op why → IsRestoreFault name ops why
+  restore_fault_here (Own id) h = absurd h
+  restore_fault_here (NotCausal id) h = not_ripe id h
+  restore_fault_here Exhausted h = used_up h
+  restore_fault_here NoMemory h = tt
+
+book_after_none : (name : ℕ) (book_of : List Op → BookState) (book : BookState) → book ≡ book_of [] → IsBookAfterOps name book_of [] book
+book_after_none name book_of book e = record {
   is = e;
   causal = λ front o back h. absurd (no_cut front o back h);
   not_exhausted = λ h. none_exhausted (first_numbers name) [] h;
@@ -190,6 +200,57 @@ joined_book_none name book e = record {
     no_cut : (front : List Op) (o : Op) (back : List Op) → [] ≡ front ++ o ∷ back → ⊥
     no_cut [] o back h = absurd cc
     no_cut (x ∷ front) o back h = absurd cc
+
+-- ---- of a replica that joins
+
+abbrev pub IsJoinedBook : ℕ → List Op → BookState → Type 0
+IsJoinedBook name front book = IsBookAfterOps name (joined_book name) front book
+
+joined_book_append : (name : ℕ) (front : List Op) (op : Op) → book_with_op (joined_book name front) op ≡ joined_book name (front ++ op ∷ [])
+joined_book_append name front op =
+    ap (λ (es : List JournalEntry). record { node = joined_node name (front ++ op ∷ []); forgotten_count = 0; journal = es }) (sym (applied_entries_append front op))
+
+pub joined_book_none : (name : ℕ) (book : BookState) → book ≡ joined_book name [] → IsJoinedBook name [] book
+joined_book_none name book e = book_after_none name (joined_book name) book e
+
+module _ (name : ℕ) (ops : List Op) (i : ℕ) (op : Op) (l : i < length ops) (at : op ≡ get_or ops i op) (book : BookState) (s : IsJoinedBook name (take i ops) book) where
+  pub holds_nothing : book.node.held ≡ []
+  holds_nothing = holds_none name (joined_book name) (λ front. refl) book_with_op (joined_book_append name) ops i op l at book s
+
+  pub joined_book_next : (new : BookState) → new ≡ book_with_op book op → IsRipe id_of clock_of book.node.applied op → ¬ Exhausts book.node.start book.node.applied (op ∷ [])
+      → IsJoinedBook name (take (i + 1) ops) new
+  joined_book_next = book_after_next name (joined_book name) (λ front. refl) book_with_op (joined_book_append name) ops i op l at book s
+
+  pub join_fault_at : (why : JoinFault) → IsApplyFault book.node op why → IsLeastOwn id_of name ops None → IsJoinFault name ops why
+  join_fault_at = join_fault_here name (joined_book name) (λ front. refl) book_with_op (joined_book_append name) ops i op l at book s
+
+-- ---- of one that is restored
+
+abbrev pub IsRestoredBook : ℕ → List Op → BookState → Type 0
+IsRestoredBook name front book = IsBookAfterOps name (restored_book name) front book
+
+restored_book_append : (name : ℕ) (front : List Op) (op : Op) → book_with_restored_op (restored_book name front) op ≡ restored_book name (front ++ op ∷ [])
+restored_book_append name front op = ap (λ (n : ℕ). record { node = joined_node name (front ++ op ∷ []); forgotten_count = n; journal = [] }) (sym (longer front))
+  where
+    longer : (front : List Op) → length (front ++ op ∷ []) ≡ length front + 1
+    longer front = simp length-append
+
+pub restored_book_none : (name : ℕ) (book : BookState) → book ≡ restored_book name [] → IsRestoredBook name [] book
+restored_book_none name book e = book_after_none name (restored_book name) book e
+
+module _ (name : ℕ) (ops : List Op) (i : ℕ) (op : Op) (l : i < length ops) (at : op ≡ get_or ops i op) (book : BookState) (s : IsRestoredBook name (take i ops) book) where
+  pub restored_holds_nothing : book.node.held ≡ []
+  restored_holds_nothing = holds_none name (restored_book name) (λ front. refl) book_with_restored_op (restored_book_append name) ops i op l at book s
+
+  pub restored_journal : book.journal ≡ []
+  restored_journal = ap (λ (b : BookState). b.journal) s.is
+
+  pub restored_book_next : (new : BookState) → new ≡ book_with_restored_op book op → IsRipe id_of clock_of book.node.applied op → ¬ Exhausts book.node.start book.node.applied (op ∷ [])
+      → IsRestoredBook name (take (i + 1) ops) new
+  restored_book_next = book_after_next name (restored_book name) (λ front. refl) book_with_restored_op (restored_book_append name) ops i op l at book s
+
+  pub restore_fault_at : (why : JoinFault) → IsApplyFault book.node op why → IsRestoreFault name ops why
+  restore_fault_at = restore_fault_here name (restored_book name) (λ front. refl) book_with_restored_op (restored_book_append name) ops i op l at book s
 
 -- the copy of a clock is the clock of a list of applied operations
 pub clock_of_applied : {E : Type 0} (applied : List Op) (r : Result (List (ℕ × ℕ)) E) → IsCausal id_of clock_of applied → IfOk r (λ clock. IsClockOf id_of applied clock)

@@ -1,4 +1,6 @@
 pub mod Counts
 pub mod Journals
+pub mod BlockLemmas
+pub mod HistoryLemmas
 pub mod JoinLemmas
 pub mod ThreadLemmas

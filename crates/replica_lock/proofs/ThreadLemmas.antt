@@ -3,14 +3,13 @@
 use denote.RattleType.{RattleType}
 use denote.Param.Send.{IsSend, IsSync, sendable, view_send, recorded_send, recorded_sync, struct_send, struct_sync}
 use denote.Struct.Declared.{shape}
-use Rattle.chunk_list.proofs.list.ChunkList.TheSendSync as chunks
 use Rattle.std.proofs.sync.Condvar.TheSendSync as condvar
 use Rattle.std.proofs.sync.Mutex.TheSendSync as mutex
 use Rattle.std.proofs.sync.ledger.Book.TheSendSync as calls
 use Rattle.std.specs.declared.sync.ledger.Ledger as ledger
 use Rattle.imap_node.proofs.ThreadLemmas.{node_send}
 use Rattle.replica_lock.proofs.session_signals.SessionSignals.TheSendSync as signals
-use Rattle.replica_lock.proofs.compact_entry.CompactEntry.TheSendSync as stored
+use Rattle.replica_lock.proofs.journal.Journal.TheSendSync as journal
 use Rattle.replica_lock.specs.contracts.book.Book as book
 use Rattle.replica_lock.specs.contracts.book.Book.TheInside as book_inside
 use Rattle.replica_lock.specs.contracts.counted_book.CountedBook as locked
@@ -20,7 +19,7 @@ use Rattle.replica_lock.specs.contracts.shared.Shared as shared
 pub book_send : IsSend book.the_row
 book_send = view_send book_inside.the_row _ _ _ _
     (recorded_send (book_inside.the_field).row _ _ (book_inside.the_type).to_one
-    (struct_send (shape book_inside.the_type) (node_send, (search sendable, (chunks.the_send _ stored.the_send, (search sendable, tt))))))
+    (struct_send (shape book_inside.the_type) (node_send, (search sendable, (journal.the_send, (search sendable, (search sendable, (search sendable, (search sendable, tt)))))))))
 
 module _ (L : RattleType) (g : ledger.Ghosts L.Denot) where
   locked_send : IsSend L → IsSend (locked.the_row L g)

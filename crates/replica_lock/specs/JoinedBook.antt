@@ -1,6 +1,8 @@
--- The book of a replica that joins with another one's operations, and why it can't join.
+-- The book of a replica that joins with another one's operations, the book of a replica that is
+-- restored with its own, and why there is none.
 
-use Rattle.std.specs.Prelude.{◌≡◌, ℕ, List, [], ◌∷◌, ◌++◌, None, Some, Result, Ok, Err, false, map}
+use Rattle.std.specs.Prelude.{◌≡◌, ℕ, ◌+◌, List, [], ◌∷◌, ◌++◌, length, None, Some, Result, Ok, Err}
+use Rattle.std.specs.Prelude.{false, map}
 use Rattle.tags_clocks.specs.declared.id.OpId.{OpId}
 use Rattle.causal_inbox.specs.declared.delivery.Arrival.{Arrival}
 use Rattle.causal_inbox.specs.declared.delivery.Arrival.TheVariants.{Applied, Held, Repeat}
@@ -31,7 +33,35 @@ applied_entry op =
 -- The book of a replica of this name to which these operations were delivered, one after another,
 -- and at which nothing else happened.
 abbrev pub joined_book : ℕ → List Op → BookState
-joined_book name ops = record { node = joined_node name ops; journal = map applied_entry ops }
+joined_book name ops =
+    record { node = joined_node name ops; forgotten_count = 0; journal = map applied_entry ops }
+
+-- That book after it forgot all entries.
+abbrev pub restored_book : ℕ → List Op → BookState
+restored_book name ops =
+    record { node = joined_node name ops; forgotten_count = length ops; journal = [] }
+
+-- The node after it applied one further operation.
+abbrev pub node_with_op : NodeState → Op → NodeState
+node_with_op node op = record node { applied = node.applied ++ op ∷ [] }
+
+-- The book after one further operation was delivered and applied.
+abbrev pub book_with_op : BookState → Op → BookState
+book_with_op book op =
+    record {
+      node = node_with_op book.node op;
+      forgotten_count = book.forgotten_count;
+      journal = book.journal ++ applied_entry op ∷ [];
+    }
+
+-- That book if it had no entries and forgot the new one.
+abbrev pub book_with_restored_op : BookState → Op → BookState
+book_with_restored_op book op =
+    record {
+      node = node_with_op book.node op;
+      forgotten_count = book.forgotten_count + 1;
+      journal = book.journal;
+    }
 
 -- The first of the operations that can't be applied after those before it, and why: it isn't ripe
 -- after them, or a counter of the new replica lacks a number for it.
@@ -56,6 +86,16 @@ IsJoinFault name ops Exhausted =
     × HasFirstFault name ops
     (λ front op. IsRipe id_of clock_of front op × Exhausts (first_numbers name) front (op ∷ []))
 IsJoinFault name ops NoMemory = IsLeastOwn id_of name ops None
+
+-- Why no replica of this name is restored with these operations. Some may bear its name.
+abbrev pub IsRestoreFault : ℕ → List Op → JoinFault → Type 0
+IsRestoreFault name ops (Own id) = ⊥
+IsRestoreFault name ops (NotCausal id) =
+    HasFirstFault name ops (λ front op. (op.id ≡ id) × ¬ IsRipe id_of clock_of front op)
+IsRestoreFault name ops Exhausted =
+    HasFirstFault name ops
+    (λ front op. IsRipe id_of clock_of front op × Exhausts (first_numbers name) front (op ∷ []))
+IsRestoreFault name ops NoMemory = Unit {0}
 
 -- ---- one operation
 

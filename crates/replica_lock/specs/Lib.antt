@@ -4,3 +4,4 @@ pub mod Steps
 pub mod Histories
 pub mod Passes
 pub mod JoinedBook
+pub mod JournalState

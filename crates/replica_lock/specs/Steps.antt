@@ -2,7 +2,7 @@
 
 use Rattle.std.specs.Prelude.{◌≡◌, ℕ, Bool, false, is_some}
 use Rattle.imap_node.specs.Nodes.{NodeState}
-pub use Rattle.imap_node.specs.Nodes.{Awaits}
+pub use Rattle.imap_node.specs.Nodes.{IsAwaitedInput}
 use Rattle.imap_node.specs.Replies.{is_done}
 use Rattle.imap_node.specs.Responses.{Responds}
 use Rattle.imap_node.specs.Sessions.{session_at}
@@ -31,8 +31,9 @@ event_of n inputs.Poll = Poll n
 -- An input of a session is answered; or, if the session doesn't take it, it is passed over and
 -- nothing changes.
 abbrev pub TakesInput : NodeState → ℕ → Input → Outcome → NodeState → Type 0
-TakesInput old n input (Replied reply) new = Awaits old n input × Responds old n input reply new
-TakesInput old n input PassedOver new = (Awaits old n input → ⊥) × (new ≡ old)
+TakesInput old n input (Replied reply) new =
+    IsAwaitedInput old n input × Responds old n input reply new
+TakesInput old n input PassedOver new = (IsAwaitedInput old n input → ⊥) × (new ≡ old)
 TakesInput old n input _ new = ⊥
 
 -- One event at a node: with this outcome it leads from one state to the other.

@@ -9,6 +9,7 @@ ghost use Rattle.replica_lock.specs.FetchAnswers.{fetch_exchange_entry};
 ghost use Rattle.replica_lock.specs.declared.outcome.Outcome.TheVariants as outcomes;
 
 use crate::book::JournalEntry;
+use crate::entry_octets::{ENTRY, octets_of_entry, octets_of_exchange, octets_of_noop};
 use crate::event::BookEvent;
 use crate::fetch_exchange::{FetchExchange, completes};
 use crate::outcome::Outcome;
@@ -24,6 +25,8 @@ use std::marker::Model;
 /// for lack of memory.
 pub struct CompactEntry {
     form: CompactForm,
+    /// The octets that it takes.
+    octets: u64,
 }
 
 enum CompactForm {
@@ -62,7 +65,7 @@ impl Drop for CompactForm {
 // By hand, so that crates above drop it whole.
 impl Drop for CompactEntry {
     fn drop(self) {
-        let Self { form: _ } = self;
+        let Self { form: _, octets: _ } = self;
     }
 }
 
@@ -109,12 +112,14 @@ impl CompactEntry {
     pub(crate) fn of_noop(session: SessionNo, moment: Moment, tag: Octets) -> CompactEntry
         ensures { result ≡ noop_entry session moment tag }
     {
+        let octets = octets_of_noop(&tag);
         CompactEntry {
             form: CompactForm::Noop {
                 session,
                 moment,
                 tag,
             },
+            octets,
         }
     }
 
@@ -124,6 +129,7 @@ impl CompactEntry {
     {
         CompactEntry {
             form: CompactForm::Closed { session },
+            octets: ENTRY,
         }
     }
 
@@ -131,9 +137,17 @@ impl CompactEntry {
     pub(crate) fn of_exchange(exchange: Box<FetchExchange>) -> CompactEntry
         ensures { result ≡ fetch_exchange_entry exchange.value }
     {
+        let octets = octets_of_exchange(&exchange);
         CompactEntry {
             form: CompactForm::Exchange { exchange },
+            octets,
         }
+    }
+
+    /// The octets of memory that it takes of its own, an estimate made with it. What it shares with
+    /// the replica, as the text of a message, isn't counted.
+    pub fn octets(&self) -> u64 {
+        self.octets
     }
 
     /// A reference to the entry.
@@ -240,8 +254,10 @@ impl PendingEntry {
     {
         let PendingEntry { mut entry } = self;
         entry.outcome = outcome;
+        let octets = octets_of_entry(&entry);
         CompactEntry {
             form: CompactForm::Whole { entry },
+            octets,
         }
     }
 }

@@ -64,7 +64,7 @@ impl FetchAnswers {
 /// it, before any memory is taken.
 fn begin_with_line(answers: &[Answer]) -> bool {
     match answers.first() {
-        Some(answer) => FetchLine::of(answer).is_some(),
+        Some(answer) => FetchLine::from_answer(answer).is_some(),
         None => true,
     }
 }
@@ -78,7 +78,7 @@ fn lines_of(alloc: Global, answers: &[Answer]) -> Option<Vec<FetchLine>>
     }
     let mut lines = Vec::with_capacity(alloc, answers.len()).ok()?;
     for answer in answers {
-        lines.push(FetchLine::of(answer)?).ok()?;
+        lines.push(FetchLine::from_answer(answer)?).ok()?;
     }
     Some(lines)
 }

@@ -39,7 +39,7 @@ pub struct FetchLine {
 
 impl SystemFlags {
     /// These flags; `None` if there are keywords among them.
-    fn of(flags: &Flags) -> Option<SystemFlags>
+    fn from_flags(flags: &Flags) -> Option<SystemFlags>
         ensures { IfSome result (λ system. flags_of system ≡ flags.now) }
     {
         if !flags.keywords.is_empty() {
@@ -55,7 +55,7 @@ impl SystemFlags {
     }
 
     /// Whether the flags are exactly these.
-    fn are(&self, flags: &Flags) -> bool
+    fn are_flags(&self, flags: &Flags) -> bool
         ensures { IsTrue result ↔ (flags_of self.now ≡ flags.now) }
     {
         self.answered == flags.answered
@@ -69,7 +69,7 @@ impl SystemFlags {
 
 impl FetchLine {
     /// The line of an answer; `None` if it has none.
-    pub(crate) fn of(answer: &Answer) -> Option<FetchLine>
+    pub(crate) fn from_answer(answer: &Answer) -> Option<FetchLine>
         ensures { IfSome result (λ line. answer_of line ≡ answer.now) }
     {
         let Answer::Fetch { number, items } = answer else {
@@ -173,7 +173,7 @@ fn stored_flags(flags: &Option<Flags>) -> Option<Option<SystemFlags>>
 {
     match flags {
         None => Some(None),
-        Some(flags) => Some(Some(SystemFlags::of(flags)?)),
+        Some(flags) => Some(Some(SystemFlags::from_flags(flags)?)),
     }
 }
 
@@ -182,7 +182,7 @@ fn are_stored_flags(stored: &Option<SystemFlags>, flags: &Option<Flags>) -> bool
     ensures { IsTrue result ↔ (option_map flags_of stored.now ≡ flags.now) }
 {
     match (stored, flags) {
-        (Some(stored), Some(flags)) => stored.are(flags),
+        (Some(stored), Some(flags)) => stored.are_flags(flags),
         (None, None) => true,
         _ => false,
     }

@@ -1,24 +1,27 @@
-//! The book of a replica that joins with another one's operations.
+//! The book of a replica that begins with operations: one that joins, with another one's, or one
+//! that is restored, with its own among them.
 
-ghost use Rattle.std.specs.Prelude.{◌≡◌, ◌∷◌, ◌++◌, [], IfErr, MatchResult, None, OnOk};
+ghost use Rattle.std.specs.Prelude.{◌≡◌, ◌∷◌, [], IfErr, IfOk, MatchResult, None, OnOk};
 ghost use Rattle.merge_laws.specs.Orders.{IsCausal, IsRipe};
 ghost use Rattle.imap_node.specs.Nodes.{first_numbers};
 ghost use Rattle.imap_node.specs.Operations.{clock_of, id_of};
-ghost use Rattle.replica_lock.specs.JoinedBook.{IsJoinFault, IsApplyFault, joined_book};
-ghost use Rattle.replica_lock.specs.JoinedBook.{applied_entry, join_fault_of};
-ghost use Rattle.replica_lock.specs.JoinedBook.{join_fault_of_arrival};
+ghost use Rattle.replica_lock.specs.JoinedBook.{IsApplyFault, IsJoinFault, IsRestoreFault};
+ghost use Rattle.replica_lock.specs.JoinedBook.{book_with_op, book_with_restored_op, joined_book};
+ghost use Rattle.replica_lock.specs.JoinedBook.{join_fault_of, join_fault_of_arrival};
+ghost use Rattle.replica_lock.specs.JoinedBook.{restored_book};
 ghost use Rattle.causal_inbox.specs.OwnIds.{IsLeastOwn};
 ghost use Rattle.uid_projection.specs.Exhaustion.{Exhausts};
 
 use crate::book::Book;
 use crate::event::BookEvent;
 use crate::faults::JoinFault;
+use crate::journal::ForgottenEntries;
 use crate::outcome::Outcome;
 use causal_inbox::{Arrival, DeliverFault, least_own};
 use crdt_ops::SoundOp;
 use imap_node::Node;
 use merge_laws::Caused;
-use std::alloc::Global;
+use std::alloc::{AllocError, Global};
 use tags_clocks::{OpId, ReplicaId};
 use uid_projection::Counters;
 
@@ -41,21 +44,52 @@ impl Book {
         if let Some(own) = least_own(id, ops) {
             return Err(JoinFault::Own { id: own });
         }
-        let start = Counters {
-            replica: id,
-            uid: 1,
-            k: 1,
-        };
-        let Ok(node) = Node::new(alloc, start) else {
+        let Ok(mut book) = first_book(alloc, id) else {
             return Err(JoinFault::NoMemory);
         };
-        let mut book = Book::new(alloc, node);
         if let Err(fault) = take_all(alloc, &mut book, ops) {
             drop(book);
             return Err(fault);
         }
         Ok(book)
     }
+
+    /// The book of a replica of this name that applied these operations, in their order, its own
+    /// among them, and whose UIDs count from 1. They are delivered to a new replica, one after
+    /// another, and the entries are forgotten: the journal's first entry will be the next one.
+    ///
+    /// `NotCausal` at the first that isn't ripe after those before it. `Exhausted` if one of its
+    /// counters has no number left for one. `NoMemory` if memory runs out.
+    ///
+    /// It costs as much as the deliveries, and stores one copy of each operation, the replica's.
+    pub fn restore(alloc: Global, id: ReplicaId, ops: &[SoundOp]) -> Result<Book, JoinFault>
+        ensures { MatchResult result
+            (λ book. (book ≡ restored_book id ops.now)
+            × IsCausal id_of clock_of ops.now × (¬ Exhausts (first_numbers id) [] ops.now))
+            (IsRestoreFault id ops.now) }
+    {
+        let Ok(mut book) = first_book(alloc, id) else {
+            return Err(JoinFault::NoMemory);
+        };
+        if let Err(fault) = restore_all(alloc, &mut book, ops) {
+            drop(book);
+            return Err(fault);
+        }
+        Ok(book)
+    }
+}
+
+/// The book of a new replica of this name, whose UIDs count from 1; `Err` if memory runs out.
+fn first_book(alloc: Global, id: ReplicaId) -> Result<Book, AllocError>
+    ensures { IfOk result (λ book. book ≡ joined_book id []) }
+{
+    let start = Counters {
+        replica: id,
+        uid: 1,
+        k: 1,
+    };
+    let node = Node::new(alloc, start)?;
+    Ok(Book::new(alloc, node))
 }
 
 /// Delivers the operations, one after another, to a replica that has received nothing. Stops at the
@@ -73,14 +107,40 @@ fn take_all(alloc: Global, book: &mut Book, ops: &[SoundOp]) -> Result<(), JoinF
     Ok(())
 }
 
+/// Delivers the operations, one after another, to a replica that has received nothing, and forgets
+/// the entries. Stops at the first that isn't applied.
+fn restore_all(alloc: Global, book: &mut Book, ops: &[SoundOp]) -> Result<(), JoinFault>
+    requires { book.old ≡ restored_book book.old.node.start.replica [] }
+    ensures ok { OnOk result ((book.new ≡ restored_book book.old.node.start.replica ops.now)
+        × IsCausal id_of clock_of ops.now × (¬ Exhausts book.old.node.start [] ops.now)) }
+    ensures fault { IfErr result (IsRestoreFault book.old.node.start.replica ops.now) }
+{
+    for op in ops {
+        restore_op(alloc, book, op)?;
+    }
+    Ok(())
+}
+
+/// Delivers a copy of an operation to a replica that holds nothing and whose journal is empty, and
+/// forgets the entry.
+fn restore_op(alloc: Global, book: &mut Book, op: &SoundOp) -> Result<(), JoinFault>
+    requires held { book.old.node.held ≡ [] }
+    requires journal { book.old.journal ≡ [] }
+    ensures ok { OnOk result ((book.new ≡ book_with_restored_op book.old op.now)
+        × IsRipe id_of clock_of book.old.node.applied op.now
+        × (¬ Exhausts book.old.node.start book.old.node.applied (op.now ∷ []))) }
+    ensures fault { IfErr result (IsApplyFault book.old.node op.now) }
+{
+    take(alloc, book, op)?;
+    let mut forgotten = ForgottenEntries::new(alloc);
+    book.forget(1, &mut forgotten);
+    Ok(())
+}
+
 /// Delivers a copy of an operation to a replica that holds nothing.
 fn take(alloc: Global, book: &mut Book, op: &SoundOp) -> Result<(), JoinFault>
     requires { book.old.node.held ≡ [] }
-    ensures ok { OnOk result ((book.new
-        ≡ record {
-          node = record book.old.node { applied = book.old.node.applied ++ op.now ∷ [] };
-          journal = book.old.journal ++ applied_entry op.now ∷ [];
-        })
+    ensures ok { OnOk result ((book.new ≡ book_with_op book.old op.now)
         × IsRipe id_of clock_of book.old.node.applied op.now
         × (¬ Exhausts book.old.node.start book.old.node.applied (op.now ∷ []))) }
     ensures fault { IfErr result (IsApplyFault book.old.node op.now) }

@@ -2,14 +2,16 @@
 //!
 //! A [`Book`] is a replica and its journal, which grows by one entry with each step: its contract
 //! says that the events of the entries, with their outcomes, lead from a new replica to this one.
-//! [`Book::join`] makes the book of a replica that joins while others run.
+//! The oldest entries can be forgotten; then some entries, as many, lead with the others after them
+//! to this replica. [`Book::join`] makes the book of a replica that joins while others run,
+//! [`Book::restore`] that of one that applied given operations before.
 //!
 //! [`Shared`] holds a book under a lock, for the threads of a server. Each caller has a [`Pass`]:
 //! the session that it opened, the outcome of its last call and the place of that call's entry, and
 //! its share of the count of all calls. Each call is one step, and appends one entry, which its
-//! pass notes; the passes of a replica together count its journal's entries. So the history that
-//! the threads make is one that one thread could have made, and the journal is that history:
-//! [`Shared::finish`] returns it exactly if the passes account for all of it.
+//! pass notes; the passes of a replica together count its entries. So the history that the threads
+//! make is one that one thread could have made, and the journal is that history, or the end of it:
+//! [`Shared::finish`] returns the book exactly when the passes account for all of it.
 //!
 //! # Decided
 //!
@@ -32,8 +34,27 @@
 //!   A chunk of 512 took 12 KB in each folder that a CREATE made, though the folder had no message:
 //!   four fifths of the folder's memory. A chunk of 64 takes 1.5 KB, and removing an item moves
 //!   fewer items and updates the counts of more chunks after it (300 to 600 for 20,000 items).
+//! - A journal is a queue of blocks of some 512 entries, each a list in chunks (`Journal`). The
+//!   oldest entries are forgotten by whole blocks, and one by one only within the first block that
+//!   remains: to forget a hundred thousand takes 200 moves of a block and at most 511 removals. So
+//!   `Book::entry` looks at each block before the entry's own.
+//! - Forgotten entries are dropped by the caller (`ForgottenEntries`): a pass stores those of its
+//!   calls until `Pass::drop_spent`, which a connection's thread calls after the answer was written
+//!   and without the lock.
+//! - The forgotten entries are in no value that contracts see. The invariant says that some
+//!   entries, as many, precede the journal (`IsPast`), so no ghost data is needed. All facts about
+//!   the whole history, also the number of sessions that were opened, are stated of one such list
+//!   (`HasSummary`); two facts from two calls may be about two lists, which have the same length
+//!   and end with the journal.
+//! - A pass whose last entry was forgotten can't be denied: `finish` compares the last outcomes of
+//!   the others (`HasOutcomeAt`), and all counts.
+//! - An entry estimates the octets that it takes when it is made (`CompactEntry::octets`), and
+//!   `Book::forget_to` goes by the sum. What the replica itself also has isn't counted. No contract
+//!   says how many octets they are, nor that no more entries are forgotten than needed; tests do.
 //! - A step needs room in the journal for its own entry and for one entry for each session open
-//!   after it, so that each open session can be closed; the book counts its open sessions.
+//!   after it, so that each open session can be closed; the book counts its open sessions. The
+//!   places of all entries ever made, and of these closes, fit into 64 bits; otherwise the answer
+//!   is `NoRoom`.
 //! - `Shared::wait_session_change` is a call besides `wait_change`. It waits until an entry after
 //!   those seen may concern other sessions (it issued operations or may have applied some) and the
 //!   session's own feed has notes or missed some, or until the session is closed. Each session has
@@ -69,12 +90,15 @@
 mod book;
 mod compact_entry;
 mod counted_book;
+mod entry_octets;
 mod event;
 mod faults;
 mod fetch_answers;
 mod fetch_exchange;
 mod fetch_line;
+mod history_summary;
 mod joined_book;
+mod journal;
 mod laws;
 mod node_step;
 mod outcome;
@@ -90,7 +114,9 @@ pub use faults::{CallFault, FinishFault, JoinFault, NoRoom};
 pub use fetch_answers::FetchAnswers;
 pub use fetch_exchange::FetchExchange;
 pub use fetch_line::{FetchLine, SystemFlags};
-pub use laws::same_operations_hold_the_same;
+pub use history_summary::HistorySummary;
+pub use journal::ForgottenEntries;
+pub use laws::books_with_same_ops_agree;
 pub use outcome::Outcome;
 pub use pass::Pass;
 pub use shared::{Gate, LockTurn, Shared};

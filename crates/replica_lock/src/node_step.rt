@@ -3,7 +3,8 @@
 ghost use Rattle.std.specs.Prelude.{◌≡◌, ◌↔◌, true, IfOk, IsOk, IsTrue, OnErr};
 ghost use Rattle.imap_node.specs.Sessions.{IsOpen};
 ghost use Rattle.imap_syntax.specs.declared.command.Command.TheVariants as commands;
-ghost use Rattle.replica_lock.specs.Steps.{Awaits, IsStep, TakesInput, ends_session, event_of};
+ghost use Rattle.replica_lock.specs.Steps.{IsAwaitedInput, IsStep, TakesInput, ends_session};
+ghost use Rattle.replica_lock.specs.Steps.{event_of};
 ghost use Rattle.replica_lock.specs.declared.event.BookEvent.TheVariants as events;
 ghost use Rattle.replica_lock.specs.declared.outcome.Outcome.TheVariants as outcomes;
 
@@ -96,10 +97,10 @@ fn copy_auth(alloc: Global, auth: &Auth) -> Result<Auth, AllocError>
     })
 }
 
-/// Whether the session takes this input now: it is open, and idles exactly if the input is a line
+/// Whether the session takes this input now: it is open, and idles exactly when the input is a line
 /// or a poll.
 fn awaits(node: &Node, session: SessionNo, input: &Input) -> bool
-    ensures taken { IsTrue result ↔ Awaits node.now.state session input.now }
+    ensures taken { IsTrue result ↔ IsAwaitedInput node.now.state session input.now }
     ensures opened { IsTrue result → IsOpen node.now.state.sessions session }
 {
     if !node.is_open(session) {

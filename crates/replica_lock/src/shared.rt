@@ -1,7 +1,7 @@
 //! A replica that threads share.
 
 ghost use Rattle.std.specs.Prelude.{◌≡◌, ◌≢◌, OnOk, OnErr, ◌<◌, IfOk, IfErr, IfSome, IsSome, List};
-ghost use Rattle.std.specs.Prelude.{None, length, false};
+ghost use Rattle.std.specs.Prelude.{None, false};
 ghost use Rattle.causal_inbox.specs.Inbox.{IsClockOf, uncovered_ops};
 ghost use Rattle.crdt_ops.specs.declared.op.Op.{Op};
 ghost use Rattle.merge_laws.specs.Orders.{IsCausal};
@@ -52,6 +52,7 @@ impl<'a, L: Ledger> LockTurn<'a, L> {
     ghost use Rattle.replica_lock.specs.Passes.{IsCalled, IsCalledIn, IsCallRefused};
     ghost use Rattle.replica_lock.specs.declared.event.BookEvent.TheVariants as events;
 
+    /// Takes an event, and then forgets the journal's oldest entries as far as its bound demands.
     fn call(
         &mut self,
         alloc: Global,
@@ -62,7 +63,9 @@ impl<'a, L: Ledger> LockTurn<'a, L> {
         ensures unchanged { OnErr result (pass.new ≡ pass.old) }
         ensures refused { IfErr result (IsCallRefused pass.old.seen) }
     {
-        self.locked.call(alloc, pass, event)
+        let result = self.locked.call(alloc, pass, event);
+        self.locked.trim(pass);
+        result
     }
 
     /// Gives the pass's session a command that arrived at this moment and doesn't begin IDLE: a
@@ -99,17 +102,29 @@ impl<'a, L: Ledger> LockTurn<'a, L> {
 }
 
 impl<L: Ledger> Shared<L> {
-    ghost use Rattle.replica_lock.specs.Passes.{IsFinishFault, PassesFit, IsCalled, IsCalledIn};
+    ghost use Rattle.replica_lock.specs.Passes.{ArePassesOfBook, IsCalled, IsCalledIn};
+    ghost use Rattle.replica_lock.specs.Passes.{IsFinishFault};
     ghost use Rattle.replica_lock.specs.Passes.{IsCallRefused, is_missing, parts_of, unused_pass};
-    ghost use Rattle.replica_lock.specs.declared.book.JournalEntry.{JournalEntry};
+    ghost use Rattle.replica_lock.specs.Histories.{BookState, entry_count};
     ghost use Rattle.replica_lock.specs.declared.event.BookEvent.TheVariants as events;
 
-    /// Puts a replica under a lock. The pass counts the entries in the book's journal, and all
-    /// other passes are cut from it.
+    /// Puts a replica under a lock. Its journal forgets no entry. The pass counts all entries ever
+    /// made in the book, and all other passes are cut from it.
     pub fn new(blank: Blank, book: Book) -> (Shared<L>, Pass<L>)
         requires name { blank.name ≡ L.name }
         requires parts { (blank.parts ≡ L.parts) × (L.parts ≡ 4294967295) }
-        ensures { result.1 ≡ unused_pass 4294967295 (length book.journal) }
+        ensures { result.1 ≡ unused_pass 4294967295 (entry_count book) }
+    {
+        Shared::with_bound(blank, book, None)
+    }
+
+    /// Puts a replica under a lock, as `new` does. After each call the journal forgets its oldest
+    /// entries until the others take at most `bound` octets, by their own estimates; `None` is no
+    /// bound. Of equal entries it stores as many as fit.
+    pub fn with_bound(blank: Blank, book: Book, bound: Option<u64>) -> (Shared<L>, Pass<L>)
+        requires name { blank.name ≡ L.name }
+        requires parts { (blank.parts ≡ L.parts) × (L.parts ≡ 4294967295) }
+        ensures { result.1 ≡ unused_pass 4294967295 (entry_count book) }
     {
         let (calls, share) = blank.open::<L>();
         let mut calls = calls;
@@ -117,7 +132,7 @@ impl<L: Ledger> Shared<L> {
         let signals = SessionSignals::new(book.alloc());
         let pass = Pass::whole(&mut calls, share, entries);
         let shared = Shared {
-            locked: Mutex::new(CountedBook::new(book, calls)),
+            locked: Mutex::new(CountedBook::new(book, calls, bound)),
             changed: Condvar::new(),
             signals,
         };
@@ -135,7 +150,8 @@ impl<L: Ledger> Shared<L> {
         ensures unchanged { OnErr result (pass.new ≡ pass.old) }
         ensures refused { IfErr result (IsCallRefused pass.old.seen) }
     {
-        let woken = session_woken_by(&event);
+        let woken = woken_session(&event);
+        pass.drop_forgotten();
         let mut turn = self.turn(rt);
         let result = turn.call(alloc, pass, event);
         self.end(turn);
@@ -143,7 +159,8 @@ impl<L: Ledger> Shared<L> {
             self.signals.signal_of(session).notify_all();
         }
         // The outcome of the previous call is dropped only here, after the lock was released: it
-        // may be long.
+        // may be long. The entries that the book forgot at this call are dropped by
+        // `Pass::drop_spent`, or else before the pass's next call.
         match result {
             Ok(last) => {
                 pass.store_spent(last);
@@ -282,7 +299,7 @@ impl<L: Ledger> Shared<L> {
         self.call(rt, alloc, pass, BookEvent::Close { session })
     }
 
-    /// Waits until the journal's length isn't `seen`, and returns it.
+    /// Waits until the number of entries ever made isn't `seen`, and returns it.
     pub fn wait_change<R: Wait>(&self, rt: &R, seen: u64) -> u64
         ensures { result ≢ seen }
     {
@@ -293,9 +310,9 @@ impl<L: Ledger> Shared<L> {
     }
 
     /// Waits until this session may have to be sent something for an entry after the first `seen`,
-    /// and returns the journal's length then; `None` if the session is closed. It looks again when
-    /// the session begins to idle. While the session idles, the wait is woken only when the
-    /// session's own feed has notes or missed some, and at the session's close.
+    /// and returns the number of entries ever made then; `None` if the session is closed. It looks
+    /// again when the session begins to idle. While the session idles, the wait is woken only when
+    /// the session's own feed has notes or missed some, and at the session's close.
     pub fn wait_session_change<R: Wait>(&self, rt: &R, session: SessionNo, seen: u64) -> Option<u64>
         ensures { IfSome result (λ length. seen < length) }
     {
@@ -352,12 +369,12 @@ impl<L: Ledger> Shared<L> {
     }
 
     /// Removes the lock and returns the book if no pass is missing. `Missing` if one is, `Strange`
-    /// if a pass's outcome isn't the journal's at its place.
+    /// if a pass's outcome isn't the journal's at its place, unless the entry there was forgotten.
     pub fn finish(self, passes: Vec<Pass<L>>) -> Result<Book, FinishFault>
         requires { L.parts ≡ 4294967295 }
-        ensures fits { IfOk result (λ book. PassesFit book.journal passes.items) }
+        ensures fits { IfOk result (λ book. ArePassesOfBook book passes.items) }
         ensures denied { IfErr result
-            (λ fault. (journal : List JournalEntry) × IsFinishFault journal passes.items fault) }
+            (λ fault. (book : BookState) × IsFinishFault book passes.items fault) }
         ensures whole { parts_of passes.items ≡ 4294967295
             → IfErr result (λ fault. is_missing fault ≡ false) }
     {
@@ -379,7 +396,7 @@ impl<L: Ledger> Shared<L> {
 
 /// The session that an event closes, or lets idle. Threads that wait for its changes look again,
 /// since no change signalled them while it didn't idle.
-fn session_woken_by(event: &BookEvent) -> Option<SessionNo> {
+fn woken_session(event: &BookEvent) -> Option<SessionNo> {
     match event {
         BookEvent::Close { session } => Some(*session),
         BookEvent::Command {

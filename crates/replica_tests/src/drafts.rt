@@ -43,7 +43,7 @@ fn some_name(alloc: Global, dice: &mut Dice) -> Result<Name, AllocError> {
 fn delete(alloc: Global, dice: &mut Dice, clock: &Clock, ops: &[SoundOp]) -> Result<Kind, Trouble> {
     let octets: &[u8] = if dice.below(2) == 0 { b"a" } else { b"b" };
     let folder = Name::from_slice(alloc, octets)?;
-    let seen = most_seen(alloc, dice, clock, ops, &folder)?;
+    let seen = most_covered_tags(alloc, dice, clock, ops, &folder)?;
     Ok(Kind::Delete { folder, seen })
 }
 
@@ -54,7 +54,7 @@ fn unsubscribe(
     ops: &[SoundOp],
 ) -> Result<Kind, Trouble> {
     let name = some_name(alloc, dice)?;
-    let seen = most_seen(alloc, dice, clock, ops, &name)?;
+    let seen = most_covered_tags(alloc, dice, clock, ops, &name)?;
     Ok(Kind::Unsubscribe { name, seen })
 }
 
@@ -123,7 +123,7 @@ fn change_of(
     folder: &Name,
     origin: &OpId,
 ) -> Result<Kind, Trouble> {
-    let old_ids = versions_seen(alloc, clock, ops, folder, origin)?;
+    let old_ids = covered_versions(alloc, clock, ops, folder, origin)?;
     let folder = folder.copy(alloc)?;
     if dice.below(4) == 0 {
         return Ok(Kind::Expunge { folder, old_ids });
@@ -161,7 +161,7 @@ pub fn added_origin(op: &Op) -> Option<OpId> {
 }
 
 /// The ids of a message's versions that the clock covers, 60 at most.
-fn versions_seen(
+fn covered_versions(
     alloc: Global,
     clock: &Clock,
     ops: &[SoundOp],
@@ -170,19 +170,19 @@ fn versions_seen(
 ) -> Result<Ids, AllocError> {
     let mut ids = Ids::none(alloc);
     for op in ops {
-        if ids.as_slice().len() < 60 && is_version_seen(clock, op.op(), folder, origin) {
+        if ids.as_slice().len() < 60 && is_version_covered(clock, op.op(), folder, origin) {
             ids.insert(op.op().id)?;
         }
     }
     Ok(ids)
 }
 
-fn is_version_seen(clock: &Clock, op: &Op, folder: &Name, origin: &OpId) -> bool {
+fn is_version_covered(clock: &Clock, op: &Op, folder: &Name, origin: &OpId) -> bool {
     clock.covers(op.id) && op.kind.name().same(folder) && added_origin(op) == Some(*origin)
 }
 
 /// The ids of three in four of the operations about this name that the clock covers.
-fn most_seen(
+fn most_covered_tags(
     alloc: Global,
     dice: &mut Dice,
     clock: &Clock,

@@ -2,8 +2,8 @@
 
 use crate::fixtures::Mailboxes;
 use causal_inbox::{
-    delivery_is_received, indexed_by_least_missing_cause, issue_is_received, nothing_ripe_is_left,
-    release_loses_nothing, what_is_received_is_consistent,
+    applied_ops_are_the_least_set, delivery_is_received, indexed_by_least_missing_cause,
+    issue_is_received, received_ops_are_consistent, release_loses_nothing,
 };
 use crdt_ops::{SoundOp, one_operation};
 use folder_state::{contents_follow_the_set, folders_for_all_orders};
@@ -42,7 +42,7 @@ fn inboxes() {
     delivery_is_received::<Mailboxes, Unfollowed>();
     release_loses_nothing::<Mailboxes, Unfollowed>();
     issue_is_received::<Mailboxes, Unfollowed>();
-    what_is_received_is_consistent::<Mailboxes, Unfollowed>();
-    nothing_ripe_is_left::<Mailboxes, Unfollowed>();
+    received_ops_are_consistent::<Mailboxes, Unfollowed>();
+    applied_ops_are_the_least_set::<Mailboxes, Unfollowed>();
     indexed_by_least_missing_cause::<SoundOp>();
 }

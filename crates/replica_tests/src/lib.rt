@@ -16,17 +16,19 @@
 #[cfg(test)]
 mod calls;
 #[cfg(test)]
+mod comparisons;
+#[cfg(test)]
 mod dice;
 #[cfg(test)]
 mod drafts;
-#[cfg(test)]
-mod filed_inbox;
 #[cfg(test)]
 mod fixtures;
 #[cfg(test)]
 mod generated;
 #[cfg(test)]
 mod held_count;
+#[cfg(test)]
+mod inbox_comparison;
 #[cfg(test)]
 mod laws;
 #[cfg(test)]
@@ -49,8 +51,6 @@ mod releases;
 mod retries;
 #[cfg(test)]
 mod row_look_ups;
-#[cfg(test)]
-mod shown;
 #[cfg(test)]
 mod state_text;
 #[cfg(test)]

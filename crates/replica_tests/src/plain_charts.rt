@@ -65,7 +65,7 @@ impl PlainReplica {
 
     /// Applies an operation.
     pub fn apply(&mut self, alloc: Global, op: &Op) -> Result<(), Trouble> {
-        let lost = self.mailboxes.losing(alloc, op)?;
+        let lost = self.mailboxes.losing_origins(alloc, op)?;
         self.mailboxes.apply(alloc, op)?;
         match &op.kind {
             Kind::Subscribe { .. } => Ok(()),

@@ -152,7 +152,7 @@ impl PlainMailboxes {
     }
 
     /// The origins that lose a version by this operation, ascending.
-    pub fn losing(&self, alloc: Global, op: &Op) -> Result<Ids, AllocError> {
+    pub fn losing_origins(&self, alloc: Global, op: &Op) -> Result<Ids, AllocError> {
         let mut origins = Ids::none(alloc);
         for version in &self.versions {
             if version.folder.same(op.kind.name()) && op.kind.removed_ids().contains(&version.id) {

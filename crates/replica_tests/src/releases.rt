@@ -6,16 +6,16 @@ use std::alloc::Global;
 use std::test::Fail;
 
 /// The kind of arrival of the line's operation; `None` if the inbox refused it.
-fn received(alloc: Global, inbox: &mut Node, line: &str) -> Result<Option<Arrival>, Trouble> {
+fn receive_line(alloc: Global, inbox: &mut Node, line: &str) -> Result<Option<Arrival>, Trouble> {
     let op = operation(alloc, line)?;
     Ok(inbox.receive(alloc, op).ok())
 }
 
 /// Whether two early operations are held, and only the one that they wait for is applied.
 fn is_applied_alone(alloc: Global, inbox: &mut Node) -> Result<bool, Trouble> {
-    let third = received(alloc, inbox, "1:3 1=2 create c")?;
-    let second = received(alloc, inbox, "1:2 1=1 create b")?;
-    let first = received(alloc, inbox, "1:1 - create a")?;
+    let third = receive_line(alloc, inbox, "1:3 1=2 create c")?;
+    let second = receive_line(alloc, inbox, "1:2 1=1 create b")?;
+    let first = receive_line(alloc, inbox, "1:1 - create a")?;
     Ok(
         third == Some(Arrival::Held)
             && second == Some(Arrival::Held)

@@ -135,7 +135,7 @@ fn shown_refusing(alloc: Global, inbox: &RefusingInbox) -> Result<Vec<u8>, Alloc
 
 /// Delivers the line's operation, and repeats the delivery if it is refused memory or drains the
 /// inbox if it stalls. Appends the answers, and returns whether a refusal changed nothing.
-fn retried(
+fn deliver_or_retry(
     alloc: Global,
     inbox: &mut RefusingInbox,
     line: &str,
@@ -144,14 +144,14 @@ fn retried(
     let before = shown_refusing(alloc, inbox)?;
     play(alloc, inbox, line, text)?;
     if text.ends_with("NoMemory\n") {
-        retried_after(alloc, inbox, line, &before, text)
+        retry_after_refusal(alloc, inbox, line, &before, text)
     } else {
         drained_after(alloc, inbox, text)
     }
 }
 
 /// Delivers again after a refusal, and returns whether the refusal had changed nothing.
-fn retried_after(
+fn retry_after_refusal(
     alloc: Global,
     inbox: &mut RefusingInbox,
     line: &str,
@@ -204,7 +204,7 @@ fn ends_as_expected(
 
 fn retry_all(alloc: Global, inbox: &mut RefusingInbox, text: &mut String) -> Result<bool, Trouble> {
     for line in MIXED {
-        if !retried(alloc, inbox, line, text)? {
+        if !deliver_or_retry(alloc, inbox, line, text)? {
             return Ok(false);
         }
     }

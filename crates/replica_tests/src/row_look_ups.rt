@@ -1,8 +1,8 @@
 //! Look-ups by UID, origin or mod-sequence give the same from tables as from plain lists.
 
+use crate::comparisons::{are_ids_alike, are_rows_alike, is_row_alike};
 use crate::plain_charts::PlainRow;
 use crate::plain_mailboxes::PlainMailboxes;
-use crate::shown::{are_ids_alike, are_rows_alike, is_row_alike};
 use crdt_ops::SoundOp;
 use folder_state::Folders;
 use imap_types::Name;

@@ -8,12 +8,12 @@ use std::alloc::{AllocError, Global};
 use std::fmt::Write;
 use subs_state::Subs;
 
-/// Whether the text is these lines; `Err` if there is no text.
+/// Whether the text equals these lines; `Err` if memory ran out for the text.
 pub fn is_text(text: Result<Vec<u8>, AllocError>, lines: &[u8]) -> Result<bool, AllocError> {
     Ok(text?.as_slice() == lines)
 }
 
-/// Appends the operations, a line each.
+/// Appends the operations, one per line.
 pub fn write_ops(alloc: Global, ops: &[SoundOp], text: &mut Vec<u8>) -> Result<(), AllocError> {
     for op in ops {
         write_line(alloc, op, text)?;
@@ -21,7 +21,7 @@ pub fn write_ops(alloc: Global, ops: &[SoundOp], text: &mut Vec<u8>) -> Result<(
     Ok(())
 }
 
-/// Appends the held operations, a line each.
+/// Appends the held operations, one per line.
 pub fn write_held_ops(
     alloc: Global,
     held: &HeldOps<'_, SoundOp>,
@@ -189,7 +189,7 @@ fn write_fault(text: &mut String, fault: DeliverFault) -> Result<(), AllocError>
     })
 }
 
-/// Appends the ids of the applied operations and of the held ones, a line each.
+/// Appends a line of the ids of the applied operations and a line of those of the held ones.
 pub fn write_received(
     applied: &[SoundOp],
     held: &HeldOps<'_, SoundOp>,

@@ -3,6 +3,7 @@
 ghost use Rattle.std.specs.Prelude.{IfOk, []};
 ghost use Rattle.uid_projection.specs.Following.{Follows};
 
+use crate::comparisons::{are_ids_alike, are_messages_alike, are_names_alike, are_rows_alike};
 use crate::drafts::NAMES;
 use crate::fixtures::{Mailboxes, Trouble, empty};
 use crate::generated::{LISTS, generated_ops};
@@ -12,7 +13,6 @@ use crate::plain_mailboxes::{PlainMailboxes, ids_of};
 use crate::row_look_ups::{
     are_changes_alike, are_later_origins_alike, are_origins_alike, are_uids_alike,
 };
-use crate::shown::{are_ids_alike, are_messages_alike, are_names_alike, are_rows_alike};
 use causal_inbox::Inbox;
 use crdt_ops::SoundOp;
 use folder_state::Folders;
@@ -357,7 +357,7 @@ fn deliver_and_compare(
 const PARTS: u32 = 4;
 
 /// The first list of this part for which tables and plain lists differ, and the place.
-fn first_unlike_list(alloc: Global, part: u32) -> Result<Option<(u32, usize)>, Trouble> {
+fn first_differing_list(alloc: Global, part: u32) -> Result<Option<(u32, usize)>, Trouble> {
     for number in 0..LISTS {
         if number % PARTS == part {
             if let Some(at) = first_unlike_place(alloc, number)? {
@@ -392,24 +392,24 @@ fn fifty_lists_are_long(rt: HostRuntime) -> Result<(), Fail> {
 
 #[test]
 fn tables_equal_plain_lists(rt: HostRuntime) -> Result<(), Fail> {
-    assert!(rt; first_unlike_list(rt.alloc(), 0)?.is_none());
+    assert!(rt; first_differing_list(rt.alloc(), 0)?.is_none());
     Ok(())
 }
 
 #[test]
 fn tables_equal_plain_lists_in_the_second_part(rt: HostRuntime) -> Result<(), Fail> {
-    assert!(rt; first_unlike_list(rt.alloc(), 1)?.is_none());
+    assert!(rt; first_differing_list(rt.alloc(), 1)?.is_none());
     Ok(())
 }
 
 #[test]
 fn tables_equal_plain_lists_in_the_third_part(rt: HostRuntime) -> Result<(), Fail> {
-    assert!(rt; first_unlike_list(rt.alloc(), 2)?.is_none());
+    assert!(rt; first_differing_list(rt.alloc(), 2)?.is_none());
     Ok(())
 }
 
 #[test]
 fn tables_equal_plain_lists_in_the_fourth_part(rt: HostRuntime) -> Result<(), Fail> {
-    assert!(rt; first_unlike_list(rt.alloc(), 3)?.is_none());
+    assert!(rt; first_differing_list(rt.alloc(), 3)?.is_none());
     Ok(())
 }

@@ -1,4 +1,4 @@
-use Rattle.std.proofs.Common.{◌≡◌, ◌≢◌, inl, inr, ℕ, Option, None, Some, List, [], ◌∷◌, map, refl, sym, ap, ◌∙◌, subst}
+use Rattle.std.proofs.Common.{◌≡◌, ◌≢◌, inl, inr, ℕ, Option, None, Some, List, [], ◌∷◌, ◌++◌, map, refl, sym, ap, ◌∙◌, subst}
 use Rattle.std.proofs.lemmas.Bool.Decides.{eqb_tells}
 use Rattle.causal_inbox.specs.Inbox.{IsClockOf}
 use Rattle.crdt_ops.specs.Meanings.{MeansTheSame}
@@ -9,7 +9,7 @@ use Rattle.merge_laws.specs.Orders.{IsIn}
 use Rattle.replica_lock.specs.Histories.{LeadsTo, BookState}
 use Rattle.replica_lock.specs.declared.book.JournalEntry.{JournalEntry}
 use Rattle.server_laws.specs.WorldEvents.{event_of, outcome_of}
-use Rattle.server_laws.specs.Interleavings.{HaveHistories, ReplicaEntry, LeadsAt, IsIssuedAmong, entries_of_replica}
+use Rattle.server_laws.specs.Interleavings.{HaveHistories, IsWholeHistory, ReplicaEntry, LeadsAt, IsIssuedAmong, entries_of_replica}
 use Rattle.server_laws.specs.BookWorlds.{AllLead, AreIssuedBeforeDeliveryFrom, IsLinkedInterleaving, starting_world, node_of, current_world, start_of, starts_of}
 use Rattle.server_laws.proofs.RunLemmas.{interleaving_issues, interleaving_runs}
 use Rattle.server_laws.proofs.InterleavingLemmas.{entries_past}
@@ -17,7 +17,7 @@ use Rattle.world_core.specs.Headline.{Headline}
 use Rattle.world_core.specs.WorldPromises.{IsIssuedWorld}
 use Rattle.world_core.specs.Replicas.{IsAt, IsIssuedIn}
 use Rattle.world_core.specs.Steps.{Runs}
-use Rattle.world_core.specs.Worlds.{AreApart, AreFromOne}
+use Rattle.world_core.specs.Worlds.{AreFromOne, HaveDistinctNames}
 use Rattle.world_core.proofs.BeginLemmas.{begins_fair}
 use Rattle.world_core.proofs.FairLemmas.{converges, same_from_clocks}
 use Rattle.world_core.proofs.HeadLemmas.{run_fair, run_holds}
@@ -48,7 +48,7 @@ start_in [] book i = absurd i
 start_in (first ∷ books) book i = elim i [ inl same ↦ inl (ap start_of same) | inr t ↦ inr (start_in books book t) ]
 
 -- books with different names are each in the world at their own name
-pub at_own_name : (books : List BookState) → AreApart (starts_of books) → (book : BookState) → IsIn book books → IsAt (current_world books) book.node.start.replica book.node
+pub at_own_name : (books : List BookState) → HaveDistinctNames (starts_of books) → (book : BookState) → IsIn book books → IsAt (current_world books) book.node.start.replica book.node
 at_own_name [] apart book i = absurd i
 at_own_name (first ∷ books) apart book i = elim i [
   | inl same ↦ subst (λ (b : BookState). current_world (first ∷ books) b.node.start.replica ≡ Some b.node) same (by_here first.node (map node_of books) first.node.start.replica refl)
@@ -61,20 +61,21 @@ from_ones : (books : List BookState) → HaveHistories books → AreFromOne (sta
 from_ones [] has = tt
 from_ones (book ∷ books) has = ((has book (inl refl)).from_one, from_ones books (λ b i. has b (inr i)))
 
-leads_at_name : (books : List BookState) (interleaving : List ReplicaEntry) (name : ℕ) → HaveHistories books → ((book : BookState) → IsIn book books → entries_of_replica interleaving book.node.start.replica ≡ book.journal)
+leads_at_name : (books : List BookState) (interleaving : List ReplicaEntry) (name : ℕ) → ((book : BookState) → IsIn book books → IsWholeHistory book (entries_of_replica interleaving book.node.start.replica))
     → (current_world books name ≡ None → entries_of_replica interleaving name ≡ []) → LeadsAt (starting_world books name) (entries_of_replica interleaving name) (current_world books name)
-leads_at_name [] interleaving name has whole none = subst (λ (es : List JournalEntry). LeadsAt None es None) (sym (none refl)) refl
-leads_at_name (book ∷ books) interleaving name has whole none = elim (eqb_tells name book.node.start.replica) [
+leads_at_name [] interleaving name whole none = subst (λ (es : List JournalEntry). LeadsAt None es None) (sym (none refl)) refl
+leads_at_name (book ∷ books) interleaving name whole none = elim (eqb_tells name book.node.start.replica) [
   | inl t ↦
-      let journal : entries_of_replica interleaving name ≡ book.journal = ap (entries_of_replica interleaving) t.1 ∙ whole book (inl refl) in
+      let h = whole book (inl refl) in
+      let entries : entries_of_replica interleaving name ≡ h.0 ++ book.journal = ap (entries_of_replica interleaving) t.1 ∙ h.2 in
       subst (λ (o : Option NodeState). LeadsAt o (entries_of_replica interleaving name) (current_world (book ∷ books) name)) (sym (by_here (unused_node book.node.start) (map unused_node (starts_of books)) name t.1)) (
         book.node,
-        subst (λ (es : List JournalEntry). LeadsTo (unused_node book.node.start) es book.node) (sym journal) (has book (inl refl)).history,
+        subst (λ (es : List JournalEntry). LeadsTo (unused_node book.node.start) es book.node) (sym entries) h.1.leads,
         by_here book.node (map node_of books) name t.1,
       )
   | inr f ↦
       let past : current_world (book ∷ books) name ≡ current_world books name = by_past book.node (map node_of books) name f.1 in
-      let rest = leads_at_name books interleaving name (λ b i. has b (inr i)) (λ b i. whole b (inr i)) (λ e. none (past ∙ e)) in
+      let rest = leads_at_name books interleaving name (λ b i. whole b (inr i)) (λ e. none (past ∙ e)) in
       subst (λ (o : Option NodeState). LeadsAt o (entries_of_replica interleaving name) (current_world (book ∷ books) name)) (sym (by_past (unused_node book.node.start) (map unused_node (starts_of books)) name f.1))
       (subst (λ (o : Option NodeState). LeadsAt (starting_world books name) (entries_of_replica interleaving name) o) (sym past) rest)
 ]
@@ -84,7 +85,7 @@ module _ (books : List BookState) (interleaving : List ReplicaEntry) (ran : IsLi
   issued_at_start = begins_fair (starts_of books) (from_ones books ran.histories)
 
   all_lead : AllLead (starting_world books) interleaving (current_world books)
-  all_lead name = leads_at_name books interleaving name ran.histories ran.merged.whole (no_entries books interleaving name ran.merged.only)
+  all_lead name = leads_at_name books interleaving name ran.merged.whole (no_entries books interleaving name ran.merged.only)
 
   issued_from_start : AreIssuedBeforeDeliveryFrom (starting_world books) interleaving
   issued_from_start front item back op cut e = inr (ran.linked front item back op cut e)
@@ -101,7 +102,7 @@ module _ (books : List BookState) (interleaving : List ReplicaEntry) (ran : IsLi
   pub books_issue : (op : Op) → IsIssuedAmong interleaving op → IsIssuedIn (current_world books) op
   books_issue op w = interleaving_issues interleaving (starting_world books) (current_world books) issued_at_start all_lead issued_from_start op w
 
-  pub same_by_clocks : AreApart (starts_of books) → (one other : BookState) → IsIn one books → IsIn other books → (clock : List (ℕ × ℕ)) → IsClockOf id_of one.node.applied clock → IsClockOf id_of other.node.applied clock
+  pub same_by_clocks : HaveDistinctNames (starts_of books) → (one other : BookState) → IsIn one books → IsIn other books → (clock : List (ℕ × ℕ)) → IsClockOf id_of one.node.applied clock → IsClockOf id_of other.node.applied clock
       → MeansTheSame one.node.applied other.node.applied
   same_by_clocks apart one other i j clock c d =
       let at_one = at_own_name books apart one i in

@@ -9,10 +9,10 @@ use Rattle.imap_node.specs.Steps.{DeliversAt}
 use Rattle.imap_node.specs.declared.input.Input.{Input}
 use Rattle.imap_node.specs.declared.input.Input.TheVariants as inputs
 use Rattle.imap_node.specs.declared.reply.Reply.{Reply}
-use Rattle.imap_node.proofs.IssueLemmas.{issues_well}
+use Rattle.imap_node.proofs.IssueLemmas.{issues_of_responds}
 use Rattle.merge_laws.specs.Orders.{IsIn}
 use Rattle.merge_laws.proofs.Lists.{in_back}
-use Rattle.replica_lock.specs.Steps.{Awaits as Takes, IsStep, TakesInput}
+use Rattle.replica_lock.specs.Steps.{IsAwaitedInput, IsStep, TakesInput}
 use Rattle.replica_lock.specs.declared.event.BookEvent.{BookEvent}
 use Rattle.replica_lock.specs.declared.event.BookEvent.TheVariants.{Close, Command, Deliver, Drain, Line, Open, Poll}
 use Rattle.replica_lock.specs.declared.outcome.Outcome.{Outcome}
@@ -27,7 +27,7 @@ use Rattle.world_core.proofs.StepLemmas.{takes_from}
 
 -- ---- an entry as an event
 
-answers : (old : NodeState) (n : ℕ) (input : Input) (idles : Bool) → (Takes old n input → AwaitsInput old n idles) → (AwaitsInput old n idles → Takes old n input) → (outcome : Outcome) (new : NodeState)
+answers : (old : NodeState) (n : ℕ) (input : Input) (idles : Bool) → (IsAwaitedInput old n input → AwaitsInput old n idles) → (AwaitsInput old n idles → IsAwaitedInput old n input) → (outcome : Outcome) (new : NodeState)
     → TakesInput old n input outcome new → AnswersBy old n idles input (world_outcome outcome) new
 answers old n input idles up down (Opened answer) new h = absurd h
 answers old n input idles up down (Replied reply) new h = (up h.0, h.1)
@@ -95,7 +95,7 @@ world_steps w name old event outcome new at from step =
 
 reply_issues : (old new : NodeState) (n : ℕ) (input : Input) (reply : Reply) → IsApplied old.applied → Responds old n input reply new → (op : Op) → IsIn op (issued_by reply) → (op.id.replica ≡ old.start.replica) × IsIn op new.applied
 reply_issues old new n input reply a h op i =
-    let k : Issues old (issued_by reply) new = issues_well old new n input reply a h in
+    let k : Issues old (issued_by reply) new = issues_of_responds old new n input reply a h in
     ((k.fresh op i).own, subst (IsIn op) (sym k.applied) (in_back op old.applied (issued_by reply) i))
 
 -- an operation that a step issued bears the replica's name, and was applied there

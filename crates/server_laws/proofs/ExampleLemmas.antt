@@ -1,15 +1,15 @@
-use Rattle.std.proofs.Common.{◌≡◌, ◌≢◌, ◌⊎◌, inl, inr, ℕ, List, [], ◌∷◌, ◌++◌, map, refl, sym, ap, ◌∙◌, subst}
+use Rattle.std.proofs.Common.{◌≡◌, ◌≢◌, ◌⊎◌, inl, inr, ℕ, List, [], ◌∷◌, ◌++◌, length, map, refl, sym, ap, ◌∙◌, subst, arith}
 use Rattle.std.proofs.lemmas.Bool.Decides.{eqb_tells}
 use Rattle.crdt_ops.specs.declared.op.Op.{Op}
 use Rattle.merge_laws.specs.Orders.{IsIn}
 use Rattle.merge_laws.proofs.Lists.{in_front, in_middle, in_parts, split_at}
-use Rattle.replica_lock.specs.Histories.{BookState}
+use Rattle.replica_lock.specs.Histories.{BookState, HasPast, IsPast}
 use Rattle.replica_lock.specs.declared.book.JournalEntry.{JournalEntry}
 use Rattle.replica_lock.specs.declared.event.BookEvent.{BookEvent}
 use Rattle.replica_lock.specs.declared.event.BookEvent.TheVariants.{Deliver}
 use Rattle.server_laws.specs.BookWorlds.{IsLinkedInterleaving}
-use Rattle.server_laws.specs.ExampleInterleavings.{CrossedAreNotLinked, HasOneEntry, JoinedFrom, JoinedInterleave, TwoInterleave, UnissuedAreNotLinked, entry_at}
-use Rattle.server_laws.specs.Interleavings.{AreKnownBeforeDelivery, HasHistory, IsInterleavingOf, IssuesOrDelivers, ReplicaEntry, entries_of_replica}
+use Rattle.server_laws.specs.ExampleInterleavings.{CrossedAreNotLinked, HasOneEntry, HasJoinedFrom, JoinedAreLinked, HaveTwoInterleavings, UnissuedAreNotLinked, entry_at}
+use Rattle.server_laws.specs.Interleavings.{AreKnownBeforeDelivery, HasHistory, IsInterleavingOf, IsWholeHistory, IssuesOrDelivers, ReplicaEntry, entries_of_replica}
 use Rattle.server_laws.proofs.InterleavingLemmas.{entries_here, entries_past}
 use Rattle.server_laws.proofs.LinkLemmas.{issued_if_known, issued_or_delivered}
 
@@ -20,16 +20,22 @@ two_in_order : (one other : BookState) (first second : ReplicaEntry) → first.r
 two_in_order one other first second apart h k = record {
   whole = λ book i. elim i [
     | inl same ↦
-        subst (λ (b : BookState). entries_of_replica (first ∷ second ∷ []) b.node.start.replica ≡ b.journal) same
-        (entries_here first (second ∷ []) one.node.start.replica (sym h.named)
-        ∙ ap (λ (es : List JournalEntry). first.entry ∷ es) (entries_past second [] one.node.start.replica (λ e. apart (h.named ∙ e)))
-        ∙ sym h.entry)
+        subst (λ (b : BookState). IsWholeHistory b (entries_of_replica (first ∷ second ∷ []) b.node.start.replica)) same (
+          [],
+          h.past,
+          entries_here first (second ∷ []) one.node.start.replica (sym h.named)
+              ∙ ap (λ (es : List JournalEntry). first.entry ∷ es) (entries_past second [] one.node.start.replica (λ e. apart (h.named ∙ e)))
+              ∙ sym h.entry,
+        )
     | inr rest ↦ elim rest [
       | inl same ↦
-          subst (λ (b : BookState). entries_of_replica (first ∷ second ∷ []) b.node.start.replica ≡ b.journal) same
-          (entries_past first (second ∷ []) other.node.start.replica (λ e. apart (sym (k.named ∙ e)))
-          ∙ entries_here second [] other.node.start.replica (sym k.named)
-          ∙ sym k.entry)
+          subst (λ (b : BookState). IsWholeHistory b (entries_of_replica (first ∷ second ∷ []) b.node.start.replica)) same (
+            [],
+            k.past,
+            entries_past first (second ∷ []) other.node.start.replica (λ e. apart (sym (k.named ∙ e)))
+                ∙ entries_here second [] other.node.start.replica (sym k.named)
+                ∙ sym k.entry,
+          )
       | inr none ↦ absurd none
     ]
   ];
@@ -54,8 +60,8 @@ swapped one other interleaving h = record {
     turned_back : (book : BookState) → IsIn book (other ∷ one ∷ []) → IsIn book (one ∷ other ∷ [])
     turned_back book i = elim i [ inl e ↦ inr (inl e) | inr r ↦ elim r [ inl e ↦ inl e | inr none ↦ absurd none ] ]
 
-pub two_interleave : TwoInterleave
-two_interleave one other first second apart h k = (
+pub two_interleavings : HaveTwoInterleavings
+two_interleavings one other first second apart h k = (
   two_in_order one other first second apart h k,
   swapped one other (second ∷ first ∷ []) (two_in_order other one second first (λ e. apart (sym e)) k h),
 )
@@ -130,21 +136,28 @@ cut_parts (z ∷ xs) ys (a ∷ front) back x e =
 deliver_same : (event : BookEvent) (one other : Op) → event ≡ Deliver one → event ≡ Deliver other → one ≡ other
 deliver_same event one other e f = let g : Deliver one ≡ Deliver other = sym e ∙ f in cc
 
+-- no entry was forgotten
+none_of_count : (past : List JournalEntry) → length past ≡ 0 → past ≡ []
+none_of_count [] e = refl
+none_of_count (entry ∷ past) e = absurd (omega (arith, e))
+
+no_past : (book : BookState) → book.forgotten_count ≡ 0 → HasPast book → IsPast book []
+no_past book none h = subst (IsPast book) (none_of_count h.0 (h.1.count ∙ none)) h.1
+
 module _ (books : List BookState) (peer joined : BookState) (interleaving : List ReplicaEntry) (ran : IsLinkedInterleaving books interleaving) (known : IsIn peer books)
-    (from : JoinedFrom peer joined) (apart : (book : BookState) → IsIn book books → book.node.start.replica ≢ joined.node.start.replica) where
+    (from : HasJoinedFrom peer joined) (apart : (book : BookState) → IsIn book books → book.node.start.replica ≢ joined.node.start.replica) where
   abbrev name : ℕ
   name = joined.node.start.replica
 
   abbrev added : List ReplicaEntry
   added = map (entry_at name) joined.journal
 
-  -- the others' entries are their journals, also with the joined replica's entries added
-  others_stay : (book : BookState) → IsIn book books → entries_of_replica (interleaving ++ added) book.node.start.replica ≡ book.journal
+  -- the others' entries, also with the joined replica's entries added
+  others_stay : (book : BookState) → IsIn book books → entries_of_replica (interleaving ++ added) book.node.start.replica ≡ entries_of_replica interleaving book.node.start.replica
   others_stay book i =
       entries_append interleaving added book.node.start.replica
       ∙ ap (λ (es : List JournalEntry). entries_of_replica interleaving book.node.start.replica ++ es) (other_entries name book.node.start.replica joined.journal (apart book i))
       ∙ append_none (entries_of_replica interleaving book.node.start.replica)
-      ∙ ran.merged.whole book i
 
   own_added : entries_of_replica (interleaving ++ added) name ≡ joined.journal
   own_added =
@@ -153,12 +166,13 @@ module _ (books : List BookState) (peer joined : BookState) (interleaving : List
       (no_entries_of interleaving name (λ item i e. let b = ran.merged.only item i in apart b.0 b.1 (b.2 ∙ sym e)))
       ∙ own_entries name joined.journal
 
-  merged_more : IsInterleavingOf (books ++ joined ∷ []) (interleaving ++ added)
-  merged_more = record {
+  interleaving_append : IsInterleavingOf (books ++ joined ∷ []) (interleaving ++ added)
+  interleaving_append = record {
     whole = λ book i. elim (in_parts book books (joined ∷ []) i) [
-      | inl old ↦ others_stay book old
+      | inl old ↦ let h = ran.merged.whole book old in (h.0, h.1, others_stay book old ∙ h.2)
       | inr new ↦ elim new [
-        | inl same ↦ subst (λ (b : BookState). entries_of_replica (interleaving ++ added) b.node.start.replica ≡ b.journal) same own_added
+        | inl same ↦ subst (λ (b : BookState). IsWholeHistory b (entries_of_replica (interleaving ++ added) b.node.start.replica)) same
+            ([], no_past joined from.forgotten_count from.history.history, own_added)
         | inr none ↦ absurd none
       ]
     ];
@@ -171,12 +185,12 @@ module _ (books : List BookState) (peer joined : BookState) (interleaving : List
   -- an entry of the interleaving issued or delivered each operation in the peer's list
   in_list_known : (op : Op) → IsIn op peer.node.applied → (earlier : ReplicaEntry) × IsIn earlier interleaving × IssuesOrDelivers earlier.entry op
   in_list_known op i =
-      let w = issued_or_delivered peer (ran.histories peer known) op i in
-      let e = entry_in interleaving peer.node.start.replica w.0 (subst (IsIn w.0) (sym (ran.merged.whole peer known)) w.1) in
+      let w = issued_or_delivered peer (entries_of_replica interleaving peer.node.start.replica) (ran.merged.whole peer known) op i in
+      let e = entry_in interleaving peer.node.start.replica w.0 w.1 in
       (e.0, e.1, subst (λ (entry : JournalEntry). IssuesOrDelivers entry op) (sym e.2) w.2)
 
-  known_more : AreKnownBeforeDelivery (interleaving ++ added)
-  known_more front item back op cut event = elim (cut_parts interleaving added front back item cut) [
+  known_append : AreKnownBeforeDelivery (interleaving ++ added)
+  known_append front item back op cut event = elim (cut_parts interleaving added front back item cut) [
     | inl s ↦ let w = ran.linked front item s.0 op s.1 event in (w.0, w.1, inl w.2)
     | inr s ↦
         let in_added : IsIn item added = subst (IsIn item) (sym s.2) (in_middle item s.0 back) in
@@ -186,18 +200,18 @@ module _ (books : List BookState) (peer joined : BookState) (interleaving : List
         (k.0, subst (IsIn k.0) (sym s.1) (in_front k.0 interleaving s.0 k.1), k.2)
   ]
 
-  more_linked : IsLinkedInterleaving (books ++ joined ∷ []) (interleaving ++ added)
-  more_linked = record {
+  linked_append : IsLinkedInterleaving (books ++ joined ∷ []) (interleaving ++ added)
+  linked_append = record {
     histories = λ book i. elim (in_parts book books (joined ∷ []) i) [
       | inl old ↦ ran.histories book old
       | inr new ↦ elim new [ inl same ↦ subst HasHistory same from.history | inr none ↦ absurd none ]
     ];
-    merged = merged_more;
-    linked = issued_if_known (interleaving ++ added) known_more;
+    merged = interleaving_append;
+    linked = issued_if_known (interleaving ++ added) known_append;
   }
 
-pub joined_interleave : JoinedInterleave
-joined_interleave books peer joined interleaving ran known from apart = more_linked books peer joined interleaving ran known from apart
+pub joined_linked : JoinedAreLinked
+joined_linked books peer joined interleaving ran known from apart = linked_append books peer joined interleaving ran known from apart
 
 -- ---- the premise fails
 
@@ -210,17 +224,23 @@ unissued_not_linked interleaving item op i event unissued linked =
 first_entry : (entry other : JournalEntry) (entries rest : List JournalEntry) → entry ∷ entries ≡ other ∷ rest → entry ≡ other
 first_entry entry other entries rest e = cc
 
-none_of_some : (entry : JournalEntry) (rest : List JournalEntry) → [] ≡ entry ∷ rest → ⊥
-none_of_some entry rest e = absurd cc
+none_of_some : (past : List JournalEntry) (entry : JournalEntry) (rest : List JournalEntry) → [] ≡ past ++ entry ∷ rest → ⊥
+none_of_some [] entry rest e = absurd cc
+none_of_some (x ∷ past) entry rest e = absurd cc
 
 pub crossed_not_linked : CrossedAreNotLinked
 crossed_not_linked books book [] i begins merged linked =
-    let b = begins book i in none_of_some b.entry b.rest (merged.whole book i ∙ b.journal)
+    let b = begins book i in
+    let h = merged.whole book i in
+    none_of_some h.0 b.entry b.rest (h.2 ∙ ap (λ (es : List JournalEntry). h.0 ++ es) b.journal)
 crossed_not_linked books book (item ∷ interleaving) i begins merged linked =
     let owner = merged.only item (inl refl) in
     let b = begins owner.0 owner.1 in
+    let h = merged.whole owner.0 owner.1 in
+    let none : h.0 ≡ [] = none_of_count h.0 (h.1.count ∙ b.forgotten_count) in
     let same : item.entry ≡ b.entry =
     first_entry item.entry b.entry (entries_of_replica interleaving owner.0.node.start.replica) b.rest
-    (sym (entries_here item interleaving owner.0.node.start.replica owner.2) ∙ merged.whole owner.0 owner.1 ∙ b.journal) in
+    (sym (entries_here item interleaving owner.0.node.start.replica owner.2) ∙ h.2
+    ∙ ap (λ (es : List JournalEntry). es ++ owner.0.journal) none ∙ b.journal) in
     let w = linked [] item interleaving b.op refl (ap (λ (e : JournalEntry). e.event) same ∙ b.event) in
     absurd w.1

@@ -37,6 +37,6 @@ begins_with (Some node) entry entries later h =
     record { before = node; after = first.0; is_at = refl; step = first.1; rest = (h.0, first.2, h.2) }
 
 -- if there are no entries, nothing changed
-pub stays_so : (now later : Option NodeState) → LeadsAt now [] later → later ≡ now
-stays_so None later h = h
-stays_so (Some node) later h = h.2 ∙ ap (λ (n : NodeState). Some n) h.1
+pub leads_without_entries : (now later : Option NodeState) → LeadsAt now [] later → later ≡ now
+leads_without_entries None later h = h
+leads_without_entries (Some node) later h = h.2 ∙ ap (λ (n : NodeState). Some n) h.1

@@ -7,7 +7,7 @@ use Rattle.crdt_ops.specs.declared.op.Op.{Op}
 use Rattle.imap_commands.specs.declared.session.Session.{Session}
 use Rattle.imap_node.specs.Nodes.{NodeState, received_ops, unused_node}
 use Rattle.imap_node.specs.Operations.{clock_of, id_of}
-use Rattle.imap_node.specs.Responses.{IsNodeAfter, AreHeldAfter, Replies}
+use Rattle.imap_node.specs.Responses.{IsNodeAfter, AreHeldAfter, IsReply}
 use Rattle.imap_node.specs.Sessions.{Places}
 use Rattle.imap_node.specs.Steps.{DeliversAt, OpensAt}
 use Rattle.imap_node.specs.declared.input.Input.{Input}
@@ -26,7 +26,7 @@ use Rattle.replica_lock.specs.declared.event.BookEvent.{BookEvent}
 use Rattle.replica_lock.specs.declared.event.BookEvent.TheVariants.{Close, Command, Deliver, Drain, Line, Open, Poll}
 use Rattle.replica_lock.specs.declared.outcome.Outcome.{Outcome}
 use Rattle.replica_lock.specs.declared.outcome.Outcome.TheVariants.{Closed, Delivered, Drained, Opened, PassedOver, Replied}
-use Rattle.server_laws.specs.Interleavings.{AreKnownBeforeDelivery, AreIssuedBeforeDelivery, ReplicaEntry, HasHistory, HasIssuedOrDelivered, IsIssuedAmong, ops_of_outcome}
+use Rattle.server_laws.specs.Interleavings.{AreKnownBeforeDelivery, AreIssuedBeforeDelivery, ReplicaEntry, HasIssuedOrDelivered, IsIssuedAmong, IsWholeHistory, ops_of_outcome}
 use Rattle.uid_projection.specs.Exhaustion.{Exhausts}
 
 -- ---- a replica's entries issued or delivered all operations that it received
@@ -53,7 +53,7 @@ holds_received old ops places new h op t = elim t [
   | inr i ↦ inl (inr (held_in ops old.held new.held h.held op i))
 ]
 
-reply_received : (old : NodeState) (n : ℕ) (session : Session) (input : Input) (reply : Reply) (new : NodeState) → Replies old n session input reply new → (op : Op) → IsReceived (received_ops new) op
+reply_received : (old : NodeState) (n : ℕ) (session : Session) (input : Input) (reply : Reply) (new : NodeState) → IsReply old n session input reply new → (op : Op) → IsReceived (received_ops new) op
     → IsReceived (received_ops old) op ⊎ IsIn op (ops_of_outcome (Replied reply))
 reply_received old n session input (Done answers silent issued) new c op t = holds_received old issued _ new c.becomes op t
 reply_received old n session input (Refused why closed) new h op t = holds_received old [] _ new h.2 op t
@@ -112,12 +112,14 @@ all_received s (entry ∷ journal) t h op r = elim (all_received h.0 journal t h
   | inr later ↦ inr (later.0, inr later.1, later.2)
 ]
 
--- an entry of the journal issued or delivered each operation in the list
-pub issued_or_delivered : (book : BookState) → HasHistory book → (op : Op) → IsIn op book.node.applied → HasIssuedOrDelivered book.journal op
-issued_or_delivered book has op i = elim (all_received (unused_node book.node.start) book.journal book.node has.history op (inl i)) [
-  | inl none ↦ elim none [ inl u ↦ absurd u | inr u ↦ absurd u ]
-  | inr was ↦ was
-]
+-- an entry of a whole history issued or delivered each operation in the list
+pub issued_or_delivered : (book : BookState) (entries : List JournalEntry) → IsWholeHistory book entries → (op : Op) → IsIn op book.node.applied → HasIssuedOrDelivered entries op
+issued_or_delivered book entries has op i =
+    let leads = subst (λ (es : List JournalEntry). LeadsTo (unused_node book.node.start) es book.node) (sym has.2) has.1.leads in
+    elim (all_received (unused_node book.node.start) entries book.node leads op (inl i)) [
+      | inl none ↦ elim none [ inl u ↦ absurd u | inr u ↦ absurd u ]
+      | inr was ↦ was
+    ]
 
 -- ---- an operation that was known before its delivery was issued before it
 

@@ -1,5 +1,5 @@
--- Replicas with their journals, as a world, and how an interleaving of the journals relates to that
--- world.
+-- Replicas with their journals, as a world, and how an interleaving of their whole histories
+-- relates to that world.
 
 use Rattle.std.specs.Prelude.{◌≡◌, ◌⊎◌, ℕ, List, ◌∷◌, ◌++◌, map}
 use Rattle.crdt_ops.specs.declared.op.Op.{Op}
@@ -31,16 +31,16 @@ starting_world books = nodes_by_name (map unused_node (starts_of books))
 abbrev pub current_world : List BookState → Replicas
 current_world books = nodes_by_name (map node_of books)
 
--- An interleaving of journals, each of which leads to its replica, with each operation issued
--- before it is delivered.
+-- An interleaving of whole histories, each of which leads to its replica, with each operation
+-- issued before it is delivered.
 pub record IsLinkedInterleaving (books : List BookState) (interleaving : List ReplicaEntry) : Type 0
   where
     pub histories : HaveHistories books
     pub merged : IsInterleavingOf books interleaving
     pub linked : AreIssuedBeforeDelivery interleaving
 
--- The headline holds of each interleaving of the journals in which each operation is issued before
--- it is delivered.
+-- The headline holds of each interleaving of whole histories in which each operation is issued
+-- before it is delivered. The histories include entries that the books forgot.
 abbrev pub KeepTheHeadline : List BookState → Type 0
 KeepTheHeadline books =
     (interleaving : List ReplicaEntry) → IsInterleavingOf books interleaving

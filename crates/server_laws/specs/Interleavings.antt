@@ -1,5 +1,5 @@
--- The events at several replicas as one sequence: an interleaving of the journals that their locks
--- guard. Nothing here speaks of a world.
+-- The events at several replicas as one sequence: an interleaving of their whole histories, of
+-- which the journals that their locks guard are the ends. Nothing here speaks of a world.
 
 use Rattle.std.specs.Prelude.{◌≡◌, ◌⊎◌, ℕ, ◌≤◌, ◌==◌, List, [], ◌∷◌, ◌++◌, Option, None, Some}
 use Rattle.std.specs.Prelude.{if◌then◌else◌}
@@ -7,7 +7,7 @@ use Rattle.crdt_ops.specs.declared.op.Op.{Op}
 use Rattle.imap_node.specs.Issues.{issued_by}
 use Rattle.imap_node.specs.Nodes.{NodeState, unused_node}
 use Rattle.merge_laws.specs.Orders.{IsIn}
-use Rattle.replica_lock.specs.Histories.{LeadsTo, BookState}
+use Rattle.replica_lock.specs.Histories.{BookState, HasPast, IsPast, LeadsTo, book_after_forget}
 use Rattle.replica_lock.specs.Steps.{IsStep}
 use Rattle.replica_lock.specs.declared.book.JournalEntry.{JournalEntry}
 use Rattle.replica_lock.specs.declared.event.BookEvent.TheVariants.{Deliver}
@@ -27,11 +27,18 @@ entries_of_replica (item ∷ interleaving) name =
     if name == item.replica then item.entry ∷ entries_of_replica interleaving name
     else entries_of_replica interleaving name
 
--- The interleaving has the entries of each of the journals, in their order, and no others.
+-- These entries are a whole history of the book: entries that it may have forgotten, and then its
+-- journal.
+abbrev pub IsWholeHistory : BookState → List JournalEntry → Type 0
+IsWholeHistory book entries =
+    (past : List JournalEntry) × IsPast book past × (entries ≡ past ++ book.journal)
+
+-- The interleaving has the entries of a whole history of each of the books, in their order, and no
+-- others.
 pub record IsInterleavingOf (books : List BookState) (interleaving : List ReplicaEntry) :
     Type 0 where
   pub whole : (book : BookState) → IsIn book books
-      → entries_of_replica interleaving book.node.start.replica ≡ book.journal
+      → IsWholeHistory book (entries_of_replica interleaving book.node.start.replica)
   pub only : (item : ReplicaEntry) → IsIn item interleaving
       → (book : BookState) × IsIn book books × (book.node.start.replica ≡ item.replica)
 
@@ -69,27 +76,27 @@ AreKnownBeforeDelivery interleaving =
 
 -- ---- the journals under the locks
 
--- The replica is the one that results from a new one by the entries of its journal, in their order,
--- with their recorded outcomes. Its UIDs began with 1 or more.
+-- The replica is the one that results from a new one by a whole history of the book: its entries,
+-- in their order, with their recorded outcomes. Its UIDs began with 1 or more.
 pub record HasHistory (book : BookState) : Type 0 where
   pub from_one : 1 ≤ book.node.start.uid
-  pub history : LeadsTo (unused_node book.node.start) book.journal book.node
+  pub history : HasPast book
 
 -- `HasHistory` holds of each of the replicas.
 abbrev pub HaveHistories : List BookState → Type 0
 HaveHistories books = (book : BookState) → IsIn book books → HasHistory book
 
--- One of the journal's entries issued the operation or delivered it.
+-- One of the entries issued the operation or delivered it.
 abbrev pub HasIssuedOrDelivered : List JournalEntry → Op → Type 0
-HasIssuedOrDelivered journal op =
-    (entry : JournalEntry) × IsIn entry journal × IssuesOrDelivers entry op
+HasIssuedOrDelivered entries op =
+    (entry : JournalEntry) × IsIn entry entries × IssuesOrDelivers entry op
 
 -- The book of a replica at which nothing has happened.
 abbrev pub unused_book : Counters → BookState
-unused_book start = record { node = unused_node start; journal = [] }
+unused_book start = record { node = unused_node start; forgotten_count = 0; journal = [] }
 
--- One of the books takes a step, whose entry becomes its journal's last one. The other books stay
--- unchanged.
+-- One of the books takes a step, whose entry becomes its journal's last one, and forgets nothing.
+-- The other books stay unchanged.
 pub record TakesStep (books : List BookState) (item : ReplicaEntry) (later : List BookState) :
     Type 0 where
   pub front : List BookState
@@ -100,7 +107,17 @@ pub record TakesStep (books : List BookState) (item : ReplicaEntry) (later : Lis
   pub after : later ≡ front ++ new ∷ back
   pub named : item.replica ≡ old.node.start.replica
   pub step : IsStep old.node item.entry.event item.entry.outcome new.node
+  pub forgotten_count : new.forgotten_count ≡ old.forgotten_count
   pub entry : new.journal ≡ old.journal ++ item.entry ∷ []
+
+-- One of the books forgets its oldest entries. The other books stay unchanged.
+pub record ForgetsEntries (books : List BookState) (later : List BookState) : Type 0 where
+  pub front : List BookState
+  pub old : BookState
+  pub count : ℕ
+  pub back : List BookState
+  pub before : books ≡ front ++ old ∷ back
+  pub after : later ≡ front ++ book_after_forget count old ∷ back
 
 -- ---- interleavings that begin in any world
 

@@ -1,5 +1,5 @@
-//! Laws on interleavings of journals: statements over definitions, each a clause of a function that
-//! does nothing.
+//! Laws on interleavings of histories: statements over definitions, each a clause of a function
+//! that does nothing.
 
 ghost use Rattle.std.specs.Prelude.{◌≡◌, ℕ, List, [], ◌∷◌, ◌++◌, map};
 ghost use Rattle.causal_inbox.specs.Inbox.{IsClockOf};
@@ -8,11 +8,13 @@ ghost use Rattle.crdt_ops.specs.declared.op.Op.{Op};
 ghost use Rattle.imap_node.specs.Operations.{id_of};
 ghost use Rattle.merge_laws.specs.Orders.{IsIn};
 ghost use Rattle.replica_lock.specs.Histories.{BookState};
+ghost use Rattle.replica_lock.specs.declared.book.JournalEntry.{JournalEntry};
 ghost use Rattle.replica_lock.specs.declared.event.BookEvent.TheVariants.{Deliver};
 ghost use Rattle.server_laws.specs.WorldEvents.{event_of, outcome_of};
 ghost use Rattle.server_laws.specs.Interleavings.{AreKnownBeforeDelivery, AreIssuedBeforeDelivery};
-ghost use Rattle.server_laws.specs.Interleavings.{ReplicaEntry, HasHistory, HasIssuedOrDelivered};
-ghost use Rattle.server_laws.specs.Interleavings.{IsIssuedAmong, TakesStep, unused_book};
+ghost use Rattle.server_laws.specs.Interleavings.{ReplicaEntry, HasIssuedOrDelivered};
+ghost use Rattle.server_laws.specs.Interleavings.{ForgetsEntries, IsIssuedAmong, IsWholeHistory};
+ghost use Rattle.server_laws.specs.Interleavings.{TakesStep, unused_book};
 ghost use Rattle.server_laws.specs.BookWorlds.{AllLead, AreIssuedBeforeDeliveryFrom};
 ghost use Rattle.server_laws.specs.BookWorlds.{IsLinkedInterleaving, starting_world, current_world};
 ghost use Rattle.server_laws.specs.BookWorlds.{starts_of};
@@ -21,11 +23,11 @@ ghost use Rattle.world_core.specs.WorldPromises.{IsIssuedWorld};
 ghost use Rattle.world_core.specs.Replicas.{IsAt, IsIssuedIn, Replicas};
 ghost use Rattle.world_core.specs.Steps.{Runs};
 ghost use Rattle.uid_projection.specs.declared.first_numbers.Counters.{Counters};
-ghost use Rattle.world_core.specs.Worlds.{AreApart, AreFromOne};
+ghost use Rattle.world_core.specs.Worlds.{AreFromOne, HaveDistinctNames};
 
-/// An interleaving of journals in which each operation is issued before it is delivered is a run of
-/// a world: it leads from the replicas as they began to the replicas as they are, with the
-/// journals' events and outcomes. So the headline holds of it, and so does everything that holds of
+/// An interleaving of whole histories in which each operation is issued before it is delivered is a
+/// run of a world: it leads from the replicas as they began to the replicas as they are, with the
+/// entries' events and outcomes. So the headline holds of it, and so does everything that holds of
 /// worlds in which all operations were issued.
 ///
 /// `from_any_world` says the same of entries that begin in any such world. `issued`: each operation
@@ -54,11 +56,11 @@ pub fn interleavings_are_runs()
         → IsIssuedAmong interleaving op
         → IsIssuedIn (current_world books) op }
     ensures own_place { (books : List BookState)
-        → AreApart (starts_of books) → (book : BookState) → IsIn book books
+        → HaveDistinctNames (starts_of books) → (book : BookState) → IsIn book books
         → IsAt (current_world books) book.node.start.replica book.node }
     ensures clocks { (books : List BookState) (interleaving : List ReplicaEntry)
         → IsLinkedInterleaving books interleaving
-        → AreApart (starts_of books) → (one other : BookState) → IsIn one books
+        → HaveDistinctNames (starts_of books) → (one other : BookState) → IsIn one books
         → IsIn other books
         → (clock : List (ℕ × ℕ))
         → IsClockOf id_of one.node.applied clock
@@ -67,30 +69,35 @@ pub fn interleavings_are_runs()
 {}
 
 /// Links pass on operations in some replica's list, and that is enough for the premise of
-/// [`interleavings_are_runs`]. By `lists` the journal's entries issued or delivered everything in a
-/// replica's list; by `linked`, if each delivered operation was issued or delivered before, at
-/// whichever replica, then each was issued before.
+/// [`interleavings_are_runs`]. By `lists` the entries of a whole history issued or delivered
+/// everything in a replica's list; by `linked`, if each delivered operation was issued or delivered
+/// before, at whichever replica, then each was issued before.
 pub fn lists_may_be_passed_on()
-    ensures lists { (book : BookState) → HasHistory book → (op : Op) → IsIn op book.node.applied
-        → HasIssuedOrDelivered book.journal op }
+    ensures lists { (book : BookState) (entries : List JournalEntry)
+        → IsWholeHistory book entries → (op : Op) → IsIn op book.node.applied
+        → HasIssuedOrDelivered entries op }
     ensures linked { (interleaving : List ReplicaEntry)
         → AreKnownBeforeDelivery interleaving
         → AreIssuedBeforeDelivery interleaving }
 {}
 
-/// Such interleavings exist: unused replicas have the empty one (`begins`), and each step of a
-/// book, as its lock permits it, extends the interleaving by its entry, if an operation that the
-/// step delivers was issued (`grows`).
+/// Such interleavings exist: unused replicas have the empty one (`begins`), each step of a book, as
+/// its lock permits it, extends the interleaving by its entry, if an operation that the step
+/// delivers was issued (`grows`), and a book that forgets its oldest entries leaves it (`forgets`).
 pub fn interleavings_grow()
     ensures begins { (starts : List Counters) → AreFromOne starts
         → IsLinkedInterleaving (map unused_book starts) [] }
     ensures grows { (books later : List BookState) (interleaving : List ReplicaEntry)
         (item : ReplicaEntry)
         → IsLinkedInterleaving books interleaving
-        → AreApart (starts_of books)
+        → HaveDistinctNames (starts_of books)
         → TakesStep books item later
         → ((op : Op) → item.entry.event ≡ Deliver op → IsIssuedAmong interleaving op)
         → IsLinkedInterleaving later (interleaving ++ item ∷ []) }
+    ensures forgets { (books later : List BookState) (interleaving : List ReplicaEntry)
+        → IsLinkedInterleaving books interleaving
+        → ForgetsEntries books later
+        → IsLinkedInterleaving later interleaving }
     ensures apart { (books later : List BookState) (item : ReplicaEntry)
         → TakesStep books item later
         → starts_of later ≡ starts_of books }

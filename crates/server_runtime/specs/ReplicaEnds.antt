@@ -1,4 +1,4 @@
--- The ends of the replicas that a server ran, and their books, of which the headline of
+-- The ends of the replicas that a server ran, and their books, for which the headline of
 -- `server_laws` holds.
 
 use Rattle.std.specs.Prelude.{◌≡◌, ℕ, Bool, true, false, List, [], ◌∷◌, length, Some, slice_get}
@@ -13,7 +13,7 @@ books_of [] = []
 books_of (Finished book ∷ ends) = book ∷ books_of ends
 books_of (_ ∷ ends) = books_of ends
 
--- If the replica returned its book, the book bears this name.
+-- If the replica returned its book, the book has this name.
 abbrev pub IsEndOf : ℕ → ReplicaEnd → Type 0
 IsEndOf name (Finished book) = book.node.start.replica ≡ name
 IsEndOf name _ = Unit {0}
@@ -23,7 +23,7 @@ abbrev pub is_whole : ReplicaEnd → Bool
 is_whole Lost = false
 is_whole _ = true
 
--- There is one end for each of these names, in their order, and the books bear the names.
+-- There is one end for each of these names, in their order, and the books have these names.
 pub record AreEndsOf (names : List ℕ) (ends : List ReplicaEnd) : Type 0 where
   pub count : length ends ≡ length names
   pub each : (i : ℕ) (name : ℕ) (end : ReplicaEnd) → slice_get names i ≡ Some name

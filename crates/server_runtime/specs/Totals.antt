@@ -1,37 +1,18 @@
--- What a replica served, as counts over its journal.
+-- What a replica served, as counts over its whole history.
 
-use Rattle.std.specs.Prelude.{Bool, true, false, List, length, Ok}
+use Rattle.std.specs.Prelude.{◌≡◌, List, ◌++◌, length}
 use Rattle.std.specs.List.{filter}
-use Rattle.replica_lock.specs.Histories.{BookState}
+use Rattle.replica_lock.specs.Histories.{BookState, IsPast, entry_count, has_opened, is_command}
 use Rattle.replica_lock.specs.declared.book.JournalEntry.{JournalEntry}
-use Rattle.replica_lock.specs.declared.event.BookEvent.{BookEvent}
-use Rattle.replica_lock.specs.declared.event.BookEvent.TheVariants.{Command}
-use Rattle.replica_lock.specs.declared.outcome.Outcome.{Outcome}
-use Rattle.replica_lock.specs.declared.outcome.Outcome.TheVariants.{Opened}
 use Rattle.server_runtime.specs.declared.totals.Totals.{Totals}
 
--- Whether a session was opened.
-abbrev pub is_session_opened : Outcome → Bool
-is_session_opened (Opened (Ok n)) = true
-is_session_opened _ = false
-
-abbrev pub has_opened : JournalEntry → Bool
-has_opened entry = is_session_opened entry.outcome
-
--- Whether the event is a command.
-abbrev pub commands : BookEvent → Bool
-commands (Command n moment tagged) = true
-commands _ = false
-
-abbrev pub is_command : JournalEntry → Bool
-is_command entry = commands entry.event
-
--- What a replica served: the numbers of sessions opened, of commands, of operations applied and of
--- journal entries.
-abbrev pub totals_of : BookState → Totals
-totals_of book = record {
-  sessions = length (filter has_opened book.journal);
-  commands = length (filter is_command book.journal);
-  operations = length book.node.applied;
-  entries = length book.journal;
-}
+-- What a replica served: the numbers of operations applied, of entries ever made and of those that
+-- were forgotten; and over a whole history of the book, forgotten entries included, the numbers of
+-- sessions opened and of commands.
+pub record AreTotals (book : BookState) (totals : Totals) : Type 0 where
+  pub operations : totals.operations ≡ length book.node.applied
+  pub entries : totals.entries ≡ entry_count book
+  pub forgotten_count : totals.forgotten_count ≡ book.forgotten_count
+  pub history : (past : List JournalEntry) × IsPast book past
+      × (totals.sessions ≡ length (filter has_opened (past ++ book.journal)))
+      × (totals.commands ≡ length (filter is_command (past ++ book.journal)))

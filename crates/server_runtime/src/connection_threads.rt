@@ -10,7 +10,7 @@ use crate::session_port::SessionPort;
 use crate::session_reader::SessionReader;
 use crate::shared_phase::SharedPhase;
 use crate::socket::{SocketReader, SocketWriter};
-use imap_connection::{Ended, Sink, Source, Wire, converse};
+use imap_connection::{Ended, Sink, Source, Wire, converse, log_text_of};
 use imap_lex::Limits;
 use log::{Log, info};
 use replica_links::Gate;
@@ -78,7 +78,7 @@ pub fn converse_and_close<
         },
     );
     log_end(rt, ended);
-    if !is_gone(ended) {
+    if !is_unreachable(ended) {
         drain_and_close(stream);
     }
     pass.into_inner()
@@ -154,25 +154,11 @@ pub fn converse_over<L: Ledger, R: Wait + Clock, G: Gate, S: Source, K: Sink>(
 }
 
 fn log_end<R: Log>(rt: &R, ended: Ended) {
-    info!(rt; "connection ended: {}", name_of(ended));
-}
-
-/// The text for an end in the log.
-fn name_of(ended: Ended) -> &'static str {
-    match ended {
-        Ended::Logout => "logout",
-        Ended::PeerClosed => "closed by the client",
-        Ended::TooManySessions => "too many sessions",
-        Ended::Framing(_) => "bad framing",
-        Ended::ReadFailed => "read failed",
-        Ended::WriteFailed => "write failed",
-        Ended::NoMemory => "no memory",
-        Ended::Torn => "replica changed",
-    }
+    info!(rt; "connection ended: {}", log_text_of(ended));
 }
 
 /// Whether the client can't be reached any more, so that nothing can be sent to it.
-fn is_gone(ended: Ended) -> bool {
+fn is_unreachable(ended: Ended) -> bool {
     matches!(
         ended,
         Ended::PeerClosed | Ended::ReadFailed | Ended::WriteFailed

@@ -128,7 +128,7 @@ fn book_of_joining<R: Wait + Clock>(
     replica: ReplicaId,
     peer: usize,
 ) -> Option<Book> {
-    let ops = copies_of_applied(rt, alloc, server, peer)?;
+    let ops = request_op_copies(rt, alloc, server, peer)?;
     let book = Book::join(alloc, replica, &ops);
     drop(ops);
     book.ok()
@@ -136,7 +136,7 @@ fn book_of_joining<R: Wait + Clock>(
 
 /// Copies of the operations that the replica at a place applied. `None` if it hasn't joined, if
 /// memory runs out for the copies, or if it doesn't answer within a minute.
-fn copies_of_applied<R: Wait + Clock>(
+fn request_op_copies<R: Wait + Clock>(
     rt: &R,
     alloc: Global,
     server: &ServerState<'_>,

@@ -5,13 +5,14 @@
 //! own. A replica's threads share its [`ReplicaContext`], and others reach it by its
 //! [`ReplicaHandle`].
 //!
-//! The contract of [`serve`] says how each replica ended, and that the headline holds of the
-//! journals that are returned (`server_laws`). Other contracts are about one connection. That of
-//! [`converse_over`] says: one call of the replica opens the session, each command and each line of
-//! IDLE that the octets read spell is one call in that session, with entries in the journal in the
-//! same order, and the output is the greeting, the printed outcomes of these calls, and a BYE. That
-//! of [`totals_of`] says that the totals in the log are counts over the journal. The exchange
-//! between threads is tested and not proved.
+//! The contract of [`serve`] says how each replica ended, and that the headline holds of the books
+//! that are returned (`server_laws`), forgotten entries included. Other contracts are about one
+//! connection. That of [`converse_over`] says: one call of the replica opens the session, each
+//! command and each line of IDLE that the octets read spell is one call in that session, with
+//! entries in the journal in the same order, and the output is the greeting, the printed outcomes
+//! of these calls, and a BYE. That of [`totals_of`] says that the totals in the log are counts over
+//! the whole history, forgotten entries included. The exchange between threads is tested and not
+//! proved.
 //!
 //! # Decided
 //!

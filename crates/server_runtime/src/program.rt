@@ -182,6 +182,7 @@ pub fn open_all<'a, R: Print + Log + Net<Listener = TcpListener, Stream = TcpStr
         access: settings.access,
         replicas: handles,
         joining: JoiningReplicas::new(signals),
+        journal: settings.journal,
         stop: StopCounter::after(settings.stop_after),
     };
     Ok((server, parts))

@@ -316,7 +316,7 @@ fn run_replica<
 ) -> ReplicaEnd
     requires { (blank.name ≡ L.name) × (blank.parts ≡ L.parts) × (L.parts ≡ 4294967295) }
 {
-    let (shared, first) = Shared::<L>::new(blank, book);
+    let (shared, first) = Shared::<L>::with_bound(blank, book, server.journal);
     let context = ReplicaContext {
         server: server,
         own: inputs.own,
@@ -353,9 +353,10 @@ fn log_totals<R: Log>(rt: &R, book: &Book) {
         commands,
         operations,
         entries,
+        forgotten_count,
     } = totals_of(book);
     let replica = book.node().replica().id().get();
-    info!(rt; "replica {replica} served {sessions} sessions and {commands} commands; it applied {operations} operations, and its journal has {entries} entries");
+    info!(rt; "replica {replica} served {sessions} sessions and {commands} commands; it applied {operations} operations, and its journal had {entries} entries, of which it forgot {forgotten_count}");
 }
 
 /// Takes and answers messages from the other replicas until the server stops, and returns the pass.
@@ -382,8 +383,10 @@ fn run_link<L: Ledger, R: Wait + Clock>(
     taker.into_pass()
 }
 
-/// Adds a pass to those that can be used again. If memory runs out, the pass is lost.
-fn give_back<L: Ledger, R: Wait>(rt: &R, returned: &Mutex<Vec<Pass<L>>>, pass: Pass<L>) {
+/// Adds a pass to those that can be used again, without what it still stores of its last calls. If
+/// memory runs out, the pass is lost.
+fn return_pass<L: Ledger, R: Wait>(rt: &R, returned: &Mutex<Vec<Pass<L>>>, mut pass: Pass<L>) {
+    pass.drop_spent();
     let _ = returned.lock(rt).push(pass);
 }
 
@@ -475,7 +478,7 @@ fn serve_listener<
         if let Some(pass) = link_pass {
             let _ = scope.spawn(move || {
                 let pass = run_link(rt, alloc, served.context, pass, served.inputs);
-                give_back(rt, served.returned, pass)
+                return_pass(rt, served.returned, pass)
             });
         }
         if let Some(pass) = copy_pass {
@@ -487,7 +490,7 @@ fn serve_listener<
                     pass,
                     &served.inputs.copy_requests,
                 );
-                give_back(rt, served.returned, pass)
+                return_pass(rt, served.returned, pass)
             });
         }
         for stream in served.inputs.listener.incoming() {
@@ -509,7 +512,7 @@ fn serve_listener<
             };
             let _ = scope.spawn(move || {
                 let pass = serve_connection(rt, alloc, served.context, accepted);
-                give_back(rt, served.returned, pass);
+                return_pass(rt, served.returned, pass);
                 end_one(rt, served.context.server)
             });
         }

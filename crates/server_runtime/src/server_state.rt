@@ -52,6 +52,8 @@ pub struct ServerState<'a> {
     pub replicas: Vec<ReplicaHandle>,
     /// The replicas that are to join.
     pub joining: JoiningReplicas,
+    /// The most octets that each replica's journal may take; `None` if there is no bound.
+    pub journal: Option<u64>,
     /// When the server stops.
     pub stop: StopCounter,
 }

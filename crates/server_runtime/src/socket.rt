@@ -25,7 +25,8 @@ const MAX_POLLS: u32 = 100_000;
 pub struct SocketReader<'a, R: Clock> {
     rt: &'a R,
     stream: &'a TcpStream,
-    /// Whether the next read polls before it sleeps. The socket doesn't block then.
+    /// Whether the next read polls before it sleeps. The socket doesn't block then, unless a write
+    /// has set it to block.
     polls: bool,
 }
 

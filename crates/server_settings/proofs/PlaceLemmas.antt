@@ -25,9 +25,9 @@ unnamed_suc name (place ∷ places) (suc i) d l none n =
     let p = or_parts (place.replica == name) (is_named name (names_of (take i places))) none in
     rw p.0 (unnamed_suc name places i d (omega arith) p.1 n)
 
-pub unnamed_more : (name : ℕ) (places : List Place) (i : ℕ) (d : Place) → i < length places → is_named name (names_of (take i places)) ≡ false → (get_or places i d).replica ≢ name
+pub unnamed_take : (name : ℕ) (places : List Place) (i : ℕ) (d : Place) → i < length places → is_named name (names_of (take i places)) ≡ false → (get_or places i d).replica ≢ name
     → is_named name (names_of (take (i + 1) places)) ≡ false
-unnamed_more name places i d l none n =
+unnamed_take name places i d l none n =
     let k : suc i ≡ i + 1 = omega arith in
     subst (λ (m : ℕ). is_named name (names_of (take m places)) ≡ false) k (unnamed_suc name places i d l none n)
 
@@ -39,9 +39,9 @@ unjoined_suc name (join ∷ joins) (suc i) d l none n =
     let p = or_parts (join.place.replica == name) (is_named name (join_names_of (take i joins))) none in
     rw p.0 (unjoined_suc name joins i d (omega arith) p.1 n)
 
-pub unjoined_more : (name : ℕ) (joins : List Join) (i : ℕ) (d : Join) → i < length joins → is_named name (join_names_of (take i joins)) ≡ false → (get_or joins i d).place.replica ≢ name
+pub unjoined_take : (name : ℕ) (joins : List Join) (i : ℕ) (d : Join) → i < length joins → is_named name (join_names_of (take i joins)) ≡ false → (get_or joins i d).place.replica ≢ name
     → is_named name (join_names_of (take (i + 1) joins)) ≡ false
-unjoined_more name joins i d l none n =
+unjoined_take name joins i d l none n =
     let k : suc i ≡ i + 1 = omega arith in
     subst (λ (m : ℕ). is_named name (join_names_of (take m joins)) ≡ false) k (unjoined_suc name joins i d l none n)
 

@@ -38,9 +38,11 @@ with_access_words app =
     with_rule (with_rule (with_rule app preauth_word) (word_with_value (codes "user")))
     (word_with_value (codes "pass"))
 
--- The words for replicas, for replicas that join, and for the end of the server.
+-- The words for the end of the server, for journals, for replicas that join, and for replicas.
 abbrev pub with_replica_words : App → App
-with_replica_words app = with_rule (with_rule (with_rule app stop_word) join_word) replica_word
+with_replica_words app =
+    with_rule (with_rule (with_rule (with_rule app stop_word) (word_with_value (codes "journal")))
+    join_word) replica_word
 
 -- All words that the program knows.
 abbrev pub server_words : App

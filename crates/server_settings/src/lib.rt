@@ -4,7 +4,7 @@
 //! [`read_settings`] reads the words. Its contract says that the access is the one that clap's
 //! matches name, that the names of the replicas are distinct numbers from 1 to 65,535, and that
 //! each replica that joins takes the operations of one that exists before it. [`place_of`] and
-//! [`join_of`] read a replica's word, and return a value exactly if the text has the documented
+//! [`join_of`] read a replica's word, and return a value exactly when the text has the documented
 //! form. [`settings_or_status`] also prints what is wrong or the help, and returns the program's
 //! status; [`listen_at`] listens at a replica's address.
 //!

@@ -3,11 +3,10 @@
 ghost use Rattle.std.specs.Prelude.{ℕ, ◌≡◌, ◌++◌, ◌∷◌, ◌<◌, [], false, true, IfNone, IfOk, IfSome};
 ghost use Rattle.std.specs.Prelude.{OnOk, Some, map, slice_get};
 ghost use Rattle.clap.specs.Words.{app_of, found_of, matches_of, rows_of};
-ghost use Rattle.clap_laws.specs.Words.{Add, IsWord};
-ghost use Rattle.server_settings.specs.Options.{NamesAccess, join_word, preauth_word};
-ghost use Rattle.server_settings.specs.Options.{word_with_value};
-ghost use Rattle.server_settings.specs.Options.{replica_word, server_words, stop_word};
-ghost use Rattle.server_settings.specs.Options.{with_access_words, with_replica_words};
+ghost use Rattle.clap_laws.specs.Words.{AddWords, IsWord};
+ghost use Rattle.server_settings.specs.Options.{NamesAccess, join_word, preauth_word, replica_word};
+ghost use Rattle.server_settings.specs.Options.{server_words, stop_word, with_access_words};
+ghost use Rattle.server_settings.specs.Options.{with_replica_words, word_with_value};
 ghost use Rattle.server_settings.specs.Settings.{AreNames, HavePeers, IsJoinText, IsNameText};
 ghost use Rattle.server_settings.specs.Settings.{IsPlaceText, access_of, is_named, names_of};
 ghost use Rattle.server_settings.specs.Settings.{join_names_of};
@@ -59,6 +58,8 @@ pub struct CommandLine<'a> {
     pub access: Access<'a>,
     /// The number of connections after which the server stops, if it does.
     pub stop_after: Option<u32>,
+    /// The most octets that each replica's journal may take; `None` if there is no bound.
+    pub journal: Option<u64>,
     /// The replicas in the order in which they were given; their names are distinct.
     pub places: Vec<Place<'a>>,
     /// The replicas that are to join, in their order; their names are new.
@@ -78,13 +79,13 @@ impl CommandLine<'_> {
         if let Some(place) = place_among(&self.places, name) {
             return Some(place);
         }
-        let place = joining_among(&self.joins, name)?;
+        let place = place_among_joins(&self.joins, name)?;
         Some(self.places.len() + place)
     }
 }
 
 /// The place of the replica with this name, if any.
-#[tactic(auto, using(crate::proofs::PlaceLemmas::name_at, crate::proofs::PlaceLemmas::unnamed_more))]
+#[tactic(auto, using(crate::proofs::PlaceLemmas::name_at, crate::proofs::PlaceLemmas::unnamed_take))]
 fn place_among(places: &[Place<'_>], name: u16) -> Option<usize>
     ensures some { IfSome result (λ place. slice_get (names_of places.now) place ≡ Some name) }
     ensures none { IfNone result (is_named name (names_of places.now) ≡ false) }
@@ -98,8 +99,8 @@ fn place_among(places: &[Place<'_>], name: u16) -> Option<usize>
 }
 
 /// The place of the replica with this name among those that are to join, if any.
-#[tactic(auto, using(crate::proofs::PlaceLemmas::join_name_at, crate::proofs::PlaceLemmas::unjoined_more))]
-fn joining_among(joins: &[Join<'_>], name: u16) -> Option<usize>
+#[tactic(auto, using(crate::proofs::PlaceLemmas::join_name_at, crate::proofs::PlaceLemmas::unjoined_take))]
+fn place_among_joins(joins: &[Join<'_>], name: u16) -> Option<usize>
     ensures some { IfSome result (λ place. slice_get (join_names_of joins.now) place ≡ Some name) }
     ensures none { IfNone result (is_named name (join_names_of joins.now) ≡ false) }
 {
@@ -140,11 +141,11 @@ pub enum UsageFault<'a> {
     NoMemory,
 }
 
-/// Reads the words of a command line; the first is the program's name. Errors are found in
-/// this order: in the words, in the access, in the replicas in their order, and in those that are
-/// to join in theirs. The access is the one that clap finds in the words: only `--preauth`, or
-/// `--user` and `--pass` without it. The replicas' names are distinct, from 1 to 65,535; each that
-/// joins takes the operations of one that exists before it.
+/// Reads the words of a command line; the first is the program's name. Errors are found in this
+/// order: in the words, in the access, in the journals' bound, in the replicas in their order, and
+/// in those that are to join in theirs. The access is the one that clap finds in the words: only
+/// `--preauth`, or `--user` and `--pass` without it. The replicas' names are distinct, from 1 to
+/// 65,535; each that joins takes the operations of one that exists before it.
 pub fn read_settings<'a>(
     alloc: Global,
     words: &'a [String],
@@ -164,6 +165,10 @@ pub fn read_settings<'a>(
         return Err(SettingsFault::Usage(UsageFault::Access));
     };
     let stop_after = matches.get_one::<u32>("stop-after");
+    let journal = match journal_bound(alloc, matches.get_str("journal")) {
+        Ok(journal) => journal,
+        Err(error) => return Err(SettingsFault::Words(error)),
+    };
     let mut names = Vec::new(alloc);
     let places = match places_of(
         alloc,
@@ -180,6 +185,7 @@ pub fn read_settings<'a>(
     Ok(CommandLine {
         access,
         stop_after,
+        journal,
         places,
         joins,
     })
@@ -214,11 +220,11 @@ fn command_words<'a>(alloc: Global) -> Result<Command<'a>, AllocError>
 const ABOUT: &str =
     "Serves the mail of one user over IMAP, at several replicas that take changes from each other. Mail lives as long as the program runs.";
 
-/// The arguments for users, followed by those for replicas, for replicas that join, and for the end
-/// of the server.
+/// The arguments for users, followed by those for the end of the server, for journals, for replicas
+/// that join, and for replicas.
 fn known_words<'a>(alloc: Global) -> Result<Vec<Arg<'a>>, AllocError>
     ensures { IfOk result
-        (λ words. Add words.items (λ app. with_replica_words (with_access_words app))) }
+        (λ words. AddWords words.items (λ app. with_replica_words (with_access_words app))) }
 {
     let words = vec![in alloc;
         preauth(alloc),
@@ -229,7 +235,12 @@ fn known_words<'a>(alloc: Global) -> Result<Vec<Arg<'a>>, AllocError>
             "This is the password with which the user logs in.",
         ),
         stop_after(alloc),
-        joining(alloc),
+        word_with_value(
+            alloc,
+            "journal",
+            "Each replica's journal takes at most this many octets, and forgets its oldest entries: a number, with K, M or G for powers of 1,024, or all for no bound. Otherwise it is 64M.",
+        ),
+        join_arg(alloc),
         replica(alloc),
     ]?;
     Ok(words)
@@ -265,7 +276,7 @@ fn stop_after<'a>(alloc: Global) -> Arg<'a>
     .value_parser(ValueParser::unsigned(0, 4_294_967_295))
 }
 
-fn joining<'a>(alloc: Global) -> Arg<'a>
+fn join_arg<'a>(alloc: Global) -> Arg<'a>
     ensures { IsWord result join_word }
 {
     Arg::new(alloc, "join")
@@ -286,6 +297,49 @@ fn replica<'a>(alloc: Global) -> Arg<'a>
         .help(
             "Each replica has a number from 1 to 65535 and an address at which it listens, as in 1=127.0.0.1:1431.",
         )
+}
+
+/// The bound of a journal unless the command line names one: 64M.
+const JOURNAL_BOUND: u64 = 64 << 20;
+
+/// The most octets that each journal may take, by the value of `--journal`; `None` if there is no
+/// bound. `Err` if the value is no number that fits, or if memory runs out.
+fn journal_bound<'a>(alloc: Global, value: Option<&'a str>) -> Result<Option<u64>, Error> {
+    let Some(value) = value else {
+        return Ok(Some(JOURNAL_BOUND));
+    };
+    if value == "all" {
+        return Ok(None);
+    }
+    let (digits, unit) = split_unit(value);
+    let count = number_of(alloc, digits, u64::MAX / unit)?;
+    Ok(Some(count.saturating_mul(unit)))
+}
+
+/// A number's text without its unit, and the unit: `K`, `M` and `G` are powers of 1,024.
+fn split_unit(text: &str) -> (&str, u64)
+    ensures { 0 < result.1 }
+{
+    if let Some(digits) = text.strip_suffix('K') {
+        return (digits, 1 << 10);
+    }
+    if let Some(digits) = text.strip_suffix('M') {
+        return (digits, 1 << 20);
+    }
+    if let Some(digits) = text.strip_suffix('G') {
+        return (digits, 1 << 30);
+    }
+    (text, 1)
+}
+
+/// The number from 0 to `most` that this text is; `Err` is what clap says of any other text.
+fn number_of(alloc: Global, text: &str, most: u64) -> Result<u64, Error> {
+    let words = ["imap_server", "--journal", text];
+    let number = word_with_value(alloc, "journal", "").value_parser(ValueParser::unsigned(0, most));
+    let command = Command::new(alloc, "imap_server").arg(number)?;
+    let matches = command.try_get_matches_from(&words)?;
+    // The words give the number, so that there is one.
+    Ok(matches.get_one::<u64>("journal").unwrap_or(0))
 }
 
 /// The access that these options name: only `--preauth`, or `--user` and `--pass` without it.

@@ -111,7 +111,7 @@ fn are(received: &[Vec<u8>], expected: &[&[u8]]) -> bool {
 }
 
 /// Whether the second client was answered while the first waited, and the first afterwards.
-fn second_is_served(outcome: &Option<Outcome>) -> bool {
+fn is_second_served(outcome: &Option<Outcome>) -> bool {
     match outcome {
         Some(outcome) => {
             outcome.satisfied == 1 && are(&outcome.first, &[ONE, TWO]) && outcome.entries == (9, 0)
@@ -123,7 +123,7 @@ fn second_is_served(outcome: &Option<Outcome>) -> bool {
 #[test]
 fn a_connection_waits_for_another(rt: HostRuntime) {
     let outcome = outcome(&rt, rt.alloc(), one_after_another(rt.alloc()));
-    assert!(rt; second_is_served(&outcome));
+    assert!(rt; is_second_served(&outcome));
 }
 
 /// A client that sends two NOOPs and a LOGOUT in one piece, after a gate that records.
@@ -160,7 +160,7 @@ fn a_gate_is_passed_for_each_command(rt: HostRuntime) {
 }
 
 /// Whether the other replica's client was answered while the lock was held.
-fn other_is_served(outcome: &Option<Outcome>) -> bool {
+fn is_other_served(outcome: &Option<Outcome>) -> bool {
     match outcome {
         Some(outcome) => {
             (outcome.satisfied, outcome.received) == (1, 1)
@@ -175,11 +175,11 @@ fn other_is_served(outcome: &Option<Outcome>) -> bool {
 fn a_connection_is_served_while_a_replica_is_held(rt: HostRuntime) {
     let plan = while_held(rt.alloc(), 0, 1, b"a NOOP\r\nb LOGOUT\r\n", 1, TURNS);
     let outcome = outcome(&rt, rt.alloc(), plan);
-    assert!(rt; other_is_served(&outcome));
+    assert!(rt; is_other_served(&outcome));
 }
 
 /// Whether the client was answered, and not while the lock was held.
-fn own_waits(outcome: &Option<Outcome>) -> bool {
+fn has_waited(outcome: &Option<Outcome>) -> bool {
     match outcome {
         Some(outcome) => {
             (outcome.satisfied, outcome.received) == (1, 0)
@@ -194,7 +194,7 @@ fn own_waits(outcome: &Option<Outcome>) -> bool {
 fn a_connection_waits_for_its_replica(rt: HostRuntime) {
     let plan = while_held(rt.alloc(), 1, 0, b"a NOOP\r\nb LOGOUT\r\n", 1, TURNS);
     let outcome = outcome(&rt, rt.alloc(), plan);
-    assert!(rt; own_waits(&outcome));
+    assert!(rt; has_waited(&outcome));
 }
 
 /// Whether a text is part of another.
@@ -256,7 +256,7 @@ fn times_of(uids: &[u32], uid: u32) -> u32 {
 /// The result of fifty clients of each replica: how many gates saw the lock held, how many clients
 /// read everything while it was, how many calls each replica counted, and whether at both all
 /// were served and each UID was assigned once; the UIDVALIDITY of INBOX is the replica's number.
-fn crowds_result(alloc: Global, outcome: &Option<Outcome>) -> Option<(u64, u64, u64, u64, bool)> {
+fn result_of_crowd(alloc: Global, outcome: &Option<Outcome>) -> Option<(u64, u64, u64, u64, bool)> {
     let outcome = outcome.as_ref()?;
     let first = are_all_served(&outcome.first)
         && each_uid_once(alloc, b"b OK [APPENDUID 1 ", &outcome.first);
@@ -277,7 +277,7 @@ fn a_crowd_is_served_while_a_replica_is_held(rt: HostRuntime) {
     let plan = while_held(alloc, 50, 50, CROWD_INPUT, 50, TURNS);
     let outcome = outcome(&rt, alloc, plan);
     assert_eq!(rt;
-        crowds_result(alloc, &outcome),
+        result_of_crowd(alloc, &outcome),
         Some((100, 50, 350, 350, true))
     );
 }

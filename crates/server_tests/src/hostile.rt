@@ -42,14 +42,14 @@ fn caller(alloc: Global, manner: Manner, way: Way, text: &[u8]) -> Result<Caller
 }
 
 /// A client that sends a text, and then octets without an end of line, up to `count` octets in all.
-fn endless(alloc: Global, text: &[u8], count: usize) -> Result<Caller, AllocError> {
+fn endless_client(alloc: Global, text: &[u8], count: usize) -> Result<Caller, AllocError> {
     let mut caller = caller(alloc, Manner::Reads, Way::Open, text)?;
     caller.input.resize(count, 120)?;
     Ok(caller)
 }
 
 /// A client that appends a message of a million octets, asks for it forty times, and reads nothing.
-fn deaf(alloc: Global) -> Result<Caller, AllocError> {
+fn deaf_client(alloc: Global) -> Result<Caller, AllocError> {
     let begin = b"a SELECT INBOX\r\nb APPEND INBOX {1000000+}\r\n";
     let mut caller = caller(alloc, Manner::Deaf(READERS), Way::Counting, begin)?;
     let length = caller.input.len().saturating_add(1_000_000);
@@ -65,10 +65,10 @@ fn deaf(alloc: Global) -> Result<Caller, AllocError> {
 
 /// Adds a client that doesn't read, one that sends no literal, and one whose line doesn't end.
 fn add_endless(alloc: Global, clients: &mut Vec<Caller>) -> Result<(), AllocError> {
-    clients.push(deaf(alloc)?)?;
+    clients.push(deaf_client(alloc)?)?;
     let partial = b"a APPEND INBOX {10}\r\nabc";
     clients.push(caller(alloc, Manner::Waits(READERS), Way::Open, partial)?)?;
-    clients.push(endless(alloc, b"a NOOP ", 10_000_000)?)?;
+    clients.push(endless_client(alloc, b"a NOOP ", 10_000_000)?)?;
     Ok(())
 }
 
@@ -76,7 +76,7 @@ fn add_endless(alloc: Global, clients: &mut Vec<Caller>) -> Result<(), AllocErro
 fn add_others(alloc: Global, clients: &mut Vec<Caller>) -> Result<(), AllocError> {
     let nul = b"a NOOP\r\n\0b NOOP\r\n";
     clients.push(caller(alloc, Manner::Reads, Way::After(4), nul)?)?;
-    clients.push(endless(alloc, b"a APPEND INBOX {1048577+}\r\n", 1_050_000)?)?;
+    clients.push(endless_client(alloc, b"a APPEND INBOX {1048577+}\r\n", 1_050_000)?)?;
     let good = b"a NOOP\r\nb LOGOUT\r\n";
     clients.push(caller(alloc, Manner::Reads, Way::After(4), good)?)?;
     Ok(())

@@ -1,6 +1,6 @@
 //! Tests of the server over sockets of the loopback interface.
 //!
-//! Servers run as their command lines ask: a client at one replica learns of what another client
+//! Servers run as their command lines say: a client at one replica learns of what another client
 //! does at another replica, a replica joins when the first connection has ended, a run continues if
 //! a replica can't join, nobody logs in without both user and password, messages are dated by the
 //! clock, and a client that reads late receives everything. Connections are served concurrently:

@@ -102,7 +102,7 @@ fn serves_alone<
     let line = format!(in alloc;
         "imap_server --preauth --stop-after 2 --join 2={address}/1 1=127.0.0.1:0"
     ).ok()?;
-    let fine = serves_well(rt, alloc, &line, Scenario::Alone);
+    let fine = serves_well(rt, alloc, &line, Scenario::FailedJoin);
     drop(taken);
     fine
 }

@@ -144,6 +144,7 @@ fn sent<R: Wait>(rt: &R, alloc: Global) -> Option<[Parcel; 6]> {
         access: Access::Preauth,
         replicas: handles,
         joining: JoiningReplicas::new(Vec::new(alloc)),
+        journal: None,
         stop: StopCounter::after(None),
     };
     match send_all(rt, alloc, &server) {

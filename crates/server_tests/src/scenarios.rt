@@ -19,7 +19,7 @@ pub enum Scenario {
     /// Clients of two replicas, and one of a third that joins.
     Three,
     /// Clients of a replica, while another can't join.
-    Alone,
+    FailedJoin,
     /// A client that must log in.
     Password,
     /// A client that asks for the date of its message.
@@ -54,7 +54,7 @@ impl Scenario {
         match self {
             Scenario::Two => play_two(rt, alloc, server),
             Scenario::Three => play_three(rt, alloc, server),
-            Scenario::Alone => play_alone(rt, alloc, server),
+            Scenario::FailedJoin => play_failed_join(rt, alloc, server),
             Scenario::Password => play_password(rt, alloc, server),
             Scenario::Clock => play_clock(rt, alloc, server),
             Scenario::Late => play_late(rt, alloc, server),
@@ -231,7 +231,7 @@ fn append_in_turn(second: &mut Client, third: &mut Client) {
 
 /// Runs two clients of one replica, one after the other, while another replica, which was to join
 /// between them, can't; true if each received the expected answers.
-fn play_alone<R: Wait + Clock + Net<Listener = TcpListener, Stream = TcpStream>>(
+fn play_failed_join<R: Wait + Clock + Net<Listener = TcpListener, Stream = TcpStream>>(
     rt: &R,
     alloc: Global,
     server: &ServerState<'_>,
@@ -441,14 +441,14 @@ fn is_dated(alloc: Global, client: &Client, first: u64, last: u64) -> bool {
 
 /// Whether the client received this date of its message.
 fn dates(alloc: Global, client: &Client, seconds: u64) -> bool {
-    match dated(alloc, seconds) {
+    match date_answer(alloc, seconds) {
         Some(text) => client.has_received(&text),
         None => false,
     }
 }
 
 /// The answer with the date of a message appended at this second.
-fn dated(alloc: Global, seconds: u64) -> Option<Vec<u8>> {
+fn date_answer(alloc: Global, seconds: u64) -> Option<Vec<u8>> {
     let date = civil(Moment::new(seconds)?);
     let mut text = Vec::new(alloc);
     text.extend_from_slice(b"* 1 FETCH (INTERNALDATE ").ok()?;

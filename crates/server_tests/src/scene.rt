@@ -169,7 +169,7 @@ fn connect_all<R: Net<Listener = TcpListener, Stream = TcpStream>>(
 }
 
 /// Both sides of these clients' connections.
-fn connected<R: Net<Listener = TcpListener, Stream = TcpStream>>(
+fn connect_side<R: Net<Listener = TcpListener, Stream = TcpStream>>(
     rt: &R,
     alloc: Global,
     listener: &TcpListener,
@@ -199,11 +199,11 @@ fn connect_both<R: Net<Listener = TcpListener, Stream = TcpStream>>(
     let Ok(listener) = TcpListener::bind(rt, "127.0.0.1:0") else {
         return None;
     };
-    let Ok(side) = connected(rt, alloc, &listener, first) else {
+    let Ok(side) = connect_side(rt, alloc, &listener, first) else {
         drop(second);
         return None;
     };
-    let Ok(other_side) = connected(rt, alloc, &listener, second) else {
+    let Ok(other_side) = connect_side(rt, alloc, &listener, second) else {
         drop(side);
         return None;
     };
@@ -406,7 +406,7 @@ fn serve_while_held<
 }
 
 /// Serves both replicas' connections as `serve_while_held` does, and owns the context meanwhile.
-fn serve_stage<
+fn serve_owned<
     L: Ledger + Send + Sync,
     M: Ledger + Send + Sync,
     R: Threads + Wait + Clock + Log + Sync,
@@ -508,10 +508,11 @@ fn played<L: Ledger + Send + Sync, M: Ledger + Send + Sync, R: Threads + Wait + 
         access: Access::Preauth,
         replicas: Vec::new(alloc),
         joining: JoiningReplicas::new(Vec::new(alloc)),
+        journal: None,
         stop: StopCounter::after(None),
     };
     let signs = Signs::new();
-    let (received, (served, other_served)) = serve_stage(
+    let (received, (served, other_served)) = serve_owned(
         rt,
         alloc,
         Setup {

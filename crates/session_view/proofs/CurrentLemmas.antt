@@ -8,7 +8,7 @@ use Rattle.imap_types.specs.declared.flags.Flags.{Flags}
 use Rattle.mailbox_rows.specs.ListedMessage.{ListedMessage}
 use Rattle.mailbox_rows.specs.RowViews.{rows_after_uid, row_of}
 use Rattle.session_view.specs.NoteChanges.{NoteAllChanges, flags_at}
-use Rattle.session_view.specs.Notes.{Covers, IsSame, is_named}
+use Rattle.session_view.specs.Notes.{NameAllDifferences, IsSame, is_named}
 use Rattle.session_view.specs.Sync.{exists_of_sync, fetches_of_sync, expunges, is_listed, expunges_of_sync, refreshed_entry, staying_entries, sync_answers, view_after_sync}
 use Rattle.session_view.specs.Views.{AreRising, entries_of, last_from, last_uid}
 use Rattle.session_view.specs.declared.view_entry.ViewEntry.{ViewEntry}
@@ -51,7 +51,7 @@ none_beyond n (row ∷ rows) h =
 -- ---- no message is gone or changed
 
 module _ (rows : List ListedMessage) where
-  all_listed : (es : List ViewEntry) → Covers [] rows es → filter (is_listed rows) es ≡ es
+  all_listed : (es : List ViewEntry) → NameAllDifferences [] rows es → filter (is_listed rows) es ≡ es
   all_listed [] h = refl
   all_listed (e ∷ es) h =
       elim h.0 [
@@ -59,11 +59,11 @@ module _ (rows : List ListedMessage) where
         | inr s ↦ rw (s.1) (ap (λ (es' : List ViewEntry). e ∷ es') (all_listed es h.1))
       ]
 
-  all_stay : (kind : SyncKind) (es : List ViewEntry) → Covers [] rows es → staying_entries kind rows es ≡ es
+  all_stay : (kind : SyncKind) (es : List ViewEntry) → NameAllDifferences [] rows es → staying_entries kind rows es ≡ es
   all_stay Full es h = all_listed es h
   all_stay Partial es h = refl
 
-  no_losses_from : (n : ℕ) (es : List ViewEntry) → Covers [] rows es → expunges rows n es ≡ []
+  no_losses_from : (n : ℕ) (es : List ViewEntry) → NameAllDifferences [] rows es → expunges rows n es ≡ []
   no_losses_from n [] h = refl
   no_losses_from n (e ∷ es) h =
       elim h.0 [
@@ -71,11 +71,11 @@ module _ (rows : List ListedMessage) where
         | inr s ↦ rw (no_losses_from (n + 1) es h.1) (no_loss rows n e s)
       ]
 
-  no_losses : (kind : SyncKind) (es : List ViewEntry) → Covers [] rows es → expunges_of_sync kind rows es ≡ []
+  no_losses : (kind : SyncKind) (es : List ViewEntry) → NameAllDifferences [] rows es → expunges_of_sync kind rows es ≡ []
   no_losses Full es h = no_losses_from 1 es h
   no_losses Partial es h = refl
 
-  no_changes : (modseq : Bool) (n : ℕ) (es : List ViewEntry) → Covers [] rows es → fetches_of_sync modseq rows n es ≡ []
+  no_changes : (modseq : Bool) (n : ℕ) (es : List ViewEntry) → NameAllDifferences [] rows es → fetches_of_sync modseq rows n es ≡ []
   no_changes modseq n [] h = refl
   no_changes modseq n (e ∷ es) h =
       elim h.0 [
@@ -83,7 +83,7 @@ module _ (rows : List ListedMessage) where
         | inr s ↦ rw (no_change modseq rows n e s) (no_changes modseq (n + 1) es h.1)
       ]
 
-  all_fresh : (es : List ViewEntry) → Covers [] rows es → map (refreshed_entry rows) es ≡ es
+  all_fresh : (es : List ViewEntry) → NameAllDifferences [] rows es → map (refreshed_entry rows) es ≡ es
   all_fresh [] h = refl
   all_fresh (e ∷ es) h =
       elim h.0 [
@@ -95,7 +95,7 @@ module _ (rows : List ListedMessage) where
 
 -- ---- views that show what is listed
 
-pub covered : (rows : List ListedMessage) (view : List ViewEntry) → AreRising 1 view → NoteAllChanges [] rows view → Covers [] rows view
+pub covered : (rows : List ListedMessage) (view : List ViewEntry) → AreRising 1 view → NoteAllChanges [] rows view → NameAllDifferences [] rows view
 covered rows view r h = covers_noted [] [] rows view r refl (λ uid. refl) h
 
 pub no_new_rows : (rows : List ListedMessage) (view : List ViewEntry) → AreRising 1 view → NoteAllChanges [] rows view → rows_after_uid (last_uid view) rows ≡ []

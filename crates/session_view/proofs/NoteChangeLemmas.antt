@@ -8,7 +8,7 @@ use Rattle.mailbox_rows.specs.RowViews.{AreRisingRows, rows_after_uid, row_of}
 use Rattle.session_view.specs.NoteChanges.{NoteAllChanges, flags_at, gone_notes, is_noted, notes_left_by_sync, note_names, named_by_silent, silent_notes}
 use Rattle.session_view.specs.Replay.{with_flags_at}
 use Rattle.session_view.specs.Sync.{is_listed, refreshed_entry, refreshed_entry_by, view_after_sync}
-use Rattle.session_view.specs.Views.{AreRising, Knows, entries_of, has_uid, last_uid}
+use Rattle.session_view.specs.Views.{AreRising, LacksOnlyLaterRows, entries_of, has_uid, last_uid}
 use Rattle.session_view.specs.declared.notes.Note.{Note}
 use Rattle.session_view.specs.declared.notes.Note.TheVariants.{Ended, Gone}
 use Rattle.session_view.specs.declared.view_entry.ViewEntry.{ViewEntry}
@@ -45,7 +45,7 @@ shown rows view h uid = inl (ap (flags_at uid) h)
 
 -- ---- syncs
 
-pub full_noted : (rows : List ListedMessage) (view : List ViewEntry) → AreRisingRows 1 rows → AreRising 1 view → Knows view rows → NoteAllChanges (notes_left_by_sync Full rows view) rows (view_after_sync Full rows view)
+pub full_noted : (rows : List ListedMessage) (view : List ViewEntry) → AreRisingRows 1 rows → AreRising 1 view → LacksOnlyLaterRows view rows → NoteAllChanges (notes_left_by_sync Full rows view) rows (view_after_sync Full rows view)
 full_noted rows view r v k = shown rows (view_after_sync Full rows view) (full_shows rows view r v k)
 
 -- the messages of the view after a partial sync
@@ -102,7 +102,7 @@ module _ (rows : List ListedMessage) where
       ]
 
 -- all messages that the view lacks arrive
-arrivals_flags : (uid low : ℕ) (view : List ViewEntry) (rows : List ListedMessage) → low ≡ last_uid view → has_uid view uid ≡ false → Knows view rows → flags_at uid (entries_of (rows_after_uid low rows)) ≡ flags_at uid (entries_of rows)
+arrivals_flags : (uid low : ℕ) (view : List ViewEntry) (rows : List ListedMessage) → low ≡ last_uid view → has_uid view uid ≡ false → LacksOnlyLaterRows view rows → flags_at uid (entries_of (rows_after_uid low rows)) ≡ flags_at uid (entries_of rows)
 arrivals_flags uid low view [] q n k = refl
 arrivals_flags uid low view (row ∷ rows) q n k =
     elim (cases_Bool (nat_lt low row.uid)) [
@@ -118,7 +118,7 @@ arrivals_flags uid low view (row ∷ rows) q n k =
       ]
     ]
 
-pub partial_noted : (rows : List ListedMessage) (view : List ViewEntry) → Knows view rows → NoteAllChanges (notes_left_by_sync Partial rows view) rows (view_after_sync Partial rows view)
+pub partial_noted : (rows : List ListedMessage) (view : List ViewEntry) → LacksOnlyLaterRows view rows → NoteAllChanges (notes_left_by_sync Partial rows view) rows (view_after_sync Partial rows view)
 partial_noted rows view k uid =
     elim (cases_Bool (has_uid view uid)) [
       | inl has ↦ staying_or_gone rows uid view (entries_of (rows_after_uid (last_uid view) rows)) has

@@ -8,7 +8,7 @@ use Rattle.imap_answers.specs.declared.answer.Answer.TheVariants.{Expunge}
 use Rattle.mailbox_rows.specs.ListedMessage.{ListedMessage}
 use Rattle.mailbox_rows.specs.RowViews.{AreRisingRows, rows_after_uid, row_of}
 use Rattle.session_view.specs.NoteChanges.{AreAscending, all_fetched_flags, expunges_of_numbers, fetched_flags, gone_notes, notes_left_by_sync, patched_entries, without_from}
-use Rattle.session_view.specs.Notes.{Covers, IsSame, is_named}
+use Rattle.session_view.specs.Notes.{NameAllDifferences, IsSame, is_named}
 use Rattle.session_view.specs.Replay.{after_answers, after_silent, without_message}
 use Rattle.session_view.specs.Spans.{count_below}
 use Rattle.session_view.specs.Sync.{exists_if_more, exists_of_sync, fetch_if_changed, fetches_of_sync, expunges, is_listed, expunge_if_gone, expunges_of_sync, staying_entries, sync_answers, view_after_sync}
@@ -24,7 +24,7 @@ use Rattle.session_view.specs.declared.sync_plan.SyncWalk.{SyncWalk}
 use Rattle.session_view.proofs.FlagLemmas.{silent_append}
 use Rattle.session_view.proofs.NoteLemmas.{no_change, no_loss}
 use Rattle.session_view.proofs.PlaceLemmas.{count_first}
-use Rattle.session_view.proofs.SyncLemmas.{after_append, arrivals, length_map, lost, rising_append, rising_beyond, rising_count, rising_filter, syncs_replay}
+use Rattle.session_view.proofs.SyncLemmas.{after_append, arrivals, length_map, after_answers_of_expunges, rising_append, rising_beyond, rising_count, rising_filter, syncs_replay}
 
 pub on_ok : {T E P Q : Type 0} (r : Result T E) → (P → Q) → OnOk r P → OnOk r Q
 on_ok (Ok x) f h = f h
@@ -91,8 +91,8 @@ module _ (rows : List ListedMessage) where
   rising_front low (x ∷ front) e back h = let k : low ≤ x.uid = h.0 in let l : x.uid + 1 ≤ e.uid = rising_front (x.uid + 1) front e back h.1 in omega arith
 
   -- before the message with the least named UID, none differs
-  pub front_same : (u : ℕ) (us : List ℕ) → AreAscending u us → (low : ℕ) (front : List ViewEntry) (e : ViewEntry) (back : List ViewEntry) → AreRising low (front ++ e ∷ back) → e.uid ≡ u → Covers (u ∷ us) rows (front ++ e ∷ back)
-      → AllSame front × Covers (u ∷ us) rows (e ∷ back)
+  pub front_same : (u : ℕ) (us : List ℕ) → AreAscending u us → (low : ℕ) (front : List ViewEntry) (e : ViewEntry) (back : List ViewEntry) → AreRising low (front ++ e ∷ back) → e.uid ≡ u → NameAllDifferences (u ∷ us) rows (front ++ e ∷ back)
+      → AllSame front × NameAllDifferences (u ∷ us) rows (e ∷ back)
   front_same u us a low [] e back r q h = (tt, h)
   front_same u us a low (x ∷ front) e back r q h =
       let l : x.uid + 1 ≤ e.uid = rising_front (x.uid + 1) front e back r.1 in
@@ -113,16 +113,16 @@ module _ (rows : List ListedMessage) where
   none_drop uid (suc n) [] h = tt
   none_drop uid (suc n) (e ∷ es) h = none_drop uid n es h.1
 
-  named_less : (u : ℕ) (us : List ℕ) (e : ViewEntry) → e.uid ≢ u → is_named (u ∷ us) e ≡ true → is_named us e ≡ true
-  named_less u us e n h =
+  is_named_tail : (u : ℕ) (us : List ℕ) (e : ViewEntry) → e.uid ≢ u → is_named (u ∷ us) e ≡ true → is_named us e ≡ true
+  is_named_tail u us e n h =
       elim (cases_Bool (nat_eq u e.uid)) [
         | inl t ↦ absurd (n (grind (arith, nat_tests)))
         | inr f ↦ rw f at h
       ]
 
-  pub covers_less : (u : ℕ) (us : List ℕ) (es : List ViewEntry) → NoneHas u es → Covers (u ∷ us) rows es → Covers us rows es
-  covers_less u us [] n h = tt
-  covers_less u us (e ∷ es) n h = (elim h.0 [ inl t ↦ inl (named_less u us e n.0 t) | inr s ↦ inr s ], covers_less u us es n.1 h.1)
+  pub covers_tail : (u : ℕ) (us : List ℕ) (es : List ViewEntry) → NoneHas u es → NameAllDifferences (u ∷ us) rows es → NameAllDifferences us rows es
+  covers_tail u us [] n h = tt
+  covers_tail u us (e ∷ es) n h = (elim h.0 [ inl t ↦ inl (is_named_tail u us e n.0 t) | inr s ↦ inr s ], covers_tail u us es n.1 h.1)
 
   -- the message was done already
   pub none_after : (u low n : ℕ) (view : List ViewEntry) → AreRising low view → count_below u view < n → NoneHas u (drop n view)
@@ -197,11 +197,11 @@ module _ (kind : SyncKind) (modseq : Bool) (rows : List ListedMessage) (view : L
       lower high low (u ∷ us) l k = (let m : high ≤ u = k.0 in omega arith, k.1)
 
   -- no message that isn't done has this UID
-  pub passed : (u : ℕ) (w : SyncWalk) → NoneHas rows u (drop w.done view) → IsWalk kind modseq rows view (u ∷ rest) w → IsWalk kind modseq rows view rest w
-  passed u w n s = record {
+  pub walk_past_absent_uid : (u : ℕ) (w : SyncWalk) → NoneHas rows u (drop w.done view) → IsWalk kind modseq rows view (u ∷ rest) w → IsWalk kind modseq rows view rest w
+  walk_past_absent_uid u w n s = record {
     within = s.within;
     ascending = ascending_rest u s.ascending;
-    covers = covers_less rows u rest (drop w.done view) n s.covers;
+    covers = covers_tail rows u rest (drop w.done view) n s.covers;
     few = s.few;
     lost = s.lost;
     sent = s.sent;
@@ -210,8 +210,8 @@ module _ (kind : SyncKind) (modseq : Bool) (rows : List ListedMessage) (view : L
   }
 
   -- the walk reaches the message with the next UID
-  pub reached : (e : ViewEntry) (p : ℕ) (w : SyncWalk) → AreRising 1 view → w.done ≤ p → slice_get view p ≡ Some e → IsWalk kind modseq rows view (e.uid ∷ rest) w → IsWalk kind modseq rows view (e.uid ∷ rest) (record w { done = p })
-  reached e p w r l g s =
+  pub walk_to_named_uid : (e : ViewEntry) (p : ℕ) (w : SyncWalk) → AreRising 1 view → w.done ≤ p → slice_get view p ≡ Some e → IsWalk kind modseq rows view (e.uid ∷ rest) w → IsWalk kind modseq rows view (e.uid ∷ rest) (record w { done = p })
+  walk_to_named_uid e p w r l g s =
       let here = drop_at view p e g in
       let back = drop (p + 1) view in
       let inside : p + 1 ≤ length view = drop_within view p e back here in
@@ -219,14 +219,14 @@ module _ (kind : SyncKind) (modseq : Bool) (rows : List ListedMessage) (view : L
       let count : length cut.0 ≡ p - w.done = cut.1 in
       let split : drop w.done view ≡ cut.0 ++ e ∷ back = cut.2 ∙ ap (λ (xs : List ViewEntry). cut.0 ++ xs) here in
       let low = rising_drop 1 w.done view r in
-      let same = front_same rows e.uid rest s.ascending.1 low.0 cut.0 e back (subst (AreRising low.0) split low.1) refl (subst (Covers (e.uid ∷ rest) rows) split s.covers) in
+      let same = front_same rows e.uid rest s.ascending.1 low.0 cut.0 e back (subst (AreRising low.0) split low.1) refl (subst (NameAllDifferences (e.uid ∷ rest) rows) split s.covers) in
       let few = s.few in
       let number : w.done - length w.gone.items + 1 + length cut.0 ≡ p - length w.gone.items + 1 = omega arith in
       let from : w.done + 1 + length cut.0 ≡ p + 1 = omega arith in
       record {
         within = omega arith;
         ascending = s.ascending;
-        covers = subst (Covers (e.uid ∷ rest) rows) (sym here) same.1;
+        covers = subst (NameAllDifferences (e.uid ∷ rest) rows) (sym here) same.1;
         few = omega arith;
         lost =
             ap (λ (xs : List ViewEntry). losses_from kind rows (p + 1) xs ++ expunges_of_numbers w.gone.items) here
@@ -249,9 +249,9 @@ module _ (kind : SyncKind) (modseq : Bool) (rows : List ListedMessage) (view : L
             ∙ s.left;
       }
 
-expunged_more : (ns : List ℕ) (n : ℕ) → expunges_of_numbers (ns ++ n ∷ []) ≡ Expunge n ∷ expunges_of_numbers ns
-expunged_more [] n = refl
-expunged_more (m ∷ ns) n = ap (λ (as' : List Answer). as' ++ Expunge m ∷ []) (expunged_more ns n)
+expunges_of_numbers-append : (ns : List ℕ) (n : ℕ) → expunges_of_numbers (ns ++ n ∷ []) ≡ Expunge n ∷ expunges_of_numbers ns
+expunges_of_numbers-append [] n = refl
+expunges_of_numbers-append (m ∷ ns) n = ap (λ (as' : List Answer). as' ++ Expunge m ∷ []) (expunges_of_numbers-append ns n)
 
 fetched_flags_append : (xs ys : List Answer) → all_fetched_flags (xs ++ ys) ≡ all_fetched_flags xs ++ all_fetched_flags ys
 fetched_flags_append [] ys = refl
@@ -271,7 +271,7 @@ module _ (kind : SyncKind) (modseq : Bool) (rows : List ListedMessage) (view : L
   losses_listed Partial n e es h = refl
 
   -- the next message is listed
-  pub fetch_step : (e : ViewEntry) (row : ListedMessage) (back : List ViewEntry) (w v : SyncWalk) → drop w.done view ≡ e ∷ back → row_of e.uid rows ≡ Some row → Covers rest rows back → v.done ≡ w.done + 1 → v.gone ≡ w.gone → v.left ≡ w.left
+  pub fetch_step : (e : ViewEntry) (row : ListedMessage) (back : List ViewEntry) (w v : SyncWalk) → drop w.done view ≡ e ∷ back → row_of e.uid rows ≡ Some row → NameAllDifferences rest rows back → v.done ≡ w.done + 1 → v.gone ≡ w.gone → v.left ≡ w.left
       → v.fetches.items ≡ w.fetches.items ++ fetch_if_changed modseq (w.done - length w.gone.items + 1) e (Some row)
       → v.flags.items ≡ w.flags.items ++ all_fetched_flags (fetch_if_changed modseq (w.done - length w.gone.items + 1) e (Some row))
       → IsWalk kind modseq rows view (e.uid ∷ rest) w → IsWalk kind modseq rows view rest v
@@ -286,7 +286,7 @@ module _ (kind : SyncKind) (modseq : Bool) (rows : List ListedMessage) (view : L
       record {
         within = omega arith;
         ascending = ascending_rest kind modseq rows view rest e.uid s.ascending;
-        covers = subst (Covers rest rows) (sym next) c;
+        covers = subst (NameAllDifferences rest rows) (sym next) c;
         few = omega arith;
         lost =
             ap (λ (xs : List ViewEntry). losses_from kind rows (v.done + 1) xs ++ expunges_of_numbers v.gone.items) next
@@ -317,7 +317,7 @@ module _ (kind : SyncKind) (modseq : Bool) (rows : List ListedMessage) (view : L
   gone_losses : (k : SyncKind) (n : ℕ) (e : ViewEntry) (es : List ViewEntry) (gone : List ℕ) → is_listed rows e ≡ false → losses_from k rows (n + 1) es ++ expunges_of_numbers (gone ++ gone_numbers k n) ≡ losses_from k rows n (e ∷ es) ++ expunges_of_numbers gone
   gone_losses Full n e es gone h =
       rw h (
-      ap (λ (as' : List Answer). expunges rows (n + 1) es ++ as') (expunged_more gone n)
+      ap (λ (as' : List Answer). expunges rows (n + 1) es ++ as') (expunges_of_numbers-append gone n)
       ∙ sym (append_assoc (expunges rows (n + 1) es) (Expunge n ∷ []) (expunges_of_numbers gone)))
   gone_losses Partial n e es gone h = ap expunges_of_numbers (append-nil gone)
 
@@ -342,7 +342,7 @@ module _ (kind : SyncKind) (modseq : Bool) (rows : List ListedMessage) (view : L
   gone_few Partial done gone l = let count : length (gone ++ []) ≡ length gone = ap length (append-nil gone) in omega arith
 
   -- the next message is gone
-  pub gone_step : (e : ViewEntry) (back : List ViewEntry) (w v : SyncWalk) → drop w.done view ≡ e ∷ back → row_of e.uid rows ≡ None → Covers rest rows back → v.done ≡ w.done + 1 → v.gone.items ≡ w.gone.items ++ gone_numbers kind (w.done + 1)
+  pub gone_step : (e : ViewEntry) (back : List ViewEntry) (w v : SyncWalk) → drop w.done view ≡ e ∷ back → row_of e.uid rows ≡ None → NameAllDifferences rest rows back → v.done ≡ w.done + 1 → v.gone.items ≡ w.gone.items ++ gone_numbers kind (w.done + 1)
       → v.left.items ≡ w.left.items ++ notes_left kind e.uid → v.fetches ≡ w.fetches → v.flags ≡ w.flags → IsWalk kind modseq rows view (e.uid ∷ rest) w → IsWalk kind modseq rows view rest v
   gone_step e back w v here is c done gone left fetches flags s =
       let next : drop v.done view ≡ back = ap (λ n. drop n view) done ∙ drop_next view w.done e back here in
@@ -354,7 +354,7 @@ module _ (kind : SyncKind) (modseq : Bool) (rows : List ListedMessage) (view : L
       record {
         within = omega arith;
         ascending = ascending_rest kind modseq rows view rest e.uid s.ascending;
-        covers = subst (Covers rest rows) (sym next) c;
+        covers = subst (NameAllDifferences rest rows) (sym next) c;
         few = omega arith;
         lost =
             ap (λ (xs : List ViewEntry). losses_from kind rows (v.done + 1) xs ++ expunges_of_numbers v.gone.items) next
@@ -382,7 +382,7 @@ module _ (kind : SyncKind) (modseq : Bool) (rows : List ListedMessage) (view : L
 
 -- ---- at the end
 
-all_unnamed : (rows : List ListedMessage) (es : List ViewEntry) → Covers [] rows es → AllSame rows es
+all_unnamed : (rows : List ListedMessage) (es : List ViewEntry) → NameAllDifferences [] rows es → AllSame rows es
 all_unnamed rows [] h = tt
 all_unnamed rows (e ∷ es) h = (covered_same rows [] e refl h.0, all_unnamed rows es h.1)
 
@@ -456,7 +456,7 @@ changes_replayed rows modseq view n (e ∷ es) =
     ∙ ap (after_silent view) (sym (fetched_flags_append one more))
 
 losses_replayed : (kind : SyncKind) (rows : List ListedMessage) (view : List ViewEntry) → after_answers rows view (expunges_of_sync kind rows view) ≡ staying_entries kind rows view
-losses_replayed Full rows view = lost rows [] view 1 refl
+losses_replayed Full rows view = after_answers_of_expunges rows [] view 1 refl
 losses_replayed Partial rows view = refl
 
 pub gone_out : (kind : SyncKind) (rows : List ListedMessage) (view : List ViewEntry) (gone : List ℕ) → expunges_of_numbers gone ≡ expunges_of_sync kind rows view → without_from gone view ≡ staying_entries kind rows view
@@ -552,16 +552,16 @@ few_noted kind rows view new last v r n l =
 
 -- the walk that results from looking at the next message, if this has the next UID
 pub named_next : (kind : SyncKind) (modseq : Bool) (rows : List ListedMessage) (view : List ViewEntry) (rest : List ℕ) (e : ViewEntry) (uid p : ℕ) (w v : SyncWalk) → AreRising 1 view → w.done ≤ p → slice_get view p ≡ Some e → e.uid ≡ uid
-    → ((view : List ViewEntry) (rest : List ℕ) (back : List ViewEntry) → drop p view ≡ e ∷ back → Covers rest rows back → IsWalk kind modseq rows view (e.uid ∷ rest) (record w { done = p }) → IsWalk kind modseq rows view rest v)
+    → ((view : List ViewEntry) (rest : List ℕ) (back : List ViewEntry) → drop p view ≡ e ∷ back → NameAllDifferences rest rows back → IsWalk kind modseq rows view (e.uid ∷ rest) (record w { done = p }) → IsWalk kind modseq rows view rest v)
     → IsWalk kind modseq rows view (uid ∷ rest) w → IsWalk kind modseq rows view rest v
 named_next kind modseq rows view rest e uid p w v r l g q took s =
-    let at = reached kind modseq rows view rest e p w r l g (subst (λ u. IsWalk kind modseq rows view (u ∷ rest) w) (sym q) s) in
+    let at = walk_to_named_uid kind modseq rows view rest e p w r l g (subst (λ u. IsWalk kind modseq rows view (u ∷ rest) w) (sym q) s) in
     let here = drop_at view p e g in
     let back = drop (p + 1) view in
     let low = rising_drop 1 p view r in
     let rises : AreRising low.0 (e ∷ back) = subst (AreRising low.0) here low.1 in
-    let covers : Covers (e.uid ∷ rest) rows (e ∷ back) = subst (Covers (e.uid ∷ rest) rows) here at.covers in
-    took view rest back here (covers_less rows e.uid rest back (rising_none rows e.uid (e.uid + 1) back (omega arith) rises.1) covers.1) at
+    let covers : NameAllDifferences (e.uid ∷ rest) rows (e ∷ back) = subst (NameAllDifferences (e.uid ∷ rest) rows) here at.covers in
+    took view rest back here (covers_tail rows e.uid rest back (rising_none rows e.uid (e.uid + 1) back (omega arith) rises.1) covers.1) at
 
 pub on_ok_two : {T E P Q R : Type 0} (r : Result T E) → (P → Q → R) → OnOk r P → OnOk r Q → OnOk r R
 on_ok_two (Ok x) f h k = f h k
@@ -599,10 +599,10 @@ none_by_uid rows (e ∷ view) p uid l u f n =
     ∙ rw gone (subst (λ (m : ℕ). filter (is_listed rows) (drop m (e ∷ view)) ≡ []) k n)
 
 -- one further EXPUNGE before the others
-pub expunges_more : (rows : List ListedMessage) (view : List ViewEntry) (p : ℕ) (old mid new : List Answer) → p < length view → mid ≡ old ++ expunges rows (p + 1 + 1) (drop (p + 1) view)
+pub expunges_at_next_place : (rows : List ListedMessage) (view : List ViewEntry) (p : ℕ) (old mid new : List Answer) → p < length view → mid ≡ old ++ expunges rows (p + 1 + 1) (drop (p + 1) view)
     → ((d : ViewEntry) → new ≡ mid ++ expunge_if_gone rows (p + 1) (slice_index_or view p d)) → new ≡ old ++ expunges rows (p + 1) (drop p view)
-expunges_more rows [] p old mid new l m n = absurd (omega arith)
-expunges_more rows (e ∷ view) p old mid new l m n =
+expunges_at_next_place rows [] p old mid new l m n = absurd (omega arith)
+expunges_at_next_place rows (e ∷ view) p old mid new l m n =
     let k : p + 1 ≡ suc p = omega arith in
     let x = slice_index_or (e ∷ view) p e in
     let later = expunges rows (p + 1 + 1) (drop (p + 1) (e ∷ view)) in

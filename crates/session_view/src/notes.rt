@@ -5,7 +5,7 @@ ghost use Rattle.std.specs.List.{list_any};
 ghost use Rattle.mailbox_rows.specs.ListedMessage.{ListedMessage};
 ghost use Rattle.session_view.specs.NoteChanges.{AreAscending, NoteAllChanges, is_end, uid_in};
 ghost use Rattle.session_view.specs.NoteChanges.{uids_in, uids_of};
-ghost use Rattle.session_view.specs.Notes.{Covers};
+ghost use Rattle.session_view.specs.Notes.{NameAllDifferences};
 ghost use Rattle.session_view.specs.Views.{AreRising};
 
 use crate::view_entry::ViewEntries;
@@ -70,7 +70,8 @@ pub fn noted_uids(alloc: Global, notes: &[Note], view: &ViewEntries) -> Result<V
     requires { AreRising 1 view.now.items }
     ensures ascending { IfOk result (λ uids. AreAscending 0 uids.items) }
     ensures covers { IfOk result (λ uids. (rows : List ListedMessage)
-        → NoteAllChanges notes.now rows view.now.items → Covers uids.items rows view.now.items) }
+        → NoteAllChanges notes.now rows view.now.items
+        → NameAllDifferences uids.items rows view.now.items) }
 {
     if has_ended(notes) {
         return uids_of(alloc, view);

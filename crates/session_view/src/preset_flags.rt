@@ -117,7 +117,7 @@ fn push_answer_flags(
 
 /// Appends these flags, unless their number is above `last` and the view's message has them.
 /// Returns the new greatest number. `Err` if memory runs out.
-#[tactic(auto, using(crate::proofs::FlagLemmas::left_out, crate::proofs::FlagLemmas::put_on, crate::proofs::FlagLemmas::up_to_more))]
+#[tactic(auto, using(crate::proofs::FlagLemmas::left_out, crate::proofs::FlagLemmas::after_silent_append_one, crate::proofs::FlagLemmas::are_up_to_append))]
 fn push_to_set(
     alloc: Global,
     number: u32,

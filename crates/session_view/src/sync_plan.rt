@@ -8,7 +8,7 @@ ghost use Rattle.mailbox_rows.specs.RowViews.{listed_message};
 ghost use Rattle.session_view.specs.NoteChanges.{AreAscending, HasRoomForArrivals, NoteAllChanges};
 ghost use Rattle.session_view.specs.NoteChanges.{all_fetched_flags, expunges_of_numbers};
 ghost use Rattle.session_view.specs.NoteChanges.{notes_left_by_sync, patched_entries, without_from};
-ghost use Rattle.session_view.specs.Notes.{Covers};
+ghost use Rattle.session_view.specs.Notes.{NameAllDifferences};
 ghost use Rattle.session_view.specs.Sync.{exists_if_more, fetch_if_changed, staying_entries};
 ghost use Rattle.session_view.specs.Sync.{sync_answers, view_after_sync};
 ghost use Rattle.session_view.specs.Views.{AreRising, last_from, last_uid};
@@ -87,7 +87,7 @@ pub fn plan_sync(
 ) -> Result<SyncPlan, AllocError>
     requires rising { AreRising 1 view.now.items }
     requires ascending { AreAscending 0 uids.now }
-    requires covers { Covers uids.now rows.now view.now.items }
+    requires covers { NameAllDifferences uids.now rows.now view.now.items }
     ensures answers { IfOk result
         (λ planned. planned.answers.items
         ≡ sync_answers form.kind form.modseq rows.now view.now.items) }
@@ -271,7 +271,7 @@ fn walk_view(
     requires rising { AreRising 1 view.now.items }
     requires count { length view.now.items < 2 ^ 32 }
     requires ascending { AreAscending 0 uids.now }
-    requires covers { Covers uids.now rows.now view.now.items }
+    requires covers { NameAllDifferences uids.now rows.now view.now.items }
     ensures { IfOk result (λ walk. IsWalk form.kind form.modseq rows.now view.now.items [] walk) }
 {
     let mut walk = SyncWalk {
@@ -339,7 +339,7 @@ fn take_noted(
     ensures few { OnOk result (length walk.new.gone.items ≤ walk.new.done) }
     ensures is_walk { OnOk result ((view : List ViewEntry) → (rest : List ℕ)
         → (back : List ViewEntry) → drop walk.old.done view ≡ entry.now ∷ back
-        → Covers rest rows.now back
+        → NameAllDifferences rest rows.now back
         → IsWalk form.kind form.modseq rows.now view (entry.now.uid ∷ rest) walk.old
         → IsWalk form.kind form.modseq rows.now view rest walk.new) }
 {

@@ -16,7 +16,7 @@ use Rattle.crdt_ops.specs.Sets.{subscribed_name, subscribed_names_of, subscripti
 use Rattle.crdt_ops.specs.Sound.{IsSound}
 use Rattle.crdt_ops.specs.Tags.{SubscriptionTag, present_tags}
 use Rattle.crdt_ops.proofs.Members.{any_in, in_filter_map}
-use Rattle.crdt_ops.proofs.OrderLemmas.{id_order_same, id_order_total, listed_in_order, lists_by, names_same, names_total}
+use Rattle.crdt_ops.proofs.OrderLemmas.{id_order_same, id_order_total, listed_in_order, is_list_of_sorted, names_same, names_total}
 use Rattle.crdt_ops.proofs.Presence.{changed, clock_of, id_of, present_after}
 use Rattle.crdt_ops.proofs.SetLemmas.{subscribed_in, subscription_tags_in}
 use Rattle.subs_state.specs.declared.subs_table.NameTags.{NameTags}
@@ -69,7 +69,7 @@ id_of_some (j ∷ ids) name n h = (let e : Some name ≡ Some n = sym (ap (λ t.
 -- the names of the tags
 pub names_by_entries : (tags : List Named) (names : List (List ℕ)) → IsDistinct same_key (keys_of tags) → names ≡ sorted_set octet_order (filter_map name_with_ids tags) → IsListOf octet_order (IsSubscribed (tag_in tags)) names
 names_by_entries tags names d e =
-    lists_by names_total names_same (IsSubscribed (tag_in tags)) names (filter_map name_with_ids tags) e (λ n.
+    is_list_of_sorted names_total names_same (IsSubscribed (tag_in tags)) names (filter_map name_with_ids tags) e (λ n.
     let at = in_filter_map name_with_ids tags n in (
       λ h. let w = entry_of tags n h.0 h.1 in at.1 (w.0, w.1, some_ids h.0 w.0.1.ids.keys w.0.0.items w.3 ∙ ap (λ z. Some z) w.2),
       λ h. let w = at.0 h in
@@ -80,7 +80,7 @@ names_by_entries tags names d e =
 -- the ids of a name's tags
 pub tags_by_entries : (tags : List Named) (n : List ℕ) (ids : List OpId) → ids ≡ sorted_set id_order (ids_in (ids_entry n tags)) → IsListOf id_order (λ i. tag_in tags n i ≡ true) ids
 tags_by_entries tags n ids e =
-    lists_by id_order_total id_order_same (λ i. tag_in tags n i ≡ true) ids (ids_in (ids_entry n tags)) e (λ i.
+    is_list_of_sorted id_order_total id_order_same (λ i. tag_in tags n i ≡ true) ids (ids_in (ids_entry n tags)) e (λ i.
     let any = any_in (same_id i) (ids_in (ids_entry n tags)) in (
       λ h. let w = any.0 h in subst (λ (j : OpId). IsIn j (ids_in (ids_entry n tags))) (sym ((ids_decide i w.0).0 w.2)) w.1,
       λ h. any.1 (i, h, (ids_decide i i).1 (λ k. i)),

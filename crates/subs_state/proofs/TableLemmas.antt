@@ -51,8 +51,8 @@ one_changed P name old new a b keeps was is here others n =
     ]
 
 -- The tags after one is added to a name.
-pub tags_put : (name : List ℕ) (id : OpId) (old new : List Named) (a b : NameTags) → KeepsOthers same_key (has_name name) old new → ids_entry name old ≡ Some a → ids_entry name new ≡ Some b → ((i : OpId) → list_any (same_id i) b.ids.keys ≡ (same_id i id || list_any (same_id i) a.ids.keys)) → (n : List ℕ) (i : OpId) → tag_in new n i ≡ (is_at n i name id || tag_in old n i)
-tags_put name id old new a b keeps was is post n i =
+pub tag_in_after_put : (name : List ℕ) (id : OpId) (old new : List Named) (a b : NameTags) → KeepsOthers same_key (has_name name) old new → ids_entry name old ≡ Some a → ids_entry name new ≡ Some b → ((i : OpId) → list_any (same_id i) b.ids.keys ≡ (same_id i id || list_any (same_id i) a.ids.keys)) → (n : List ℕ) (i : OpId) → tag_in new n i ≡ (is_at n i name id || tag_in old n i)
+tag_in_after_put name id old new a b keeps was is post n i =
     one_changed (λ m o p. list_any (same_id i) (ids_in p) ≡ (is_at m i name id || list_any (same_id i) (ids_in o))) name old new (Some a) (Some b) keeps was is
     (post i ∙ ap (λ t. (t && same_id i id) || list_any (same_id i) a.ids.keys) (sym (itself name)))
     (λ other d name_tags. ap (λ t. (t && same_id i id) || list_any (same_id i) (ids_in name_tags)) (sym d)) n
@@ -64,8 +64,8 @@ put_room name old new a b keeps was is post =
     (λ other d name_tags. omega arith)
 
 -- The tags after some of a name are taken out.
-pub tags_left : (name : List ℕ) (ids : List OpId) (old new : List Named) (a b : Option NameTags) → KeepsOthers same_key (has_name name) old new → ids_entry name old ≡ a → ids_entry name new ≡ b → ((i : OpId) → list_any (same_id i) (ids_in b) ≡ (not (list_any (same_id i) ids) && list_any (same_id i) (ids_in a))) → (n : List ℕ) (i : OpId) → tag_in new n i ≡ (not (is_among n i name ids) && tag_in old n i)
-tags_left name ids old new a b keeps was is post n i =
+pub tag_in_after_removal : (name : List ℕ) (ids : List OpId) (old new : List Named) (a b : Option NameTags) → KeepsOthers same_key (has_name name) old new → ids_entry name old ≡ a → ids_entry name new ≡ b → ((i : OpId) → list_any (same_id i) (ids_in b) ≡ (not (list_any (same_id i) ids) && list_any (same_id i) (ids_in a))) → (n : List ℕ) (i : OpId) → tag_in new n i ≡ (not (is_among n i name ids) && tag_in old n i)
+tag_in_after_removal name ids old new a b keeps was is post n i =
     one_changed (λ m o p. list_any (same_id i) (ids_in p) ≡ (not (is_among m i name ids) && list_any (same_id i) (ids_in o))) name old new a b keeps was is
     (post i ∙ ap (λ t. not (t && list_any (same_id i) ids) && list_any (same_id i) (ids_in a)) (sym (itself name)))
     (λ other d name_tags. ap (λ t. not (t && list_any (same_id i) ids) && list_any (same_id i) (ids_in name_tags)) (sym d)) n
@@ -103,17 +103,17 @@ same_back i j =
       ]
     ]
 
-taken : (s a n : Bool) → (not a && cond s false n) ≡ (not (s || a) && n)
-taken true true n = refl
-taken true false n = refl
-taken false true n = refl
-taken false false n = refl
+and_not_either : (s a n : Bool) → (not a && cond s false n) ≡ (not (s || a) && n)
+and_not_either true true n = refl
+and_not_either true false n = refl
+and_not_either false true n = refl
+and_not_either false false n = refl
 
 -- Taking out one id, and then the remaining ones.
-pub one_taken : (id i : OpId) (tail now new : List OpId) → list_any (same_id i) new ≡ cond (same_id id i) false (list_any (same_id i) now) → (not (list_any (same_id i) tail) && list_any (same_id i) new) ≡ (not (same_id i id || list_any (same_id i) tail) && list_any (same_id i) now)
-one_taken id i tail now new e =
+pub tags_after_one_removal : (id i : OpId) (tail now new : List OpId) → list_any (same_id i) new ≡ cond (same_id id i) false (list_any (same_id i) now) → (not (list_any (same_id i) tail) && list_any (same_id i) new) ≡ (not (same_id i id || list_any (same_id i) tail) && list_any (same_id i) now)
+tags_after_one_removal id i tail now new e =
     ap (λ t. not (list_any (same_id i) tail) && t) (e ∙ ap (λ s. cond s false (list_any (same_id i) now)) (same_back id i))
-    ∙ taken (same_id i id) (list_any (same_id i) tail) (list_any (same_id i) now)
+    ∙ and_not_either (same_id i id) (list_any (same_id i) tail) (list_any (same_id i) now)
 
 none_filtered : {X : Type 0} (p : X → Bool) (xs : List X) → list_any p xs ≡ false → length (filter p xs) ≡ 0
 none_filtered p [] e = refl
@@ -131,14 +131,14 @@ room_for_all p xs room h =
       | inr f ↦ let e = none_filtered p xs f in omega (arith, e)
     ]
 
-counted : {X : Type 0} (b : Bool) (x : X) (xs : List X) → length (cond b (x ∷ xs) xs) ≡ length xs + (if b then 1 else 0)
-counted true x xs = omega arith
-counted false x xs = omega arith
+length_of_cons_if : {X : Type 0} (b : Bool) (x : X) (xs : List X) → length (cond b (x ∷ xs) xs) ≡ length xs + (if b then 1 else 0)
+length_of_cons_if true x xs = omega arith
+length_of_cons_if false x xs = omega arith
 
 -- Once an operation was applied, there is room for those after it.
 pub room_after : (n : List ℕ) (o applied : Op) (rest : List Op) (old mid new : ℕ) → applied ≡ o → length (filter (subscribes n) (o ∷ rest)) ≤ old → old ≤ mid → mid ≤ new + (if subscribes n applied then 1 else 0) → length (filter (subscribes n) rest) ≤ new
 room_after n o applied rest old mid new e h k l =
-    let all : length (filter (subscribes n) (o ∷ rest)) ≡ length (filter (subscribes n) rest) + (if subscribes n o then 1 else 0) = counted (subscribes n o) o (filter (subscribes n) rest) in
+    let all : length (filter (subscribes n) (o ∷ rest)) ≡ length (filter (subscribes n) rest) + (if subscribes n o then 1 else 0) = length_of_cons_if (subscribes n o) o (filter (subscribes n) rest) in
     let used : mid ≤ new + (if subscribes n o then 1 else 0) = subst (λ (p : Op). mid ≤ new + (if subscribes n p then 1 else 0)) e l in
     omega (arith, all, h, k, used)
 

@@ -157,8 +157,8 @@ fn make_room_of(
 {
     match &op.kind {
         Kind::Subscribe { name } => {
-            let more = count_subscribing(ops, name.as_bytes());
-            make_room_for(alloc, tags, name.as_bytes(), more)
+            let count = count_subscribing(ops, name.as_bytes());
+            make_room_for(alloc, tags, name.as_bytes(), count)
         }
         Kind::Create { .. } => Ok(()),
         Kind::Delete { .. } => Ok(()),
@@ -197,16 +197,16 @@ fn make_room_for(
     alloc: Global,
     tags: &mut IndexMap<Vec<u8>, NameTags>,
     name: &[u8],
-    more: usize,
+    count: usize,
 ) -> Result<(), AllocError>
     ensures listed { (n : List ℕ) (i : OpId)
         → tag_in tags.new.entries n i ≡ tag_in tags.old.entries n i }
-    ensures ok { OnOk result (more ≤ room_of name.now tags.new.entries) }
+    ensures ok { OnOk result (count ≤ room_of name.now tags.new.entries) }
     ensures room { (n : List ℕ) → room_of n tags.old.entries ≤ room_of n tags.new.entries }
 {
     match tags.get_mut(name) {
-        Some(name_tags) => name_tags.ids.reserve(more),
-        None => put_name(alloc, tags, name, more),
+        Some(name_tags) => name_tags.ids.reserve(count),
+        None => put_name(alloc, tags, name, count),
     }
 }
 
@@ -215,16 +215,16 @@ fn put_name(
     alloc: Global,
     tags: &mut IndexMap<Vec<u8>, NameTags>,
     name: &[u8],
-    more: usize,
+    count: usize,
 ) -> Result<(), AllocError>
     requires { ids_entry name.now tags.old.entries ≡ None }
     ensures listed { (n : List ℕ) (i : OpId)
         → tag_in tags.new.entries n i ≡ tag_in tags.old.entries n i }
-    ensures ok { OnOk result (more ≤ room_of name.now tags.new.entries) }
+    ensures ok { OnOk result (count ≤ room_of name.now tags.new.entries) }
     ensures room { (n : List ℕ) → room_of n tags.old.entries ≤ room_of n tags.new.entries }
 {
     let mut ids = IndexSet::new(alloc);
-    ids.reserve(more)?;
+    ids.reserve(count)?;
     let key = name.to_vec(alloc)?;
     if tags.insert(key, NameTags { ids }).is_err() {
         return Err(AllocError);

@@ -52,9 +52,9 @@ pub some_of : {A : Type 0} (b : Bool) (x y : A) → ◌≡◌ {A = Option A} (co
 some_of true x y h = (refl, cc)
 some_of false x y h = absurd cc
 
-pub number_takes : (limit n : ℕ) (text : List ℕ) → limit < 2 ^ 64 → number_at limit text ≡ Some n → (n ≤ limit) × (text ≡ decimal n)
+pub number_sound : (limit n : ℕ) (text : List ℕ) → limit < 2 ^ 64 → number_at limit text ≡ Some n → (n ≤ limit) × (text ≡ decimal n)
 unfolding number_at
-number_takes limit n text l h =
+number_sound limit n text l h =
     let s = some_of _ (digits_value 10 text) n h in
     let p = and_parts _ _ s.0 in
     let q = and_parts _ _ p.0 in
@@ -68,9 +68,9 @@ decimal_start : (n : ℕ) → n < 2 ^ 64 → get_or (decimal n) 0 0 ≡ 48 → l
 decimal_start zero l h = ap length (decimal_digit 0 (omega arith))
 decimal_start (suc n) l h = absurd (let f = first_decimal (suc n) (omega arith) l in omega arith)
 
-pub number_again : (limit n : ℕ) → limit < 2 ^ 64 → n ≤ limit → number_at limit (decimal n) ≡ Some n
+pub number_complete : (limit n : ℕ) → limit < 2 ^ 64 → n ≤ limit → number_at limit (decimal n) ≡ Some n
 unfolding number_at
-number_again limit n l h =
+number_complete limit n l h =
     let small : n < 2 ^ 64 = omega arith in
     let value : digits_value 10 (decimal n) ≡ n = digits_value-decimal digits_model n small in
     let digits : list_all is_ascii_digit (decimal n) ≡ true = digits_decimal digits_model n small in
@@ -110,9 +110,9 @@ not_true true h = absurd cc
 not_true false h = refl
 
 -- the parts of a cut, joined by the separator, are the text
-pub cut_takes : (separator : ℕ) (text : List ℕ) (parts : List ℕ × List ℕ) → cut_at separator text ≡ Some parts → text ≡ parts.0 ++ separator ∷ parts.1
-cut_takes separator [] parts h = absurd cc
-cut_takes separator (octet ∷ octets) parts h =
+pub cut_sound : (separator : ℕ) (text : List ℕ) (parts : List ℕ × List ℕ) → cut_at separator text ≡ Some parts → text ≡ parts.0 ++ separator ∷ parts.1
+cut_sound separator [] parts h = absurd cc
+cut_sound separator (octet ∷ octets) parts h =
     elim (chosen (eqb octet separator) (Some ([], octets)) (before_first_part (octet ∷ []) (cut_at separator octets)) (Some parts) h) [
       | inl t ↦
           let e : ◌≡◌ {A = List ℕ × List ℕ} ([], octets) parts = let k = t.1 in cc in
@@ -120,16 +120,16 @@ cut_takes separator (octet ∷ octets) parts h =
           (λ i. s i ∷ octets) ∙ ap (λ (z : List ℕ × List ℕ). z.0 ++ separator ∷ z.1) e
       | inr f ↦
           let y = before_first_part_some (octet ∷ []) (cut_at separator octets) parts f.1 in
-          ap (λ (t : List ℕ). octet ∷ t) (cut_takes separator octets y.0 y.1) ∙ sym (λ i. y.2 i ++ separator ∷ y.3 i)
+          ap (λ (t : List ℕ). octet ∷ t) (cut_sound separator octets y.0 y.1) ∙ sym (λ i. y.2 i ++ separator ∷ y.3 i)
     ]
 
 -- two parts joined by a separator that the first one lacks are cut at it
-pub cut_again : (separator : ℕ) (front back : List ℕ) → list_all (λ octet. not (eqb octet separator)) front ≡ true → cut_at separator (front ++ separator ∷ back) ≡ Some (front, back)
-cut_again separator [] back h = let t : eqb separator separator ≡ true = eq-eqb separator separator refl in rw t refl
-cut_again separator (octet ∷ front) back h =
+pub cut_complete : (separator : ℕ) (front back : List ℕ) → list_all (λ octet. not (eqb octet separator)) front ≡ true → cut_at separator (front ++ separator ∷ back) ≡ Some (front, back)
+cut_complete separator [] back h = let t : eqb separator separator ≡ true = eq-eqb separator separator refl in rw t refl
+cut_complete separator (octet ∷ front) back h =
     let p = and_parts (not (eqb octet separator)) (list_all (λ octet. not (eqb octet separator)) front) h in
     let f : eqb octet separator ≡ false = not_true _ p.0 in
-    rw f (ap (before_first_part (octet ∷ [])) (cut_again separator front back p.1))
+    rw f (ap (before_first_part (octet ∷ [])) (cut_complete separator front back p.1))
 
 pub all_of : (p q : ℕ → Bool) → ((octet : ℕ) → p octet ≡ true → q octet ≡ true) → (octets : List ℕ) → list_all p octets ≡ true → list_all q octets ≡ true
 all_of p q h [] a = refl
@@ -137,15 +137,15 @@ all_of p q h (octet ∷ octets) a =
     let s = and_parts (p octet) (list_all p octets) a in and_from _ _ (h octet s.0) (all_of p q h octets s.1)
 
 -- numbers from 1 on
-pub positive_takes : (n m : ℕ) → positive n ≡ Some m → (0 < n) × (n ≡ m)
-positive_takes n m h =
+pub positive_sound : (n m : ℕ) → positive n ≡ Some m → (0 < n) × (n ≡ m)
+positive_sound n m h =
     elim (chosen (eqb n 0) None (Some n) (Some m) h) [
       | inl t ↦ absurd (let k = t.1 in cc)
       | inr f ↦ let ne : n ≢ 0 = eqb-false n 0 f.0 in (omega arith, (let k = f.1 in cc))
     ]
 
-pub positive_again : (n : ℕ) → 0 < n → positive n ≡ Some n
-positive_again n h = let f : eqb n 0 ≡ false = ne_eqb n 0 (omega arith) in rw f refl
+pub positive_complete : (n : ℕ) → 0 < n → positive n ≡ Some n
+positive_complete n h = let f : eqb n 0 ≡ false = ne_eqb n 0 (omega arith) in rw f refl
 
 -- ---- octets that a text lacks
 
@@ -177,56 +177,56 @@ entry_lacks delimiter entry h k w =
 
 -- ---- replicas, ids and entries
 
-pub replica_takes : (text : List ℕ) (replica : ℕ) → replica_at text ≡ Some replica → IsReplica replica × (text ≡ decimal replica)
+pub replica_sound : (text : List ℕ) (replica : ℕ) → replica_at text ≡ Some replica → IsReplica replica × (text ≡ decimal replica)
 unfolding replica_at
-replica_takes text replica h =
+replica_sound text replica h =
     let n = bind_some (number_at 65535 text) positive replica h in
-    let p = positive_takes n.0 replica n.2 in
-    let t = number_takes 65535 n.0 text (omega arith) n.1 in
+    let p = positive_sound n.0 replica n.2 in
+    let t = number_sound 65535 n.0 text (omega arith) n.1 in
     let small : n.0 ≤ 65535 = t.0 in
     let low : 0 < n.0 = p.0 in
     let same : n.0 ≡ replica = p.1 in
     ((omega arith, omega arith), t.1 ∙ ap decimal same)
 
-pub replica_again : (replica : ℕ) → IsReplica replica → replica_at (decimal replica) ≡ Some replica
+pub replica_complete : (replica : ℕ) → IsReplica replica → replica_at (decimal replica) ≡ Some replica
 unfolding replica_at
-replica_again replica r = bound (number_at 65535 (decimal replica)) positive replica (number_again 65535 replica (omega arith) r.1) ∙ positive_again replica r.0
+replica_complete replica r = bound (number_at 65535 (decimal replica)) positive replica (number_complete 65535 replica (omega arith) r.1) ∙ positive_complete replica r.0
 
-pub pair_takes : (delimiter : ℕ) (text : List ℕ) (pair : ℕ × ℕ) → pair_at delimiter text ≡ Some pair → IsEntry pair × (text ≡ decimal pair.0 ++ delimiter ∷ decimal pair.1)
+pub pair_sound : (delimiter : ℕ) (text : List ℕ) (pair : ℕ × ℕ) → pair_at delimiter text ≡ Some pair → IsEntry pair × (text ≡ decimal pair.0 ++ delimiter ∷ decimal pair.1)
 unfolding pair_at
-pair_takes delimiter text pair h =
+pair_sound delimiter text pair h =
     let c = bind_some (cut_at delimiter text) _ pair h in
     let r = bind_some (replica_at c.0.0) _ pair c.2 in
     let s = bind_some (number_at 4294967295 c.0.1) _ pair r.2 in
     let n = bind_some (positive s.0) _ pair s.2 in
     let e : ◌≡◌ {A = ℕ × ℕ} (r.0, n.0) pair = let k = n.2 in cc in
-    let b = positive_takes s.0 n.0 n.1 in
-    let t = replica_takes c.0.0 r.0 r.1 in
-    let u = number_takes 4294967295 s.0 c.0.1 (omega arith) s.1 in
+    let b = positive_sound s.0 n.0 n.1 in
+    let t = replica_sound c.0.0 r.0 r.1 in
+    let u = number_sound 4294967295 s.0 c.0.1 (omega arith) s.1 in
     let second : s.0 ≡ n.0 = b.1 in
     let low' : 0 < s.0 = b.0 in
     let high' : s.0 ≤ 4294967295 = u.0 in
     subst (λ (pair : ℕ × ℕ). IsEntry pair × (text ≡ decimal pair.0 ++ delimiter ∷ decimal pair.1)) e (
       (t.0, (omega arith, omega arith)),
-      cut_takes delimiter text c.0 c.1 ∙ (λ i. t.1 i ++ delimiter ∷ (u.1 ∙ ap decimal second) i),
+      cut_sound delimiter text c.0 c.1 ∙ (λ i. t.1 i ++ delimiter ∷ (u.1 ∙ ap decimal second) i),
     )
 
-pub pair_again : (delimiter replica number : ℕ) → is_ascii_digit delimiter ≡ false → IsReplica replica → IsNumber number → pair_at delimiter (decimal replica ++ delimiter ∷ decimal number) ≡ Some (replica, number)
+pub pair_complete : (delimiter replica number : ℕ) → is_ascii_digit delimiter ≡ false → IsReplica replica → IsNumber number → pair_at delimiter (decimal replica ++ delimiter ∷ decimal number) ≡ Some (replica, number)
 unfolding pair_at
-pair_again delimiter replica number h r n =
-    bound (cut_at delimiter (decimal replica ++ delimiter ∷ decimal number)) _ (decimal replica, decimal number) (cut_again delimiter (decimal replica) (decimal number) (decimal_lacks delimiter replica h (omega arith)))
-    ∙ bound (replica_at (decimal replica)) _ replica (replica_again replica r)
-    ∙ bound (number_at 4294967295 (decimal number)) _ number (number_again 4294967295 number (omega arith) n.1)
-    ∙ bound (positive number) _ number (positive_again number n.0)
+pair_complete delimiter replica number h r n =
+    bound (cut_at delimiter (decimal replica ++ delimiter ∷ decimal number)) _ (decimal replica, decimal number) (cut_complete delimiter (decimal replica) (decimal number) (decimal_lacks delimiter replica h (omega arith)))
+    ∙ bound (replica_at (decimal replica)) _ replica (replica_complete replica r)
+    ∙ bound (number_at 4294967295 (decimal number)) _ number (number_complete 4294967295 number (omega arith) n.1)
+    ∙ bound (positive number) _ number (positive_complete number n.0)
 
-pub id_takes : (text : List ℕ) (id : OpId) → id_at text ≡ Some id → IsId id × (text ≡ id_text id)
+pub id_sound : (text : List ℕ) (id : OpId) → id_at text ≡ Some id → IsId id × (text ≡ id_text id)
 unfolding id_at
-id_takes text id h =
+id_sound text id h =
     let p = bind_some (pair_at 58 text) _ id h in
     let e : ◌≡◌ {A = OpId} (record { replica = p.0.0; number = p.0.1 }) id = let k = p.2 in cc in
-    let t = pair_takes 58 text p.0 p.1 in
+    let t = pair_sound 58 text p.0 p.1 in
     subst (λ (id : OpId). IsId id × (text ≡ id_text id)) e t
 
-pub id_again : (id : OpId) → IsId id → id_at (id_text id) ≡ Some id
+pub id_complete : (id : OpId) → IsId id → id_at (id_text id) ≡ Some id
 unfolding id_at
-id_again id w = bound (pair_at 58 (id_text id)) _ (id.replica, id.number) (pair_again 58 id.replica id.number refl w.0 w.1)
+id_complete id w = bound (pair_at 58 (id_text id)) _ (id.replica, id.number) (pair_complete 58 id.replica id.number refl w.0 w.1)

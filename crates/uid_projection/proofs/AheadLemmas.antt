@@ -8,7 +8,7 @@ use Rattle.crdt_ops.specs.declared.op.Op.{Op}
 use Rattle.crdt_ops.specs.Meanings.{IsVersion as IsVersionBySet}
 use Rattle.crdt_ops.specs.Tags.{removed_ids}
 use Rattle.folder_state.specs.Contents.{Contents, HasVersion, IsFolder, IsMadeBy, IsVersion, effect_of, no_contents, origin_in}
-use Rattle.folder_state.specs.AfterOps.{after}
+use Rattle.folder_state.specs.AfterOps.{contents_after}
 use Rattle.folder_state.proofs.ContentsLemmas.{exists_by_set}
 use Rattle.folder_state.proofs.VersionLemmas.{has_version_by_set, version_is}
 use Rattle.folder_state.proofs.SetLemmas.{contents_made}
@@ -19,9 +19,9 @@ use Rattle.uid_projection.specs.Incarnations.{folder_exists}
 use Rattle.uid_projection.specs.UidsAndModSeqs.{kind_names_folder, has_version}
 use Rattle.uid_projection.specs.EntryMoves.{AreApart, IsNext, added_origin, has_entry, loses, moved_entries, with_line}
 use Rattle.uid_projection.proofs.MovedEntryLemmas.{advanced_none, advanced_some, apart_chart, apart_moved, moved_alike}
-use Rattle.uid_projection.proofs.ExhaustionLemmas.{has_as, exists_as}
+use Rattle.uid_projection.proofs.ExhaustionLemmas.{has_version_of_test, exists_of_test}
 use Rattle.uid_projection.proofs.Numbers.{stays_added}
-use Rattle.uid_projection.proofs.Tables.{chart_as}
+use Rattle.uid_projection.proofs.Tables.{is_chart_of_equal}
 
 -- ---- results
 
@@ -47,11 +47,11 @@ pub fold_append : {V O : Type 0} (f : V → O → V) (v : V) (xs ys : List O) �
 fold_append f v [] ys = refl
 fold_append f v (x ∷ xs) ys = fold_append f (f v x) xs ys
 
-pub made_after : (c : Contents) (list ops : List Op) → IsMadeBy c list → IsApplied (list ++ ops) → IsMadeBy (after c ops) (list ++ ops)
+pub made_after : (c : Contents) (list ops : List Op) → IsMadeBy c list → IsApplied (list ++ ops) → IsMadeBy (contents_after c ops) (list ++ ops)
 made_after c list ops m a = record {
   sound = a.sound;
   causal = a.causal;
-  made = ap (λ v. after v ops) m.made ∙ sym (fold_append effect_of no_contents list ops);
+  made = ap (λ v. contents_after v ops) m.made ∙ sym (fold_append effect_of no_contents list ops);
 }
 
 -- the origins of versions that the contents give
@@ -59,10 +59,10 @@ pub versions_in_list : (c : Contents) (list : List Op) (folder : List ℕ) → I
 versions_in_list c list folder m i g = subst (λ (w : Contents). IsVersion w folder g i ↔ IsVersionBySet list folder g i) (sym (contents_made c list m)) (version_is list folder g i)
 
 pub folder_exists_is : (c : Contents) (list : List Op) (folder : List ℕ) (r : Bool) → IsMadeBy c list → (r ≡ true) ↔ IsFolder c folder → r ≡ folder_exists folder list
-folder_exists_is c list folder r m h = exists_as folder list r (exists_by_set c list folder r m h)
+folder_exists_is c list folder r m h = exists_of_test folder list r (exists_by_set c list folder r m h)
 
 pub has_version_is : (c : Contents) (list : List Op) (folder : List ℕ) (g : OpId) (r : Bool) → IsMadeBy c list → (r ≡ true) ↔ HasVersion c folder g → r ≡ has_version folder g list
-has_version_is c list folder g r m h = let s = has_version_by_set c list folder g m in has_as folder list g r (λ t. s.0 (h.0 t), λ i. h.1 (s.1 i))
+has_version_is c list folder g r m h = let s = has_version_by_set c list folder g m in has_version_of_test folder list g r (λ t. s.0 (h.0 t), λ i. h.1 (s.1 i))
 
 -- ---- an operation about a folder that exists after it
 
@@ -80,7 +80,7 @@ module _ (start : Counters) (folder : List ℕ) (ops : List Op) (o : Op) (a : Is
   ahead_some g e v m fs p q line =
       let apart : AreApart now = subst AreApart (sym now_is) (apart_moved (loses f (removed_ids o.kind)) stays (h + 1) es (apart_chart start folder ops u h es k)) in
       let x = advanced_some start folder ops o a present about u h es k f l g e (stays_added folder ops o a about g e) in
-      chart_as start folder (ops ++ o ∷ []) _ _ _ _ _ _
+      is_chart_of_equal start folder (ops ++ o ∷ []) _ _ _ _ _ _
       (p ∙ ap (λ xs. cond (has_entry xs g) u (u + 1)) now_is) q
       (line apart ∙ ap (with_line g u (h + 1)) now_is) x
 

@@ -34,8 +34,8 @@ append_next list front through o e = ap (λ xs. list ++ xs) e ∙ sym (append_as
 pub applied_before : (list front through : List Op) (o : Op) → through ≡ front ++ o ∷ [] → IsApplied (list ++ through) → IsApplied (list ++ front)
 applied_before list front through o e a = applied_front (list ++ front) (o ∷ []) (subst IsApplied (append_next list front through o e) a)
 
-pub exists_as : (n : List ℕ) (ops : List Op) (r : Bool) → (r ≡ true) ↔ IsIn n (folders_of ops) → r ≡ folder_exists n ops
-exists_as n ops r h = let l = exists_in n ops in same_bool r (folder_exists n ops) (λ t. l.1 (h.0 t)) (λ t. h.1 (l.0 t))
+pub exists_of_test : (n : List ℕ) (ops : List Op) (r : Bool) → (r ≡ true) ↔ IsIn n (folders_of ops) → r ≡ folder_exists n ops
+exists_of_test n ops r h = let l = exists_in n ops in same_bool r (folder_exists n ops) (λ t. l.1 (h.0 t)) (λ t. h.1 (l.0 t))
 
 pub begins_is : (list front through : List Op) (o : Op) (n : List ℕ) (a b : Bool) → through ≡ front ++ o ∷ [] → n ≡ name_of o.kind → a ≡ folder_exists n (list ++ through) → b ≡ folder_exists n (list ++ front) → (a && not b) ≡ begins_incarnation (list ++ front) o
 begins_is list front through o n a b e own x y =
@@ -94,8 +94,8 @@ k_bound (o ∷ front) list =
 
 -- ---- lines that begin
 
-pub has_as : (folder : List ℕ) (ops : List Op) (g : OpId) (r : Bool) → (r ≡ true) ↔ IsIn g (origins_of ops folder) → r ≡ has_version folder g ops
-has_as folder ops g r h =
+pub has_version_of_test : (folder : List ℕ) (ops : List Op) (g : OpId) (r : Bool) → (r ≡ true) ↔ IsIn g (origins_of ops folder) → r ≡ has_version folder g ops
+has_version_of_test folder ops g r h =
     let n = (origins_listed ops folder).1 g in
     let v = version_in folder ops g in
     same_bool r (has_version folder g ops) (λ t. v.1 (n.0 (h.0 t))) (λ t. h.1 (n.1 (v.0 t)))
@@ -200,8 +200,8 @@ more_exhausted start list xs x (front, o, back, e, h) =
     ]
 
 -- what holds of the first elements and of the next one holds of all of these
-pub all_more : (P : Op → Type 0) (ops : List Op) (at : ℕ) (x : Op) → at < length ops → x ≡ get_or ops at x → ((o : Op) → IsIn o (take at ops) → P o) → P x → (o : Op) → IsIn o (take (at + 1) ops) → P o
-all_more P ops at x l is before here o h =
+pub all_take_next : (P : Op → Type 0) (ops : List Op) (at : ℕ) (x : Op) → at < length ops → x ≡ get_or ops at x → ((o : Op) → IsIn o (take at ops) → P o) → P x → (o : Op) → IsIn o (take (at + 1) ops) → P o
+all_take_next P ops at x l is before here o h =
     elim (in_parts o (take at ops) (x ∷ []) (subst (IsIn o) (take_op ops at x x l is refl) h)) [
       | inl t ↦ before o t
       | inr t ↦ elim t [ inl k ↦ subst P k here | inr n ↦ absurd n ]

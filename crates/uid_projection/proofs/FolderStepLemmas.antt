@@ -19,8 +19,8 @@ use Rattle.uid_projection.proofs.MovedEntryLemmas.{advanced_none, advanced_some,
 use Rattle.uid_projection.proofs.HistoryLemmas.{once, all-append}
 use Rattle.uid_projection.proofs.Numbers.{k_begins, stays_added, uid_lasts}
 use Rattle.uid_projection.proofs.Steps.{k_here, k_none}
-use Rattle.uid_projection.proofs.Tables.{chart_as}
-use Rattle.uid_projection.proofs.TouchedLineLemmas.{origin_here, removed_here, versions_left, versions_more}
+use Rattle.uid_projection.proofs.Tables.{is_chart_of_equal}
+use Rattle.uid_projection.proofs.TouchedLineLemmas.{origin_here, removed_here, versions_left, versions_of_append}
 
 -- ---- an operation about a folder that exists after it
 
@@ -42,13 +42,13 @@ module _ (start : Counters) (folder : List ℕ) (value : Contents) (ops : List O
     now_apart = subst AreApart (sym is) (apart_moved (loses f ids) stays (c.highest + 1) c.entries.entries all_apart)
 
     -- a UID remains for the added origin
-    pub uid_for : (g : OpId) → added_origin o ≡ Some g → has_entry now g ≡ false → c.uidnext < 4294967295
-    uid_for g e h =
+    pub remaining_uid : (g : OpId) → added_origin o ≡ Some g → has_entry now g ≡ false → c.uidnext < 4294967295
+    remaining_uid g e h =
         let held = left_held start folder ops o r.applied r.exists_now r.about c.uidnext c.highest c.entries.entries r.shows f r.versions g e (stays_added folder ops o r.applied r.about g e) in
         uid_lasts start folder ops o r.applied r.about r.not_exhausted c.uidnext c.entries.entries r.shows.are_entries r.shows.is_uidnext r.roomy.uidnext g e (sym held ∙ ap (λ xs. has_entry xs g) (sym now_is) ∙ h)
 
-    pub next_for : c.uidnext < 4294967295 → IsNext c.uidnext now
-    next_for l = subst (IsNext c.uidnext) (sym is) (next_moved start folder ops c.uidnext c.highest c.entries.entries (loses f ids) stays (c.highest + 1) r.first r.shows l)
+    pub uidnext_is_next : c.uidnext < 4294967295 → IsNext c.uidnext now
+    uidnext_is_next l = subst (IsNext c.uidnext) (sym is) (next_moved start folder ops c.uidnext c.highest c.entries.entries (loses f ids) stays (c.highest + 1) r.first r.shows l)
 
     pub shows_none : added_origin o ≡ None → IsChart start folder (ops ++ o ∷ []) c.uidnext (c.highest + 1) now
     shows_none e = subst (IsChart start folder (ops ++ o ∷ []) c.uidnext (c.highest + 1)) (sym now_is) (advanced_none start folder ops o r.applied r.exists_now r.about c.uidnext c.highest c.entries.entries r.shows f r.versions e)
@@ -56,7 +56,7 @@ module _ (start : Counters) (folder : List ℕ) (value : Contents) (ops : List O
     pub shows_some : (g : OpId) → added_origin o ≡ Some g → (u h : ℕ) (es : List ListingEntry) → u ≡ cond (has_entry now g) c.uidnext (c.uidnext + 1) → h ≡ c.highest + 1 → (AreApart now → es ≡ with_line g c.uidnext (c.highest + 1) now) → IsChart start folder (ops ++ o ∷ []) u h es
     shows_some g e u h es p q line =
         let x = advanced_some start folder ops o r.applied r.exists_now r.about c.uidnext c.highest c.entries.entries r.shows f r.versions g e (stays_added folder ops o r.applied r.about g e) in
-        chart_as start folder (ops ++ o ∷ []) _ _ _ _ _ _
+        is_chart_of_equal start folder (ops ++ o ∷ []) _ _ _ _ _ _
         (p ∙ ap (λ xs. cond (has_entry xs g) c.uidnext (c.uidnext + 1)) now_is) q
         (line now_apart ∙ ap (with_line g c.uidnext (c.highest + 1)) now_is) x
 
@@ -72,7 +72,7 @@ module _ (start : Counters) (folder : List ℕ) (value : Contents) (ops : List O
     pub versions_some : (g : OpId) → added_origin o ≡ Some g → (all : OpId → Option OpId) → ((i : OpId) → all i ≡ origins_with left o.id g i) → AreVersions folder (ops ++ o ∷ []) all
     versions_some g e all h =
         subst (AreVersions folder (ops ++ o ∷ [])) (sym ((λ k i. h i k) ∙ (λ k i. origins_with (left_is k) o.id g i)))
-        (versions_more folder ops o r.applied (removed_ids o.kind) (removed_here folder o r.about) (added_origin o) (sym (origin_here folder o r.about)) f r.versions g (origin_here folder o r.about ∙ e))
+        (versions_of_append folder ops o r.applied (removed_ids o.kind) (removed_here folder o r.about) (added_origin o) (sym (origin_here folder o r.about)) f r.versions g (origin_here folder o r.about ∙ e))
 
 -- ---- an operation about a folder, whether it exists afterwards or not
 
@@ -130,7 +130,7 @@ module _ (start : Counters) (k : ℕ) (value : Contents) (ops : List Op) (o : Op
           about = r.about;
           exists_now = t;
           not_exhausted = r.next.not_exhausted;
-          shows = chart_as start folder ops _ _ _ _ _ _ u h (λ j. (es j).entries) r.up.shows;
+          shows = is_chart_of_equal start folder ops _ _ _ _ _ _ u h (λ j. (es j).entries) r.up.shows;
           latest = subst (λ x. x.latest ≤ d.highest) (sym es) (subst (λ x. c.entries.latest ≤ x) (sym h) r.up.latest);
           versions = subst (λ v. AreVersions folder ops (origin_at v.entries)) (sym vs) r.up.versions;
           roomy =

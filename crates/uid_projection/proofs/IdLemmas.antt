@@ -37,8 +37,8 @@ key_of_lookup {X} i (e ∷ es) h =
     ]
 
 -- an element up to and including a place is before the place, or is the element at it
-pub in_more : {X : Type 0} (x : X) (xs : List X) (i : ℕ) (y : X) → i < length xs → y ≡ get_or xs i y → IsIn x (take (i + 1) xs) → IsIn x (take i xs) ⊎ (x ≡ y)
-in_more x xs i y l e h =
+pub in_take_next : {X : Type 0} (x : X) (xs : List X) (i : ℕ) (y : X) → i < length xs → y ≡ get_or xs i y → IsIn x (take (i + 1) xs) → IsIn x (take i xs) ⊎ (x ≡ y)
+in_take_next x xs i y l e h =
     elim (in_parts x (take i xs) (get_or xs i y ∷ []) (subst (IsIn x) (take_more xs i y l) h)) [
       | inl t ↦ inl t
       | inr t ↦ elim t [ inl k ↦ inr (sym k ∙ sym e) | inr n ↦ absurd n ]
@@ -69,8 +69,8 @@ id_sym i j =
     ]
 
 -- one further id is taken out
-pub taken_more : {X : Type 0} (i : OpId) (ids : List OpId) (k : ℕ) (id : OpId) (new mid old removed : X) → k < length ids → id ≡ get_or ids k id → new ≡ cond (same_id id i) removed mid → mid ≡ cond (list_any (same_id i) (take k ids)) removed old → new ≡ cond (list_any (same_id i) (take (k + 1) ids)) removed old
-taken_more i ids k id new mid old removed l e a b =
+pub removed_take_next : {X : Type 0} (i : OpId) (ids : List OpId) (k : ℕ) (id : OpId) (new mid old removed : X) → k < length ids → id ≡ get_or ids k id → new ≡ cond (same_id id i) removed mid → mid ≡ cond (list_any (same_id i) (take k ids)) removed old → new ≡ cond (list_any (same_id i) (take (k + 1) ids)) removed old
+removed_take_next i ids k id new mid old removed l e a b =
     a ∙ (λ j. cond (id_sym id i j) removed (b j)) ∙ both (list_any (same_id i) (take k ids)) (same_id i id)
     ∙ ap (λ c. cond c removed old)
     (sym (ap (list_any (same_id i)) (take_more ids k id l) ∙ list_any-append (same_id i) (take k ids) (get_or ids k id ∷ []) ∙ ap (λ z. list_any (same_id i) (take k ids) || (same_id i z || false)) (sym e) ∙ ap (λ c. list_any (same_id i) (take k ids) || c) (or_none (same_id i id))))

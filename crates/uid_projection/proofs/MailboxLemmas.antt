@@ -137,9 +137,9 @@ AreOwned a fresh = (o : OpId) (m : OwnedMessage) → lookup (same_id o) fresh �
 abbrev pub AreFresh : FolderAhead → ℕ → Fresh → Type 0
 AreFresh a at fresh = (place : ℕ) (o : OpId) → place < at → option_map (λ e. e.0) (slice_get a.messages.versions.entries place) ≡ Some o → IsSome (lookup (same_id o) fresh)
 
-pub are_owned_more : (a : FolderAhead) (x : Option OpId) (old new : Fresh) → IsOwnedAt a x old new → IsOrderly a → AreOwned a old → AreOwned a new
-are_owned_more a None old new e orderly h = subst (AreOwned a) (sym e) h
-are_owned_more a (Some origin) old new w orderly h = λ o m e.
+pub are_owned_insert : (a : FolderAhead) (x : Option OpId) (old new : Fresh) → IsOwnedAt a x old new → IsOrderly a → AreOwned a old → AreOwned a new
+are_owned_insert a None old new e orderly h = subst (AreOwned a) (sym e) h
+are_owned_insert a (Some origin) old new w orderly h = λ o m e.
     elim (cases_Bool (same_id origin o)) [
       | inl t ↦
           let k : w.0 ≡ m = (let q = sym (w.2 o ∙ ap (λ b. cond b (Some w.0) (lookup (same_id o) old)) t) ∙ e in cc) in
@@ -161,8 +161,8 @@ is_fresh a (Some origin) old new w o k =
     let e : origin ≡ o = cc in
     subst IsSome (sym (w.2 o ∙ ap (λ b. cond b (Some w.0) (lookup (same_id o) old)) (ap (same_id origin) (sym e) ∙ own_id origin))) cc
 
-pub are_fresh_more : (a : FolderAhead) (at : ℕ) (old new : Fresh) → IsOwnedAt a (option_map (λ e. e.0) (slice_get a.messages.versions.entries at)) old new → AreFresh a at old → AreFresh a (at + 1) new
-are_fresh_more a at old new w h = λ place o l e.
+pub are_fresh_step : (a : FolderAhead) (at : ℕ) (old new : Fresh) → IsOwnedAt a (option_map (λ e. e.0) (slice_get a.messages.versions.entries at)) old new → AreFresh a at old → AreFresh a (at + 1) new
+are_fresh_step a at old new w h = λ place o l e.
     elim (cases_less place at l) [
       | inl front ↦ stays a _ old new w o (h place o front e)
       | inr here ↦ is_fresh a _ old new w o (ap (λ p. option_map (λ e. e.0) (slice_get a.messages.versions.entries p)) (sym here) ∙ e)

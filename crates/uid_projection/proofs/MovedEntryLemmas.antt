@@ -94,20 +94,20 @@ any-append p (y ∷ xs) x = ap (λ b. p y || b) (any-append p xs x) ∙ regroup 
     regroup true b c = refl
     regroup false b c = refl
 
-pub any_more : {X : Type 0} (p : X → Bool) (xs : List X) (i : ℕ) (x : X) → i < length xs → x ≡ get_or xs i x → list_any p (take (i + 1) xs) ≡ (list_any p (take i xs) || p x)
-any_more p xs i x l is = ap (list_any p) (through xs i x l) ∙ any-append p (take i xs) (get_or xs i x) ∙ ap (λ y. list_any p (take i xs) || p y) (sym is)
+pub any_take_next : {X : Type 0} (p : X → Bool) (xs : List X) (i : ℕ) (x : X) → i < length xs → x ≡ get_or xs i x → list_any p (take (i + 1) xs) ≡ (list_any p (take i xs) || p x)
+any_take_next p xs i x l is = ap (list_any p) (through xs i x l) ∙ any-append p (take i xs) (get_or xs i x) ∙ ap (λ y. list_any p (take i xs) || p y) (sym is)
 
 -- the entries after one further id
-pub lost_more : (f : OpId → Option OpId) (s : OpId → Bool) (m : ℕ) (es : List ListingEntry) (ids : List OpId) (i : ℕ) (id : OpId) → i < length ids → id ≡ get_or ids i id → moved_entries (λ g. is_some_id g (f id)) s m (moved_entries (loses f (take i ids)) s m es) ≡ moved_entries (loses f (take (i + 1) ids)) s m es
-lost_more f s m es ids i id l is =
+pub lost_take_next : (f : OpId → Option OpId) (s : OpId → Bool) (m : ℕ) (es : List ListingEntry) (ids : List OpId) (i : ℕ) (id : OpId) → i < length ids → id ≡ get_or ids i id → moved_entries (λ g. is_some_id g (f id)) s m (moved_entries (loses f (take i ids)) s m es) ≡ moved_entries (loses f (take (i + 1) ids)) s m es
+lost_take_next f s m es ids i id l is =
     moved_twice (loses f (take i ids)) (λ g. is_some_id g (f id)) s m es
-    ∙ moved_alike (λ g. loses f (take i ids) g || is_some_id g (f id)) (loses f (take (i + 1) ids)) s m es (λ g. sym (any_more (λ j. is_some_id g (f j)) ids i id l is))
+    ∙ moved_alike (λ g. loses f (take i ids) g || is_some_id g (f id)) (loses f (take (i + 1) ids)) s m es (λ g. sym (any_take_next (λ j. is_some_id g (f j)) ids i id l is))
 
 -- the versions after one further id
-pub without_more : (f : OpId → Option OpId) (ids : List OpId) (i : ℕ) (id : OpId) → i < length ids → id ≡ get_or ids i id → (old new : OpId → Option OpId) → ((j : OpId) → old j ≡ origins_without f (take i ids) j) → ((j : OpId) → new j ≡ cond (same_id id j) None (old j)) → (j : OpId) → new j ≡ origins_without f (take (i + 1) ids) j
-without_more f ids i id l is old new was one j =
+pub without_take_next : (f : OpId → Option OpId) (ids : List OpId) (i : ℕ) (id : OpId) → i < length ids → id ≡ get_or ids i id → (old new : OpId → Option OpId) → ((j : OpId) → old j ≡ origins_without f (take i ids) j) → ((j : OpId) → new j ≡ cond (same_id id j) None (old j)) → (j : OpId) → new j ≡ origins_without f (take (i + 1) ids) j
+without_take_next f ids i id l is old new was one j =
     one j ∙ ap (cond (same_id id j) None) (was j) ∙ both (same_id id j) (list_any (same_id j) (take i ids)) (same_id j id) (turned id j)
-    ∙ sym (ap (λ b. cond b None (f j)) (any_more (same_id j) ids i id l is))
+    ∙ sym (ap (λ b. cond b None (f j)) (any_take_next (same_id j) ids i id l is))
   where
     turned : (a b : OpId) → same_id a b ≡ same_id b a
     turned a b = elim (cases_Bool (same_id b a)) [
@@ -139,7 +139,7 @@ pub apart_moved : (c s : OpId → Bool) (m : ℕ) (es : List ListingEntry) → A
 apart_moved c s m [] a = tt
 apart_moved c s m (x ∷ es) a = apart_one x (move_of c s m x) (moved_entries c s m es) (move_origin c s m x) (lacks_moved x.origin c s m es a.0) (apart_moved c s m es a.1)
 
--- a message that stays has an entry after the moves exactly if it had one before
+-- a message that stays has an entry after the moves exactly when it had one before
 past_other : (g : OpId) (x : ListingEntry) (o : Option ListingEntry) (rest : List ListingEntry) → ((e : ListingEntry) → o ≡ Some e → x.origin ≡ e.origin) → same_id g x.origin ≡ false → has_entry (cons_option o rest) g ≡ has_entry rest g
 past_other g x None rest h n = refl
 past_other g x (Some e) rest h n = ap (λ b. b || has_entry rest g) (subst (λ y. same_id g y ≡ false) (h e refl) n)

@@ -26,7 +26,7 @@ use Rattle.uid_projection.specs.ChartTable.{HasRooms, IsNextOn, IsTable, IsUpTo,
 use Rattle.uid_projection.proofs.ChartOf.{chart_first}
 use Rattle.uid_projection.proofs.CounterLemmas.{about_name}
 use Rattle.uid_projection.proofs.Presence.{inbox_exists, exists_tags}
-use Rattle.uid_projection.proofs.Tables.{Named, chart_as, has_name, no_chart, others_at, own_chart, own_chart_exists, same_key, table_unmoved}
+use Rattle.uid_projection.proofs.Tables.{Named, is_chart_of_equal, has_name, no_chart, others_at, own_chart, own_chart_exists, same_key, table_unmoved}
 use Rattle.uid_projection.proofs.TouchedLineLemmas.{no_origin}
 use Rattle.crdt_ops.specs.Ops.{clock_of, id_of}
 
@@ -89,7 +89,7 @@ first_up start c t k u h es vs l =
     let first : start.k ≡ k_of start inbox [] = omega arith in
     record {
       present = t ∙ sym (inbox_exists []);
-      shows = chart_as start inbox [] _ _ _ _ _ _ u h es (chart_first start inbox);
+      shows = is_chart_of_equal start inbox [] _ _ _ _ _ _ u h es (chart_first start inbox);
       versions = subst (λ v. AreVersions inbox [] (origin_at v)) (sym vs) (λ i g. (λ e. absurd (no_origin g e), λ v. absurd (false≢true v.0)));
       is_k = λ q. k ∙ first;
       small = λ q n. absurd (n refl);

@@ -18,7 +18,7 @@ use Rattle.uid_projection.specs.declared.tag_changes.TagChange.{TagChange}
 use Rattle.uid_projection.specs.declared.messages_ahead.MessagesAhead.{MessagesAhead}
 use Rattle.uid_projection.specs.TagChanges.{AreAll, IsUnchanged, IsPlaced, IsAdded, IsWhole, tag_data_of, change_data, by_id, change_of, after_change, ids_listed, stored_of, list_of}
 use Rattle.uid_projection.proofs.TagChangesLemmas.{version_source}
-use Rattle.uid_projection.proofs.IdLemmas.{in_more}
+use Rattle.uid_projection.proofs.IdLemmas.{in_take_next}
 
 ids_placed : (v : Version) (vs : List Version) → version_ids (insert_ordered by_id v vs) ≡ insert_ordered id_order v.id (version_ids vs)
 ids_placed v [] = refl
@@ -88,7 +88,7 @@ module _ (tag_data : OpId → Option MessageTagData) (origin : OpId) where
 pub in_more_ids : (i : OpId) (vs : List Version) (k : ℕ) (v : Version) → k < length vs → v ≡ get_or vs k v → IsIn i (version_ids (take (k + 1) vs)) → IsIn i (version_ids (take k vs)) ⊎ (i ≡ v.id)
 in_more_ids i vs k v l e h =
     let w = (in_map (λ (v : Version). v.id) (take (k + 1) vs) i).0 h in
-    elim (in_more w.0 vs k v l e w.1) [
+    elim (in_take_next w.0 vs k v l e w.1) [
       | inl t ↦ inl ((in_map (λ (v : Version). v.id) (take k vs) i).1 (w.0, t, w.2))
       | inr q ↦ inr (sym w.2 ∙ ap (λ (v : Version). v.id) q)
     ]
@@ -98,11 +98,11 @@ pub left_body : (m : MessagesAhead) (i : OpId) (x : Option MessageTagData) → c
 left_body m i x n e = ap (λ (c : Option TagChange). after_change (tag_data_in (stored_of m) i) (option_map change_data c)) n ∙ e
 
 -- one further stored version: it is in its place, or it is changed
-pub left_more : (m : MessagesAhead) (o : OpId) (vs : List Version) (k : ℕ) (v : Version) (old mid new : List Version) → k < length vs → v ≡ get_or vs k v
+pub left_take_next : (m : MessagesAhead) (o : OpId) (vs : List Version) (k : ℕ) (v : Version) (old mid new : List Version) → k < length vs → v ≡ get_or vs k v
     → IsPlaced (tag_data_of m) o (λ i. IsUnchanged m o i × IsIn i (version_ids (take k vs))) old mid
     → IsPlaced (tag_data_of m) o (λ i. IsUnchanged m o i × (i ≡ v.id)) mid new
     → IsPlaced (tag_data_of m) o (λ i. IsUnchanged m o i × IsIn i (version_ids (take (k + 1) vs))) old new
-left_more m o vs k v old mid new l e a b =
+left_take_next m o vs k v old mid new l e a b =
     placed_twice (tag_data_of m) o _ _ _ old mid new (λ i r. elim (in_more_ids i vs k v l e r.1) [ inl t ↦ inl (r.0, t) | inr q ↦ inr (r.0, q) ]) a b
 
 -- a version that isn't changed in its place

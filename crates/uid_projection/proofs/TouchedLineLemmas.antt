@@ -190,8 +190,8 @@ module _ (folder : List ℕ) (ops : List Op) (o : Op) (a : IsApplied (ops ++ o �
     )
 
     -- after an operation that adds a version
-    pub versions_more : (g : OpId) → origin_added folder o ≡ Some g → AreVersions folder (ops ++ o ∷ []) (origins_with (origins_without f removed) o.id g)
-    versions_more g e i h =
+    pub versions_of_append : (g : OpId) → origin_added folder o ≡ Some g → AreVersions folder (ops ++ o ∷ []) (origins_with (origins_without f removed) o.id g)
+    versions_of_append g e i h =
         elim (cases_Bool (same_id o.id i)) [
           | inl t ↦
               let is : o.id ≡ i = same_id_is o.id i t in

@@ -9,7 +9,7 @@ ghost use Rattle.mailbox_rows.specs.declared.entry.ListingEntry.{ListingEntry};
 ghost use Rattle.crdt_ops.specs.declared.op.Op.{Op};
 ghost use Rattle.crdt_ops.specs.SortedSets.{is_some_id, same_id};
 ghost use Rattle.folder_state.specs.Contents.{Contents, IsMadeBy, effect_of, origin_in};
-ghost use Rattle.folder_state.specs.AfterOps.{after};
+ghost use Rattle.folder_state.specs.AfterOps.{contents_after};
 ghost use Rattle.uid_projection.specs.FolderAhead.{IsAhead, folder_of};
 ghost use Rattle.uid_projection.specs.NextOps.{AdvancesAhead, IsNextAhead};
 ghost use Rattle.uid_projection.specs.Applied.{IsApplied};
@@ -120,7 +120,7 @@ pub fn advance_over<'a>(
     ensures latest { OnOk result (chart.new.entries.latest ≤ chart.new.highest) }
     ensures folder { folder_of ahead.new ≡ folder_of ahead.old }
     ensures ahead { OnOk result
-        ((c : Contents) → IsAhead c ahead.old → IsAhead (after c ops.now) ahead.new) }
+        ((c : Contents) → IsAhead c ahead.old → IsAhead (contents_after c ops.now) ahead.new) }
     ensures shows { OnOk result ((list : List Op) (c : Contents)
         → IsNextAhead charts.now.start folder.now charts.now.nothing.entries c list ops.now
         ahead.old
@@ -160,7 +160,7 @@ fn advance_over_one<'a>(
     if !names_folder(&op.op().kind, folder) {
         return ahead.step(alloc, op);
     }
-    let lost = origins_lost(alloc, ahead, op.op().kind.removed_ids())?;
+    let lost = lost_origins(alloc, ahead, op.op().kind.removed_ids())?;
     ahead.step(alloc, op)?;
     if !ahead.exists() {
         *chart = absent_chart_ahead(alloc, first_of(&charts.start, folder), &charts.nothing)?;
@@ -170,7 +170,7 @@ fn advance_over_one<'a>(
 }
 
 /// The origins of the present message tags with these ids. `Err` if memory runs out.
-fn origins_lost(
+fn lost_origins(
     alloc: Global,
     ahead: &FolderAhead<'_>,
     removed: &[OpId],

@@ -41,14 +41,14 @@ pub fn row_with<'a>(
 fn entry_with(entries: &EntryTable, uid: u32) -> Option<ListingEntry>
     ensures { AreUidsAscending entries.now.entries → result ≡ entry_with uid entries.now.entries }
 {
-    match entries.get(first_from(entries, uid)) {
+    match entries.get(first_place_from(entries, uid)) {
         Some(entry) => { if entry.uid == uid { Some(entry) } else { None } }
         None => None,
     }
 }
 
 /// The place of the first entry whose UID isn't below this one, or the number of entries.
-fn first_from(entries: &EntryTable, uid: u32) -> usize
+fn first_place_from(entries: &EntryTable, uid: u32) -> usize
     ensures within { result ≤ length entries.now.entries }
     ensures edge { (d : ListingEntry)
         → IsEdge (λ i. ltb (get_or entries.now.entries i d).uid uid) (length entries.now.entries)

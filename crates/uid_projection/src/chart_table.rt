@@ -50,7 +50,7 @@ pub fn uidnext_by(start: &Counters, folder: &Name, chart: Option<&Chart>) -> u32
 
 /// Brings the charts up to an operation about a folder. They have room for it, and the folders have
 /// applied it. Cost: the ids that the operation names.
-pub fn note_on(
+pub fn advance_charts(
     start: &Counters,
     next_k: &mut u32,
     charts: &mut IndexMap<Vec<u8>, Chart>,

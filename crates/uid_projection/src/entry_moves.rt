@@ -114,7 +114,7 @@ fn settle_at<L: EntryList>(entries: &mut L, place: usize, stays: bool, modseq: u
     if stays {
         entries.set_modseq(place, modseq);
     } else {
-        entries.take_out(place);
+        entries.remove(place);
     }
 }
 
@@ -131,7 +131,7 @@ pub fn begin_line<L: EntryList>(entries: &mut L, origin: &OpId, uid: u32, modseq
     ensures edits { (n : ℕ) → L.has_edits entries.old (n + 1) → L.has_edits entries.new n }
     ensures room { (n : ℕ) → L.has_room entries.old (n + 1) → L.has_room entries.new n }
 {
-    entries.put(ListingEntry {
+    entries.push(ListingEntry {
         origin: *origin,
         uid,
         modseq,

@@ -16,7 +16,7 @@ use crate::overlay::{
 };
 use crate::presence_ahead::has_added_message;
 use crate::tag_changes::{TagChange, note_change};
-use crate::touched_origins::{list, touch};
+use crate::touched_origins::{list_id, touch};
 use folder_state::Folder;
 use imap_types::{Flags, Version};
 use indexmap::IndexMap;
@@ -112,7 +112,7 @@ impl<'a> MessagesAhead<'a> {
             else tag_data_of self.old i)) }
     {
         list_stored_origin(alloc, self.stored, &mut self.versions, id)?;
-        list(alloc, &mut self.versions, origin, id)?;
+        list_id(alloc, &mut self.versions, origin, id)?;
         note_change(&mut self.changes, id, Some(flags), origin)
     }
 

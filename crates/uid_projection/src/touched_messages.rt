@@ -48,14 +48,14 @@ impl Charts {
             (listing self.now.start name.now (list ++ ops.now))) }
     {
         match chart_of(&self.charts, name) {
-            Some(chart) => uids_of_messages_named(alloc, chart, name, ops),
+            Some(chart) => uids_of_named_messages(alloc, chart, name, ops),
             None => Ok(Vec::new(alloc)),
         }
     }
 }
 
 /// The UIDs of the messages that operations about the folder name. `Err` if memory runs out.
-fn uids_of_messages_named(
+fn uids_of_named_messages(
     alloc: Global,
     chart: &Chart,
     folder: &Name,
@@ -67,13 +67,13 @@ fn uids_of_messages_named(
 {
     let mut uids = Vec::new(alloc);
     for op in ops {
-        push_uids_named(&mut uids, chart, folder, op.op())?;
+        push_named_uids(&mut uids, chart, folder, op.op())?;
     }
     Ok(uids)
 }
 
 /// Appends the UIDs of the messages that the operation names, if it is about the folder.
-fn push_uids_named(
+fn push_named_uids(
     uids: &mut Vec<u32>,
     chart: &Chart,
     folder: &Name,
@@ -119,7 +119,7 @@ fn is_lost(chart: &Chart, removed: &[OpId], origin: &OpId) -> bool
     ensures { result ≡ loses (origin_at chart.now.versions.entries) removed.now origin.now }
 {
     for id in removed {
-        if is_at(&chart.versions, id, origin) {
+        if is_version_of_origin(&chart.versions, id, origin) {
             return true;
         }
     }
@@ -127,7 +127,7 @@ fn is_lost(chart: &Chart, removed: &[OpId], origin: &OpId) -> bool
 }
 
 /// Whether the version with this id is of this origin.
-fn is_at(versions: &IndexMap<OpId, OpId>, id: &OpId, origin: &OpId) -> bool
+fn is_version_of_origin(versions: &IndexMap<OpId, OpId>, id: &OpId, origin: &OpId) -> bool
     ensures { result ≡ is_some_id origin.now (origin_at versions.now.entries id.now) }
 {
     match origin_at(versions, id) {

@@ -27,7 +27,7 @@ pub fn touch(
 }
 
 /// Adds an id to the list of this origin. `Err` if memory runs out.
-pub fn list(
+pub fn list_id(
     alloc: Global,
     versions: &mut IndexMap<OpId, Vec<OpId>>,
     origin: &OpId,

@@ -7,7 +7,7 @@ use std::alloc::{AllocError, Global};
 
 /// A message as the client knows it.
 #[derive(Drop)]
-struct Slot {
+struct KnownMessage {
     /// Its UID, if an answer reported it.
     uid: Option<u32>,
     /// Its flags, if an answer reported them or the client set them silently.
@@ -18,26 +18,26 @@ struct Slot {
 #[derive(Drop)]
 pub struct Client {
     /// The messages, by message number.
-    slots: Vec<Slot>,
+    messages: Vec<KnownMessage>,
     /// The UIDVALIDITY, if an answer reported it.
     validity: Option<u32>,
     /// Whether an answer named a missing message, or counted fewer messages than the client has.
-    is_lost: bool,
+    has_contradiction: bool,
 }
 
 impl Client {
     /// A client that knows nothing.
     pub fn new(alloc: Global) -> Client {
         Client {
-            slots: Vec::new(alloc),
+            messages: Vec::new(alloc),
             validity: None,
-            is_lost: false,
+            has_contradiction: false,
         }
     }
 
     /// How many messages the client knows to exist.
     pub fn count(&self) -> usize {
-        self.slots.len()
+        self.messages.len()
     }
 
     /// The UIDVALIDITY, if an answer reported it.
@@ -45,34 +45,38 @@ impl Client {
         self.validity
     }
 
-    /// Takes answers, one after another. `Err` if memory runs out.
-    pub fn take_all(&mut self, alloc: Global, answers: &[Answer]) -> Result<(), AllocError> {
+    /// Updates the client from answers, one after another. `Err` if memory runs out.
+    pub fn apply_answers(&mut self, alloc: Global, answers: &[Answer]) -> Result<(), AllocError> {
         for answer in answers {
-            self.take(alloc, answer)?;
+            self.apply_answer(alloc, answer)?;
         }
         Ok(())
     }
 
-    /// Takes an answer (RFC 9051, section 7). `Err` if memory runs out.
-    pub fn take(&mut self, alloc: Global, answer: &Answer) -> Result<(), AllocError> {
+    /// Updates the client from an answer (RFC 9051, section 7). `Err` if memory runs out.
+    pub fn apply_answer(&mut self, alloc: Global, answer: &Answer) -> Result<(), AllocError> {
         match answer {
             Answer::Expunge { number } => {
                 self.take_out(*number);
                 Ok(())
             }
-            Answer::Exists { count } => self.lengthen(*count),
-            Answer::Fetch { number, items } => self.learn(alloc, *number, items),
+            Answer::Exists { count } => self.add_unknown_messages(*count),
+            Answer::Fetch { number, items } => self.take_items(alloc, *number, items),
             Answer::UntaggedOk { notice } => {
-                self.note(notice);
+                self.read_notice(notice);
                 Ok(())
             }
             _ => Ok(()),
         }
     }
 
-    /// Takes flags that the client set silently (RFC 9051, section 6.4.6), of one message after
-    /// another. `Err` if memory runs out.
-    pub fn set_all(&mut self, alloc: Global, silents: &[SilentFlags]) -> Result<(), AllocError> {
+    /// Records flags that the client set silently (RFC 9051, section 6.4.6), message by message.
+    /// `Err` if memory runs out.
+    pub fn record_silent_flags(
+        &mut self,
+        alloc: Global,
+        silents: &[SilentFlags],
+    ) -> Result<(), AllocError> {
         for silent in silents {
             self.set(alloc, silent)?;
         }
@@ -80,30 +84,30 @@ impl Client {
     }
 
     fn set(&mut self, alloc: Global, silent: &SilentFlags) -> Result<(), AllocError> {
-        match self.slots.get_mut(place_of(silent.number)) {
-            Some(slot) => slot.flags = Some(silent.flags.copy(alloc)?),
-            None => self.is_lost = true,
+        match self.messages.get_mut(place_of(silent.number)) {
+            Some(message) => message.flags = Some(silent.flags.copy(alloc)?),
+            None => self.has_contradiction = true,
         }
         Ok(())
     }
 
     fn take_out(&mut self, number: u32) {
         let place = place_of(number);
-        if place >= self.slots.len() {
-            self.is_lost = true;
+        if place >= self.messages.len() {
+            self.has_contradiction = true;
             return;
         }
-        drop(self.slots.remove(place));
+        drop(self.messages.remove(place));
     }
 
-    fn lengthen(&mut self, count: u32) -> Result<(), AllocError> {
+    fn add_unknown_messages(&mut self, count: u32) -> Result<(), AllocError> {
         let count = count as usize;
-        if self.slots.len() > count {
-            self.is_lost = true;
+        if self.messages.len() > count {
+            self.has_contradiction = true;
             return Ok(());
         }
-        for _ in self.slots.len()..count {
-            self.slots.push(Slot {
+        for _ in self.messages.len()..count {
+            self.messages.push(KnownMessage {
                 uid: None,
                 flags: None,
             })?;
@@ -111,17 +115,22 @@ impl Client {
         Ok(())
     }
 
-    fn learn(&mut self, alloc: Global, number: u32, items: &FetchItems) -> Result<(), AllocError> {
-        match self.slots.get_mut(place_of(number)) {
-            Some(slot) => slot.learn(alloc, items),
+    fn take_items(
+        &mut self,
+        alloc: Global,
+        number: u32,
+        items: &FetchItems,
+    ) -> Result<(), AllocError> {
+        match self.messages.get_mut(place_of(number)) {
+            Some(message) => message.take_items(alloc, items),
             None => {
-                self.is_lost = true;
+                self.has_contradiction = true;
                 Ok(())
             }
         }
     }
 
-    fn note(&mut self, notice: &Notice) {
+    fn read_notice(&mut self, notice: &Notice) {
         if let Notice::UidValidity { value } = notice {
             self.validity = Some(*value);
         }
@@ -129,12 +138,12 @@ impl Client {
 
     /// Whether all that the client knows of messages agrees with another client, which knows
     /// everything.
-    pub fn is_right_by(&self, other: &Client) -> bool {
-        if self.is_lost || self.slots.len() != other.slots.len() {
+    pub fn agrees_with_client(&self, other: &Client) -> bool {
+        if self.has_contradiction || self.messages.len() != other.messages.len() {
             return false;
         }
-        for (slot, expected) in self.slots.iter().zip(&other.slots) {
-            if !slot.is_right(expected.uid, expected.flags.as_ref()) {
+        for (message, expected) in self.messages.iter().zip(&other.messages) {
+            if !message.agrees_with(expected.uid, expected.flags.as_ref()) {
                 return false;
             }
         }
@@ -142,12 +151,12 @@ impl Client {
     }
 
     /// Whether all that the client knows of messages agrees with a session's view.
-    pub fn is_right_for(&self, entries: &ViewEntries) -> bool {
-        if self.is_lost || self.slots.len() != entries.len() {
+    pub fn agrees_with_view(&self, entries: &ViewEntries) -> bool {
+        if self.has_contradiction || self.messages.len() != entries.len() {
             return false;
         }
-        for (slot, entry) in self.slots.iter().zip(entries.iter_from(0)) {
-            if !slot.is_right(Some(entry.uid), Some(&entry.flags)) {
+        for (message, entry) in self.messages.iter().zip(entries.iter_from(0)) {
+            if !message.agrees_with(Some(entry.uid), Some(&entry.flags)) {
                 return false;
             }
         }
@@ -155,8 +164,8 @@ impl Client {
     }
 }
 
-impl Slot {
-    fn learn(&mut self, alloc: Global, items: &FetchItems) -> Result<(), AllocError> {
+impl KnownMessage {
+    fn take_items(&mut self, alloc: Global, items: &FetchItems) -> Result<(), AllocError> {
         if let Some(uid) = items.uid {
             self.uid = Some(uid);
         }
@@ -167,7 +176,7 @@ impl Slot {
     }
 
     /// Whether what is known of the message equals these values.
-    fn is_right(&self, uid: Option<u32>, flags: Option<&Flags>) -> bool {
+    fn agrees_with(&self, uid: Option<u32>, flags: Option<&Flags>) -> bool {
         let has_uid = self.uid.is_none() || self.uid == uid;
         has_uid && self.has_right_flags(flags)
     }
@@ -181,7 +190,7 @@ impl Slot {
     }
 }
 
-/// The place of the message with this number, counted from 1; for 0 a place without a message.
+/// The place of the message with this number, counted from 1; for 0, a place that no message has.
 fn place_of(number: u32) -> usize {
     match number.checked_sub(1) {
         Some(place) => place as usize,

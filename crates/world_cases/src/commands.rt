@@ -5,7 +5,7 @@ use std::alloc::{AllocError, Global};
 
 /// The effect of a command on its session's mailbox.
 #[derive(Clone, Copy)]
-pub enum Sort {
+pub enum MailboxEffect {
     /// It selects a mailbox.
     Selecting,
     /// It leaves the selected mailbox.
@@ -20,7 +20,7 @@ pub struct ClientCommand {
     /// The command, with its tag and line end.
     pub text: String,
     /// Its effect on the session's mailbox.
-    pub sort: Sort,
+    pub effect: MailboxEffect,
 }
 
 /// A random command. If no mailbox is selected, every second one selects a mailbox.
@@ -36,7 +36,7 @@ pub fn command(
         0 => select_command(alloc, chance),
         1 => unselect_command(alloc, chance),
         2 | 3 => other(store(alloc, chance)?),
-        4 | 5 | 6 => other(over_mailboxes(alloc, chance)?),
+        4 | 5 | 6 => other(mailbox_command(alloc, chance)?),
         7 | 8 | 9 | 10 => other(append(alloc, chance)?),
         11 | 12 | 13 => other(store(alloc, chance)?),
         14 | 15 => other(move_command(alloc, chance)?),
@@ -48,7 +48,7 @@ pub fn command(
 fn other(text: String) -> Result<ClientCommand, AllocError> {
     Ok(ClientCommand {
         text,
-        sort: Sort::Other,
+        effect: MailboxEffect::Other,
     })
 }
 
@@ -61,7 +61,7 @@ fn select_command(alloc: Global, chance: &mut Chance) -> Result<ClientCommand, A
     };
     Ok(ClientCommand {
         text: format!(in alloc; "a {word} {name}\r\n")?,
-        sort: Sort::Selecting,
+        effect: MailboxEffect::Selecting,
     })
 }
 
@@ -73,7 +73,7 @@ fn unselect_command(alloc: Global, chance: &mut Chance) -> Result<ClientCommand,
     };
     Ok(ClientCommand {
         text: format!(in alloc; "a {word}\r\n")?,
-        sort: Sort::Leaving,
+        effect: MailboxEffect::Leaving,
     })
 }
 
@@ -87,7 +87,7 @@ fn name(chance: &mut Chance) -> &'static str {
     }
 }
 
-fn over_mailboxes(alloc: Global, chance: &mut Chance) -> Result<String, AllocError> {
+fn mailbox_command(alloc: Global, chance: &mut Chance) -> Result<String, AllocError> {
     let name = name(chance);
     let word = match chance.below(8) {
         0 => "DELETE",

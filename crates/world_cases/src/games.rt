@@ -2,11 +2,11 @@
 
 ghost use Rattle.std.specs.Prelude.{◌≡◌, IfOk};
 
-use crate::asked::cut;
 use crate::chance::Chance;
+use crate::event_lines::cut;
 use crate::random_events::{Note, random_event};
+use crate::session_clients::SessionClients;
 use crate::tally::Tally;
-use crate::watch::Watch;
 use case_lines::{Trouble, Words, long_number};
 use imap_connection::write_dump;
 use imap_node::Node;
@@ -31,7 +31,7 @@ struct Game {
 /// The progress of a world so far.
 #[derive(Drop)]
 struct Progress {
-    watch: Watch,
+    session_clients: SessionClients,
     /// How many events were taken, and not passed over.
     taken: u32,
     /// What went wrong, if anything.
@@ -64,7 +64,7 @@ fn play(alloc: Global, number: u64, tally: &mut Tally) -> Result<(), Trouble> {
     let mut game = Game {
         world: world(alloc)?,
         progress: Progress {
-            watch: Watch::new(alloc)?,
+            session_clients: SessionClients::new(alloc)?,
             taken: 0,
             wrong: None,
         },
@@ -110,13 +110,13 @@ fn run_some(
 ) -> Result<Game, Trouble> {
     let Game { world, progress } = game;
     let mut notes = Vec::new(alloc);
-    let events = made_up(alloc, chance, world.nodes(), count, &mut notes)?;
+    let events = choose_events(alloc, chance, world.nodes(), count, &mut notes)?;
     let outcomes = run(alloc, world, events);
-    judged(alloc, &notes, outcomes, progress, tally)
+    game_after_run(alloc, &notes, outcomes, progress, tally)
 }
 
 /// Random events at these nodes; `notes` gets what clients must know about them.
-fn made_up(
+fn choose_events(
     alloc: Global,
     chance: &mut Chance,
     nodes: &[Node],
@@ -133,7 +133,7 @@ fn made_up(
 }
 
 /// The game after a run, and whether its sessions' views are what their clients received.
-fn judged(
+fn game_after_run(
     alloc: Global,
     notes: &[Note],
     outcomes: Outcomes,
@@ -142,20 +142,20 @@ fn judged(
 ) -> Result<Game, Trouble> {
     let Outcomes { world, list, whole } = outcomes;
     let Progress {
-        watch,
+        session_clients,
         taken,
         wrong,
     } = progress;
-    let mut watch = watch;
+    let mut session_clients = session_clients;
     let mut taken = taken;
     if !whole || list.len() != notes.len() {
         return Err(Trouble::NoMemory);
     }
     for (note, outcome) in notes.iter().zip(list.iter()) {
-        watch.receive(alloc, *note, outcome, tally)?;
+        session_clients.receive(alloc, *note, outcome, tally)?;
         taken = taken.saturating_add(u32::from(tally.note(outcome)));
     }
-    let wrong = if watch.is_right_by(world.nodes()) {
+    let wrong = if session_clients.agrees_with_nodes(world.nodes()) {
         wrong
     } else {
         Some("a session's view differs from what it was sent")
@@ -163,7 +163,7 @@ fn judged(
     Ok(Game {
         world,
         progress: Progress {
-            watch,
+            session_clients,
             taken,
             wrong,
         },
@@ -187,7 +187,7 @@ fn end(alloc: Global, number: u64, game: Game, tally: &mut Tally) -> Result<(), 
     if !all_agree(&nodes) {
         tally.note_failure(number, "two replicas differ");
     }
-    if !hold_the_same(alloc, &nodes)? {
+    if !have_equal_dumps(alloc, &nodes)? {
         tally.note_failure(number, "two replicas hold other mail");
     }
     Ok(())
@@ -232,7 +232,7 @@ fn agrees_with(node: &Node, others: &[Node]) -> bool {
 }
 
 /// Whether the dumps of all nodes are the same except for the replica's name in the first line.
-fn hold_the_same(alloc: Global, nodes: &[Node]) -> Result<bool, AllocError> {
+fn have_equal_dumps(alloc: Global, nodes: &[Node]) -> Result<bool, AllocError> {
     let Some((first, others)) = nodes.split_first() else {
         return Ok(true);
     };

@@ -4,7 +4,7 @@
 //! what a case is.
 //!
 //! The text of a worked world is printed again with the outcomes that its events have now, so it is
-//! printed unchanged exactly if every outcome is right. After each run of a random world each
+//! printed unchanged exactly when every outcome is right. After each run of a random world each
 //! session's view must be the one that a plain client makes of its replies. At the end the replicas
 //! settle, must have applied every operation that was issued, agree, and have equal dumps.
 //!
@@ -12,18 +12,18 @@
 //! with 1 or more; the rest is compared.
 #![tactic(auto)]
 
-mod asked;
 mod chance;
 mod client;
 mod commands;
+mod event_lines;
 mod games;
 mod idle;
 mod outcome_text;
 mod random_events;
+mod session_clients;
 mod settlement;
 mod tally;
-mod watch;
-mod worked;
+mod worked_world;
 
 pub use idle::play as play_idle;
-pub use worked::play;
+pub use worked_world::play;

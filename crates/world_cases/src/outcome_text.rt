@@ -1,10 +1,10 @@
 //! Writes the outcomes of events as text.
 
-use crate::asked::cut;
+use crate::event_lines::cut;
 use case_lines::Words;
 use causal_inbox::{Arrival, DeliverFault, Delivered, Drained};
 use imap_answers::{Answer, Refusal};
-use imap_node::{Issued, OpenFault, Reply, Silents};
+use imap_node::{OpenFault, Reply, ReplyOps, ReplySilentFlags};
 use imap_print::print;
 use imap_types::Octets;
 use merge_laws::Caused;
@@ -90,7 +90,7 @@ fn put_reply(alloc: Global, line: &str, reply: &Reply, page: &mut Words) {
     }
 }
 
-fn put_issued(issued: &Issued, page: &mut Words) {
+fn put_issued(issued: &ReplyOps, page: &mut Words) {
     if issued.as_slice().is_empty() {
         return;
     }
@@ -100,7 +100,7 @@ fn put_issued(issued: &Issued, page: &mut Words) {
     }
 }
 
-fn put_silent(silents: &Silents, page: &mut Words) {
+fn put_silent(silents: &ReplySilentFlags, page: &mut Words) {
     if silents.as_slice().is_empty() {
         return;
     }

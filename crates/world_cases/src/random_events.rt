@@ -2,9 +2,9 @@
 
 ghost use Rattle.std.specs.Prelude.{◌<◌};
 
-use crate::asked::spelled;
 use crate::chance::Chance;
-use crate::commands::{Sort, command};
+use crate::commands::{MailboxEffect, command};
+use crate::event_lines::tagged_command;
 use case_lines::Trouble;
 use imap_commands::Credentials;
 use imap_grammar::IdleLine;
@@ -22,7 +22,7 @@ pub const SESSIONS: u32 = 3;
 
 /// An event, and what its client must know of it.
 #[derive(Drop)]
-pub struct Noted {
+pub struct NotedEvent {
     /// The event.
     pub event: Event,
     /// Its session, and its effect on the selected mailbox.
@@ -37,23 +37,27 @@ pub struct Note {
     /// The session's number at its replica, from 1 on.
     pub session: u32,
     /// The effect on the session's mailbox.
-    pub sort: Sort,
+    pub effect: MailboxEffect,
 }
 
 /// A random event at one of these nodes. `Err` if memory runs out.
-pub fn random_event(alloc: Global, chance: &mut Chance, nodes: &[Node]) -> Result<Noted, Trouble> {
+pub fn random_event(
+    alloc: Global,
+    chance: &mut Chance,
+    nodes: &[Node],
+) -> Result<NotedEvent, Trouble> {
     let note = Note {
         at: one_of(chance, REPLICAS),
         session: one_of(chance, SESSIONS),
-        sort: Sort::Other,
+        effect: MailboxEffect::Other,
     };
     let at = replica(note.at)?;
     let session = session(note.session)?;
     match chance.below(24) {
-        0 | 1 => Ok(made(note, open_event(alloc, chance, at)?)),
-        2 => Ok(made(note, close_event(chance, at, session))),
-        3 => Ok(made(note, Event::Drain { at })),
-        4 | 5 | 6 | 7 | 8 => Ok(made(note, delivery_event(chance, at, nodes)?)),
+        0 | 1 => Ok(noted_event(note, open_event(alloc, chance, at)?)),
+        2 => Ok(noted_event(note, close_event(chance, at, session))),
+        3 => Ok(noted_event(note, Event::Drain { at })),
+        4 | 5 | 6 | 7 | 8 => Ok(noted_event(note, delivery_event(chance, at, nodes)?)),
         _ => session_event(alloc, chance, nodes, note),
     }
 }
@@ -65,8 +69,8 @@ fn one_of(chance: &mut Chance, count: u32) -> u32
     chance.below(count).saturating_add(1)
 }
 
-fn made(note: Note, event: Event) -> Noted {
-    Noted { event, note }
+fn noted_event(note: Note, event: Event) -> NotedEvent {
+    NotedEvent { event, note }
 }
 
 fn replica(number: u32) -> Result<ReplicaId, Trouble> {
@@ -140,14 +144,14 @@ fn session_event(
     chance: &mut Chance,
     nodes: &[Node],
     note: Note,
-) -> Result<Noted, Trouble> {
+) -> Result<NotedEvent, Trouble> {
     let at = replica(note.at)?;
     let session = session(note.session)?;
     let idles = is_idling(nodes, at, session);
     if idles == chance.is_one_in(20) {
         return command_event(alloc, chance, nodes, note);
     }
-    Ok(made(note, idle_event(chance, at, session)))
+    Ok(noted_event(note, idle_event(chance, at, session)))
 }
 
 fn is_idling(nodes: &[Node], name: ReplicaId, session: SessionNo) -> bool {
@@ -196,12 +200,12 @@ fn command_event(
     chance: &mut Chance,
     nodes: &[Node],
     note: Note,
-) -> Result<Noted, Trouble> {
+) -> Result<NotedEvent, Trouble> {
     let at = replica(note.at)?;
     let session = session(note.session)?;
     let sent = command(alloc, chance, is_selected(nodes, at, session))?;
-    let tagged = spelled(alloc, sent.text.as_bytes())?;
-    Ok(Noted {
+    let tagged = tagged_command(alloc, sent.text.as_bytes())?;
+    Ok(NotedEvent {
         event: Event::Command {
             at,
             session,
@@ -209,7 +213,7 @@ fn command_event(
             tagged,
         },
         note: Note {
-            sort: sent.sort,
+            effect: sent.effect,
             ..note
         },
     })

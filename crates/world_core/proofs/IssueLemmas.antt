@@ -9,7 +9,7 @@ use Rattle.imap_node.specs.Operations.{AreNext, CanIssueAll, id_of}
 use Rattle.imap_node.specs.Responses.{input_intent}
 use Rattle.imap_node.specs.declared.input.Input.{Input}
 use Rattle.imap_node.proofs.CanIssueLemmas.{input_can}
-use Rattle.imap_node.proofs.NextLemmas.{can_by}
+use Rattle.imap_node.proofs.NextLemmas.{can_issue_by_clock}
 use Rattle.imap_node.proofs.ExistingFolderLemmas.{mapped_in}
 use Rattle.merge_laws.specs.Orders.{AreSound, IsIn}
 use Rattle.merge_laws.proofs.Lists.{split_at}
@@ -29,7 +29,7 @@ next_sound replica applied kinds ops all h = λ o i.
     let cut = split_at o ops i in
     let n = h.next cut.0 o cut.1 cut.2 in
     let first = first_clock replica applied kinds ops h o i in
-    let can = can_by applied cut.0 o.kind first.0 o.clock (all o.kind (subst (IsIn o.kind) h.of_kinds (mapped_in ops o i))) first.1 n.clock in
+    let can = can_issue_by_clock applied cut.0 o.kind first.0 o.clock (all o.kind (subst (IsIn o.kind) h.of_kinds (mapped_in ops o i))) first.1 n.clock in
     record {
       own = ap (λ (r : ℕ). count_of o.clock r + 1) n.own ∙ sym n.number;
       covered = can.covered;

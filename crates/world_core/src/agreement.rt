@@ -19,7 +19,7 @@ pub enum Agreement {
     Different,
 }
 
-/// Whether two replicas applied the same operations, forged ones included. `Same` exactly if they
+/// Whether two replicas applied the same operations, forged ones included. `Same` exactly when they
 /// did; they then have the same folders, messages, flags and subscriptions. Takes no memory.
 pub fn agree(one: &Node, other: &Node) -> Agreement
     ensures exact { (result ≡ AreSame)

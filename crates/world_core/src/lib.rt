@@ -9,8 +9,7 @@
 //! exists: whatever the events are, replicas that applied the same operations have the same
 //! folders, messages, flags and subscriptions, each session's untagged answers, replayed, give its
 //! view, and no UID or mod-sequence is ever reused. [`settle`] has nodes exchange what they
-//! received until all applied one set of operations, [`agree`] tests whether two did, and
-//! [`conflict`] finds the least id that two operations share.
+//! received until all applied one set of operations, and [`agree`] tests whether two did.
 //!
 //! # Decided
 //!
@@ -51,4 +50,4 @@ pub use laws::{settling_keeps_promises, worlds_keep_their_promises};
 pub use run_events::{Outcomes, run};
 pub use settlement::{SettleFault, settle};
 pub use world::{World, WorldFault};
-pub use world_join::{JoinRefusal, with_operations_of};
+pub use world_join::{JoinRefusal, joined_node};

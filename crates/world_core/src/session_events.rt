@@ -27,7 +27,7 @@ pub fn open(node: &mut Node, auth: Auth) -> Outcome
     }
 }
 
-/// Whether the session is open, and idles exactly if `idles`.
+/// Whether the session is open, and idles exactly when `idles`.
 fn awaits(node: &Node, session: SessionNo, idles: bool) -> bool
     ensures { IsTrue result ↔ AwaitsInput node.now.state session idles }
 {

@@ -1,13 +1,13 @@
 //! Nodes that exchange what they received, until they have applied one set.
 
 ghost use Rattle.std.specs.Prelude.{◌≡◌, ◌∷◌, IfErr, MatchResult, OnOk};
-ghost use Rattle.imap_node.specs.Deliveries.{HoldsRipe, IsOrderly};
+ghost use Rattle.imap_node.specs.Deliveries.{HoldsRipeOp, IsOrderly};
 ghost use Rattle.imap_node.specs.Nodes.{NodeState};
 ghost use Rattle.merge_laws.specs.Orders.{HasId, IsIn};
 ghost use Rattle.tags_clocks.specs.Clock.{IsCause};
 ghost use Rattle.tags_clocks.specs.declared.id.OpId.{OpId};
 ghost use Rattle.crdt_ops.specs.declared.op.Op.{Op};
-ghost use Rattle.world_core.specs.Exchanges.{AreQuiet, AreWithin, HaveCauses, HasNotTaken};
+ghost use Rattle.world_core.specs.Exchanges.{HoldNoRipeOp, AreAmong, HaveCauses, HasNotTaken};
 ghost use Rattle.world_core.specs.Exchanges.{IsReceivedOrOneOf, OneHasNotTaken};
 ghost use Rattle.imap_node.specs.Operations.{id_of};
 ghost use Rattle.world_core.specs.Replicas.{all_without_room};
@@ -47,7 +47,7 @@ pub enum SettleFault {
 /// had received and whose causes are in the set. Whatever the result, sessions stay as they were,
 /// and lists only grow at their end.
 ///
-/// `Conflict` exactly if two nodes received different operations with one id, with the least such
+/// `Conflict` exactly when two nodes received different operations with one id, with the least such
 /// id; this is tested first, takes no memory and changes nothing. `Exhausted` only if some node
 /// could apply an operation, but a counter has no number left for it; otherwise `NoMemory`.
 ///
@@ -120,10 +120,10 @@ fn are_orderly(nodes: &[Node])
 /// Delivers what the hub applied to all other nodes.
 fn spread(alloc: Global, hub: &Node, others: &mut [Node]) -> Result<(), SettleFault>
     requires agreed { AreAgreed (hub.now.state ∷ all_without_room others.old) }
-    requires quiet { AreQuiet (all_without_room others.old) }
-    ensures ok { OnOk result (AreQuiet (all_without_room others.new)
+    requires quiet { HoldNoRipeOp (all_without_room others.old) }
+    ensures ok { OnOk result (HoldNoRipeOp (all_without_room others.new)
         × ((node : NodeState) → IsIn node (all_without_room others.new)
-        → AreWithin hub.now.state.applied node.applied)) }
+        → AreAmong hub.now.state.applied node.applied)) }
     ensures short { IfErr result (λ fault. OneHasNotTaken
         (hub.now.state ∷ all_without_room others.old) fault (all_without_room others.new)) }
     ensures takes { AllTakeSomeOf (IsReceivedBy (hub.now.state ∷ all_without_room others.old))
@@ -138,10 +138,10 @@ fn spread(alloc: Global, hub: &Node, others: &mut [Node]) -> Result<(), SettleFa
 /// Delivers what each node applied to the hub.
 fn collect(alloc: Global, hub: &mut Node, others: &[Node]) -> Result<(), SettleFault>
     requires agreed { AreAgreed (hub.old.state ∷ all_without_room others.now) }
-    requires quiet { ¬ HoldsRipe hub.old.state }
-    ensures ok { OnOk result ((¬ HoldsRipe hub.new.state)
+    requires quiet { ¬ HoldsRipeOp hub.old.state }
+    ensures ok { OnOk result ((¬ HoldsRipeOp hub.new.state)
         × ((node : NodeState) → IsIn node (all_without_room others.now)
-        → AreWithin node.applied hub.new.state.applied)) }
+        → AreAmong node.applied hub.new.state.applied)) }
     ensures short { IfErr result (λ fault. HasNotTaken
         (IsReceivedBy (hub.old.state ∷ all_without_room others.now)) fault hub.new.state) }
     ensures takes { TakesSomeOf (IsReceivedBy (hub.old.state ∷ all_without_room others.now))
@@ -158,9 +158,9 @@ fn deliver_applied(alloc: Global, from: &Node, to: &mut Node) -> Result<(), Sett
     requires agreed { AgreeOnIds
         (IsReceivedOrOneOf to.old.state (λ op. IsIn op from.now.state.applied))
         (IsReceivedOrOneOf to.old.state (λ op. IsIn op from.now.state.applied)) }
-    requires quiet { ¬ HoldsRipe to.old.state }
+    requires quiet { ¬ HoldsRipeOp to.old.state }
     ensures ok { OnOk result
-        ((¬ HoldsRipe to.new.state) × AreWithin from.now.state.applied to.new.state.applied) }
+        ((¬ HoldsRipeOp to.new.state) × AreAmong from.now.state.applied to.new.state.applied) }
     ensures short { IfErr result (λ fault. HasNotTaken
         (IsReceivedOrOneOf to.old.state (λ op. IsIn op from.now.state.applied)) fault
         to.new.state) }
@@ -180,9 +180,9 @@ fn deliver_all(alloc: Global, node: &mut Node, ops: Vec<SoundOp>) -> Result<(), 
     requires agreed { AgreeOnIds (IsReceivedOrOneOf node.old.state (λ op. IsIn op ops.items))
         (IsReceivedOrOneOf node.old.state (λ op. IsIn op ops.items)) }
     requires causes { HaveCauses node.old.state.applied ops.items }
-    requires quiet { ¬ HoldsRipe node.old.state }
+    requires quiet { ¬ HoldsRipeOp node.old.state }
     ensures ok { OnOk result
-        ((¬ HoldsRipe node.new.state) × AreWithin ops.items node.new.state.applied) }
+        ((¬ HoldsRipeOp node.new.state) × AreAmong ops.items node.new.state.applied) }
     ensures short { IfErr result (λ fault. HasNotTaken
         (IsReceivedOrOneOf node.old.state (λ op. IsIn op ops.items)) fault node.new.state) }
     ensures takes { TakesSomeOf (IsReceivedOrOneOf node.old.state (λ op. IsIn op ops.items))
@@ -199,8 +199,8 @@ fn deliver(alloc: Global, node: &mut Node, op: SoundOp) -> Result<(), SettleFaul
     requires agreed { AgreeOnIds (IsReceivedOrOneOf node.old.state (λ one. op ≡ one))
         (IsReceivedOrOneOf node.old.state (λ one. op ≡ one)) }
     requires causes { (id : OpId) → IsCause op.clock id → HasId id_of node.old.state.applied id }
-    requires quiet { ¬ HoldsRipe node.old.state }
-    ensures ok { OnOk result ((¬ HoldsRipe node.new.state) × IsIn op node.new.state.applied) }
+    requires quiet { ¬ HoldsRipeOp node.old.state }
+    ensures ok { OnOk result ((¬ HoldsRipeOp node.new.state) × IsIn op node.new.state.applied) }
     ensures short { IfErr result (λ fault. HasNotTaken
         (IsReceivedOrOneOf node.old.state (λ one. op ≡ one)) fault node.new.state) }
     ensures takes { TakesSomeOf (IsReceivedOrOneOf node.old.state (λ one. op ≡ one)) node.old.state
@@ -224,7 +224,7 @@ fn deliver(alloc: Global, node: &mut Node, op: SoundOp) -> Result<(), SettleFaul
 
 /// Has each node apply the held operations that it can apply.
 fn release_all(alloc: Global, nodes: &mut [Node]) -> Result<(), SettleFault>
-    ensures ok { OnOk result (AreQuiet (all_without_room nodes.new)) }
+    ensures ok { OnOk result (HoldNoRipeOp (all_without_room nodes.new)) }
     ensures short { IfErr result
         (λ fault. OneHasNotTaken (all_without_room nodes.old) fault (all_without_room nodes.new)) }
     ensures takes { AllTakeSomeOf (IsReceivedBy (all_without_room nodes.old))
@@ -238,7 +238,7 @@ fn release_all(alloc: Global, nodes: &mut [Node]) -> Result<(), SettleFault>
 
 /// Has a node apply the held operations that it can apply.
 fn release(alloc: Global, node: &mut Node) -> Result<(), SettleFault>
-    ensures ok { OnOk result (¬ HoldsRipe node.new.state) }
+    ensures ok { OnOk result (¬ HoldsRipeOp node.new.state) }
     ensures short { IfErr result
         (λ fault. HasNotTaken (IsReceivedAt node.old.state) fault node.new.state) }
     ensures takes { TakesSomeOf (IsReceivedAt node.old.state) node.old.state node.new.state }
@@ -252,7 +252,7 @@ fn release(alloc: Global, node: &mut Node) -> Result<(), SettleFault>
 
 /// Why a node still holds an operation that it could apply.
 fn stall_fault(alloc: Global, node: &mut Node) -> SettleFault
-    requires { HoldsRipe node.old.state }
+    requires { HoldsRipeOp node.old.state }
     ensures same { node.new.state ≡ node.old.state }
     ensures short { HasNotTaken (IsReceivedAt node.old.state) result node.old.state }
 {

@@ -65,7 +65,7 @@ pub fn join(
     let Ok(()) = nodes.reserve(1) else {
         return Err(WorldFault::NoMemory);
     };
-    match with_operations_of(alloc, name, &nodes[place]) {
+    match joined_node(alloc, name, &nodes[place]) {
         Ok(node) => {
             nodes.push_reserved(node);
             Ok(())
@@ -117,7 +117,7 @@ fn outcome_of_join(answer: &Result<(), WorldFault>) -> Outcome
 /// no number left for one of the operations; `NoMemory` if memory runs out.
 ///
 /// It costs as much as delivering these operations.
-pub fn with_operations_of(alloc: Global, name: ReplicaId, from: &Node) -> Result<Node, JoinRefusal>
+pub fn joined_node(alloc: Global, name: ReplicaId, from: &Node) -> Result<Node, JoinRefusal>
     ensures { MatchResult result
         (λ node. (node.state ≡ joined_node name from.now.state.applied)
         × (¬ LacksNumbers name from.now.state.applied))

@@ -1,9 +1,9 @@
 //! Chooses the code that answers a query.
 
-use crate::queries::asked::{Asked, put_asked};
 use crate::queries::commands::put_command;
+use crate::queries::question::{Question, put_yes_or_no};
 use crate::queries::setup::Setup;
-use crate::queries::texts::put_of_text;
+use crate::queries::texts::put_text_answer;
 use case_lines::Words;
 use std::alloc::Global;
 
@@ -12,10 +12,12 @@ pub fn put_query(alloc: Global, words: &mut Words, setup: &Setup, kind: &str, in
     let text = setup.text.as_bytes();
     match kind {
         "command" => put_command(alloc, words, setup, input),
-        "contains_nocase" => put_asked(alloc, words, text, Asked::Contains, input),
-        "field_contains_nocase" => put_asked(alloc, words, text, Asked::FieldContains, input),
-        "date_ok" => put_asked(alloc, words, text, Asked::DateOk, input),
-        "matches" => put_asked(alloc, words, text, Asked::Matches, input),
-        _ => put_of_text(alloc, words, text, kind, input),
+        "contains_nocase" => put_yes_or_no(alloc, words, text, Question::Contains, input),
+        "field_contains_nocase" => {
+            put_yes_or_no(alloc, words, text, Question::FieldContains, input)
+        }
+        "date_ok" => put_yes_or_no(alloc, words, text, Question::DateOk, input),
+        "matches" => put_yes_or_no(alloc, words, text, Question::Matches, input),
+        _ => put_text_answer(alloc, words, text, kind, input),
     }
 }

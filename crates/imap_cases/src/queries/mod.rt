@@ -1,11 +1,11 @@
 //! Cases of queries: texts of messages, commands that read a mailbox, and views.
 
-mod asked;
 mod cases;
 mod commands;
 mod fields;
 mod mailbox;
 mod messages;
+mod question;
 mod searches;
 mod setup;
 mod texts;

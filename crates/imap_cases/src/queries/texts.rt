@@ -9,7 +9,7 @@ use mail_text::{body, civil, fields, header, other_fields, partial, written_day}
 use std::alloc::{AllocError, Global};
 
 /// Puts the answer of this kind about a text or a date-time.
-pub fn put_of_text(alloc: Global, words: &mut Words, text: &[u8], kind: &str, input: &str) {
+pub fn put_text_answer(alloc: Global, words: &mut Words, text: &[u8], kind: &str, input: &str) {
     match kind {
         "header" => put_between(words, header(text)),
         "body" => put_between(words, body(text)),

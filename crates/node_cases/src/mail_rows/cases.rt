@@ -1,6 +1,6 @@
 //! Lines that are tried one by one at the end of a script.
 
-use crate::mail_rows::damage::{Tried, put_first_wrong_after};
+use crate::mail_rows::damage::{DamageCount, put_first_wrong_after};
 use crate::mail_rows::replays::{Replay, play_script, put_shortened};
 use case_lines::Words;
 use mail_replay::ReplayEnd;
@@ -27,7 +27,13 @@ pub fn try_case(alloc: Global, script: &[u8], line: &[u8], then: &str, page: &mu
 }
 
 /// Damages the line at its places that count, as `put_first_wrong_after` says.
-pub fn damage_case(alloc: Global, script: &[u8], line: &[u8], tried: &mut Tried, page: &mut Words) {
+pub fn damage_case(
+    alloc: Global,
+    script: &[u8],
+    line: &[u8],
+    tried: &mut DamageCount,
+    page: &mut Words,
+) {
     let whole = script_with(alloc, script, line, "\n", "");
     put_first_wrong_after(alloc, whole.so_far(), script.len(), tried, page);
 }

@@ -26,7 +26,7 @@ const MAX_SAMPLED: usize = 65_536;
 
 /// Which places of texts are damaged, and how many damaged texts were replayed and audited.
 #[derive(Clone, Copy)]
-pub struct Tried {
+pub struct DamageCount {
     /// Each place whose number this divides is damaged, counted over all texts; no place if it is
     /// 0.
     every: u64,
@@ -37,12 +37,12 @@ pub struct Tried {
     audited: u64,
 }
 
-impl Tried {
+impl DamageCount {
     /// No text was damaged yet. Each place whose number `every` divides is to be damaged, and none
     /// if it is 0; in a text of more than 2,000 octets, only the first and the last 500 places
     /// count, and in one of more than 5,000 lines none.
-    pub fn near_edges(every: u64) -> Tried {
-        Tried {
+    pub fn near_edges(every: u64) -> DamageCount {
+        DamageCount {
             every,
             near_edges: true,
             places: 0,
@@ -52,8 +52,8 @@ impl Tried {
     }
 
     /// No text was damaged yet, and each place is to be damaged.
-    fn everywhere() -> Tried {
-        Tried {
+    fn everywhere() -> DamageCount {
+        DamageCount {
             every: 1,
             near_edges: false,
             places: 0,
@@ -113,7 +113,7 @@ fn is_near_edge(length: usize, place: usize) -> bool {
 /// Puts the first place where a script isn't replayed as it should be if it is cut there or its
 /// octet is replaced, and the first place where its transcript, damaged in the same way, gets no
 /// answer from the audit; nothing if there is no such place.
-pub fn put_first_wrong(alloc: Global, script: &[u8], tried: &mut Tried, page: &mut Words) {
+pub fn put_first_wrong(alloc: Global, script: &[u8], tried: &mut DamageCount, page: &mut Words) {
     put_first_wrong_in(alloc, script, 0, tried, page);
     let printed = play_script(alloc, script).printed;
     put_first_unaudited_in(alloc, &printed, 0, tried, page);
@@ -125,7 +125,7 @@ pub fn put_first_wrong_after(
     alloc: Global,
     script: &[u8],
     front: usize,
-    tried: &mut Tried,
+    tried: &mut DamageCount,
     page: &mut Words,
 ) {
     put_first_wrong_in(alloc, script, front, tried, page);
@@ -138,7 +138,7 @@ fn put_first_wrong_in(
     alloc: Global,
     script: &[u8],
     front: usize,
-    tried: &mut Tried,
+    tried: &mut DamageCount,
     page: &mut Words,
 ) {
     if let Some(place) = first_wrong(alloc, script, front, tried) {
@@ -150,7 +150,7 @@ fn put_first_unaudited_in(
     alloc: Global,
     printed: &[u8],
     front: usize,
-    tried: &mut Tried,
+    tried: &mut DamageCount,
     page: &mut Words,
 ) {
     if let Some(place) = first_unaudited(alloc, printed, front, tried) {
@@ -164,7 +164,7 @@ fn put_first_unaudited_in(
 /// then whole lines of printable ASCII, and ends with Done or BadScript.
 pub fn put_damage(alloc: Global, script: &[u8], page: &mut Words) {
     play_script(alloc, script).put_report(page);
-    match first_wrong(alloc, script, 0, &mut Tried::everywhere()) {
+    match first_wrong(alloc, script, 0, &mut DamageCount::everywhere()) {
         None => {
             page.put_number("-- damaged at each of ", script.len() as u64);
             page.put(" octets: as it was before them\n");
@@ -180,7 +180,12 @@ fn put_wrong(place: usize, page: &mut Words) {
 
 /// The first place after the first `front` octets at which a damaged script isn't replayed as it
 /// should be.
-fn first_wrong(alloc: Global, script: &[u8], front: usize, tried: &mut Tried) -> Option<usize> {
+fn first_wrong(
+    alloc: Global,
+    script: &[u8],
+    front: usize,
+    tried: &mut DamageCount,
+) -> Option<usize> {
     if tried.leaves_out(script) {
         return None;
     }
@@ -243,7 +248,7 @@ fn first_unaudited(
     alloc: Global,
     printed: &[u8],
     front: usize,
-    tried: &mut Tried,
+    tried: &mut DamageCount,
 ) -> Option<usize> {
     if tried.leaves_out(printed) {
         return None;

@@ -2,7 +2,7 @@
 
 use crate::mail_rows::cases::{damage_case, try_case};
 use crate::mail_rows::cuts::{put_pieces, with_send};
-use crate::mail_rows::damage::{Tried, put_damage, put_first_wrong, put_first_wrong_after};
+use crate::mail_rows::damage::{DamageCount, put_damage, put_first_wrong, put_first_wrong_after};
 use crate::mail_rows::directives::{Way, build, cut, octets_of, way_of};
 use crate::mail_rows::replays::play_script;
 use case_lines::Words;
@@ -12,7 +12,7 @@ use std::alloc::{AllocError, Global};
 /// the first such line is left out. `Err` if memory runs out.
 pub fn play(alloc: Global, text: &str) -> Result<Vec<u8>, AllocError> {
     let mut page = Words::new(alloc);
-    let mut tried = Tried::near_edges(every_of(text));
+    let mut tried = DamageCount::near_edges(every_of(text));
     for row in text.split("\n== ").skip(1) {
         play_row(alloc, row, &mut tried, &mut page);
     }
@@ -36,10 +36,10 @@ fn every_of(text: &str) -> u64 {
 struct Row<'a> {
     script: Words,
     way: Way<'a>,
-    tried: Tried,
+    tried: DamageCount,
 }
 
-fn play_row(alloc: Global, text: &str, tried: &mut Tried, page: &mut Words) {
+fn play_row(alloc: Global, text: &str, tried: &mut DamageCount, page: &mut Words) {
     let (title, lines) = cut(text, '\n');
     page.put("== ");
     page.put(title);
@@ -59,7 +59,7 @@ fn play_row(alloc: Global, text: &str, tried: &mut Tried, page: &mut Words) {
 
 /// Damages a row's script and transcript, and the line that sends its pieces; or puts how many
 /// texts were damaged, if the row asks for that.
-fn damage_row(alloc: Global, script: &[u8], way: Way, tried: &mut Tried, page: &mut Words) {
+fn damage_row(alloc: Global, script: &[u8], way: Way, tried: &mut DamageCount, page: &mut Words) {
     if let Way::Tried(least) = way {
         tried.put_report(least, page);
         return;

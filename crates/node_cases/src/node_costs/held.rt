@@ -45,7 +45,7 @@ fn print_times(
     other: &mut NodeSession,
     count: u32,
 ) -> io::Result<()> {
-    far.give(rt.alloc(), "a CREATE first\r\n")?;
+    far.issue_command(rt.alloc(), "a CREATE first\r\n")?;
     subscribe(rt.alloc(), far, count)?;
     subscribe(rt.alloc(), other, TIMED)?;
     let early = early_time(rt, near, far.node.op_list())?;
@@ -69,8 +69,8 @@ fn early_time(rt: &HostRuntime, near: &mut NodeSession, ops: &[SoundOp]) -> io::
 /// Subscribes and unsubscribes in turn, `count` operations in total.
 fn subscribe(alloc: Global, node_session: &mut NodeSession, count: u32) -> io::Result<()> {
     for _ in 0..count / 2 {
-        node_session.give(alloc, "a SUBSCRIBE first\r\n")?;
-        node_session.give(alloc, "a UNSUBSCRIBE first\r\n")?;
+        node_session.issue_command(alloc, "a SUBSCRIBE first\r\n")?;
+        node_session.issue_command(alloc, "a UNSUBSCRIBE first\r\n")?;
     }
     Ok(())
 }

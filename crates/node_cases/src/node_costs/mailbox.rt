@@ -93,15 +93,15 @@ fn print_times(
     far: &mut NodeSession,
     count: u32,
 ) -> io::Result<()> {
-    give(rt.alloc(), near, "CREATE other", 0)?;
+    issue_command(rt.alloc(), near, "CREATE other", 0)?;
     for _ in 0..count {
-        give(rt.alloc(), near, APPEND, 0)?;
+        issue_command(rt.alloc(), near, APPEND, 0)?;
     }
     println!(*rt; "mailbox of {count} messages")?;
     eprintln!(*rt; "mailbox of {count} messages, in nanoseconds, least and mean")?;
     let middle = (count / 2).max(1);
     print_unselected(rt, near, far, middle)?;
-    give(rt.alloc(), near, "SELECT INBOX", 0)?;
+    issue_command(rt.alloc(), near, "SELECT INBOX", 0)?;
     for row in &ROWS {
         print_row(rt, near, row, middle)?;
     }
@@ -117,23 +117,23 @@ fn print_unselected(
     middle: u32,
 ) -> io::Result<()> {
     print_row(rt, near, &UNSELECTED, middle)?;
-    print_look(rt, near, middle)?;
+    print_look_up(rt, near, middle)?;
     deliver_all(rt.alloc(), far, near.node.op_list())?;
-    give(rt.alloc(), far, "SELECT INBOX", 0)?;
+    issue_command(rt.alloc(), far, "SELECT INBOX", 0)?;
     print_stores(rt, near, far, middle)
 }
 
 /// Prints how long it takes to compute the mailbox's listing and look a message up in it.
-fn print_look(rt: &HostRuntime, node_session: &NodeSession, uid: u32) -> io::Result<()> {
+fn print_look_up(rt: &HostRuntime, node_session: &NodeSession, uid: u32) -> io::Result<()> {
     let name = Name::inbox(rt.alloc())?;
     let mut spans = Spans::none();
     for _ in 0..TURNS {
-        spans.note(look_time(rt, node_session, &name, uid)?);
+        spans.note(look_up_time(rt, node_session, &name, uid)?);
     }
     spans.print_spans(rt, "listing made, and a message looked up")
 }
 
-fn look_time(
+fn look_up_time(
     rt: &HostRuntime,
     node_session: &NodeSession,
     name: &Name,
@@ -163,7 +163,7 @@ fn print_stores(
     let mut spans = Spans::none();
     for turn in 0..TURNS {
         let number = middle.saturating_add(turn);
-        give(rt.alloc(), far, "STORE # +FLAGS (\\Flagged)", number)?;
+        issue_command(rt.alloc(), far, "STORE # +FLAGS (\\Flagged)", number)?;
         spans.note(delivery_time(rt, near, far)?);
     }
     spans.print_spans(rt, "another replica's STORE delivered, none selected")
@@ -186,7 +186,7 @@ fn print_row(
     let mut spans = Spans::none();
     for turn in 0..TURNS {
         let number = middle.saturating_add(turn);
-        give(rt.alloc(), node_session, row.before, number)?;
+        issue_command(rt.alloc(), node_session, row.before, number)?;
         let timed = command(rt.alloc(), row.timed, number)?;
         spans.note(node_session.time_of(rt, timed.as_str())?);
     }
@@ -196,11 +196,11 @@ fn print_row(
 /// Prints how long deliveries of the other replica's APPENDs take while the session idles, and how
 /// long a poll after each takes.
 fn print_idling(rt: &HostRuntime, near: &mut NodeSession, far: &mut NodeSession) -> io::Result<()> {
-    give(rt.alloc(), near, "IDLE", 0)?;
+    issue_command(rt.alloc(), near, "IDLE", 0)?;
     let mut deliveries = Spans::none();
     let mut polls = Spans::none();
     for _ in 0..TURNS {
-        give(rt.alloc(), far, APPEND, 0)?;
+        issue_command(rt.alloc(), far, APPEND, 0)?;
         deliveries.note(delivery_time(rt, near, far)?);
         polls.note(near.poll_time(rt)?);
     }
@@ -212,9 +212,14 @@ fn print_idling(rt: &HostRuntime, near: &mut NodeSession, far: &mut NodeSession)
 }
 
 /// Issues the command.
-fn give(alloc: Global, node_session: &mut NodeSession, text: &str, number: u32) -> io::Result<()> {
+fn issue_command(
+    alloc: Global,
+    node_session: &mut NodeSession,
+    text: &str,
+    number: u32,
+) -> io::Result<()> {
     let line = command(alloc, text, number)?;
-    node_session.give(alloc, line.as_str())
+    node_session.issue_command(alloc, line.as_str())
 }
 
 /// The command with a tag, and with the number in place of `#`.

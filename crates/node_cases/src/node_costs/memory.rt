@@ -9,20 +9,20 @@ use std::io;
 /// Has a replica take `count` messages of `size` octets, and delivers them to another one.
 pub fn fill(rt: &HostRuntime, count: u32, size: u32) -> io::Result<()> {
     let append = append_of(rt.alloc(), size)?;
-    let applied = applied_at_second(rt.alloc(), append.as_str(), count)?;
+    let applied = count_at_second_replica(rt.alloc(), append.as_str(), count)?;
     println!(*rt; "{applied} messages of {size} octets at two replicas")?;
     Ok(())
 }
 
 /// How many operations the second of two replicas applied.
-fn applied_at_second(alloc: Global, append: &str, count: u32) -> io::Result<usize> {
+fn count_at_second_replica(alloc: Global, append: &str, count: u32) -> io::Result<usize> {
     let mut near = NodeSession::new(alloc, 1)?;
-    let applied = applied_from(alloc, &mut near, append, count);
+    let applied = count_after_deliveries(alloc, &mut near, append, count);
     drop(near);
     applied
 }
 
-fn applied_from(
+fn count_after_deliveries(
     alloc: Global,
     near: &mut NodeSession,
     append: &str,
@@ -46,7 +46,7 @@ fn deliver_appends(
     count: u32,
 ) -> io::Result<()> {
     for _ in 0..count {
-        near.give(alloc, append)?;
+        near.issue_command(alloc, append)?;
         deliver_last(alloc, near, far)?;
     }
     Ok(())

@@ -15,7 +15,7 @@ use std::io;
 /// goes to the standard output, and how long calls took, in nanoseconds, to the standard error.
 ///
 /// An error ends it after the output so far: a fault of the output or the clock, memory that runs
-/// out, or a line of no known kind.
+/// out, or a line of no known kind or without its numbers.
 pub fn play(rt: &HostRuntime, lines: &str) -> io::Result<()> {
     for line in lines.lines() {
         play_line(rt, line)?;

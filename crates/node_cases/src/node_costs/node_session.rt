@@ -36,7 +36,7 @@ impl NodeSession {
     }
 
     /// Issues the command; an error if the node refuses it.
-    pub fn give(&mut self, alloc: Global, text: &str) -> io::Result<()> {
+    pub fn issue_command(&mut self, alloc: Global, text: &str) -> io::Result<()> {
         match self.is_done(alloc, text) {
             Ok(true) => Ok(()),
             Ok(false) => Err(io::Error::other("not taken")),
@@ -49,7 +49,7 @@ impl NodeSession {
         if !self.node.is_open(self.session) || self.node.is_idling(self.session) {
             return Err(io::Error::other("not taken"));
         }
-        let tagged = spelled(alloc, text)?;
+        let tagged = tagged_command(alloc, text)?;
         let reply = self
             .node
             .command(alloc, self.session, Moment::epoch(), tagged);
@@ -61,7 +61,7 @@ impl NodeSession {
         if !self.node.is_open(self.session) || self.node.is_idling(self.session) {
             return Err(io::Error::other("not taken"));
         }
-        let tagged = spelled(rt.alloc(), text)?;
+        let tagged = tagged_command(rt.alloc(), text)?;
         match Instant::now(rt) {
             Ok(start) => {
                 check_executed(
@@ -129,7 +129,7 @@ fn has_executed(reply: Reply) -> bool {
     }
 }
 
-fn spelled(alloc: Global, text: &str) -> io::Result<Tagged> {
+fn tagged_command(alloc: Global, text: &str) -> io::Result<Tagged> {
     match parse(alloc, text.as_bytes()) {
         Ok(tagged) => Ok(tagged),
         Err(_) => Err(io::Error::other("not a line")),

@@ -81,14 +81,14 @@ fn cases() -> [Case; 8] {
 /// A reader that gives at most `piece` octets per read, and `Interrupted` instead at each read
 /// whose number is divisible by `every`; at none if that is 0.
 #[derive(Drop)]
-struct Stutters<'a> {
+struct InterruptedReader<'a> {
     octets: &'a [u8],
     piece: usize,
     every: u64,
     reads: u64,
 }
 
-impl Read for Stutters<'_> {
+impl Read for InterruptedReader<'_> {
     fn read(&mut self, buf: &mut [u8]) -> io::Result<usize> {
         self.reads = self.reads.saturating_add(1);
         if self.reads.checked_rem(self.every) == Some(0) {
@@ -104,13 +104,13 @@ impl Read for Stutters<'_> {
 
 /// A reader that gives one octet per read and fails once, after `before` reads.
 #[derive(Drop)]
-struct Breaks {
+struct FailingReader {
     octets: &'static [u8],
     before: usize,
     fault: Option<ErrorKind>,
 }
 
-impl Read for Breaks {
+impl Read for FailingReader {
     fn read(&mut self, buf: &mut [u8]) -> io::Result<usize> {
         if self.before == 0 {
             if let Some(kind) = self.fault.take() {
@@ -125,13 +125,13 @@ impl Read for Breaks {
 
 /// A reader that is interrupted `interruptions` times, and then gives its octets at once.
 #[derive(Drop)]
-struct Waits {
+struct LateReader {
     octets: &'static [u8],
     interruptions: u64,
     reads: u64,
 }
 
-impl Read for Waits {
+impl Read for LateReader {
     fn read(&mut self, buf: &mut [u8]) -> io::Result<usize> {
         self.reads = self.reads.saturating_add(1);
         if self.reads <= self.interruptions {
@@ -144,7 +144,7 @@ impl Read for Waits {
 /// A writer that takes at most `piece` octets per write and fails once, after `before` writes. It
 /// may fail to flush.
 #[derive(Drop)]
-struct Pen {
+struct FailingWriter {
     taken: Vec<u8>,
     piece: usize,
     before: usize,
@@ -152,7 +152,7 @@ struct Pen {
     flushes: bool,
 }
 
-impl Write for Pen {
+impl Write for FailingWriter {
     fn write(&mut self, buf: &[u8]) -> io::Result<usize> {
         if self.before == 0 {
             if let Some(kind) = self.fault.take() {
@@ -184,7 +184,7 @@ fn ends<R: Read>(alloc: Global, reader: &mut R, end: AuditEnd, line: &str) -> bo
 /// many octets as the first part of `how`, and each read whose number is divisible by the second is
 /// interrupted.
 fn ends_as_expected(alloc: Global, input: &[u8], how: (usize, u64), case: Case) -> bool {
-    let mut reader = Stutters {
+    let mut reader = InterruptedReader {
         octets: input,
         piece: how.0,
         every: how.1,
@@ -261,7 +261,7 @@ fn audits_a_long_input_to_its_end(rt: HostRuntime) {
 /// Whether an audit of the right input, at one octet per read, ends with the read that fails, the
 /// one after `before` others.
 fn breaks_off(alloc: Global, before: usize, fault: ErrorKind) -> bool {
-    let mut reader = Breaks {
+    let mut reader = FailingReader {
         octets: RIGHT.as_bytes(),
         before,
         fault: Some(fault),
@@ -290,7 +290,7 @@ fn reports_reads_that_fail(rt: HostRuntime) {
 /// Whether the audit of an input after `interruptions` interruptions has this end, writes this
 /// line, and makes as many reads as it may.
 fn ends_after(alloc: Global, interruptions: u64, end: AuditEnd, line: &str) -> bool {
-    let mut reader = Waits {
+    let mut reader = LateReader {
         octets: b"settle: Ok\n",
         interruptions,
         reads: 0,
@@ -310,11 +310,11 @@ fn reads_no_more_than_its_limit(rt: HostRuntime) {
 
 /// How the audit of a case ends at a writer, and how many octets of its line the writer took;
 /// `None` if the writer took other octets.
-fn written(alloc: Global, case: Case, pen: &mut Pen) -> (AuditEnd, Option<usize>) {
+fn written(alloc: Global, case: Case, writer: &mut FailingWriter) -> (AuditEnd, Option<usize>) {
     let mut reader = case.input.as_bytes();
-    let end = audit(alloc, &mut reader, pen);
-    if case.line.as_bytes().starts_with(&pen.taken) {
-        (end, Some(pen.taken.len()))
+    let end = audit(alloc, &mut reader, writer);
+    if case.line.as_bytes().starts_with(&writer.taken) {
+        (end, Some(writer.taken.len()))
     } else {
         (end, None)
     }
@@ -323,15 +323,15 @@ fn written(alloc: Global, case: Case, pen: &mut Pen) -> (AuditEnd, Option<usize>
 /// Whether the audit of a case at a writer that fails after `before` writes ends with `WriteFailed`
 /// and a part of the line, or, if it makes no further writes, as at any other writer.
 fn fails_after(alloc: Global, case: Case, piece: usize, before: usize) -> bool {
-    let mut pen = Pen {
+    let mut writer = FailingWriter {
         taken: Vec::new(alloc),
         piece,
         before,
         fault: Some(ErrorKind::Other),
         flushes: true,
     };
-    let (end, count) = written(alloc, case, &mut pen);
-    if pen.fault.is_none() {
+    let (end, count) = written(alloc, case, &mut writer);
+    if writer.fault.is_none() {
         end == AuditEnd::WriteFailed && count.is_some_and(|count| count < case.line.len())
     } else {
         before > 0 && end == case.end && count == Some(case.line.len())
@@ -364,14 +364,18 @@ fn written_wrong(
     fault: Option<ErrorKind>,
     flushes: bool,
 ) -> (AuditEnd, Option<usize>) {
-    let mut pen = Pen {
+    let mut writer = FailingWriter {
         taken: Vec::new(alloc),
         piece,
         before: 2,
         fault,
         flushes,
     };
-    written(alloc, row(WRONG, AuditEnd::No(5), "no: line 5\n"), &mut pen)
+    written(
+        alloc,
+        row(WRONG, AuditEnd::No(5), "no: line 5\n"),
+        &mut writer,
+    )
 }
 
 #[test]
@@ -410,7 +414,7 @@ fn fails_without_a_screen(alloc: Global) -> bool {
 }
 
 fn gives_each_status(alloc: Global) -> bool {
-    let broken = Breaks {
+    let broken = FailingReader {
         octets: RIGHT.as_bytes(),
         before: 70,
         fault: Some(ErrorKind::Other),

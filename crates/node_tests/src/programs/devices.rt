@@ -29,13 +29,13 @@ end
 /// A reader that gives one octet per read, and once, after `before` reads, an error of this kind
 /// instead.
 #[derive(Drop)]
-struct Drips {
+struct OneOctetReader {
     octets: &'static [u8],
     before: usize,
     fault: Option<ErrorKind>,
 }
 
-impl Read for Drips {
+impl Read for OneOctetReader {
     fn read(&mut self, buf: &mut [u8]) -> io::Result<usize> {
         if self.before == 0 {
             if let Some(kind) = self.fault.take() {
@@ -54,11 +54,11 @@ impl Read for Drips {
 
 /// A reader that gives empty lines without end, and counts its reads.
 #[derive(Drop)]
-struct Endless {
+struct EmptyLinesReader {
     reads: u64,
 }
 
-impl Read for Endless {
+impl Read for EmptyLinesReader {
     fn read(&mut self, buf: &mut [u8]) -> io::Result<usize> {
         self.reads = self.reads.saturating_add(1);
         if buf.is_empty() {
@@ -71,13 +71,13 @@ impl Read for Endless {
 
 /// A writer that takes one octet per write and `room` octets in all, and may fail to flush.
 #[derive(Drop)]
-struct Narrow {
+struct BoundedWriter {
     taken: Vec<u8>,
     room: usize,
     flushes: bool,
 }
 
-impl Write for Narrow {
+impl Write for BoundedWriter {
     fn write(&mut self, buf: &[u8]) -> io::Result<usize> {
         if self.room == 0 {
             return Err(ErrorKind::Other.into());
@@ -102,15 +102,15 @@ impl Write for Narrow {
 /// A reader that fails after `before` octets of the first run, how the replay ends, and how many
 /// lines are printed by then.
 #[derive(Clone, Copy)]
-struct Failing {
+struct FailingReplay {
     before: usize,
     fault: ErrorKind,
     end: ReplayEnd,
     lines: usize,
 }
 
-const fn row(before: usize, fault: ErrorKind, end: ReplayEnd, lines: usize) -> Failing {
-    Failing {
+const fn row(before: usize, fault: ErrorKind, end: ReplayEnd, lines: usize) -> FailingReplay {
+    FailingReplay {
         before,
         fault,
         end,
@@ -134,8 +134,8 @@ fn first_wrong_reader(alloc: Global) -> Option<usize> {
         .position(|reader| !fails_as_expected(alloc, *reader))
 }
 
-fn fails_as_expected(alloc: Global, failing: Failing) -> bool {
-    let mut reader = Drips {
+fn fails_as_expected(alloc: Global, failing: FailingReplay) -> bool {
+    let mut reader = OneOctetReader {
         octets: FIRST_RUN.as_bytes(),
         before: failing.before,
         fault: Some(failing.fault),
@@ -154,7 +154,7 @@ fn reports_readers_that_fail(rt: HostRuntime) {
 }
 
 fn ends_at_the_limit(alloc: Global) -> bool {
-    let mut reader = Endless { reads: 0 };
+    let mut reader = EmptyLinesReader { reads: 0 };
     let mut printed: Vec<u8> = Vec::new(alloc);
     let end = replay(alloc, &mut reader, &mut printed);
     end == ReplayEnd::ReadFailed && reader.reads == MAX_READS && printed.is_empty()
@@ -169,7 +169,7 @@ fn reads_no_more_than_its_limit(rt: HostRuntime) {
 /// the run's output, and their number.
 fn written(alloc: Global, room: usize, flushes: bool) -> (ReplayEnd, bool, usize) {
     let mut reader = FIRST_RUN.as_bytes();
-    let mut writer = Narrow {
+    let mut writer = BoundedWriter {
         taken: Vec::new(alloc),
         room,
         flushes,

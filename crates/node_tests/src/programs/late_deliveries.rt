@@ -18,7 +18,7 @@ const FORGER: u32 = 9;
 const TURNS: u32 = 400;
 
 /// The largest number of pending deliveries when a turn ends.
-const LATE: usize = 2_000;
+const MAX_PENDING: usize = 2_000;
 
 /// The lines of the script. `#` is replaced by a turn, `@` by the turn before it, and `^` by the
 /// turn after it, which is the number of the operation that the turn issues; `!` by the replica,
@@ -66,13 +66,13 @@ fn line_of(delivery: Delivery) -> &'static str {
 /// A script under construction, with its pending deliveries and the state of a linear
 /// congruential generator.
 #[derive(Drop)]
-struct Storm {
+struct ScriptDraft {
     script: Vec<u8>,
     late: Vec<Delivery>,
     state: u64,
 }
 
-impl Storm {
+impl ScriptDraft {
     /// The next pseudo-random number below this limit.
     fn below(&mut self, limit: usize) -> usize
         requires { 0 < limit }
@@ -164,7 +164,7 @@ impl Storm {
         for source in 1..=REPLICAS {
             self.hold(source, turn)?;
         }
-        self.release(LATE)
+        self.release(MAX_PENDING)
     }
 
     fn turns(&mut self) -> Result<(), AllocError> {
@@ -179,15 +179,15 @@ impl Storm {
 /// A script in which five replicas issue operations, and receive those of the others late, twice
 /// and out of order.
 fn script(alloc: Global) -> Result<Vec<u8>, AllocError> {
-    let mut storm = Storm {
+    let mut draft = ScriptDraft {
         script: Vec::new(alloc),
         late: Vec::new(alloc),
         state: 2_017,
     };
-    storm.put_for_each(OPEN, 0)?;
-    storm.turns()?;
-    storm.put_for_each(SHOW, 0)?;
-    Ok(storm.script)
+    draft.put_for_each(OPEN, 0)?;
+    draft.turns()?;
+    draft.put_for_each(SHOW, 0)?;
+    Ok(draft.script)
 }
 
 /// The output of the script, if it runs to its end.

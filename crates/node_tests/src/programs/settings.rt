@@ -38,7 +38,7 @@ const BAD_REPLICAS: &[(&str, &str)] = &[
 ];
 
 /// Command lines with distinct replicas, and with one replica twice.
-const APART: &[(&str, &str)] = &[
+const DISTINCT_REPLICAS: &[(&str, &str)] = &[
     ("imap_server --preauth 65535=a=b", "preauth 1 false"),
     (
         "imap_server --preauth 1=a 2=b 1=c",
@@ -55,6 +55,33 @@ const OTHERS: &[(&str, &str)] = &[
     ("imap_server --preauth --stop-after 4294967296 1=a", "words"),
     ("imap_server --preauth", "words"),
     ("imap_server --preauth -1=a", "words"),
+];
+
+/// Values of `--journal`, with the bound of each; `None` if clap refuses it.
+const JOURNALS: &[(&str, Option<Option<u64>>)] = &[
+    ("all", Some(None)),
+    ("0", Some(Some(0))),
+    ("1", Some(Some(1))),
+    ("1K", Some(Some(1_024))),
+    ("2M", Some(Some(2_097_152))),
+    ("3G", Some(Some(3_221_225_472))),
+    ("0G", Some(Some(0))),
+    (
+        "18446744073709551615",
+        Some(Some(18_446_744_073_709_551_615)),
+    ),
+    ("17179869183G", Some(Some(18_446_744_072_635_809_792))),
+    ("18446744073709551616", None),
+    ("17179869184G", None),
+    ("K", None),
+    ("1k", None),
+    ("1KB", None),
+    ("1KM", None),
+    ("1.5G", None),
+    ("1T", None),
+    ("All", None),
+    ("x", None),
+    ("-1", None),
 ];
 
 /// Command lines with a word that names no replica that can join replicas 1 and 2.
@@ -131,7 +158,7 @@ const JOINS: &[(&str, &str)] = &[
 ];
 
 /// Whether everybody is known, the given user and password, and the access that they name.
-const NAMED: &[(bool, Option<&str>, Option<&str>, Option<Access<'_>>)] = &[
+const ACCESS_CASES: &[(bool, Option<&str>, Option<&str>, Option<Access<'_>>)] = &[
     (
         false,
         Some("me"),
@@ -211,6 +238,37 @@ fn first_wrong(alloc: Global, lines: &[(&str, &str)]) -> Option<usize> {
         .position(|line| !has_outcome_text(alloc, line.0, line.1))
 }
 
+/// The bound of journals that the words name; `None` if they are refused.
+fn bound_of_words(alloc: Global, words: &[String]) -> Option<Option<u64>> {
+    match read_settings(alloc, words) {
+        Ok(settings) => Some(settings.journal),
+        Err(_) => None,
+    }
+}
+
+/// The bound of journals with this value of `--journal`; `None` if it is refused.
+fn bound_of_value(alloc: Global, value: &str) -> Result<Option<Option<u64>>, AllocError> {
+    let line = format!(in alloc; "imap_server --preauth --journal {value} 1=a")?;
+    let words = words_of(alloc, line.as_str())?;
+    Ok(bound_of_words(alloc, &words))
+}
+
+/// The place of the first value with another bound.
+fn first_other_bound(alloc: Global, values: &[(&str, Option<Option<u64>>)]) -> Option<usize> {
+    values
+        .iter()
+        .position(|value| bound_of_value(alloc, value.0) != Ok(value.1))
+}
+
+#[test]
+fn journals_have_bounds(rt: HostRuntime) -> Result<(), Fail> {
+    let alloc = rt.alloc();
+    assert_eq!(rt; first_other_bound(alloc, JOURNALS), None);
+    let words = words_of(alloc, "imap_server --preauth 1=a")?;
+    assert_eq!(rt; bound_of_words(alloc, &words), Some(Some(67_108_864)));
+    Ok(())
+}
+
 #[test]
 fn access_is_named_once(rt: HostRuntime) {
     assert_eq!(rt; first_wrong(rt.alloc(), ACCESSES), None);
@@ -223,7 +281,7 @@ fn replicas_are_named_well(rt: HostRuntime) {
 
 #[test]
 fn replicas_are_named_apart(rt: HostRuntime) {
-    assert_eq!(rt; first_wrong(rt.alloc(), APART), None);
+    assert_eq!(rt; first_wrong(rt.alloc(), DISTINCT_REPLICAS), None);
 }
 
 #[test]
@@ -239,7 +297,7 @@ fn joins_name_replicas_and_peers(rt: HostRuntime) {
 
 /// The place of the first row that names another access, or none.
 fn first_misnamed() -> Option<usize> {
-    NAMED
+    ACCESS_CASES
         .iter()
         .position(|row| access_of(row.0, row.1, row.2) != row.3)
 }

@@ -30,6 +30,10 @@ const BAD_WORDS: &[(&str, &str)] = &[
         "error: invalid value '4294967296' for '--stop-after <stop-after>': 4294967296 is not in 0..=4294967295\n\nFor more information, try '--help'.\n",
     ),
     (
+        "imap_server --preauth --journal x 1=a",
+        "error: invalid value 'x' for '--journal <journal>': invalid digit found in string\n\nFor more information, try '--help'.\n",
+    ),
+    (
         "imap_server 1=a --user",
         "error: a value is required for '--user <user>' but none was supplied\n\nFor more information, try '--help'.\n",
     ),
@@ -46,6 +50,7 @@ const HELP_PARTS: &[&str] = &[
     "\n      --user <user>              ",
     "\n      --pass <pass>              ",
     "\n      --stop-after <stop-after>  ",
+    "\n      --journal <journal>        ",
     "\n      --join <join>              ",
     "\n  -h, --help                     Print help\n",
 ];

@@ -3,7 +3,7 @@
 ghost use Rattle.std.specs.Prelude.{◌≤◌, IfOk};
 
 use crate::fields::add_op;
-use crate::lines::{Plays, played};
+use crate::lines::{Plays, play_text};
 use crate::uids::setup::{Node, Setup, deliver, make_ready};
 use crate::uids::tables::{Question, put_asked};
 use case_lines::{Trouble, Words, meaning, operation, pair, parts_around, replica};
@@ -56,7 +56,7 @@ fn play_from(alloc: Global, start: Counters, text: &str) -> Result<Vec<u8>, Allo
     requires { 1 ≤ start.uid }
 {
     match Setup::new(alloc, start) {
-        Ok(setup) => played(alloc, setup, text),
+        Ok(setup) => play_text(alloc, setup, text),
         Err(AllocError) => Err(AllocError),
     }
 }

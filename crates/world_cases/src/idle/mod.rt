@@ -4,10 +4,10 @@
 //! then selects the mailbox. For each hundred runs it reports whether all such views agree, and
 //! whether the received answers mattered.
 
+mod clients;
 mod random_commands;
 mod runs;
 mod scene;
 mod tally;
-mod watch;
 
 pub use tally::play;

@@ -1,7 +1,7 @@
 //! What sessions do while another one idles.
 
 use crate::chance::Chance;
-use crate::idle::scene::{give_text, selected};
+use crate::idle::scene::{client_after_select, give_text};
 use case_lines::Trouble;
 use imap_node::{Node, SessionNo};
 use std::alloc::{AllocError, Global};
@@ -15,7 +15,7 @@ pub fn random_command(
     session: SessionNo,
     name: &str,
 ) -> Result<(), Trouble> {
-    let count = count_in(alloc, node, session, name)?;
+    let count = message_count(alloc, node, session, name)?;
     let text = match count {
         None => format!(in alloc; "a CREATE {name}\r\n"),
         Some(count) => work(alloc, chance, name, count),
@@ -24,13 +24,13 @@ pub fn random_command(
 }
 
 /// How many messages the mailbox has; `None` if it doesn't exist.
-fn count_in(
+fn message_count(
     alloc: Global,
     node: &mut Node,
     session: SessionNo,
     name: &str,
 ) -> Result<Option<u32>, Trouble> {
-    match selected(alloc, node, session, name)? {
+    match client_after_select(alloc, node, session, name)? {
         Some(client) => {
             let count = client.count();
             drop(client);

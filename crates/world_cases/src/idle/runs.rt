@@ -2,9 +2,11 @@
 
 use crate::chance::Chance;
 use crate::client::Client;
+use crate::idle::clients::IdleClients;
 use crate::idle::random_commands::{append, random_command};
-use crate::idle::scene::{Scene, command, done, give, give_text, poll, selected, session};
-use crate::idle::watch::Watch;
+use crate::idle::scene::{
+    Scene, client_after_select, command, done, give, give_text, poll, session,
+};
 use case_lines::Trouble;
 use crdt_ops::SoundOp;
 use imap_node::{Answers, Node, SessionNo};
@@ -26,13 +28,13 @@ pub struct RunResult {
 }
 
 /// Plays the run with this number. `Err` if it can't be played, or memory runs out.
-pub fn played(alloc: Global, number: u64) -> Result<RunResult, Trouble> {
+pub fn play_run(alloc: Global, number: u64) -> Result<RunResult, Trouble> {
     let mut chance = Chance::new(number);
     let name = if chance.is_one_in(2) { "INBOX" } else { "work" };
     let mut scene = Scene::new(alloc)?;
-    let mut watch = Watch::new(alloc);
-    let run_result = play(alloc, &mut chance, &mut scene, name, &mut watch);
-    drop(watch);
+    let mut clients = IdleClients::new(alloc);
+    let run_result = play(alloc, &mut chance, &mut scene, name, &mut clients);
+    drop(clients);
     drop(scene);
     run_result
 }
@@ -42,16 +44,16 @@ fn play(
     chance: &mut Chance,
     scene: &mut Scene,
     name: &str,
-    watch: &mut Watch,
+    clients: &mut IdleClients,
 ) -> Result<RunResult, Trouble> {
     prepare(alloc, chance, scene, name)?;
-    begin(alloc, scene, name, watch)?;
+    begin(alloc, scene, name, clients)?;
     let steps = chance.below(24);
     for _ in 0..steps.saturating_add(8) {
-        step(alloc, chance, scene, name, watch)?;
+        step(alloc, chance, scene, name, clients)?;
     }
-    end(alloc, scene, watch)?;
-    judged(alloc, scene, name, watch)
+    end(alloc, scene, clients)?;
+    result_of_run(alloc, scene, name, clients)
 }
 
 /// Creates the mailboxes and some messages, and delivers some of that to the other replica.
@@ -84,29 +86,39 @@ fn append_some(
 }
 
 /// The watching session selects the mailbox, fetches its UIDs and flags, and idles.
-fn begin(alloc: Global, scene: &mut Scene, name: &str, watch: &mut Watch) -> Result<(), Trouble> {
-    learn_by_select(alloc, scene, name, watch)?;
-    learn(alloc, scene, watch, "b UID FETCH 1:* FLAGS\r\n")?;
-    learn(alloc, scene, watch, "c IDLE\r\n")
-}
-
-fn learn_by_select(
+fn begin(
     alloc: Global,
     scene: &mut Scene,
     name: &str,
-    watch: &mut Watch,
+    clients: &mut IdleClients,
+) -> Result<(), Trouble> {
+    issue_select(alloc, scene, name, clients)?;
+    issue_command(alloc, scene, clients, "b UID FETCH 1:* FLAGS\r\n")?;
+    issue_command(alloc, scene, clients, "c IDLE\r\n")
+}
+
+fn issue_select(
+    alloc: Global,
+    scene: &mut Scene,
+    name: &str,
+    clients: &mut IdleClients,
 ) -> Result<(), Trouble> {
     let select = format!(in alloc; "a SELECT {name}\r\n")?;
-    let done = learn(alloc, scene, watch, select.as_str());
+    let done = issue_command(alloc, scene, clients, select.as_str());
     drop(select);
     done
 }
 
 /// Issues a command of the watching session, whose answers all clients take.
-fn learn(alloc: Global, scene: &mut Scene, watch: &mut Watch, text: &str) -> Result<(), Trouble> {
+fn issue_command(
+    alloc: Global,
+    scene: &mut Scene,
+    clients: &mut IdleClients,
+    text: &str,
+) -> Result<(), Trouble> {
     match command(alloc, &mut scene.near, scene.sessions.watcher, text)? {
         Some(answers) => {
-            let received = watch.receive_all(alloc, answers.as_slice());
+            let received = clients.receive_all(alloc, answers.as_slice());
             drop(answers);
             Ok(received?)
         }
@@ -120,31 +132,35 @@ fn step(
     chance: &mut Chance,
     scene: &mut Scene,
     name: &str,
-    watch: &mut Watch,
+    clients: &mut IdleClients,
 ) -> Result<(), Trouble> {
     match chance.below(8) {
         0 | 1 | 2 => random_command(alloc, chance, &mut scene.near, scene.sessions.near, name),
         3 | 4 => random_command(alloc, chance, &mut scene.far, scene.sessions.far, name),
         5 => exchange(alloc, chance, &scene.far, &mut scene.near),
         6 => exchange(alloc, chance, &scene.near, &mut scene.far),
-        _ => listen(alloc, scene, watch),
+        _ => poll_and_receive(alloc, scene, clients),
     }
 }
 
-fn listen(alloc: Global, scene: &mut Scene, watch: &mut Watch) -> Result<(), Trouble> {
+fn poll_and_receive(
+    alloc: Global,
+    scene: &mut Scene,
+    clients: &mut IdleClients,
+) -> Result<(), Trouble> {
     let sent = poll(alloc, &mut scene.near, scene.sessions.watcher)?;
-    receive(alloc, watch, sent)
+    receive(alloc, clients, sent)
 }
 
-fn end(alloc: Global, scene: &mut Scene, watch: &mut Watch) -> Result<(), Trouble> {
+fn end(alloc: Global, scene: &mut Scene, clients: &mut IdleClients) -> Result<(), Trouble> {
     let sent = done(alloc, &mut scene.near, scene.sessions.watcher)?;
-    receive(alloc, watch, sent)
+    receive(alloc, clients, sent)
 }
 
-fn receive(alloc: Global, watch: &mut Watch, sent: Option<Answers>) -> Result<(), Trouble> {
+fn receive(alloc: Global, clients: &mut IdleClients, sent: Option<Answers>) -> Result<(), Trouble> {
     match sent {
         Some(answers) => {
-            let received = watch.receive(alloc, answers.as_slice());
+            let received = clients.receive(alloc, answers.as_slice());
             drop(answers);
             Ok(received?)
         }
@@ -176,36 +192,36 @@ fn deliver(alloc: Global, node: &mut Node, op: SoundOp) -> Result<(), Trouble> {
 }
 
 /// Compares the clients' views with that of a new session.
-fn judged(
+fn result_of_run(
     alloc: Global,
     scene: &mut Scene,
     name: &str,
-    watch: &Watch,
+    clients: &IdleClients,
 ) -> Result<RunResult, Trouble> {
     let fresh = fresh(alloc, &mut scene.near, name)?;
-    let run_result = compare_views(alloc, watch, &fresh);
+    let run_result = compare_views(alloc, clients, &fresh);
     drop(fresh);
     Ok(run_result)
 }
 
 /// Compares the clients' views with that of a new session; with one without messages, if the
 /// mailbox has another UIDVALIDITY now.
-fn compare_views(alloc: Global, watch: &Watch, fresh: &Client) -> RunResult {
-    if fresh.validity() == watch.whole.validity() {
-        return compare_with(watch, fresh, false);
+fn compare_views(alloc: Global, clients: &IdleClients, fresh: &Client) -> RunResult {
+    if fresh.validity() == clients.whole.validity() {
+        return compare_with(clients, fresh, false);
     }
     let empty = Client::new(alloc);
-    let run_result = compare_with(watch, &empty, true);
+    let run_result = compare_with(clients, &empty, true);
     drop(empty);
     run_result
 }
 
-fn compare_with(watch: &Watch, expected: &Client, has_ended: bool) -> RunResult {
+fn compare_with(clients: &IdleClients, expected: &Client, has_ended: bool) -> RunResult {
     RunResult {
-        is_right: watch.whole.is_right_by(expected),
-        without_expunge: watch.without_expunge.is_right_by(expected),
-        without_exists: watch.without_exists.is_right_by(expected),
-        without_fetch: watch.without_fetch.is_right_by(expected),
+        is_right: clients.whole.agrees_with_client(expected),
+        without_expunge: clients.without_expunge.agrees_with_client(expected),
+        without_exists: clients.without_exists.agrees_with_client(expected),
+        without_fetch: clients.without_fetch.agrees_with_client(expected),
         has_ended,
     }
 }
@@ -214,7 +230,7 @@ fn compare_with(watch: &Watch, expected: &Client, has_ended: bool) -> RunResult 
 /// doesn't exist.
 fn fresh(alloc: Global, node: &mut Node, name: &str) -> Result<Client, Trouble> {
     let session = session(node)?;
-    match selected(alloc, node, session, name)? {
+    match client_after_select(alloc, node, session, name)? {
         Some(client) => with_all_fetched(alloc, node, session, client),
         None => Ok(Client::new(alloc)),
     }
@@ -245,7 +261,7 @@ fn fetch_all(
 ) -> Result<(), Trouble> {
     match command(alloc, node, session, "b UID FETCH 1:* FLAGS\r\n")? {
         Some(answers) => {
-            let taken = client.take_all(alloc, answers.as_slice());
+            let taken = client.apply_answers(alloc, answers.as_slice());
             drop(answers);
             Ok(taken?)
         }

@@ -36,7 +36,7 @@ impl Scene {
     pub fn new(alloc: Global) -> Result<Scene, Trouble> {
         let near = node(alloc, 1)?;
         match node(alloc, 2) {
-            Ok(far) => opened(near, far),
+            Ok(far) => scene_of_nodes(near, far),
             Err(trouble) => {
                 drop(near);
                 Err(trouble)
@@ -46,7 +46,7 @@ impl Scene {
 }
 
 /// Two replicas, with their sessions.
-fn opened(near: Node, far: Node) -> Result<Scene, Trouble> {
+fn scene_of_nodes(near: Node, far: Node) -> Result<Scene, Trouble> {
     let mut near = near;
     let mut far = far;
     match open_sessions(&mut near, &mut far) {
@@ -73,7 +73,7 @@ fn open_sessions(near: &mut Node, far: &mut Node) -> Result<Sessions, Trouble> {
 
 fn node(alloc: Global, replica: u32) -> Result<Node, Trouble> {
     match ReplicaId::new(replica) {
-        Some(replica) => made(Node::new(
+        Some(replica) => node_or_trouble(Node::new(
             alloc,
             Counters {
                 replica,
@@ -85,7 +85,7 @@ fn node(alloc: Global, replica: u32) -> Result<Node, Trouble> {
     }
 }
 
-fn made(node: Result<Node, AllocError>) -> Result<Node, Trouble> {
+fn node_or_trouble(node: Result<Node, AllocError>) -> Result<Node, Trouble> {
     match node {
         Ok(node) => Ok(node),
         Err(AllocError) => Err(Trouble::NoMemory),
@@ -110,7 +110,7 @@ pub fn command(
     if !node.is_open(session) || node.is_idling(session) {
         return Err(Trouble::NotACase);
     }
-    let tagged = spelled(alloc, text)?;
+    let tagged = tagged_command(alloc, text)?;
     Ok(answers_in(node.command(alloc, session, Moment::epoch(), tagged)))
 }
 
@@ -132,7 +132,7 @@ pub fn give_text(
     done
 }
 
-fn spelled(alloc: Global, text: &str) -> Result<Tagged, Trouble> {
+fn tagged_command(alloc: Global, text: &str) -> Result<Tagged, Trouble> {
     match parse(alloc, text.as_bytes()) {
         Ok(tagged) => Ok(tagged),
         Err(_) => Err(Trouble::NotACase),
@@ -171,7 +171,7 @@ pub fn done(
 }
 
 /// The view of a session that selects this mailbox; `None` if the mailbox doesn't exist.
-pub fn selected(
+pub fn client_after_select(
     alloc: Global,
     node: &mut Node,
     session: SessionNo,
@@ -192,7 +192,7 @@ pub fn selected(
 
 fn client_after(alloc: Global, answers: &Answers) -> Result<Option<Client>, Trouble> {
     let mut client = Client::new(alloc);
-    match client.take_all(alloc, answers.as_slice()) {
+    match client.apply_answers(alloc, answers.as_slice()) {
         Ok(()) => Ok(Some(client)),
         Err(AllocError) => {
             drop(client);

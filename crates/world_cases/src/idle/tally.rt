@@ -1,6 +1,6 @@
 //! The results of a hundred runs, as text.
 
-use crate::idle::runs::{RunResult, played};
+use crate::idle::runs::{RunResult, play_run};
 use case_lines::Trouble;
 use std::alloc::{AllocError, Global};
 
@@ -52,7 +52,7 @@ fn hundred(alloc: Global, hundred: u64) -> Result<String, AllocError> {
 }
 
 fn count(alloc: Global, tally: &mut Tally, run: u64) -> Result<(), AllocError> {
-    match played(alloc, run) {
+    match play_run(alloc, run) {
         Ok(run_result) => {
             tally.add(run, run_result);
             Ok(())
@@ -85,13 +85,13 @@ impl Tally {
 }
 
 fn results(alloc: Global, first: u64, tally: &Tally) -> Result<String, AllocError> {
-    let how = how_text(alloc, tally)?;
+    let how = verdict_text(alloc, tally)?;
     let results = line(alloc, first, tally, how.as_str());
     drop(how);
     results
 }
 
-fn how_text(alloc: Global, tally: &Tally) -> Result<String, AllocError> {
+fn verdict_text(alloc: Global, tally: &Tally) -> Result<String, AllocError> {
     match tally.first_wrong {
         None => format!(in alloc; "all end as they should"),
         Some(run) => format!(in alloc; "run {run} does not"),

@@ -4,9 +4,9 @@ use Rattle.crdt_ops.specs.declared.op.Op.{Op}
 use Rattle.crdt_ops.specs.Sets.{tag_data_by}
 use Rattle.crdt_ops.specs.Tags.{MessageTag, adds, removes}
 use Rattle.folder_state.specs.Contents.{origin_in}
-use Rattle.folder_state.specs.AfterOps.{after}
-use Rattle.folder_state.specs.OpRoom.{origin_by}
-use Rattle.folder_state.proofs.LaterLemmas.{after_more, origin_more}
+use Rattle.folder_state.specs.AfterOps.{contents_after}
+use Rattle.folder_state.specs.OpRoom.{origin_of_op}
+use Rattle.folder_state.proofs.LaterLemmas.{contents_after_take_next, origin_more}
 use Rattle.folder_state.proofs.after_ops.origin_after.Goals as goal
 
 pub loop-op-preserved : goal.loop-op-preserved
@@ -16,10 +16,10 @@ loop-op-preserved c = λ v e.
     let op = c.op-item.result in
     let ops = c.args.ops.now in
     let at = c.loop-op.op-index in
-    let before = after v (take at ops) in
+    let before = contents_after v (take at ops) in
     let now = c.loop-op.origin in
     c.origin_after_op-origin.ensures
-    ∙ ap (λ (o : Op). cond (adds (MessageTag f i) o) (origin_by o.id o.kind) (cond (removes (MessageTag f i) o) None now)) c.op.ensures.op
-    ∙ ap (λ (x : Option OpId). cond (adds (MessageTag f i) op) (origin_by op.id op.kind) (cond (removes (MessageTag f i) op) None x)) (c.loop-op.invariant v e)
+    ∙ ap (λ (o : Op). cond (adds (MessageTag f i) o) (origin_of_op o.id o.kind) (cond (removes (MessageTag f i) o) None now)) c.op.ensures.op
+    ∙ ap (λ (x : Option OpId). cond (adds (MessageTag f i) op) (origin_of_op op.id op.kind) (cond (removes (MessageTag f i) op) None x)) (c.loop-op.invariant v e)
     ∙ sym (origin_more (adds (MessageTag f i) op) (removes (MessageTag f i) op) (tag_data_by op.id op.kind) (before.tag_data f i))
-    ∙ sym (ap (λ w. origin_in w f i) (after_more v ops at op c.loop-op-test.true c.op-item.is))
+    ∙ sym (ap (λ w. origin_in w f i) (contents_after_take_next v ops at op c.loop-op-test.true c.op-item.is))

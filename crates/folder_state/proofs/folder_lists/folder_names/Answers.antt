@@ -7,7 +7,7 @@ use Rattle.imap_types.specs.Names.{inbox}
 use Rattle.merge_laws.specs.Orders.{IsIn}
 use Rattle.crdt_ops.specs.SortedSets.{sorted_set}
 use Rattle.folder_state.specs.FolderTables.{IsIndexedFolder, name_if_tagged}
-use Rattle.folder_state.proofs.Listing.{in_taken, names_done, names_more}
+use Rattle.folder_state.proofs.Listing.{in_taken, names_done, names_drop_next}
 use Rattle.folder_state.proofs.folder_lists.folder_names.Goals as goal
 
 pub loop-place-preserved : goal.loop-place-preserved
@@ -17,7 +17,7 @@ loop-place-preserved c =
     let made = c.in_ok-insert_folder_name.ensures {u = tt} in
     record {
       names =
-          names_more es at c.loop-place.names.items c.insert_folder_name.new.names.items (subst (λ n. at < n) c.len-place-end.ensures.len c.loop-place-test.true) made.names
+          names_drop_next es at c.loop-place.names.items c.insert_folder_name.new.names.items (subst (λ n. at < n) c.len-place-end.ensures.len c.loop-place-test.true) made.names
           ∙ c.loop-place.invariant.names;
       known = λ e h. elim (in_taken es at e h) [
         | inl t ↦ c.loop-place.invariant.known e t

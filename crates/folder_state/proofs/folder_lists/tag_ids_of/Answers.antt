@@ -4,11 +4,11 @@ use Rattle.tags_clocks.specs.declared.id.OpId.{OpId}
 use Rattle.merge_laws.specs.Orders.{IsIn}
 use Rattle.crdt_ops.specs.SortedSets.{IsListOf, id_order, same_id}
 use Rattle.folder_state.proofs.FolderTablesLemmas.{tag_listed}
-use Rattle.folder_state.proofs.Listing.{listed_so}
+use Rattle.folder_state.proofs.Listing.{list_of_equivalent}
 use Rattle.folder_state.proofs.folder_lists.tag_ids_of.Goals as goal
 
 pub returns : goal.returns
 returns c =
     let keys = c.args.folder.now.tags in
     let made = subst (λ xs. IsListOf id_order (λ (i : OpId). IsIn i xs) c.in_ok-ids.ids) c.tags.ensures (c.in_ok-ids.ensures {u = tt}) in
-    listed_so (λ (i : OpId). IsIn i keys) (λ (i : OpId). list_any (same_id i) keys ≡ true) c.in_ok-ids.ids made (tag_listed keys)
+    list_of_equivalent (λ (i : OpId). IsIn i keys) (λ (i : OpId). list_any (same_id i) keys ≡ true) c.in_ok-ids.ids made (tag_listed keys)

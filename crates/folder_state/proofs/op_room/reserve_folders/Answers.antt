@@ -4,8 +4,8 @@ use Rattle.tags_clocks.specs.declared.id.OpId.{OpId}
 use Rattle.merge_laws.specs.Orders.{IsIn}
 use Rattle.crdt_ops.specs.declared.op.Op.{Op}
 use Rattle.folder_state.specs.FolderTables.{find_folder}
-use Rattle.folder_state.specs.OpRoom.{HasRoomAt, HasRoomFor, count_at, count_under, origin_by, tags_added, target, versions_added}
-use Rattle.folder_state.proofs.MoreRoomLemmas.{in_more, roomier_trans, roomier_in, room_preserved}
+use Rattle.folder_state.specs.OpRoom.{HasRoomAt, HasRoomFor, count_at, count_of_name, origin_of_op, added_tag_count, target, added_version_count}
+use Rattle.folder_state.proofs.MoreRoomLemmas.{in_take_next, roomier_trans, roomier_in, room_preserved}
 use Rattle.folder_state.proofs.op_room.reserve_folders.Goals as goal
 
 pub loop-op-init : goal.loop-op-init
@@ -21,13 +21,13 @@ loop-op-preserved c =
     let more = (c.in_ok-reserve_for.ensures {u = tt}).roomier in
     let made = (c.in_ok-reserve_for.ensures {u = tt}).ok in
     let tag_counts = c.args.tag_counts.now in
-    let own = subst (λ (o : Op). HasRoomAt (λ n. count_under n tag_counts.tags) (λ i. count_at i tag_counts.versions) (origin_by o.id o.kind) (target o.kind) (λ n. find_folder n new)) c.op.ensures.op made in
+    let own = subst (λ (o : Op). HasRoomAt (λ n. count_of_name n tag_counts.tags) (λ i. count_at i tag_counts.versions) (origin_of_op o.id o.kind) (target o.kind) (λ n. find_folder n new)) c.op.ensures.op made in
     let here : HasRoomFor ops op (λ n. find_folder n new) =
-    subst (λ (w : (List ℕ → ℕ) × (OpId → ℕ)). HasRoomAt w.0 w.1 (origin_by op.id op.kind) (target op.kind) (λ n. find_folder n new)) (λ k. (λ n. c.requires.tags n k, λ i. c.requires.versions i k)) own in
+    subst (λ (w : (List ℕ → ℕ) × (OpId → ℕ)). HasRoomAt w.0 w.1 (origin_of_op op.id op.kind) (target op.kind) (λ n. find_folder n new)) (λ k. (λ n. c.requires.tags n k, λ i. c.requires.versions i k)) own in
     record {
       roomier = λ f. roomier_trans (find_folder f first) (find_folder f old) (find_folder f new) (c.loop-op.invariant.roomier f) (more f);
-      rooms = λ o h. elim (in_more ops c.loop-op.op-index op o c.loop-op-test.true c.op-item.is h) [
-        | inl t ↦ room_preserved old new more (tags_added ops) (versions_added ops) (origin_by o.id o.kind) (target o.kind) (c.loop-op.invariant.rooms o t)
+      rooms = λ o h. elim (in_take_next ops c.loop-op.op-index op o c.loop-op-test.true c.op-item.is h) [
+        | inl t ↦ room_preserved old new more (added_tag_count ops) (added_version_count ops) (origin_of_op o.id o.kind) (target o.kind) (c.loop-op.invariant.rooms o t)
         | inr e ↦ subst (λ (p : Op). HasRoomFor ops p (λ n. find_folder n new)) e here
       ];
     }

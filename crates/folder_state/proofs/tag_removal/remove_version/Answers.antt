@@ -5,7 +5,7 @@ use Rattle.std.specs.Vec.{vec_capacity}
 use Rattle.std.proofs.lemmas.Bool.{false≢true}
 use Rattle.imap_types.specs.declared.version.Version.{Version}
 use Rattle.crdt_ops.specs.SortedSets.{same_id}
-use Rattle.folder_state.specs.FolderTables.{versions_or_none, versions_at, without}
+use Rattle.folder_state.specs.FolderTables.{versions_or_none, versions_at, without_version}
 use Rattle.folder_state.proofs.FolderTablesLemmas.{none_left, some_left}
 use Rattle.folder_state.proofs.Lenses.{same_turned, some_is}
 use Rattle.folder_state.proofs.Versions.{shorter_without}
@@ -16,7 +16,7 @@ returns-in-Some-clause-here c =
     let now = c.forget_version.new.versions in
     let post = (c.get_mut.follows.holds now).3 (search rules) in
     let was = sym (c.in-Some.ensures {u = tt}).value in
-    ap versions_or_none post.1 ∙ c.forget_version.ensures.items ∙ ap (without c.args.id.now) (sym (ap versions_or_none was))
+    ap versions_or_none post.1 ∙ c.forget_version.ensures.items ∙ ap (without_version c.args.id.now) (sym (ap versions_or_none was))
 
 pub returns-in-Some-clause-none : goal.returns-in-Some-clause-none
 returns-in-Some-clause-none c = λ t.
@@ -52,7 +52,7 @@ returns-in-None-clause-none c = λ t. absurd (false≢true t)
 pub returns-in-None-clause-here : goal.returns-in-None-clause-here
 returns-in-None-clause-here c =
     let none : lookup (same_id c.args.origin.now) c.args.messages.now.entries ≡ None = sym (c.in-None.ensures {u = tt}).value in
-    ap (λ m. versions_at m.entries c.args.origin.now) c.get_mut.follows.holds-at-none ∙ ap versions_or_none none ∙ ap (without c.args.id.now) (sym (ap versions_or_none none))
+    ap (λ m. versions_at m.entries c.args.origin.now) c.get_mut.follows.holds-at-none ∙ ap versions_or_none none ∙ ap (without_version c.args.id.now) (sym (ap versions_or_none none))
 
 pub returns-in-None-clause-some : goal.returns-in-None-clause-some
 returns-in-None-clause-some c = λ f vs e.

@@ -2,7 +2,7 @@ use Rattle.std.proofs.Common.{◌≡◌, ℕ, ◌+◌, ◌-◌, ◌<◌, List, [
 use Rattle.imap_answers.specs.declared.answer.Answer.{Answer}
 use Rattle.imap_answers.specs.declared.answer.Answer.TheVariants.{Expunge}
 use Rattle.session_view.specs.Sync.{expunges}
-use Rattle.idle_feed.proofs.EndLemmas.{one_more}
+use Rattle.idle_feed.proofs.EndLemmas.{expunges_drop}
 use Rattle.idle_feed.proofs.sync_planning.expunges_of_all.Goals as goal
 
 pub loop-place-preserved : goal.loop-place-preserved
@@ -14,4 +14,4 @@ loop-place-preserved c = λ view e.
     let below : n - 1 < length view = omega (arith, t, e, fits) in
     (c.in_ok-push.ensures {u = tt}).items
     ∙ ap (λ (as' : List Answer). as' ++ Expunge (n - 1 + 1) ∷ []) (c.loop-place.invariant view e ∙ ap (λ (m : ℕ). expunges [] (m + 1) (drop m view)) k)
-    ∙ sym (one_more view (n - 1 + 1) (n - 1) below)
+    ∙ sym (expunges_drop view (n - 1 + 1) (n - 1) below)

@@ -50,14 +50,14 @@ pub fn put_view(alloc: Global, words: &mut Words, kind: &str, input: &str) {
     let (view, other) = parts_around(rest, " ");
     match view_in(alloc, view) {
         Ok(view) => {
-            put_of_view(alloc, words, &view, kind, which, other);
+            put_view_answer(alloc, words, &view, kind, which, other);
             drop(view);
         }
         Err(trouble) => words.put_trouble("", trouble),
     }
 }
 
-fn put_of_view(
+fn put_view_answer(
     alloc: Global,
     words: &mut Words,
     view: &View,
@@ -96,12 +96,12 @@ fn put_sync(alloc: Global, words: &mut Words, view: &View, listing: &str, form: 
 
 fn put_listed(alloc: Global, words: &mut Words, view: &View, listing: &str, form: SyncForm) {
     match messages_in(alloc, listing) {
-        Ok(messages) => put_of_messages(alloc, words, view, &messages, form),
+        Ok(messages) => put_sync_of_messages(alloc, words, view, &messages, form),
         Err(trouble) => words.put_trouble("", trouble),
     }
 }
 
-fn put_of_messages(
+fn put_sync_of_messages(
     alloc: Global,
     words: &mut Words,
     view: &View,

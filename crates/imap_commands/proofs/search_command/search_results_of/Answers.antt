@@ -4,21 +4,21 @@ use Rattle.imap_types.specs.Numbers.{AreRisingFrom}
 use Rattle.imap_query.specs.Search.{asks_modseq, hits_in, number_or_uid, results_of}
 use Rattle.imap_query.specs.declared.viewed_message.ViewedMessage.{ViewedMessage}
 use Rattle.imap_commands.specs.Arguments.{OpenMailbox, SearchArgs}
-use Rattle.imap_commands.specs.SearchCommand.{IsSearchResult, shown_from}
-use Rattle.imap_commands.proofs.NamedLemmas.{all_shown_rising}
+use Rattle.imap_commands.specs.SearchCommand.{IsSearchResult, viewed_messages_from}
+use Rattle.imap_commands.proofs.NamedLemmas.{all_viewed_messages_rising}
 use Rattle.imap_commands.proofs.search_command.search_results_of.Goals as goal
 
 pub search-requires : goal.search-requires
 search-requires c =
-    subst (λ (shown : List ViewedMessage). AreRisingFrom 1 (map (number_or_uid c.request.inside.by_uid) shown)) (sym (c.deref.ensures.value ∙ c.in_ok-shown.ensures {u = tt} ∙ ap (shown_from 1) c.entries.ensures.entries))
-    (all_shown_rising c.request.inside.by_uid c.mailbox.inside.view.now.entries c.entries.ensures.rising)
+    subst (λ (shown : List ViewedMessage). AreRisingFrom 1 (map (number_or_uid c.request.inside.by_uid) shown)) (sym (c.deref.ensures.value ∙ c.in_ok-shown.ensures {u = tt} ∙ ap (viewed_messages_from 1) c.entries.ensures.entries))
+    (all_viewed_messages_rising c.request.inside.by_uid c.mailbox.inside.view.now.entries c.entries.ensures.rising)
 
 pub returns : goal.returns
 returns c =
     let m = c.mailbox.inside in
     let a = c.request.inside in
     let k = c.as_slice-steps.ensures.key in
-    let shown = c.deref.ensures.value ∙ c.in_ok-shown.ensures {u = tt} ∙ ap (shown_from 1) c.entries.ensures.entries in
+    let shown = c.deref.ensures.value ∙ c.in_ok-shown.ensures {u = tt} ∙ ap (viewed_messages_from 1) c.entries.ensures.entries in
     IfOk-weaker c.search.result _ _
     (λ results h.
     subst (λ (mailbox : OpenMailbox). IsSearchResult mailbox c.args.request.now results) c.mailbox.view_is

@@ -1,6 +1,6 @@
 use Rattle.std.proofs.Common.{take, ap, refl, rules}
 use Rattle.imap_lex.specs.Framing.{FramerState}
-use Rattle.imap_connection.proofs.ConversationsLemmas.{underway_closed, underway_ends, underway_first, underway_on, underway_read_failed, underway_write_failed, underway_wrote}
+use Rattle.imap_connection.proofs.ConversationsLemmas.{underway_closed, underway_ends, underway_first, underway_next, underway_read_failed, underway_write_failed, underway_wrote}
 use Rattle.imap_connection.proofs.conversations.answer_all.Goals as goal
 
 pub returns-then-not-write_pending-clause-conversation : goal.returns-then-not-write_pending-clause-conversation
@@ -59,7 +59,7 @@ loop-preserved g c =
     let o = c.in-Ok.ensures.ok in (
       tt,
       tt,
-      underway_on g.P.Port.steps at.port new.port at.talk.idling new.talk.idling (g.S.Source.left at.source) (g.S.Source.left c.read.new.self) (g.K.Sink.taken c.write_pending.new.sink) (g.K.Sink.taken new.sink)
+      underway_next g.P.Port.steps at.port new.port at.talk.idling new.talk.idling (g.S.Source.left at.source) (g.S.Source.left c.read.new.self) (g.K.Sink.taken c.write_pending.new.sink) (g.K.Sink.taken new.sink)
           c.write_pending.new.text.items new.talk.text.items (take c.in-Some-read.count c.read.new.piece) o.0 at.talk.framer.state new.talk.framer.state wrote c.in-Some-read.ensures.octets (rw (← at.invariant.3) o.1) o.2 (rw (← at.invariant.3) c.in-Ok.ensures.state),
       search rules,
       search rules,

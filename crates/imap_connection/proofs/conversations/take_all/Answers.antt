@@ -6,7 +6,7 @@ use Rattle.imap_connection.specs.Batches.{answers_by, tags_of}
 use Rattle.imap_connection.specs.Conversations.{Converses, HasTaken, EndsOverItems}
 use Rattle.imap_connection.specs.Requests.{texts}
 use Rattle.imap_connection.proofs.BatchLemmas.{taken_falters, taken_none, taken_answered}
-use Rattle.imap_connection.proofs.ConversationsLemmas.{fails_at, leaves_first, lost_now, not_failed, output-append, output_then_written, output_held, output_empty}
+use Rattle.imap_connection.proofs.ConversationsLemmas.{fails_at, leaves_first, takes_part_of_output, not_failed, output-append, output_then_written, output_held, output_empty}
 use Rattle.imap_connection.proofs.conversations.take_all.Goals as goal
 
 pub loop-item-init : goal.loop-item-init
@@ -48,7 +48,7 @@ returns-then-not-write_if_full-clause-err g c =
     let all = output-append first taken taken c.args.text.now.items so.0 at.text.items o.0 new.text.items so.2 (output_held taken at.text.items o.0 new.text.items o.2) in (
       so.0 ++ o.0,
       fails_at g.P.Port.steps c.args.port.now c.args.idling.now items (at.item-index + 1) (so.0 ++ o.0) new.port new.idling new.batch has_taken,
-      inl (refl, lost_now first taken (g.K.Sink.taken c.write_if_full.new.sink) c.args.text.now.items (so.0 ++ o.0) new.text.items all c.if-not-write_if_full.ensures.output),
+      inl (refl, takes_part_of_output first taken (g.K.Sink.taken c.write_if_full.new.sink) c.args.text.now.items (so.0 ++ o.0) new.text.items all c.if-not-write_if_full.ensures.output),
     )
 
 pub loop-item-preserved : goal.loop-item-preserved

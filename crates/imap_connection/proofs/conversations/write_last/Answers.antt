@@ -1,12 +1,12 @@
 use Rattle.std.proofs.Common.{◌≡◌, List, ℕ, [], inr, refl, false, subst}
 use Rattle.imap_connection.specs.Devices.{IsOutput, TakesAllOrPart}
 use Rattle.imap_connection.specs.EndReasons.{bye_text_of}
-use Rattle.imap_connection.proofs.ConversationsLemmas.{output_part, took_less}
+use Rattle.imap_connection.proofs.ConversationsLemmas.{output_part, takes_part_append}
 use Rattle.imap_connection.proofs.conversations.write_last.Goals as goal
 
 pub returns-then-not-write_pending-clause-written : goal.returns-then-not-write_pending-clause-written
 returns-then-not-write_pending-clause-written g c z =
-    inr (refl, took_less (g.K.Sink.taken c.args.sink.now) (g.K.Sink.taken c.write_pending.new.sink) c.args.text.now.items (bye_text_of c.args.ended) c.if-not-write_pending.ensures.output)
+    inr (refl, takes_part_append (g.K.Sink.taken c.args.sink.now) (g.K.Sink.taken c.write_pending.new.sink) c.args.text.now.items (bye_text_of c.args.ended) c.if-not-write_pending.ensures.output)
 
 pub returns-then-not-write_bye-clause-written : goal.returns-then-not-write_bye-clause-written
 returns-then-not-write_bye-clause-written g c z =

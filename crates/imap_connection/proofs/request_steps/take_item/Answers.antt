@@ -5,7 +5,7 @@ use Rattle.imap_connection.specs.Conversations.{HasTaken, EndsOverItems}
 use Rattle.imap_connection.specs.RequestSteps.{IsRequest}
 use Rattle.imap_connection.specs.Requests.{StopsAt, texts}
 use Rattle.imap_connection.specs.declared.request.Request.{Request}
-use Rattle.imap_connection.proofs.BatchLemmas.{taken_falters, taken_stops, taken_item, taken_answered, taken_unasked, taken_waits, leaves_more}
+use Rattle.imap_connection.proofs.BatchLemmas.{taken_falters, taken_stops, taken_item, taken_answered, taken_unasked, taken_waits, leaves_append}
 use Rattle.imap_connection.proofs.request_steps.take_item.Goals as goal
 
 pub returns-in_default-clause-err : goal.returns-in_default-clause-err
@@ -16,7 +16,7 @@ pub returns-in-Err-carry_out-clause-err : goal.returns-in-Err-carry_out-clause-e
 returns-in-Err-carry_out-clause-err g c first from items output h =
     let t = c.in-Err-carry_out.ensures.err in
     let left = taken_falters g.P.Port.steps items output c.args.port.now c.args.idling.now c.args.batch.now c.in-Err-carry_out.ended t.0 c.carry_out.new.port h t.1 in
-    (texts t.0, leaves_more g.P.Port.steps items c.args.item.now c.in-Err-carry_out.ended (output ++ texts t.0) c.carry_out.new.port left, t.2)
+    (texts t.0, leaves_append g.P.Port.steps items c.args.item.now c.in-Err-carry_out.ended (output ++ texts t.0) c.carry_out.new.port left, t.2)
 
 pub returns-in-Ok-push-clause-ok : goal.returns-in-Ok-push-clause-ok
 returns-in-Ok-push-clause-ok g c first from items output h =

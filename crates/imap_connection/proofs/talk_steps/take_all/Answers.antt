@@ -2,7 +2,7 @@ use Rattle.std.proofs.Common.{◌≡◌, ◌+◌, ◌<◌, ◌⊎◌, inl, inr, 
 use Rattle.std.proofs.lemmas.List.{drop_all}
 use Rattle.imap_lex.specs.declared.item.Item.{Item}
 use Rattle.imap_connection.specs.Conversation.{BreaksOff, Converses, items_at}
-use Rattle.imap_connection.proofs.TurnLemmas.{Underway, underway_on, underway_done, underway_out, underway_broken}
+use Rattle.imap_connection.proofs.TurnLemmas.{Underway, underway_next, underway_done, underway_out, underway_broken}
 use Rattle.imap_connection.proofs.talk_steps.take_all.Goals as goal
 
 -- the rest of the items begins with the current one
@@ -34,7 +34,7 @@ loop-item-preserved c =
     let at = next_item c.args.items.now c.loop-item.item-index c.item-item.result (omega arith) c.item-item.is in
     let u = subst (λ left. Underway c.args.node.now.state c.args.session items c.args.turns.now.items c.loop-item.node.state (items_at c.args.moment left) c.loop-item.turns.items) at c.loop-item.invariant in
     let active = still_active c.has_logged_out.result _ _ c.has_logged_out.ensures c.if-has_logged_out.false c.take_item.ensures.open in
-    underway_on _ c.take_item.new.node.state _ _ _ c.take_item.new.turns.items u (c.in_default.ensures {u = tt}).ok active
+    underway_next _ c.take_item.new.node.state _ _ _ c.take_item.new.turns.items u (c.in_default.ensures {u = tt}).ok active
 
 pub returns-clause-ok : goal.returns-clause-ok
 returns-clause-ok c =

@@ -5,5 +5,5 @@ use Rattle.imap_lex.proofs.laws.faults_come_first.Goals as goal
 pub returns-clause-at : goal.returns-clause-at
 returns-clause-at c = fault_by_given
 
-pub returns-clause-so : goal.returns-clause-so
-returns-clause-so c = cut_of_fault
+pub returns-clause-converse : goal.returns-clause-converse
+returns-clause-converse c = cut_of_fault

@@ -18,7 +18,7 @@ returns c = λ before op is e.
     let done = c.in_ok-folder.ensures {u = tt} in
     let applied : IsApplied after = subst IsApplied e (record { sound = c.op_list-list.ensures.sound; causal = c.op_list-list.ensures.lawful.causal }) in
     let named = subst (λ (n : List ℕ). NotesNameIn start before after n folder.notes) is.name_is
-    (done.notes start before (op ∷ []) applied (subst (λ (n : List ℕ). IsSnapshotOf start before (op ∷ []) n c.args.ahead) (sym is.name_is) is)
+    (done.notes start before (op ∷ []) applied (subst (λ (n : List ℕ). IsSnapshotOf start before (op ∷ []) n c.args.snapshot) (sym is.name_is) is)
     (c.uidvalidity-uidvalidity.ensures ∙ (λ i. uidvalidity_of start (c.name.ensures i) (e i))) (c.uidnext-uidnext.ensures ∙ (λ i. uidnext_of start (c.name-2.ensures i) (e i)))) in
     let far = so_far_append start before (op ∷ []) name [] folder (done.name ∙ is.name_is) named in
     let all = all_change_notes start before (op ∷ []) (folder ∷ []) applied (far.named (λ f i. absurd i))

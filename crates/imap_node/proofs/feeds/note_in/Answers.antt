@@ -1,6 +1,6 @@
 use Rattle.std.proofs.Common.{◌≤◌, ◌<◌, length, arith, ◌∙◌}
 use Rattle.std.proofs.lemmas.List.{length-set}
-use Rattle.imap_node.proofs.SessionChangeLemmas.{done_more, each_after_notes, rest_more}
+use Rattle.imap_node.proofs.SessionChangeLemmas.{after_notes_set, each_after_notes, rest_set}
 use Rattle.imap_node.proofs.feeds.note_in.Goals as goal
 
 pub returns : goal.returns
@@ -21,6 +21,6 @@ loop-place-preserved c =
     let within : k < length cur = let a = c.loop-place-test.true in let b = c.len-place-end.ensures in let g = c.args.feeds.now.ok.0 in let e = c.loop-place.invariant.len in omega (arith, a, b, g, e) in
     record {
       len = length-set cur k feed ∙ c.loop-place.invariant.len;
-      done = done_more change_notes places old cur k was feed within c.index_mut.ensures.value c.note_at.ensures c.loop-place.invariant.done c.loop-place.invariant.rest;
-      rest = rest_more change_notes places old cur k was feed within c.index_mut.ensures.value c.note_at.ensures c.loop-place.invariant.rest;
+      done = after_notes_set change_notes places old cur k was feed within c.index_mut.ensures.value c.note_at.ensures c.loop-place.invariant.done c.loop-place.invariant.rest;
+      rest = rest_set change_notes places old cur k was feed within c.index_mut.ensures.value c.note_at.ensures c.loop-place.invariant.rest;
     }

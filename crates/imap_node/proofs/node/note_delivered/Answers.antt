@@ -20,7 +20,7 @@ returns-in-Ok-change_notes_of_delivery c = λ noted.
     let start = c.args.replica.now.start in
     let applied = c.args.replica.now.applied in
     let front = take c.args.count applied in
-    let known = subst (λ (r : Result MailboxSnapshot AllocError). IfOk r (λ a. (op : Op) × IsSnapshotOf start front (op ∷ []) (name_of op.kind) a × (c.args.count < length applied → applied ≡ front ++ op ∷ []))) c.in-Ok.is c.requires.ahead in
+    let known = subst (λ (r : Result MailboxSnapshot AllocError). IfOk r (λ a. (op : Op) × IsSnapshotOf start front (op ∷ []) (name_of op.kind) a × (c.args.count < length applied → applied ≡ front ++ op ∷ []))) c.in-Ok.is c.requires.snapshot in
     let one : c.args.count < length applied = let a = c.if-op_list-count.false in let b = ap (λ (ops : List Op). length ops) c.op_list.ensures.applied in let l = c.requires.count in omega (arith, a, b, l) in
     let ready = noted_as start start front front c.args.sessions.now c.args.sessions.now c.args.feeds.now c.ready.new.self refl refl refl c.ready.ensures noted in
     c.note.ensures start front applied (c.in-Ok-change_notes_of_delivery.ensures {u = tt} front known.0 known.1 (known.2 one)) ready

@@ -16,6 +16,6 @@ pub returns-in_ok-settled_noop_reply-in-Some-clause-ok : goal.returns-in_ok-sett
 returns-in_ok-settled_noop_reply-in-Some-clause-ok c =
     let start = c.args.replica.now.start in
     let before = c.args.replica.now.applied in
-    let is_rest = c.tag_of_settled_noop.ensures c.in-Some.tag.now (ap (λ o. option_map (λ t. t.now) o) c.in-Some.is) in
+    let is_settled_noop = c.tag_of_settled_noop.ensures c.in-Some.tag.now (ap (λ o. option_map (λ t. t.now) o) c.in-Some.is) in
     subst (λ (p : PreparedInput). IsPreparedInput start before c.args.session.now c.args.input.now p) (sym (c.in_ok-settled_noop_reply-in-Some.ensures {u = tt}))
-    (settled_noop_prepared start before c.args.session.now c.args.feed.now.pending c.args.input.now c.in-Some.tag.now c.requires.noted is_rest)
+    (settled_noop_prepared start before c.args.session.now c.args.feed.now.pending c.args.input.now c.in-Some.tag.now c.requires.noted is_settled_noop)

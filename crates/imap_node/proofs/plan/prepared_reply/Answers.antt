@@ -1,37 +1,16 @@
-use Rattle.std.proofs.Common.{List, ◌++◌, sym, subst, ◌∙◌}
-use Rattle.crdt_ops.specs.declared.op.Op.{Op}
-use Rattle.imap_node.specs.SessionFeeds.{AreChangeNotes}
-use Rattle.imap_node.specs.SessionChanges.{CanChangeSession}
-use Rattle.imap_node.specs.Plans.{IsPreparedReply}
+use Rattle.imap_node.specs.InputEffects.{effect_from}
 use Rattle.imap_node.proofs.plan.prepared_reply.Goals as goal
-
-pub answers_to-requires-clause-changes : goal.answers_to-requires-clause-changes
-answers_to-requires-clause-changes c =
-    let start = c.args.replica.now.start in
-    let before = c.args.replica.now.applied in
-    subst (λ (ops : List Op). AreChangeNotes start before (before ++ ops) c.in_ok-change_notes.change_notes) (c.as_slice-2.ensures ∙ sym c.as_slice-3.ensures)
-    (c.in_ok-change_notes.ensures {u = tt})
-
-pub returns-clause-changes : goal.returns-clause-changes
-returns-clause-changes c =
-    let start = c.args.replica.now.start in
-    let before = c.args.replica.now.applied in
-    subst (λ (ops : List Op). AreChangeNotes start before (before ++ ops) c.in_ok-change_notes.change_notes) (c.as_slice-2.ensures ∙ c.new-ops.ensures)
-    (c.in_ok-change_notes.ensures {u = tt})
-
-pub answers_to-requires-clause-noted : goal.answers_to-requires-clause-noted
-answers_to-requires-clause-noted c = c.requires.noted
 
 pub returns-clause-answered : goal.returns-clause-answered
 returns-clause-answered c =
-    let start = c.args.replica.now.start in
-    let before = c.args.replica.now.applied in
-    subst (λ (ops : List Op). IsPreparedReply start before (before ++ ops) c.args.session.now c.args.input.now c.in_ok-answered.answered) (c.as_slice-3.ensures ∙ c.new-ops.ensures)
-    (c.in_ok-answered.ensures {u = tt}).answered
+    let sent = c.in_ok-answers.ensures {u = tt} in
+    record {
+      effect = effect_from c.args.session.now.state c.in_ok-effect.effect;
+      taken = c.in_ok-effect.ensures {u = tt};
+      answers = sent.answers;
+      silent = sent.silent;
+      becomes = λ i. record { state = sent.state_change i; condstore = c.condstore_after-condstore.ensures i; idling = c.in_ok-idling.ensures {u = tt} i };
+    }
 
 pub returns-clause-can : goal.returns-clause-can
-returns-clause-can c =
-    let start = c.args.replica.now.start in
-    let before = c.args.replica.now.applied in
-    subst (λ (ops : List Op). CanChangeSession start (before ++ ops) c.args.session.now.state c.in_ok-answered.answered.update.state_change) (c.as_slice-3.ensures ∙ c.new-ops.ensures)
-    (c.in_ok-answered.ensures {u = tt}).can
+returns-clause-can c = (c.in_ok-answers.ensures {u = tt}).can

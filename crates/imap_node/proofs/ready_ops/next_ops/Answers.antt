@@ -2,7 +2,7 @@ use Rattle.std.proofs.Common.{◌≡◌, ℕ, ◌+◌, ◌<◌, ◌≤◌, List,
 use Rattle.crdt_ops.specs.declared.kind.Kind.{Kind}
 use Rattle.crdt_ops.specs.declared.op.Op.{Op}
 use Rattle.std.proofs.lemmas.List.{nil_from_length}
-use Rattle.imap_node.proofs.NextLemmas.{IsMade, made_all, made_can, made_more, made_none}
+use Rattle.imap_node.proofs.NextLemmas.{IsMade, made_all, made_append, made_can, made_none}
 use Rattle.tags_clocks.specs.Clock.{IsRaised, count_of}
 use Rattle.imap_node.proofs.ready_ops.next_ops.Goals as goal
 
@@ -20,9 +20,9 @@ next_op-requires-clause-can c =
 
 pub next_op-requires-clause-number : goal.next_op-requires-clause-number
 next_op-requires-clause-number c =
-    let few : count_of c.loop-kind.clock c.args.replica.now.start.replica + length (c.in-Some.kind ∷ c.next.new.self.rest.items) ≤ 4294967295 =
-    subst (λ (ks : List Kind). count_of c.loop-kind.clock c.args.replica.now.start.replica + length ks ≤ 4294967295) (c.in-Some.ensures {u = tt}).steps.0 c.loop-kind.invariant.few in
-    subst (λ (r : ℕ). count_of c.loop-kind.clock r < 4294967295) (sym c.id.ensures) (omega (arith, few))
+    let fits_numbers : count_of c.loop-kind.clock c.args.replica.now.start.replica + length (c.in-Some.kind ∷ c.next.new.self.rest.items) ≤ 4294967295 =
+    subst (λ (ks : List Kind). count_of c.loop-kind.clock c.args.replica.now.start.replica + length ks ≤ 4294967295) (c.in-Some.ensures {u = tt}).steps.0 c.loop-kind.invariant.fits_numbers in
+    subst (λ (r : ℕ). count_of c.loop-kind.clock r < 4294967295) (sym c.id.ensures) (omega (arith, fits_numbers))
 
 pub loop-kind-preserved : goal.loop-kind-preserved
 loop-kind-preserved c =
@@ -35,7 +35,7 @@ loop-kind-preserved c =
     subst (λ (n : ℕ). IsRaised c.loop-kind.clock r n c.raise.new.self) number
     (subst (λ (x : ℕ). IsRaised c.loop-kind.clock x c.get.result c.raise.new.self) c.id-in-loop-kind.ensures (c.in_ok-raise.ensures {u = tt}).raised) in
     subst (λ (os : List Op). IsMade r c.args.replica.now.applied c.args.kinds.items rest os c.raise.new.self) (sym (c.in_ok-push.ensures {u = tt}).items)
-    (made_more r c.args.replica.now.applied c.args.kinds.items c.in-Some.kind rest c.loop-kind.ops.items c.loop-kind.clock op c.raise.new.self
+    (made_append r c.args.replica.now.applied c.args.kinds.items c.in-Some.kind rest c.loop-kind.ops.items c.loop-kind.clock op c.raise.new.self
     (subst (λ (ks : List Kind). IsMade r c.args.replica.now.applied c.args.kinds.items ks c.loop-kind.ops.items c.loop-kind.clock) (c.in-Some.ensures {u = tt}).steps.0 c.loop-kind.invariant)
     made.kind made.clock (made.replica ∙ c.id.ensures) (made.number ∙ ap (λ (x : ℕ). count_of c.loop-kind.clock x + 1) c.id.ensures) c.op.ensures.sound raised)
 

@@ -10,7 +10,7 @@ use Rattle.imap_node.specs.Mailboxes.{rows_for}
 use Rattle.imap_node.specs.Replays.{view_of}
 use Rattle.session_view.specs.NoteChanges.{all_fetched_flags}
 use Rattle.session_view.specs.Replay.{after_silent}
-use Rattle.imap_node.proofs.SessionChangeLemmas.{made_for, can_in_place, can_stay, empty_by_length, shown_as_before, shown_in_place, answers_in_place}
+use Rattle.imap_node.proofs.SessionChangeLemmas.{rows_made_for_state, can_change_in_place, can_stay, empty_by_length, shown_as_before, shown_in_place, answers_in_place}
 use Rattle.session_view.specs.ViewState.{ViewState}
 use Rattle.uid_projection.specs.declared.first_numbers.Counters.{Counters}
 use Rattle.imap_node.proofs.sync_and_state.sync_in_place.Goals as goal
@@ -23,7 +23,7 @@ unselected_sync start after _ front answers e n = (e, refl)
 
 pub plan_sync_of_view-requires-clause-made : goal.plan_sync_of_view-requires-clause-made
 plan_sync_of_view-requires-clause-made c = λ rows e.
-    made_for c.args.applied.now.replica.now.start (c.args.applied.now.replica.now.applied ++ c.args.applied.now.ops.now) c.args.state.now c.in-Selected.view c.in-Selected.read_only _ rows c.in-Selected.is e c.requires.made
+    rows_made_for_state c.args.applied.now.replica.now.start (c.args.applied.now.replica.now.applied ++ c.args.applied.now.ops.now) c.args.state.now c.in-Selected.view c.in-Selected.read_only _ rows c.in-Selected.is e c.requires.made
 
 pub plan_sync_of_view-requires-clause-noted : goal.plan_sync_of_view-requires-clause-noted
 plan_sync_of_view-requires-clause-noted c = c.requires.noted c.in-Selected.view (ap view_of c.in-Selected.is)
@@ -58,7 +58,7 @@ returns-in_ok-planned-in-Selected-clause-can c =
     let after = c.args.applied.now.replica.now.applied ++ c.args.applied.now.ops.now in
     let inside = c.front.inside in
     let front : SyncInput = record { silent = inside.silent.now; own = inside.own.now; sync = inside.sync; modseq = inside.modseq } in
-    can_in_place start after c.args.state.now c.in-Selected.view c.in-Selected.read_only front c.in-Some.kind (rows_for start after c.in-Selected.view) c.in_ok-first.first.items
+    can_change_in_place start after c.args.state.now c.in-Selected.view c.in-Selected.read_only front c.in-Some.kind (rows_for start after c.in-Selected.view) c.in_ok-first.first.items
     c.in-Selected.is c.in-Some.is (sym c.are_shifting.ensures ∙ c.if-are_shifting.false) refl
     (c.in_ok-first.ensures {u = tt} c.in-Selected.view (ap view_of c.in-Selected.is) ∙ ap (λ (f : SyncInput). after_silent c.in-Selected.view.entries (f.silent ++ all_fetched_flags f.own)) (sym c.front.view_is))
     c.in_ok-planned-in-Selected.planned.change (c.in_ok-planned-in-Selected.ensures {u = tt}).can (c.in_ok-planned-in-Selected.ensures {u = tt}).change

@@ -2,7 +2,7 @@ use Rattle.std.proofs.Common.{◌+◌, ◌-◌, false, Some, sym, ap, ◌∙◌}
 use Rattle.std.proofs.lemmas.Result.{err_from_is_err_and}
 use Rattle.imap_print.specs.Reading.{with_prefix}
 use Rattle.imap_print.specs.ReadingAnswers.{bodies_at}
-use Rattle.imap_print.proofs.ReadingLemmas.{bodies-end, bodies-fail, bodies-more}
+use Rattle.imap_print.proofs.ReadingLemmas.{bodies-end, bodies-fail, bodies_at-step}
 use Rattle.imap_print.proofs.item_readers.bodies.Goals as goal
 
 pub returns-in-None : goal.returns-in-None
@@ -18,4 +18,4 @@ returns-in_err-part c =
 pub loop-index-preserved : goal.loop-index-preserved
 loop-index-preserved c =
     ap (λ f. with_prefix f (bodies_at (c.args.count - (c.loop-index._index + 1)) false c.in_ok-part.tail.now)) c.in_ok-push.ensures.items
-    ∙ bodies-more c.loop-index._index c.args.count c.loop-index.none_yet c.loop-index.parts.items c.loop-index.rest.now c.in-Some.unread.now _ c.in_ok-part.part c.in_ok-part.tail.now c.loop-index-test.true (sym c.in-Some.ensures) c.loop-index.invariant c.in_ok-part.ensures
+    ∙ bodies_at-step c.loop-index._index c.args.count c.loop-index.none_yet c.loop-index.parts.items c.loop-index.rest.now c.in-Some.unread.now _ c.in_ok-part.part c.in_ok-part.tail.now c.loop-index-test.true (sym c.in-Some.ensures) c.loop-index.invariant c.in_ok-part.ensures

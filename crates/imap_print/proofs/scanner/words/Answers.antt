@@ -1,7 +1,7 @@
 use Rattle.std.proofs.Common.{◌≡◌, ◌+◌, ◌-◌, false, eqb, length, ◌∷◌, [], ◌++◌, Some, sym, ap, ◌∙◌}
 use Rattle.imap_print.specs.declared.scanner.ScanClass.TheVariants.{Atom}
 use Rattle.imap_print.specs.Reading.{after, is_in, lead, span, with_prefix, words_at}
-use Rattle.imap_print.proofs.ReadingLemmas.{words-more}
+use Rattle.imap_print.proofs.ReadingLemmas.{words_at-step}
 use Rattle.imap_print.proofs.scanner.words.Goals as goal
 
 pub loop-index-preserved : goal.loop-index-preserved
@@ -15,4 +15,4 @@ loop-index-preserved c =
     let filled : eqb (length word) 0 ≡ false = ap (λ w. eqb (length w) 0) (sym c.span.ensures.front) ∙ sym c.is_empty.ensures ∙ c.if-is_empty.false in
     ap (λ f. with_prefix f (words_at (c.args.count - (c.loop-index._index + 1)) false c.span.result.1.now)) items
     ∙ ap (λ r. with_prefix (parsed ++ word ∷ []) (words_at (c.args.count - (c.loop-index._index + 1)) false r)) c.span.ensures.rest
-    ∙ sym (words-more c.loop-index._index c.args.count c.loop-index.none_yet parsed rest unread c.loop-index-test.true some filled) ∙ c.loop-index.invariant
+    ∙ sym (words_at-step c.loop-index._index c.args.count c.loop-index.none_yet parsed rest unread c.loop-index-test.true some filled) ∙ c.loop-index.invariant

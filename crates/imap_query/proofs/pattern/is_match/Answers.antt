@@ -1,7 +1,7 @@
 use Rattle.std.proofs.Common.{◌≡◌, ◌∙◌, ap, arith, drop, length, sym, true}
 use Rattle.std.proofs.lemmas.Grind.{common_steps}
 use Rattle.imap_query.specs.PatternRows.{answer_after, is_unset, last_of}
-use Rattle.imap_query.proofs.RowLemmas.{answer_is, unset_never}
+use Rattle.imap_query.proofs.RowLemmas.{answer_after_match, unset_never}
 use Rattle.imap_query.proofs.pattern.is_match.Goals as goal
 
 pub returns-then-is_unset : goal.returns-then-is_unset
@@ -10,7 +10,7 @@ returns-then-is_unset c =
     let lengths : length c.in_ok-row.row.items ≡ length c.args.name.now = grind (arith, common_steps) in
     sym (unset_never (drop c.loop-octet.octet-index c.args.pattern.now) c.args.name.now c.loop-octet.first c.loop-octet.row.items unset c.loop-octet.invariant.lengths)
     ∙ c.loop-octet.invariant.answer
-    ∙ answer_is c.args.pattern.now c.args.name.now c.in_ok-row.row.items (c.in_ok-row.ensures.items_if_clones_equal (λ y same. same)) lengths
+    ∙ answer_after_match c.args.pattern.now c.args.name.now c.in_ok-row.row.items (c.in_ok-row.ensures.items_if_clones_equal (λ y same. same)) lengths
 
 pub returns : goal.returns
 returns c =
@@ -19,4 +19,4 @@ returns c =
     c.last_of.ensures
     ∙ ap (last_of c.loop-octet.first) c.deref-2.ensures.value
     ∙ read
-    ∙ answer_is c.args.pattern.now c.args.name.now c.in_ok-row.row.items (c.in_ok-row.ensures.items_if_clones_equal (λ y same. same)) lengths
+    ∙ answer_after_match c.args.pattern.now c.args.name.now c.in_ok-row.row.items (c.in_ok-row.ensures.items_if_clones_equal (λ y same. same)) lengths

@@ -1,12 +1,12 @@
 use Rattle.std.proofs.Common.{arith, ◌≡◌, ◌++◌, ◌∷◌, [], ℕ, List, Some, subst}
 use Rattle.mail_script.specs.Reading.{cut_at}
-use Rattle.mail_audit.specs.AuditProgress.{Advances, EndsAt, HasTaken}
+use Rattle.mail_audit.specs.AuditProgress.{HasAdvanced, EndsAt, HasTaken}
 use Rattle.mail_audit.proofs.AuditingLemmas.{advance_at_first, advance_on, cut_parts, ends_within}
 use Rattle.mail_audit.proofs.reader_audit.take_piece.Goals as goal
 
 pub lines-init : goal.lines-init
 lines-init c = λ front s.
-    subst (λ (zs : List ℕ). Advances front c.args.progress.now.audit zs c.args.progress.now.audit c.push.new.self) (c.in-Ok.ensures {u = tt}).ok
+    subst (λ (zs : List ℕ). HasAdvanced front c.args.progress.now.audit zs c.args.progress.now.audit c.push.new.self) (c.in-Ok.ensures {u = tt}).ok
     (advance_at_first front c.args.progress.now.audit c.push.new.self s)
 
 pub returns-in-Some : goal.returns-in-Some

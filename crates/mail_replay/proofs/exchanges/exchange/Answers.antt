@@ -1,6 +1,6 @@
 use Rattle.std.proofs.Common.{List, ap, refl, subst, ◌∙◌}
 use Rattle.std.proofs.lemmas.List.{with_items_is}
-use Rattle.mail_replay.specs.Exchanges.{Exchanges}
+use Rattle.mail_replay.specs.Exchanges.{ExchangesOps}
 use Rattle.mail_replay.specs.ScriptState.{ScriptContents}
 use Rattle.mail_replay.specs.declared.script_state.ScriptReplica.{ScriptReplica}
 use Rattle.mail_replay.proofs.exchanges.exchange.Goals as goal
@@ -14,7 +14,7 @@ returns-clause-ok c =
       (
         c.in_ok-result.result,
         new,
-        subst (λ (rs : List ScriptReplica). Exchanges rs c.in_ok-result.result new) c.deref_mut.ensures.value (c.in_ok-result.ensures {u = tt}),
+        subst (λ (rs : List ScriptReplica). ExchangesOps rs c.in_ok-result.result new) c.deref_mut.ensures.value (c.in_ok-result.ensures {u = tt}),
         refl,
         ap state (with_items_is old.replicas new (c.exchange_all.auto.replicas ∙ c.deref_mut.ensures.len)),
       ),

@@ -2,7 +2,7 @@ use Rattle.std.proofs.Common.{◌≡◌, ◌++◌, ℕ, List, Some, length, arit
 use Rattle.mail_script.specs.Reading.{cut_at}
 use Rattle.mail_script.specs.Script.{Means}
 use Rattle.mail_replay.specs.Lines.{IsBad, ServesInPart}
-use Rattle.mail_replay.specs.Replays.{Advances}
+use Rattle.mail_replay.specs.Replays.{HasServedLines}
 use Rattle.mail_replay.specs.ScriptState.{script_contents_of}
 use Rattle.mail_replay.proofs.LineLemmas.{advance_at_first, advance_on, breaks_here, cut_parts, stops_after, stops_here}
 use Rattle.mail_replay.proofs.ReplayLemmas.{ends_by, err_passed}
@@ -36,6 +36,6 @@ lines-preserved g c =
     let ok = c.in_ok-serve_next-in-Ok-Some.ensures.ok in
     let means : Means c.in-Ok-Some.line ok.0 = subst (λ (z : List ℕ). Means z ok.0) c.as_bytes.ensures ok.2 in
     let held = g.W.Write.contents in
-    subst (λ (z : List ℕ). Advances (held c.args.writer.now) (script_contents_of c.args.progress.now.setup) c.args.progress.now.served (c.args.progress.now.lines ++ c.args.piece.now) (held c.serve_next.new.writer) (script_contents_of c.serve_next.new.progress.setup) c.serve_next.new.progress.served z)
+    subst (λ (z : List ℕ). HasServedLines (held c.args.writer.now) (script_contents_of c.args.progress.now.setup) c.args.progress.now.served (c.args.progress.now.lines ++ c.args.piece.now) (held c.serve_next.new.writer) (script_contents_of c.serve_next.new.progress.setup) c.serve_next.new.progress.served z)
     (sym c.in_ok-serve_next-in-Ok-Some.ensures.lines)
     (advance_on _ _ _ _ _ _ _ _ c.lines.invariant c.in-Ok-Some.line c.next_line.new.self cut _ _ _ ok.0 ok.1 ok.5 means ok.3 ok.4)

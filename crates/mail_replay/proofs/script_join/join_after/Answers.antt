@@ -33,19 +33,19 @@ returns-in-Err-NoMemory c =
     let still = slice_get_unchanged c.args.replicas.now.items _ c.args.place _ c.reserve.ensures.items c.requires c.index-2.ensures in
     (c.index-2.result.now, still, (none_own _ c.args.place c.args.name _ _ _ here still c.op_list.ensures.applied c.in_default.ensures, c.reserve.ensures.items))
 
-pub returns-in-Ok-with_operations_of : goal.returns-in-Ok-with_operations_of
-returns-in-Ok-with_operations_of c =
+pub returns-in-Ok-joined_node : goal.returns-in-Ok-joined_node
+returns-in-Ok-joined_node c =
     let here = slice_get_unchanged c.args.replicas.now.items _ c.args.place _ refl c.requires c.index.ensures in
     let still = slice_get_unchanged c.args.replicas.now.items _ c.args.place _ c.reserve.ensures.items c.requires c.index-2.ensures in
-    let more : ScriptReplica = record { name = c.args.name; node = c.in-Ok-with_operations_of.node; issued = c.new.result } in (
+    let more : ScriptReplica = record { name = c.args.name; node = c.in-Ok-joined_node.node; issued = c.new.result } in (
       c.index-2.result.now,
       still,
       (
         none_own _ c.args.place c.args.name _ _ _ here still c.op_list.ensures.applied c.in_default.ensures,
-        c.in-Ok-with_operations_of.ensures.1,
+        c.in-Ok-joined_node.ensures.1,
         (
           more,
-          (refl, c.in-Ok-with_operations_of.ensures.0, c.new.ensures),
+          (refl, c.in-Ok-joined_node.ensures.0, c.new.ensures),
           c.push_reserved.ensures.items ∙ ap (λ (rs : List ScriptReplica). rs ++ more ∷ []) c.reserve.ensures.items,
         ),
       ),

@@ -1,12 +1,12 @@
 use Rattle.std.proofs.Common.{rules}
 use Rattle.mail_replay.proofs.ScriptStateLemmas.{slice_get_some}
-use Rattle.mail_replay.specs.Lines.{Feedable}
+use Rattle.mail_replay.specs.Lines.{IsFeedable}
 use Rattle.mail_replay.specs.ScriptState.{script_contents_of}
 use Rattle.mail_replay.proofs.script_service.close.Goals as goal
 
 pub returns-clause-ok : goal.returns-clause-ok
 returns-clause-ok c =
-    let t : Feedable (script_contents_of c.args.setup.now) c.args.name.now = record {
+    let t : IsFeedable (script_contents_of c.args.setup.now) c.args.name.now = record {
       place = c.in-Some.place;
       session = c.index_mut-session.result.now;
       at = c.in-Some-replica_place.at;

@@ -2,7 +2,7 @@ use Rattle.std.proofs.Common.{rules, Err, List, ◌++◌, length, ap, refl, sym,
 use Rattle.std.proofs.Math.Seq.{take-length}
 use Rattle.mail_replay.proofs.PartLemmas.{whole_talk}
 use Rattle.mail_replay.proofs.ScriptStateLemmas.{slice_get_some}
-use Rattle.mail_replay.specs.Lines.{Feedable}
+use Rattle.mail_replay.specs.Lines.{IsFeedable}
 use Rattle.mail_replay.specs.Transcript.{transcript}
 use Rattle.mail_replay.specs.ScriptState.{script_contents_of}
 use Rattle.imap_connection.specs.declared.turn.Turn.{Turn}
@@ -10,7 +10,7 @@ use Rattle.mail_replay.proofs.script_service.feed.Goals as goal
 
 pub returns-in_err-session-clause-memory : goal.returns-in_err-session-clause-memory
 returns-in_err-session-clause-memory c =
-    let t : Feedable (script_contents_of c.args.setup.now) c.args.name.now = record {
+    let t : IsFeedable (script_contents_of c.args.setup.now) c.args.name.now = record {
       place = c.in-Some.place;
       session = c.index_mut-session.result.now;
       at = c.in-Some-replica_place.at;
@@ -27,9 +27,9 @@ returns-in_err-session-clause-memory c =
     let h = c.in_err-session.ensures.memory (ap Err (sym k)) in
     (_, (t, h.0, h.1, h.2, refl), h.3)
 
-pub returns-in_err-add_after-clause-memory : goal.returns-in_err-add_after-clause-memory
-returns-in_err-add_after-clause-memory c =
-    let t : Feedable (script_contents_of c.args.setup.now) c.args.name.now = record {
+pub returns-in_err-add_ops_after-clause-memory : goal.returns-in_err-add_ops_after-clause-memory
+returns-in_err-add_ops_after-clause-memory c =
+    let t : IsFeedable (script_contents_of c.args.setup.now) c.args.name.now = record {
       place = c.in-Some.place;
       session = c.index_mut-session.result.now;
       at = c.in-Some-replica_place.at;
@@ -46,7 +46,7 @@ returns-in_err-add_after-clause-memory c =
 
 pub returns-clause-ok : goal.returns-clause-ok
 returns-clause-ok c =
-    let t : Feedable (script_contents_of c.args.setup.now) c.args.name.now = record {
+    let t : IsFeedable (script_contents_of c.args.setup.now) c.args.name.now = record {
       place = c.in-Some.place;
       session = c.index_mut-session.result.now;
       at = c.in-Some-replica_place.at;

@@ -1,14 +1,14 @@
 use Rattle.std.proofs.Common.{rules, refl, take}
 use Rattle.mail_replay.proofs.ScriptStateLemmas.{on_ok, slice_get_some}
 use Rattle.mail_replay.proofs.ConversationLemmas.{not_idling}
-use Rattle.mail_replay.specs.Lines.{Feedable}
+use Rattle.mail_replay.specs.Lines.{IsFeedable}
 use Rattle.mail_replay.specs.ScriptState.{script_contents_of}
 use Rattle.mail_replay.specs.Transcript.{transcript}
 use Rattle.mail_replay.proofs.script_service.poll.Goals as goal
 
 pub returns-clause-ok : goal.returns-clause-ok
 returns-clause-ok c =
-    let t : Feedable (script_contents_of c.args.setup.now) c.args.name.now = record {
+    let t : IsFeedable (script_contents_of c.args.setup.now) c.args.name.now = record {
       place = c.in-Some.place;
       session = c.index-session.result.now;
       at = c.in-Some-replica_place.at;
@@ -24,7 +24,7 @@ returns-clause-ok c =
 
 pub returns-clause-bad : goal.returns-clause-bad
 returns-clause-bad c =
-    let t : Feedable (script_contents_of c.args.setup.now) c.args.name.now = record {
+    let t : IsFeedable (script_contents_of c.args.setup.now) c.args.name.now = record {
       place = c.in-Some.place;
       session = c.index-session.result.now;
       at = c.in-Some-replica_place.at;
@@ -40,7 +40,7 @@ returns-clause-bad c =
 
 pub returns-clause-memory : goal.returns-clause-memory
 returns-clause-memory c =
-    let t : Feedable (script_contents_of c.args.setup.now) c.args.name.now = record {
+    let t : IsFeedable (script_contents_of c.args.setup.now) c.args.name.now = record {
       place = c.in-Some.place;
       session = c.index-session.result.now;
       at = c.in-Some-replica_place.at;

@@ -8,7 +8,7 @@ returns-then-entry-uid c =
     let es = c.args.list.now.items in
     let m = c.args.modseq in
     let u = c.args.uid in
-    let changed = entries_with m u es c.first_from.result c.requires c.first_from.ensures.within c.first_from.ensures.edge ∙ ap (picked_from m u) (sym c.get.ensures ∙ c.in-Some.is) in
+    let changed = entries_with m u es c.first_place_from.result c.requires c.first_place_from.ensures.within c.first_place_from.ensures.edge ∙ ap (picked_from m u) (sym c.get.ensures ∙ c.in-Some.is) in
     on_ok_then c.push_changed.result (λ is. is ∙ ap (λ (more : List ListingEntry). c.args.changed.now.items ++ more) (sym (changed ∙ picked_same m u c.in-Some.entry c.if-entry-uid.true))) c.push_changed.ensures
 
 pub returns-else-entry-uid : goal.returns-else-entry-uid
@@ -16,7 +16,7 @@ returns-else-entry-uid c =
     let es = c.args.list.now.items in
     let m = c.args.modseq in
     let u = c.args.uid in
-    let changed = entries_with m u es c.first_from.result c.requires c.first_from.ensures.within c.first_from.ensures.edge ∙ ap (picked_from m u) (sym c.get.ensures ∙ c.in-Some.is) in
+    let changed = entries_with m u es c.first_place_from.result c.requires c.first_place_from.ensures.within c.first_place_from.ensures.edge ∙ ap (picked_from m u) (sym c.get.ensures ∙ c.in-Some.is) in
     sym (append-nil c.args.changed.now.items) ∙ ap (λ (more : List ListingEntry). c.args.changed.now.items ++ more) (sym (changed ∙ picked_other m u c.in-Some.entry c.if-entry-uid.false))
 
 pub returns-in-None : goal.returns-in-None
@@ -24,5 +24,5 @@ returns-in-None c =
     let es = c.args.list.now.items in
     let m = c.args.modseq in
     let u = c.args.uid in
-    let changed = entries_with m u es c.first_from.result c.requires c.first_from.ensures.within c.first_from.ensures.edge ∙ ap (picked_from m u) (sym c.get.ensures ∙ c.in-None.is) in
+    let changed = entries_with m u es c.first_place_from.result c.requires c.first_place_from.ensures.within c.first_place_from.ensures.edge ∙ ap (picked_from m u) (sym c.get.ensures ∙ c.in-None.is) in
     sym (append-nil c.args.changed.now.items) ∙ ap (λ (more : List ListingEntry). c.args.changed.now.items ++ more) (sym changed)

@@ -4,11 +4,11 @@ use Rattle.std.proofs.Math.Numerals.{add-one}
 use Rattle.std.specs.Vec.{with_items}
 use Rattle.mailbox_rows.specs.Pieces.{ArePieces, items_of, with_one_less}
 use Rattle.mailbox_rows.proofs.EditLemmas.{lost_items, lost_pieces, written_without}
-use Rattle.mailbox_rows.proofs.SplitLemmas.{late_starts}
+use Rattle.mailbox_rows.proofs.SplitLemmas.{start_positive_at}
 use Rattle.mailbox_rows.proofs.pieces.take_piece.Goals as goal
 
 pub count_down_after-requires-clause-some : goal.count_down_after-requires-clause-some
-count_down_after-requires-clause-some g c = subst (λ (xs : List _). (k : ℕ) (d : _) → c.args.at < k → k < length xs → 0 < (get_or xs k d).start) (sym c.deref_mut.ensures.value) (λ k d tail inside. late_starts c.args.base.now.items c.args.pieces.now.items c.requires.pieces k d (omega (arith, tail)) inside)
+count_down_after-requires-clause-some g c = subst (λ (xs : List _). (k : ℕ) (d : _) → c.args.at < k → k < length xs → 0 < (get_or xs k d).start) (sym c.deref_mut.ensures.value) (λ k d tail inside. start_positive_at c.args.base.now.items c.args.pieces.now.items c.requires.pieces k d (omega (arith, tail)) inside)
 
 pub returns-clause-items : goal.returns-clause-items
 returns-clause-items g c =

@@ -12,7 +12,7 @@ returns-clause-ok c =
     let new = c.step.new.self in
     let outcome = c.in-Ok-step.outcome in
     let step = subst (λ (op : Op). IsStep old.node (Deliver op) outcome new.node) c.in-Ok.ensures c.in-Ok-step.ensures.step in
-    take_written old new c.args.op.now c.in-Ok.op outcome c.join_fault_of-checked.result c.in-Ok.ensures c.in-Ok-step.ensures.entry
+    take_written old new c.args.op.now c.in-Ok.op outcome c.join_fault_of-checked.result c.in-Ok.ensures c.in-Ok-step.ensures.entry c.step.ensures.forgotten_count
     (take_ok old.node c.args.op.now c.requires outcome new.node step c.join_fault_of-checked.result (c.join_fault_of-checked.ensures ∙ ap (λ i. join_fault_of i outcome) c.id-id.ensures))
 
 pub returns-clause-fault : goal.returns-clause-fault

@@ -6,7 +6,7 @@ use Rattle.imap_node.specs.declared.reply.Reply.{Reply}
 use Rattle.imap_syntax.specs.declared.command.Tagged.{Tagged}
 use Rattle.imap_connection.specs.Batches.{CarriesCommands}
 use Rattle.server_runtime.specs.Calls.{StepsOnce}
-use Rattle.imap_connection.proofs.CarryLemmas.{carries_fault, carries_more}
+use Rattle.imap_connection.proofs.CarryLemmas.{carries_append, carries_fault}
 use Rattle.server_runtime.proofs.session_port.give_all.Goals as goal
 
 pub loop-tagged-init : goal.loop-tagged-init
@@ -41,7 +41,7 @@ loop-tagged-preserved g c =
     let at = c.loop-tagged.invariant in
     let left = into_iter_items c.next.new.self in
     let split : c.args.commands.items ≡ c.loop-tagged.yielded ++ c.in-Some.tagged ∷ left = at.rest ∙ ap (λ (xs : List Tagged). c.loop-tagged.yielded ++ xs) c.in-Some.ensures.steps.0 in
-    let more = carries_more StepsOnce c.loop-tagged.yielded c.loop-tagged.replies.items c.args.pass.now c.loop-tagged.pass c.give_command.new.pass c.in-Some.tagged c.in-Ok.reply at.carried c.in-Ok.ensures.response in
+    let more = carries_append StepsOnce c.loop-tagged.yielded c.loop-tagged.replies.items c.args.pass.now c.loop-tagged.pass c.give_command.new.pass c.in-Some.tagged c.in-Ok.reply at.carried c.in-Ok.ensures.response in
     record {
       carried = subst (λ (replies : List Reply). CarriesCommands StepsOnce c.args.pass.now (c.loop-tagged.yielded ++ c.in-Some.tagged ∷ []) replies (Ok tt) c.give_command.new.pass) (sym c.push_reserved.ensures.items) more;
       session = c.in-Ok.ensures.session refl;

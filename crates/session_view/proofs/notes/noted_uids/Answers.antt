@@ -1,6 +1,6 @@
 use Rattle.std.proofs.Common.{List, ℕ, sym, subst, ◌∙◌, arith}
 use Rattle.session_view.specs.NoteChanges.{AreAscending}
-use Rattle.session_view.specs.Notes.{Covers}
+use Rattle.session_view.specs.Notes.{NameAllDifferences}
 use Rattle.session_view.proofs.ChangeLemmas.{covers_all, covers_noted, if_ok, rising_ascending}
 use Rattle.session_view.proofs.notes.noted_uids.Goals as goal
 
@@ -10,7 +10,7 @@ returns-then-has_ended-clause-ascending c =
 
 pub returns-then-has_ended-clause-covers : goal.returns-then-has_ended-clause-covers
 returns-then-has_ended-clause-covers c =
-    if_ok c.uids_of.result (λ uids same rows names. subst (λ (us : List ℕ). Covers us rows c.args.view.now.items) (sym same) (covers_all rows c.args.view.now.items)) c.uids_of.ensures
+    if_ok c.uids_of.result (λ uids same rows names. subst (λ (us : List ℕ). NameAllDifferences us rows c.args.view.now.items) (sym same) (covers_all rows c.args.view.now.items)) c.uids_of.ensures
 
 pub returns-clause-covers : goal.returns-clause-covers
 returns-clause-covers c =

@@ -2,7 +2,7 @@ use Rattle.std.proofs.Common.{◌∙◌, ◌≤◌, ℕ, List, Some, ap, subst, 
 use Rattle.std.specs.Global.{Vec}
 use Rattle.subs_state.specs.declared.subs_table.NameTags.{NameTags}
 use Rattle.subs_state.specs.Entries.{room_of, tag_in}
-use Rattle.subs_state.proofs.TableLemmas.{tags_left, tags_absent, room_preserved}
+use Rattle.subs_state.proofs.TableLemmas.{tag_in_after_removal, tags_absent, room_preserved}
 use Rattle.subs_state.proofs.subs_table.remove_ids.Goals as goal
 
 pub returns-in-Some-clause-listed : goal.returns-in-Some-clause-listed
@@ -10,7 +10,7 @@ returns-in-Some-clause-listed c =
     let now = c.remove_matching_ids.new.name_tags in
     let post = (c.get_mut.follows.holds now).3 (search rules) in
     let was = sym (c.in-Some.ensures {u = tt}).value in
-    tags_left c.args.name.now c.args.ids.now c.args.tags.now.entries (c.get_mut.follows.lender now).entries (Some c.in-Some.name_tags.now) (Some now) post.3 was post.1 c.remove_matching_ids.ensures.listed
+    tag_in_after_removal c.args.name.now c.args.ids.now c.args.tags.now.entries (c.get_mut.follows.lender now).entries (Some c.in-Some.name_tags.now) (Some now) post.3 was post.1 c.remove_matching_ids.ensures.listed
 
 pub returns-in-Some-clause-room : goal.returns-in-Some-clause-room
 returns-in-Some-clause-room c =

@@ -4,7 +4,7 @@ use Rattle.tags_clocks.specs.declared.id.OpId.{OpId}
 use Rattle.uid_projection.specs.UidsAndModSeqs.{has_version}
 use Rattle.uid_projection.specs.EntryMoves.{AreApart, loses, moved_entries}
 use Rattle.uid_projection.specs.ChartTable.{origin_at}
-use Rattle.uid_projection.proofs.MovedEntryLemmas.{apart_moved, lost_more, moved_still}
+use Rattle.uid_projection.proofs.MovedEntryLemmas.{apart_moved, lost_take_next, moved_still}
 use Rattle.uid_projection.proofs.chart.lose.Goals as goal
 
 pub loop-id-init : goal.loop-id-init
@@ -38,7 +38,7 @@ loop-id-preserved c =
           let apart = subst AreApart (sym old) (apart_moved _ s c.args.modseq c.args.entries.now.entries a) in
           c.lose_one-near.ensures.entries list m apart
           ∙ ap (moved_entries _ s c.args.modseq) old
-          ∙ lost_more f s c.args.modseq c.args.entries.now.entries c.args.removed.now c.loop-id.id-index c.id-item.result c.loop-id-test.true c.id-item.is;
+          ∙ lost_take_next f s c.args.modseq c.args.entries.now.entries c.args.removed.now c.loop-id.id-index c.id-item.result c.loop-id-test.true c.id-item.is;
       within = let inside = c.loop-id-test.true in omega (arith, inside);
       latest = c.lose_one-near.ensures.latest;
       room = omega (arith, p, q);

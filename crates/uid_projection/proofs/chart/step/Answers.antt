@@ -6,7 +6,7 @@ use Rattle.uid_projection.specs.Chart.{AreVersions, IsChart}
 use Rattle.uid_projection.specs.Incarnations.{folder_exists}
 use Rattle.uid_projection.specs.UidsAndModSeqs.{first_uid}
 use Rattle.uid_projection.specs.ChartTable.{modseqs_by, origin_at}
-use Rattle.uid_projection.proofs.ExhaustionLemmas.{exists_as}
+use Rattle.uid_projection.proofs.ExhaustionLemmas.{exists_of_test}
 use Rattle.uid_projection.proofs.FolderStepLemmas.{advances, k_absent, k_small, k_present, up_now}
 use Rattle.uid_projection.proofs.Tables.{absent_up}
 use Rattle.uid_projection.proofs.chart.step.Goals as goal
@@ -15,14 +15,14 @@ pub returns-then-not-exists-clause-next : goal.returns-then-not-exists-clause-ne
 returns-then-not-exists-clause-next c = λ list r.
     let o = c.args.op.now in
     let n = c.name-folder.result.now in
-    let present = exists_as n (list ++ o ∷ []) c.exists.result (c.exists.ensures.set (list ++ o ∷ []) r.next.made) ∙ ap (λ m. folder_exists m (list ++ o ∷ [])) c.name-folder.ensures in
+    let present = exists_of_test n (list ++ o ∷ []) c.exists.result (c.exists.ensures.set (list ++ o ∷ []) r.next.made) ∙ ap (λ m. folder_exists m (list ++ o ∷ [])) c.name-folder.ensures in
     k_absent c.args.start.now c.args.next_k.now (contents_of c.args.value.now) list o c.args.chart.now r (sym present ∙ c.if-not-exists.true)
 
 pub returns-then-not-exists-clause-up : goal.returns-then-not-exists-clause-up
 returns-then-not-exists-clause-up c = λ list r.
     let o = c.args.op.now in
     let n = c.name-folder.result.now in
-    let present = exists_as n (list ++ o ∷ []) c.exists.result (c.exists.ensures.set (list ++ o ∷ []) r.next.made) ∙ ap (λ m. folder_exists m (list ++ o ∷ [])) c.name-folder.ensures in
+    let present = exists_of_test n (list ++ o ∷ []) c.exists.result (c.exists.ensures.set (list ++ o ∷ []) r.next.made) ∙ ap (λ m. folder_exists m (list ++ o ∷ [])) c.name-folder.ensures in
     let e = c.close.ensures in
     absent_up c.args.start.now (name_of o.kind) (list ++ o ∷ []) c.close.new.chart (sym present ∙ c.if-not-exists.true) e.present (e.uidnext ∙ c.first_of.ensures ∙ ap (first_uid c.args.start.now) c.name-folder.ensures) e.highest e.entries e.versions e.latest
 
@@ -31,7 +31,7 @@ open-requires c =
     let (list, r) = c.requires in
     let o = c.args.op.now in
     let n = c.name-folder.result.now in
-    let present = exists_as n (list ++ o ∷ []) c.exists.result (c.exists.ensures.set (list ++ o ∷ []) r.next.made) ∙ ap (λ m. folder_exists m (list ++ o ∷ [])) c.name-folder.ensures in
+    let present = exists_of_test n (list ++ o ∷ []) c.exists.result (c.exists.ensures.set (list ++ o ∷ []) r.next.made) ∙ ap (λ m. folder_exists m (list ++ o ∷ [])) c.name-folder.ensures in
     k_small c.args.start.now c.args.next_k.now (contents_of c.args.value.now) list o c.args.chart.now r (sym present ∙ c.if-not-exists.false)
 
 pub advance-requires : goal.advance-requires
@@ -39,7 +39,7 @@ advance-requires c =
     let (list, r) = c.requires in
     let o = c.args.op.now in
     let n = c.name-folder.result.now in
-    let present = exists_as n (list ++ o ∷ []) c.exists.result (c.exists.ensures.set (list ++ o ∷ []) r.next.made) ∙ ap (λ m. folder_exists m (list ++ o ∷ [])) c.name-folder.ensures in
+    let present = exists_of_test n (list ++ o ∷ []) c.exists.result (c.exists.ensures.set (list ++ o ∷ []) r.next.made) ∙ ap (λ m. folder_exists m (list ++ o ∷ [])) c.name-folder.ensures in
     let e = c.open.ensures in
     (c.args.start.now, list, advances c.args.start.now c.args.next_k.now (contents_of c.args.value.now) list o c.args.chart.now r (sym present ∙ c.if-not-exists.false) n c.open.new.chart c.name-folder.ensures e.uidnext e.highest e.entries e.versions)
 
@@ -47,14 +47,14 @@ pub returns-clause-next : goal.returns-clause-next
 returns-clause-next c = λ list r.
     let o = c.args.op.now in
     let n = c.name-folder.result.now in
-    let present = exists_as n (list ++ o ∷ []) c.exists.result (c.exists.ensures.set (list ++ o ∷ []) r.next.made) ∙ ap (λ m. folder_exists m (list ++ o ∷ [])) c.name-folder.ensures in
+    let present = exists_of_test n (list ++ o ∷ []) c.exists.result (c.exists.ensures.set (list ++ o ∷ []) r.next.made) ∙ ap (λ m. folder_exists m (list ++ o ∷ [])) c.name-folder.ensures in
     k_present c.args.start.now c.args.next_k.now (contents_of c.args.value.now) list o c.args.chart.now r (sym present ∙ c.if-not-exists.false) c.open.new.next_k c.open.ensures.next
 
 pub returns-clause-up : goal.returns-clause-up
 returns-clause-up c = λ list r.
     let o = c.args.op.now in
     let n = c.name-folder.result.now in
-    let present = exists_as n (list ++ o ∷ []) c.exists.result (c.exists.ensures.set (list ++ o ∷ []) r.next.made) ∙ ap (λ m. folder_exists m (list ++ o ∷ [])) c.name-folder.ensures in
+    let present = exists_of_test n (list ++ o ∷ []) c.exists.result (c.exists.ensures.set (list ++ o ∷ []) r.next.made) ∙ ap (λ m. folder_exists m (list ++ o ∷ [])) c.name-folder.ensures in
     let t = sym present ∙ c.if-not-exists.false in
     let e = c.open.ensures in
     let own = c.name-folder.ensures in

@@ -1,7 +1,7 @@
 use Rattle.std.proofs.Common.{◌∙◌, ◌+◌, ◌++◌, ◌∷◌, [], refl, ap, sym, subst, take, append_assoc, append-nil, arith}
 use Rattle.std.proofs.lemmas.List.{take_all}
 use Rattle.folder_state.specs.Contents.{effect_of}
-use Rattle.folder_state.specs.AfterOps.{after}
+use Rattle.folder_state.specs.AfterOps.{contents_after}
 use Rattle.uid_projection.specs.FolderAhead.{IsAhead}
 use Rattle.uid_projection.specs.NextOps.{IsNextAhead}
 use Rattle.uid_projection.specs.Applied.{IsApplied}
@@ -36,23 +36,23 @@ loop-op-preserved c =
       latest = b.latest;
       folder = c.advance_over_one.ensures.folder ∙ h.folder;
       ahead = λ k q.
-          subst (λ w. IsAhead w c.advance_over_one.new.ahead) (sym (ap (after k) next ∙ fold_append effect_of k (take i ops) (o ∷ []))) (b.ahead (after k (take i ops)) (h.ahead k q));
+          subst (λ w. IsAhead w c.advance_over_one.new.ahead) (sym (ap (contents_after k) next ∙ fold_append effect_of k (take i ops) (o ∷ []))) (b.ahead (contents_after k (take i ops)) (h.ahead k q));
       shows = λ list k r s.
           let at = append_assoc list (take i ops) (o ∷ []) ∙ sym (ap (λ xs. list ++ xs) next) in
-          let w : IsNextAhead c.args.charts.now.start c.args.folder.now c.args.charts.now.nothing.entries (after k (take i ops)) (list ++ take i ops) (o ∷ []) c.loop-op.ahead = record {
+          let w : IsNextAhead c.args.charts.now.start c.args.folder.now c.args.charts.now.nothing.entries (contents_after k (take i ops)) (list ++ take i ops) (o ∷ []) c.loop-op.ahead = record {
             own = h.folder ∙ r.own;
             none = r.none;
             applied = subst IsApplied (sym at) (applied_take list ops (i + 1) r.applied);
             made = made_after k list (take i ops) r.made (applied_take list ops i r.applied);
             is_ahead = h.ahead k r.is_ahead;
           } in
-          subst (λ xs. IsChart c.args.charts.now.start c.args.folder.now xs y.uidnext y.highest y.entries.entries) at (b.shows (list ++ take i ops) (after k (take i ops)) w (h.shows list k r s));
+          subst (λ xs. IsChart c.args.charts.now.start c.args.folder.now xs y.uidnext y.highest y.entries.entries) at (b.shows (list ++ take i ops) (contents_after k (take i ops)) w (h.shows list k r s));
     }
 
 pub returns-clause-ahead : goal.returns-clause-ahead
 returns-clause-ahead c = λ k h.
     let stop = c.loop-op-test.false in
-    subst (λ xs. IsAhead (after k xs) c.loop-op.ahead) (take_all c.loop-op.op-index c.args.ops.now (omega (arith, stop))) (c.loop-op.invariant.ahead k h)
+    subst (λ xs. IsAhead (contents_after k xs) c.loop-op.ahead) (take_all c.loop-op.op-index c.args.ops.now (omega (arith, stop))) (c.loop-op.invariant.ahead k h)
 
 pub returns-clause-shows : goal.returns-clause-shows
 returns-clause-shows c = λ list k r s.

@@ -12,7 +12,7 @@ use Rattle.uid_projection.specs.UidsAndModSeqs.{kind_names_folder}
 use Rattle.uid_projection.specs.EntryMoves.{loses}
 use Rattle.uid_projection.proofs.ChartSteps.{chart_none}
 use Rattle.uid_projection.proofs.AheadLemmas.{made_after, on_ok, folder_exists_is}
-use Rattle.uid_projection.proofs.Tables.{chart_as, chart_of_other}
+use Rattle.uid_projection.proofs.Tables.{is_chart_of_equal, chart_of_other}
 use Rattle.uid_projection.proofs.chart_ahead.advance_over_one.Goals as goal
 
 pub returns-then-not-names_folder-clause-latest : goal.returns-then-not-names_folder-clause-latest
@@ -33,7 +33,7 @@ returns-then-not-exists-clause-shows c = λ list k r s.
     let w = c.in_ok-chart.ensures.shows in
     let present = folder_exists_is (effect_of k o) (list ++ o ∷ []) (folder_of mid) c.exists.result (made_after k list (o ∷ []) r.made r.applied) (c.exists.ensures (effect_of k o) (c.in_ok-step.ensures.ahead k r.is_ahead)) in
     let absent : folder_exists n (list ++ o ∷ []) ≡ false = sym (present ∙ ap (λ m. folder_exists m (list ++ o ∷ [])) own) ∙ c.if-not-exists.true in
-    chart_as start n (list ++ o ∷ []) _ _ _ _ _ _ (w.0 ∙ c.first_of.ensures) w.1 (w.2 ∙ r.none) (chart_none start n (list ++ o ∷ []) absent)
+    is_chart_of_equal start n (list ++ o ∷ []) _ _ _ _ _ _ (w.0 ∙ c.first_of.ensures) w.1 (w.2 ∙ r.none) (chart_none start n (list ++ o ∷ []) absent)
 
 pub returns-clause-shows : goal.returns-clause-shows
 returns-clause-shows c = on_ok c.advance.result (λ h list k r s.

@@ -6,7 +6,7 @@ use Rattle.crdt_ops.specs.SortedSets.{same_id}
 use Rattle.uid_projection.specs.FolderAhead.{folder_of}
 use Rattle.uid_projection.specs.UidsAndModSeqs.{has_version}
 use Rattle.uid_projection.specs.EntryMoves.{AreApart, moved_entries}
-use Rattle.uid_projection.proofs.MovedEntryLemmas.{any_more, apart_moved, moved_alike, moved_by_one, moved_still, moved_twice}
+use Rattle.uid_projection.proofs.MovedEntryLemmas.{any_take_next, apart_moved, moved_alike, moved_by_one, moved_still, moved_twice}
 use Rattle.uid_projection.proofs.chart_ahead.lose.Goals as goal
 
 pub loop-origin-init : goal.loop-origin-init
@@ -33,7 +33,7 @@ loop-origin-preserved c = record {
       ∙ moved_by_one g c.has_version.result s q _ (c.has_version.ensures list k h m)
       ∙ ap (moved_entries (λ x. same_id x g) s q) old
       ∙ moved_twice before (λ x. same_id x g) s q es
-      ∙ moved_alike (λ x. before x || same_id x g) now s q es (λ x. sym (any_more (same_id x) lost i g c.loop-origin-test.true c.origin-item.is));
+      ∙ moved_alike (λ x. before x || same_id x g) now s q es (λ x. sym (any_take_next (same_id x) lost i g c.loop-origin-test.true c.origin-item.is));
 }
 
 pub returns-clause-entries : goal.returns-clause-entries

@@ -5,7 +5,7 @@ use Rattle.crdt_ops.specs.Tags.{name_of}
 use Rattle.uid_projection.specs.UidsAndModSeqs.{kind_names_folder}
 use Rattle.uid_projection.specs.EntryMoves.{added_origin}
 use Rattle.uid_projection.specs.ChartTable.{HasRooms}
-use Rattle.uid_projection.proofs.ExhaustionLemmas.{all_more, all_of}
+use Rattle.uid_projection.proofs.ExhaustionLemmas.{all_take_next, all_of}
 use Rattle.uid_projection.proofs.chart_room.make_rooms.Goals as goal
 
 pub returns-in_err-room_for-clause-table : goal.returns-in_err-room_for-clause-table
@@ -20,7 +20,7 @@ loop-op-preserved c =
     let P = λ (o : Op). kind_names_folder (name_of o.kind) o.kind ≡ true → HasRooms (added_origin o) n k (name_of o.kind) new in
     record {
       table = λ list k t. c.room_for.ensures.table list k (h.table list k t);
-      done = all_more P c.args.ops.now c.loop-op.op-index c.op-item.result c.loop-op-test.true c.op-item.is
+      done = all_take_next P c.args.ops.now c.loop-op.op-index c.op-item.result c.loop-op-test.true c.op-item.is
           (λ o i about. c.room_for.ensures.rooms (added_origin o) n k (name_of o.kind) (h.done o i about))
           (subst P c.op.ensures.op c.in_ok-room_for.ensures.ok);
     }

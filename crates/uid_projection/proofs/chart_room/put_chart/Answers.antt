@@ -1,7 +1,7 @@
 use Rattle.std.proofs.Common.{◌≡◌, ◌∙◌, None, sym, subst, rules}
 use Rattle.uid_projection.specs.ChartTable.{HasRooms, IsTable, IsUpTo, chart_at}
 use Rattle.uid_projection.proofs.AheadLemmas.{given_err, given_ok}
-use Rattle.uid_projection.proofs.Tables.{absent_up, rooms_here, rooms_more, same_up, table_unchanged}
+use Rattle.uid_projection.proofs.Tables.{absent_up, rooms_here, rooms_insert, same_up, table_unchanged}
 use Rattle.uid_projection.proofs.chart_room.put_chart.Goals as goal
 
 pub returns-then-is_err-clause-table : goal.returns-then-is_err-clause-table
@@ -26,7 +26,7 @@ returns-clause-rooms c =
     let key = c.in_ok-key.key in
     let e : key.items ≡ c.args.folder.now = search rules in
     let post = given_ok c.insert.result (sym c.is_err.ensures.value ∙ c.if-is_err.false) c.insert.ensures.updates in
-    rooms_more key.items c.args.charts.now.entries c.insert.new.self.entries c.make_room_in.new.chart post.3 post.1 (subst (λ m. chart_at m c.args.charts.now.entries ≡ None) (sym e) c.requires)
+    rooms_insert key.items c.args.charts.now.entries c.insert.new.self.entries c.make_room_in.new.chart post.3 post.1 (subst (λ m. chart_at m c.args.charts.now.entries ≡ None) (sym e) c.requires)
 
 pub returns-clause-ok : goal.returns-clause-ok
 returns-clause-ok c =

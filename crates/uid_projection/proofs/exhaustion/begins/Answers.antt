@@ -1,6 +1,6 @@
 use Rattle.std.proofs.Common.{◌++◌, ◌&&◌, not, sym, ap, ◌∙◌}
 use Rattle.uid_projection.specs.Incarnations.{folder_exists}
-use Rattle.uid_projection.proofs.ExhaustionLemmas.{applied_before, begins_is, exists_as}
+use Rattle.uid_projection.proofs.ExhaustionLemmas.{applied_before, begins_is, exists_of_test}
 use Rattle.uid_projection.proofs.exhaustion.begins.Goals as goal
 
 pub returns-then-exists_after : goal.returns-then-exists_after
@@ -14,8 +14,8 @@ returns-then-exists_after c = λ list e a m.
     let b = applied_before list front through o e a in
     sym (ap (λ z. z && not y) c.if-exists_after.true)
     ∙ begins_is list front through o n x y e c.name-folder.ensures
-    (exists_as n (list ++ through) x (c.exists_after.ensures.set list m a.sound a.causal))
-    (exists_as n (list ++ front) y (c.exists_after-then-exists_after.ensures.set list m b.sound b.causal))
+    (exists_of_test n (list ++ through) x (c.exists_after.ensures.set list m a.sound a.causal))
+    (exists_of_test n (list ++ front) y (c.exists_after-then-exists_after.ensures.set list m b.sound b.causal))
 
 pub returns-else-exists_after : goal.returns-else-exists_after
 returns-else-exists_after c = λ list e a m.
@@ -27,4 +27,4 @@ returns-else-exists_after c = λ list e a m.
     let y = folder_exists n (list ++ front) in
     c.if-exists_after.false ∙ sym (ap (λ z. z && not y) c.if-exists_after.false)
     ∙ begins_is list front through o n x y e c.name-folder.ensures
-    (exists_as n (list ++ through) x (c.exists_after.ensures.set list m a.sound a.causal)) (λ i. y)
+    (exists_of_test n (list ++ through) x (c.exists_after.ensures.set list m a.sound a.causal)) (λ i. y)

@@ -1,5 +1,5 @@
 use Rattle.std.proofs.Common.{◌+◌, ◌++◌, take, arith}
-use Rattle.uid_projection.proofs.ExhaustionLemmas.{applied_take, take_op, exists_as}
+use Rattle.uid_projection.proofs.ExhaustionLemmas.{applied_take, take_op, exists_of_test}
 use Rattle.uid_projection.proofs.LaterNumbers.{highest_is}
 use Rattle.uid_projection.proofs.numbers_after.highest_after.Goals as goal
 
@@ -14,7 +14,7 @@ loop-at-preserved c =
       so_far = λ list a m is.
           let b = applied_take list ops (at + 1) a in
           highest_is n list (take at ops) (take (at + 1) ops) o c.exists_after-present.result c.names_folder-is_named.result c.loop-at.highest c.highest_after_op-highest.result next
-          (exists_as n (list ++ take (at + 1) ops) c.exists_after-present.result (c.exists_after-present.ensures.set list m b.sound b.causal))
+          (exists_of_test n (list ++ take (at + 1) ops) c.exists_after-present.result (c.exists_after-present.ensures.set list m b.sound b.causal))
           c.names_folder-is_named.ensures (c.loop-at.invariant.so_far list a m is) c.highest_after_op-highest.ensures.highest;
       bound = let w = c.highest_after_op-highest.ensures.bound (18446744073709551615 + at) c.loop-at.invariant.bound (omega arith) in omega (arith, w);
     }

@@ -7,7 +7,7 @@ use Rattle.uid_projection.specs.declared.first_numbers.Counters.{Counters}
 use Rattle.uid_projection.specs.Applied.{IsApplied}
 use Rattle.uid_projection.specs.Counting.{count_all}
 use Rattle.uid_projection.specs.Incarnations.{begins_incarnation, k_of}
-use Rattle.uid_projection.proofs.ExhaustionLemmas.{applied_take, take_op, exists_as}
+use Rattle.uid_projection.proofs.ExhaustionLemmas.{applied_take, take_op, exists_of_test}
 use Rattle.uid_projection.proofs.LaterNumbers.{next_k_is}
 use Rattle.uid_projection.proofs.LaterNumbers.{k_of_is}
 use Rattle.uid_projection.proofs.numbers_after.k_of_after.Goals as goal
@@ -28,7 +28,7 @@ loop-at-preserved c =
       so_far = λ start list a m is own.
           let b = applied_take list ops (at + 1) a in
           k_of_is start n list (take at ops) (take (at + 1) ops) o c.exists_after-present.result c.loop-at.k c.next_k_after_op-next.result c.k_after_op-k.result next
-          (exists_as n (list ++ take (at + 1) ops) c.exists_after-present.result (c.exists_after-present.ensures.set list m b.sound b.causal))
+          (exists_of_test n (list ++ take (at + 1) ops) c.exists_after-present.result (c.exists_after-present.ensures.set list m b.sound b.causal))
           (c.loop-at.invariant.so_far start list a m is own) (k_next start list a m is) c.k_after_op-k.ensures;
       bound = let w = c.next_k_after_op-next.ensures.bound in let v = c.loop-at.invariant.bound in omega (arith, w, v);
     }

@@ -2,7 +2,7 @@ use Rattle.std.proofs.Common.{◌∙◌, ap, arith}
 use Rattle.std.proofs.lemmas.List.{take_all}
 use Rattle.uid_projection.specs.EntryMoves.{origins_without}
 use Rattle.uid_projection.specs.ChartTable.{origin_at}
-use Rattle.uid_projection.proofs.MovedEntryLemmas.{without_more}
+use Rattle.uid_projection.proofs.MovedEntryLemmas.{without_take_next}
 use Rattle.uid_projection.proofs.origins.remove_versions.Goals as goal
 
 pub loop-id-preserved : goal.loop-id-preserved
@@ -11,7 +11,7 @@ loop-id-preserved c =
     let p = h.room in
     let q = c.remove_version.ensures.room in
     record {
-      updated = λ i. without_more (origin_at c.args.versions.now.entries) c.args.removed.now c.loop-id.id-index c.id-item.result c.loop-id-test.true c.id-item.is _ _ h.updated c.remove_version.ensures.updated i;
+      updated = λ i. without_take_next (origin_at c.args.versions.now.entries) c.args.removed.now c.loop-id.id-index c.id-item.result c.loop-id-test.true c.id-item.is _ _ h.updated c.remove_version.ensures.updated i;
       room = omega (arith, p, q);
     }
 

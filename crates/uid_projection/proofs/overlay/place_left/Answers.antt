@@ -2,7 +2,7 @@ use Rattle.std.proofs.Common.{◌≡◌, ap, sym, subst, ◌∙◌}
 use Rattle.crdt_ops.specs.SortedSets.{insert_ordered}
 use Rattle.uid_projection.specs.TagChanges.{IsUnchanged, IsPlaced, tag_data_of, by_id, change_of}
 use Rattle.uid_projection.proofs.IdLemmas.{element, none_of}
-use Rattle.uid_projection.proofs.PlaceLemmas.{left_more, left_none, left_one}
+use Rattle.uid_projection.proofs.PlaceLemmas.{left_take_next, left_none, left_one}
 use Rattle.uid_projection.proofs.overlay.place_left.Goals.{then-not-contains_key+in_ok-copy+in_ok-place, else-not-contains_key}
 use Rattle.uid_projection.proofs.overlay.place_left.Goals as goal
 
@@ -11,7 +11,7 @@ loop-version-preserved c =
     let m = c.args.messages.now in
     let o = c.args.origin.now in
     let v = c.version-item.result in
-    left_more m o c.args.stored.now c.loop-version.version-index v _ c.loop-version.versions.items _ c.loop-version-test.true c.version-item.is c.loop-version.invariant
+    left_take_next m o c.args.stored.now c.loop-version.version-index v _ c.loop-version.versions.items _ c.loop-version-test.true c.version-item.is c.loop-version.invariant
     (elim c.if-not-contains_key.branch [
       | then-not-contains_key+in_ok-copy+in_ok-place w ↦
           left_one m o v _ _

@@ -5,7 +5,7 @@ use Rattle.crdt_ops.specs.SortedSets.{is_some_id}
 use Rattle.uid_projection.specs.EntryMoves.{loses}
 use Rattle.uid_projection.specs.ChartTable.{origin_at}
 use Rattle.uid_projection.specs.TouchedMessages.{AddsUids}
-use Rattle.uid_projection.proofs.MovedEntryLemmas.{any_more}
+use Rattle.uid_projection.proofs.MovedEntryLemmas.{any_take_next}
 use Rattle.uid_projection.proofs.NamedLemmas.{adds_alike, adds_both, adds_none}
 use Rattle.uid_projection.proofs.touched_messages.push_uids_of_lost.Goals as goal
 
@@ -19,7 +19,7 @@ loop-id-preserved c =
     adds_alike _ _ _ _ _
     (λ g.
     (λ j. loses f (take i c.args.removed.now) g || is_some_id g (c.origin_at.ensures j))
-    ∙ sym (any_more (λ (x : OpId). is_some_id g (f x)) c.args.removed.now i c.id-item.result c.loop-id-test.true c.id-item.is))
+    ∙ sym (any_take_next (λ (x : OpId). is_some_id g (f x)) c.args.removed.now i c.id-item.result c.loop-id-test.true c.id-item.is))
     (adds_both _ _ _ _ _ _ c.loop-id.invariant (c.in_ok-push_origin.ensures {u = tt}))
 
 pub returns : goal.returns

@@ -1,7 +1,7 @@
 use Rattle.std.proofs.Common.{◌∷◌, subst, sym}
 use Rattle.imap_node.specs.Nodes.{NodeWithRoom, NodeState}
 use Rattle.merge_laws.specs.Orders.{IsIn}
-use Rattle.world_core.specs.Exchanges.{AreWithin, HasNotTaken}
+use Rattle.world_core.specs.Exchanges.{AreAmong, HasNotTaken}
 use Rattle.world_core.specs.Replicas.{all_without_room}
 use Rattle.world_core.specs.Settlement.{IsReceivedBy}
 use Rattle.world_core.proofs.ExchangeLemmas.{if_err_of_equal, hub_agrees, hub_short, hub_takes, hub_takes_none, other_given, state_at, within_grown}
@@ -26,7 +26,7 @@ loop-other-preserved c = record {
       (other_given c.args.hub.now.state (all_without_room c.args.others.now) c.other-item.result.state (state_at c.args.others.now c.loop-other.other-index c.other-item.result c.loop-other-test.true c.other-item.is))
       c.deliver_applied.new.to.state c.deliver_applied.ensures.takes;
   quiet = c.in_ok-deliver_applied.ensures.ok.0;
-  done = all_more (λ (k : NodeWithRoom). AreWithin k.state.applied c.deliver_applied.new.to.state.applied) c.args.others.now c.loop-other.other-index c.other-item.result c.loop-other-test.true c.other-item.is
+  done = all_more (λ (k : NodeWithRoom). AreAmong k.state.applied c.deliver_applied.new.to.state.applied) c.args.others.now c.loop-other.other-index c.other-item.result c.loop-other-test.true c.other-item.is
       (λ k j. within_grown k.state.applied c.loop-other.hub.state.applied c.deliver_applied.new.to.state.applied (c.loop-other.invariant.done k j) c.deliver_applied.ensures.takes.grown) c.in_ok-deliver_applied.ensures.ok.1;
 }
 
@@ -46,5 +46,5 @@ returns-in_err-deliver_applied-clause-takes c =
 pub returns-clause-ok : goal.returns-clause-ok
 returns-clause-ok c = (
   c.loop-other.invariant.quiet,
-  each_state (λ (n : NodeState). AreWithin n.applied c.loop-other.hub.state.applied) c.args.others.now (λ entry i. c.loop-other.invariant.done entry (subst (IsIn entry) (sym (take_whole c.args.others.now c.loop-other.other-index c.loop-other-test.false)) i)),
+  each_state (λ (n : NodeState). AreAmong n.applied c.loop-other.hub.state.applied) c.args.others.now (λ entry i. c.loop-other.invariant.done entry (subst (IsIn entry) (sym (take_whole c.args.others.now c.loop-other.other-index c.loop-other-test.false)) i)),
 )

@@ -4,7 +4,7 @@ use Rattle.crdt_ops.specs.declared.op.Op.{Op}
 use Rattle.imap_node.specs.Deliveries.{IsRefusedAt}
 use Rattle.world_core.specs.Exchanges.{IsReceivedOrOneOf}
 use Rattle.world_core.specs.Settlement.{IsReceivedAt}
-use Rattle.world_core.proofs.TakeLemmas.{delivered_in, delivers_takes, lacks_number, never_conflicts, never_full, short_more, short_same, takes_same}
+use Rattle.world_core.proofs.TakeLemmas.{delivered_in, delivers_takes, lacks_number, never_conflicts, never_full, not_taken_weaker, short_same, takes_same}
 use Rattle.world_core.proofs.settlement.deliver.Goals as goal
 
 pub unreachable-requires : goal.unreachable-requires
@@ -18,7 +18,7 @@ unreachable-requires-in-Err-HeldFull c = never_full c.args.node.now.state c.args
 pub returns-then-delivered-clause-short : goal.returns-then-delivered-clause-short
 returns-then-delivered-clause-short c =
     short_same (IsReceivedOrOneOf c.args.node.now.state (λ (one : Op). c.args.op ≡ one)) c.deliver.new.self.state c.stall_fault.new.node.state c.stall_fault.result
-    (short_more (IsReceivedAt c.deliver.new.self.state) (IsReceivedOrOneOf c.args.node.now.state (λ (one : Op). c.args.op ≡ one)) c.deliver.new.self.state c.stall_fault.result c.stall_fault.ensures.short
+    (not_taken_weaker (IsReceivedAt c.deliver.new.self.state) (IsReceivedOrOneOf c.args.node.now.state (λ (one : Op). c.args.op ≡ one)) c.deliver.new.self.state c.stall_fault.result c.stall_fault.ensures.short
     (delivers_takes c.args.node.now.state c.deliver.new.self.state c.args.op c.in-Ok.delivered.arrival (c.in-Ok.ensures {u = tt}).answer).received)
     c.stall_fault.ensures.same
 

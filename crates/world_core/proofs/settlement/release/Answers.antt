@@ -1,11 +1,11 @@
 use Rattle.world_core.specs.Settlement.{IsReceivedAt}
-use Rattle.world_core.proofs.TakeLemmas.{drains_takes, short_more, short_same, takes_same}
+use Rattle.world_core.proofs.TakeLemmas.{drains_takes, not_taken_weaker, short_same, takes_same}
 use Rattle.world_core.proofs.settlement.release.Goals as goal
 
 pub returns-then-drain-clause-short : goal.returns-then-drain-clause-short
 returns-then-drain-clause-short c =
     short_same (IsReceivedAt c.args.node.now.state) c.drain.new.self.state c.stall_fault.new.node.state c.stall_fault.result
-    (short_more (IsReceivedAt c.drain.new.self.state) (IsReceivedAt c.args.node.now.state) c.drain.new.self.state c.stall_fault.result c.stall_fault.ensures.short
+    (not_taken_weaker (IsReceivedAt c.drain.new.self.state) (IsReceivedAt c.args.node.now.state) c.drain.new.self.state c.stall_fault.result c.stall_fault.ensures.short
     (drains_takes c.args.node.now.state c.drain.new.self.state c.drain.result.applied c.drain.ensures.released).received)
     c.stall_fault.ensures.same
 

@@ -1,5 +1,5 @@
 use Rattle.std.proofs.Common.{◌<◌, ◌≤◌, length, get_or, set, ap, arith, subst, sym}
-use Rattle.imap_node.specs.Deliveries.{HoldsRipe}
+use Rattle.imap_node.specs.Deliveries.{HoldsRipeOp}
 use Rattle.imap_node.specs.Nodes.{NodeWithRoom, NodeState}
 use Rattle.merge_laws.specs.Orders.{IsIn}
 use Rattle.world_core.specs.Exchanges.{OneHasNotTaken}
@@ -19,7 +19,7 @@ loop-node-preserved c =
     let l : c.loop-node.node-index < length c.loop-node.nodes = omega arith in
     record {
       takes = released_at (all_without_room c.args.nodes.now) now i (get_or now i c.node-item.result) l (ap (λ (d : NodeWithRoom). get_or now i d) c.node-item.is) c.loop-node.invariant.takes c.release.new.node c.release.ensures.takes;
-      done = front_set (λ (k : NodeWithRoom). ¬ HoldsRipe k.state) now i c.release.new.node l c.loop-node.invariant.done c.in_ok-release.ensures.ok;
+      done = front_set (λ (k : NodeWithRoom). ¬ HoldsRipeOp k.state) now i c.release.new.node l c.loop-node.invariant.done c.in_ok-release.ensures.ok;
     }
 
 pub returns-in_err-release-clause-short : goal.returns-in_err-release-clause-short
@@ -40,4 +40,4 @@ returns-in_err-release-clause-takes c =
 pub returns-clause-ok : goal.returns-clause-ok
 returns-clause-ok c =
     let all : length c.loop-node.nodes ≤ c.loop-node.node-index = omega arith in
-    each_state (λ (n : NodeState). ¬ HoldsRipe n) c.loop-node.nodes (λ entry i. c.loop-node.invariant.done entry (subst (IsIn entry) (sym (take_whole c.loop-node.nodes c.loop-node.node-index all)) i))
+    each_state (λ (n : NodeState). ¬ HoldsRipeOp n) c.loop-node.nodes (λ entry i. c.loop-node.invariant.done entry (subst (IsIn entry) (sym (take_whole c.loop-node.nodes c.loop-node.node-index all)) i))

@@ -1,5 +1,5 @@
 use Rattle.std.proofs.Common.{take}
-use Rattle.imap_node.specs.Deliveries.{HoldsRipe}
+use Rattle.imap_node.specs.Deliveries.{HoldsRipeOp}
 use Rattle.imap_node.specs.Nodes.{NodeWithRoom}
 use Rattle.merge_laws.specs.Orders.{IsIn}
 use Rattle.world_core.specs.Replicas.{all_without_room}
@@ -9,5 +9,5 @@ use Rattle.world_core.proofs.settlement.release_all.Given as goal
 abbrev pub invariant-loop-node : goal.invariant-loop-node
 invariant-loop-node l = record {
   takes : AllTakeSomeOf (IsReceivedBy (all_without_room l.initial.nodes)) (all_without_room l.initial.nodes) (all_without_room l.nodes);
-  done : (entry : NodeWithRoom) → IsIn entry (take l.node-index l.nodes) → ¬ HoldsRipe entry.state;
+  done : (entry : NodeWithRoom) → IsIn entry (take l.node-index l.nodes) → ¬ HoldsRipeOp entry.state;
 }

@@ -1,7 +1,7 @@
 use Rattle.std.proofs.Common.{◌<◌, ◌≤◌, ◌∷◌, length, get_or, set, ap, arith, subst, sym}
 use Rattle.imap_node.specs.Nodes.{NodeWithRoom, NodeState}
 use Rattle.merge_laws.specs.Orders.{IsIn}
-use Rattle.world_core.specs.Exchanges.{AreWithin, IsReceivedOrOneOf, OneHasNotTaken}
+use Rattle.world_core.specs.Exchanges.{AreAmong, IsReceivedOrOneOf, OneHasNotTaken}
 use Rattle.world_core.specs.Replicas.{all_without_room}
 use Rattle.world_core.specs.Settlement.{IsReceivedBy}
 use Rattle.world_core.proofs.ExchangeLemmas.{agree_to, all_take_next, received_to, front_set, if_err_of_equal, hub_given, one_short, others_take_none, quiet_set, state_at, state_set}
@@ -36,7 +36,7 @@ loop-other-preserved c =
       takes = all_take_next (IsReceivedBy (c.args.hub.now.state ∷ all_without_room c.args.others.now)) (λ o. IsIn o c.args.hub.now.state.applied) (all_without_room c.args.others.now) now i (get_or now i c.other-item.result) l (ap (λ (d : NodeWithRoom). get_or now i d) c.other-item.is)
           c.loop-other.invariant.takes (hub_given c.args.hub.now.state (all_without_room c.args.others.now)) c.deliver_applied.new.to c.deliver_applied.ensures.takes;
       quiet = quiet_set now i c.deliver_applied.new.to c.loop-other.invariant.quiet c.in_ok-deliver_applied.ensures.ok.0;
-      done = front_set (λ (k : NodeWithRoom). AreWithin c.args.hub.now.state.applied k.state.applied) now i c.deliver_applied.new.to l c.loop-other.invariant.done c.in_ok-deliver_applied.ensures.ok.1;
+      done = front_set (λ (k : NodeWithRoom). AreAmong c.args.hub.now.state.applied k.state.applied) now i c.deliver_applied.new.to l c.loop-other.invariant.done c.in_ok-deliver_applied.ensures.ok.1;
     }
 
 pub returns-in_err-deliver_applied-clause-short : goal.returns-in_err-deliver_applied-clause-short
@@ -62,5 +62,5 @@ pub returns-clause-ok : goal.returns-clause-ok
 returns-clause-ok c =
     let all : length c.loop-other.others ≤ c.loop-other.other-index = omega arith in (
       c.loop-other.invariant.quiet,
-      each_state (λ (n : NodeState). AreWithin c.args.hub.now.state.applied n.applied) c.loop-other.others (λ entry i. c.loop-other.invariant.done entry (subst (IsIn entry) (sym (take_whole c.loop-other.others c.loop-other.other-index all)) i)),
+      each_state (λ (n : NodeState). AreAmong c.args.hub.now.state.applied n.applied) c.loop-other.others (λ entry i. c.loop-other.invariant.done entry (subst (IsIn entry) (sym (take_whole c.loop-other.others c.loop-other.other-index all)) i)),
     )

@@ -14,14 +14,14 @@ returns-in_default-reserve-clause-why c = (
   some_node c.args.nodes.now.items c.args.from c.in-Some.place (subst (λ (ns : List NodeWithRoom). IsPlace ns c.args.from c.in-Some.place) c.deref-2.ensures.value c.in-Some.ensures),
 )
 
-pub returns-in-Ok-with_operations_of-clause-ok : goal.returns-in-Ok-with_operations_of-clause-ok
-returns-in-Ok-with_operations_of-clause-ok c = (
+pub returns-in-Ok-joined_node-clause-ok : goal.returns-in-Ok-joined_node-clause-ok
+returns-in-Ok-joined_node-clause-ok c = (
   c.index.result.now.state,
   node_at_place c.args.nodes.now.items c.reserve.new.self.items c.args.from c.in-Some.place c.index.result.now
       (subst (λ (ns : List NodeWithRoom). IsPlace ns c.args.from c.in-Some.place) c.deref-2.ensures.value c.in-Some.ensures) c.reserve.ensures.items c.index.ensures,
   subst (λ (ns : List NodeWithRoom). nodes_by_name (all_without_room ns) c.args.name ≡ None) c.deref.ensures.value (c.is_taken.ensures.no c.if-is_taken.false),
-  c.in-Ok-with_operations_of.ensures.1,
-  without_room_append c.args.nodes.now.items c.reserve.new.self.items c.push_reserved.new.self.items c.in-Ok-with_operations_of.node _ c.reserve.ensures.items c.push_reserved.ensures.items c.in-Ok-with_operations_of.ensures.0,
+  c.in-Ok-joined_node.ensures.1,
+  without_room_append c.args.nodes.now.items c.reserve.new.self.items c.push_reserved.new.self.items c.in-Ok-joined_node.node _ c.reserve.ensures.items c.push_reserved.ensures.items c.in-Ok-joined_node.ensures.0,
 )
 
 pub returns-in-Err-Exhausted-clause-why : goal.returns-in-Err-Exhausted-clause-why

@@ -1,6 +1,6 @@
 use Rattle.std.proofs.Common.{[], subst, arith}
 use Rattle.std.proofs.lemmas.List.{take_all}
-use Rattle.causal_inbox.specs.Inbox.{AreHeldStill}
+use Rattle.causal_inbox.specs.Inbox.{AreRemainingHeld}
 use Rattle.causal_inbox.proofs.AscendingLemmas.{held_still_step}
 use Rattle.causal_inbox.proofs.CauseCountLemmas.{fewer_apart}
 use Rattle.causal_inbox.proofs.held_store.HeldStore.discard_all.Goals as goal
@@ -27,4 +27,4 @@ loop-op-preserved g c =
 
 pub returns-clause-remaining : goal.returns-clause-remaining
 returns-clause-remaining g c =
-    subst (λ xs. AreHeldStill g.O.Caused.id xs c.args.self.now.list c.loop-op.self.list) (take_all _ c.args.ops.now c.loop-op-test.false) c.loop-op.invariant.remaining
+    subst (λ xs. AreRemainingHeld g.O.Caused.id xs c.args.self.now.list c.loop-op.self.list) (take_all _ c.args.ops.now c.loop-op-test.false) c.loop-op.invariant.remaining

@@ -2,7 +2,7 @@ use Rattle.std.proofs.Common.{◌≡◌, ◌+◌, ◌≤◌, List, [], ◌∷◌
 use Rattle.merge_laws.specs.Orders.{HasId, HaveSameElements}
 use Rattle.causal_inbox.specs.Inbox.{AreAscending}
 use Rattle.causal_inbox.specs.CauseIndex.{AreIndexed, AreOrdered, IsCauseIndex, IsIndexedBefore, HeldState}
-use Rattle.causal_inbox.proofs.CauseIndexLemmas.{indexed_more, absent, one_more}
+use Rattle.causal_inbox.proofs.CauseIndexLemmas.{indexed_insert, absent, one_more}
 use Rattle.causal_inbox.proofs.held_store.HeldStore.hold.Goals as goal
 
 new : (g : _) (c : goal.After-put g) → ¬ HasId g.O.Caused.id c.self.inside.list (g.O.Caused.id c.args.op)
@@ -37,5 +37,5 @@ pub returns-clause-indexed : goal.returns-clause-indexed
 returns-clause-indexed g c = λ applied k n indexed.
     let o = g.O.Caused in
     subst (λ entries. AreIndexed o.id o.clock [] applied c.insert.new.self entries) (sym (put g c))
-    (indexed_more o.id o.clock [] applied c.self.inside.list c.insert.new.self c.self.inside.entries c.place_of-to.result c.entry_of-entry.result c.args.op c.self.invariant.entries (more g c).2 (new g c) c.entry_of-entry.ensures.id (c.entry_of-entry.ensures.indexed applied k n)
+    (indexed_insert o.id o.clock [] applied c.self.inside.list c.insert.new.self c.self.inside.entries c.place_of-to.result c.entry_of-entry.result c.args.op c.self.invariant.entries (more g c).2 (new g c) c.entry_of-entry.ensures.id (c.entry_of-entry.ensures.indexed applied k n)
     (subst (λ (h : HeldState _). AreIndexed o.id o.clock [] applied h.list h.entries) (sym c.self.view_is) indexed))

@@ -32,16 +32,16 @@ loop-preserved g c =
     let m = c.reindex.ensures.entries in
     let is : IsCauseIndex o.id s.list s.entries = subst (λ (h : HeldState _). IsCauseIndex o.id h.list h.entries) c.self-in-loop.view_is c.self-in-loop.invariant.entries in
     let a : AreAscending o.id s.list = subst (λ (h : HeldState _). AreAscending o.id h.list) c.self-in-loop.view_is c.self-in-loop.invariant.ascending in
-    let apart : (applied : List g.row.O.Denot) → AreApart o.id c.args.self.now.list applied → AreApart o.id s.list applied = λ applied p. subst (λ xs. AreApart o.id xs applied) (sym inv.list) p in
+    let disjoint : (applied : List g.row.O.Denot) → AreApart o.id c.args.self.now.list applied → AreApart o.id s.list applied = λ applied p. subst (λ xs. AreApart o.id xs applied) (sym inv.list) p in
     record {
       list = c.reindex.ensures.list ∙ inv.list;
       cause = refl;
       indexed = λ woken applied k h p f.
           subst (λ xs. AreIndexed o.id o.clock (c.args.id ∷ woken) applied xs c.reindex.new.self.entries) (sym c.reindex.ensures.list)
-          (moved_indexed o.id o.clock c.args.clock.now (c.args.id ∷ woken) applied s.list c.in-Some.at s.entries c.reindex.new.self.entries a is m k (apart applied p) (inv.indexed woken applied k h p f));
+          (moved_indexed o.id o.clock c.args.clock.now (c.args.id ∷ woken) applied s.list c.in-Some.at s.entries c.reindex.new.self.entries a is m k (disjoint applied p) (inv.indexed woken applied k h p f));
       count = λ applied k h p.
           let under : (f : CauseEntry) → slice_get s.entries c.in-Some.at ≡ Some f → f.cause ≡ Some c.args.id = λ f at. (c.in-Some.ensures {u = tt}).1 f (ap (λ (x : HeldState _). slice_get x.entries c.in-Some.at) c.self-in-loop.view_is ∙ at) in
-          let n = moved_count o.id o.clock c.args.clock.now c.args.id applied s.list c.in-Some.at s.entries c.reindex.new.self.entries m k (apart applied p) h under in
+          let n = moved_count o.id o.clock c.args.clock.now c.args.id applied s.list c.in-Some.at s.entries c.reindex.new.self.entries m k (disjoint applied p) h under in
           let b = inv.count applied k h p in
           omega (arith, n, b);
     }

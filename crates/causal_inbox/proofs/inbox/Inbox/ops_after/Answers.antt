@@ -2,7 +2,7 @@ use Rattle.std.proofs.Common.{◌≡◌, ◌+◌, ◌-◌, ◌<◌, List, ◌++�
 use Rattle.std.proofs.lemmas.Option.{slice_get-get_or}
 use Rattle.tags_clocks.specs.declared.id.OpId.{OpId}
 use Rattle.tags_clocks.specs.Clock.{IsRaised}
-use Rattle.causal_inbox.specs.InboxState.{InboxState, IsNextOf, id_numbers}
+use Rattle.causal_inbox.specs.InboxState.{InboxState, IsNextId, id_numbers}
 use Rattle.causal_inbox.specs.Inbox.{uncovered_ops}
 use Rattle.causal_inbox.proofs.UncoveredLemmas.{copies_end, copies_next, none_to_end, none_within}
 use Rattle.causal_inbox.proofs.inbox.Inbox.ops_after.Goals.{then-first-within-via-then-first-within, then-first-within-via-else-first-within+then-first-ops}
@@ -35,7 +35,7 @@ loop-preserved g c =
     let inside = c.if-first-ops.false in
     let same = c.op_list-ops.ensures.applied in
     let present : slice_get all first ≡ Some c.in_ok-op.op = ap (λ xs. slice_get xs first) (sym same) ∙ slice_get-get_or c.op_list-ops.result.now first c.index-ops-first.result inside ∙ ap Some (sym ((c.in_ok-op.ensures {u = tt}) ∙ c.index-ops-first.is)) in
-    let next : IsNextOf covered (id_numbers o.id c.in_ok-op.op) = subst (λ (k : InboxState _ _ _ _). slice_get k.received.applied first ≡ Some c.in_ok-op.op → IsNextOf covered (id_numbers o.id c.in_ok-op.op)) c.self.view_is (c.first_uncovered-first.ensures.next c.in_ok-op.op) present in
+    let next : IsNextId covered (id_numbers o.id c.in_ok-op.op) = subst (λ (k : InboxState _ _ _ _). slice_get k.received.applied first ≡ Some c.in_ok-op.op → IsNextId covered (id_numbers o.id c.in_ok-op.op)) c.self.view_is (c.first_uncovered-first.ensures.next c.in_ok-op.op) present in
     let counted : IsRaised covered c.id-id.result.replica c.id-id.result.number c.raise.new.self = subst (λ n. IsRaised covered c.id-id.result.replica n c.raise.new.self) c.get.ensures.number (c.in_ok-raise.ensures {u = tt}).raised in
     let raised : IsRaised covered (o.id c.in_ok-op.op).replica (o.id c.in_ok-op.op).number c.raise.new.self = subst (λ (i : OpId). IsRaised covered i.replica i.number c.raise.new.self) c.id-id.ensures counted in
     record {

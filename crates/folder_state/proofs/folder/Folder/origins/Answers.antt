@@ -2,13 +2,13 @@ use Rattle.std.proofs.Common.{◌≡◌, ◌∙◌, ◌++◌, arith, [], length,
 use Rattle.std.specs.List.{cons_option}
 use Rattle.std.specs.Map.{keys_of}
 use Rattle.std.proofs.lemmas.List.{length-map, take_all}
-use Rattle.folder_state.proofs.Listing.{first_some_more}
+use Rattle.folder_state.proofs.Listing.{take_next_some}
 use Rattle.folder_state.proofs.folder.Folder.origins.Goals as goal
 
 pub loop-place-preserved : goal.loop-place-preserved
 loop-place-preserved c =
     let all = keys_of c.args.self.now.messages in
-    c.in_ok-push_if_some.ensures {u = tt} ∙ (λ k. c.loop-place.invariant k ++ cons_option (c.origin_at.ensures k) []) ∙ sym (first_some_more all c.loop-place.place)
+    c.in_ok-push_if_some.ensures {u = tt} ∙ (λ k. c.loop-place.invariant k ++ cons_option (c.origin_at.ensures k) []) ∙ sym (take_next_some all c.loop-place.place)
 
 pub returns-clause-origins : goal.returns-clause-origins
 returns-clause-origins c =

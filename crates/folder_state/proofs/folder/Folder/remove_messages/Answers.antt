@@ -3,7 +3,7 @@ use Rattle.std.specs.List.{list_any}
 use Rattle.crdt_ops.specs.SortedSets.{same_id}
 use Rattle.folder_state.specs.FolderTables.{folder_contents}
 use Rattle.folder_state.proofs.RoomLeftLemmas.{no_fuller_trans, no_fuller_same}
-use Rattle.folder_state.proofs.Lenses.{any_more, tag_data_removed}
+use Rattle.folder_state.proofs.Lenses.{any_take_next, tag_data_removed}
 use Rattle.folder_state.proofs.folder.Folder.remove_messages.Goals as goal
 
 pub loop-id-init : goal.loop-id-init
@@ -20,7 +20,7 @@ loop-id-preserved c =
           c.remove_message.ensures.tag_data i
           ∙ ap (cond (same_id i id) None) (c.loop-id.invariant.tag_data i)
           ∙ tag_data_removed (list_any (same_id i) (take at ids)) (same_id i id) ((folder_contents first).tag_data i)
-          ∙ ap (λ b. cond b None ((folder_contents first).tag_data i)) (sym (any_more (same_id i) ids at id c.loop-id-test.true c.id-item.is));
+          ∙ ap (λ b. cond b None ((folder_contents first).tag_data i)) (sym (any_take_next (same_id i) ids at id c.loop-id-test.true c.id-item.is));
       tags = c.remove_message.ensures.tags ∙ c.loop-id.invariant.tags;
       room = no_fuller_trans first c.loop-id.self c.remove_message.new.self c.loop-id.invariant.room c.remove_message.ensures.room;
     }

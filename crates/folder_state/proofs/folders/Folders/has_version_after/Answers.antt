@@ -1,7 +1,7 @@
 use Rattle.std.proofs.Common.{◌++◌}
 use Rattle.std.specs.Option.{option_copied}
 use Rattle.folder_state.specs.FolderTables.{versions_in}
-use Rattle.folder_state.specs.AfterOps.{after}
+use Rattle.folder_state.specs.AfterOps.{contents_after}
 use Rattle.folder_state.specs.Tables.{contents_of}
 use Rattle.folder_state.proofs.LaterLemmas.{made_after, version_left}
 use Rattle.folder_state.proofs.VersionLemmas.{has_version_by_set}
@@ -17,5 +17,5 @@ pub returns-clause-set : goal.returns-clause-set
 returns-clause-set c = λ list m s d.
     let now = contents_of c.args.self.now in
     let a = returns-clause-contents c in
-    let b = has_version_by_set (after now c.args.ops.now) (list ++ c.args.ops.now) c.args.folder.now c.args.origin.now (made_after now list c.args.ops.now m s d) in
+    let b = has_version_by_set (contents_after now c.args.ops.now) (list ++ c.args.ops.now) c.args.folder.now c.args.origin.now (made_after now list c.args.ops.now m s d) in
     (λ t. b.0 (a.0 t), λ t. a.1 (b.1 t))

@@ -5,7 +5,7 @@ use Rattle.imap_types.specs.declared.version.Version.{Version}
 use Rattle.crdt_ops.specs.declared.op.Op.{Op}
 use Rattle.crdt_ops.specs.SortedSets.{is_some_id}
 use Rattle.folder_state.specs.FolderTables.{find_folder}
-use Rattle.folder_state.specs.OpRoom.{HasRoomFor, HaveLists, origin_by, versions_added, counts_of}
+use Rattle.folder_state.specs.OpRoom.{HasRoomFor, HaveLists, origin_of_op, added_version_count, counts_of}
 use Rattle.folder_state.proofs.folders.Folders.prepare_one.Goals as goal
 
 at_most_one : (b : Bool) → cond b 1 0 + 0 ≤ 1
@@ -13,16 +13,16 @@ at_most_one true = omega arith
 at_most_one false = omega arith
 
 -- one operation adds at most one version
-at_most_one_version : (op : Op) (x : Option OpId) → counts_of (versions_added (op ∷ [])) x ≤ 1
+at_most_one_version : (op : Op) (x : Option OpId) → counts_of (added_version_count (op ∷ [])) x ≤ 1
 at_most_one_version op None = omega arith
-at_most_one_version op (Some o) = at_most_one (is_some_id o (origin_by op.id op.kind))
+at_most_one_version op (Some o) = at_most_one (is_some_id o (origin_of_op op.id op.kind))
 
 pub returns-clause-prepared : goal.returns-clause-prepared
 returns-clause-prepared c =
     let op = c.args.op.now in
     let folders = c.reserve_one.new.by_name.entries in
     let list = c.in_ok-list.list in
-    let low = at_most_one_version op (origin_by op.id op.kind) in
+    let low = at_most_one_version op (origin_of_op op.id op.kind) in
     let places = (c.in_ok-list.ensures {u = tt}).exact in
     let has_room : HasRoomFor (op ∷ []) op (λ n. find_folder n folders) =
     subst (λ (o : Op). HasRoomFor (o ∷ []) o (λ n. find_folder n folders)) c.op.ensures.op (c.in_ok-reserve_one.ensures {u = tt}).room in

@@ -5,14 +5,14 @@ use Rattle.crdt_ops.specs.Sets.{MessageTagData}
 use Rattle.folder_state.specs.Contents.{IsVersion}
 use Rattle.folder_state.specs.FolderTables.{tag_data_in}
 use Rattle.folder_state.specs.Tables.{contents_of}
-use Rattle.folder_state.proofs.Listing.{listed_so}
+use Rattle.folder_state.proofs.Listing.{list_of_equivalent}
 use Rattle.folder_state.proofs.VersionLemmas.{versions_by_set}
 use Rattle.folder_state.proofs.folders.Folders.versions.Goals as goal
 
 pub returns-clause-contents : goal.returns-clause-contents
 returns-clause-contents c =
     let now = contents_of c.args.self.now in
-    listed_so (λ (i : OpId). option_map (λ (b : MessageTagData). b.origin) (tag_data_in (option_copied c.folder.result) i) ≡ Some c.args.origin.now) (IsVersion now c.args.folder.now c.args.origin.now) c.in_ok-ids.ids (c.in_ok-ids.ensures {u = tt})
+    list_of_equivalent (λ (i : OpId). option_map (λ (b : MessageTagData). b.origin) (tag_data_in (option_copied c.folder.result) i) ≡ Some c.args.origin.now) (IsVersion now c.args.folder.now c.args.origin.now) c.in_ok-ids.ids (c.in_ok-ids.ensures {u = tt})
     (λ i. (λ t. ap (option_map (λ (b : MessageTagData). b.origin)) (c.folder.ensures.tag_data i) ∙ t, λ t. ap (option_map (λ (b : MessageTagData). b.origin)) (sym (c.folder.ensures.tag_data i)) ∙ t))
 
 pub returns-clause-set : goal.returns-clause-set

@@ -5,7 +5,7 @@ use Rattle.std.specs.Vec.Iter.{into_iter_items}
 use Rattle.imap_node.specs.declared.reply.Reply.{Reply}
 use Rattle.imap_syntax.specs.declared.command.Tagged.{Tagged}
 use Rattle.imap_connection.specs.Batches.{CarriesCommands}
-use Rattle.imap_connection.proofs.CarryLemmas.{carries_fault, carries_more}
+use Rattle.imap_connection.proofs.CarryLemmas.{carries_append, carries_fault}
 use Rattle.imap_connection.proofs.io_traits.Port.commands.Goals as goal
 
 pub loop-tagged-init : goal.loop-tagged-init
@@ -39,7 +39,7 @@ loop-tagged-preserved g c =
     let at = c.loop-tagged.invariant in
     let left = into_iter_items c.next.new.self in
     let split : c.args.commands.items ≡ c.loop-tagged.yielded ++ c.in-Some.tagged ∷ left = at.rest ∙ ap (λ (xs : List Tagged). c.loop-tagged.yielded ++ xs) c.in-Some.ensures.steps.0 in
-    let more = carries_more g.Self.Port.steps c.loop-tagged.yielded c.loop-tagged.replies.items c.args.self.now c.loop-tagged.self c.command.new.self c.in-Some.tagged c.in-Ok.reply at.carried c.in-Ok.ensures in
+    let more = carries_append g.Self.Port.steps c.loop-tagged.yielded c.loop-tagged.replies.items c.args.self.now c.loop-tagged.self c.command.new.self c.in-Some.tagged c.in-Ok.reply at.carried c.in-Ok.ensures in
     record {
       carried = subst (λ (replies : List Reply). CarriesCommands g.Self.Port.steps c.args.self.now (c.loop-tagged.yielded ++ c.in-Some.tagged ∷ []) replies (Ok tt) c.command.new.self) (sym c.push_reserved.ensures.items) more;
       rest = split ∙ sym (append_assoc c.loop-tagged.yielded (c.in-Some.tagged ∷ []) left);

@@ -3,14 +3,14 @@ use Rattle.causal_inbox.specs.Inbox.{AreReleasedInTurn}
 use Rattle.causal_inbox.specs.Releases.{Releases}
 use Rattle.causal_inbox.proofs.ReleasesLemmas.{refused_stalls}
 use Rattle.crdt_ops.specs.Ops.{clock_of, id_of}
-use Rattle.imap_node.specs.Deliveries.{HoldsRipe}
+use Rattle.imap_node.specs.Deliveries.{HoldsRipeOp}
 use Rattle.imap_node.specs.Nodes.{received_ops}
 use Rattle.uid_projection.specs.Exhaustion.{Exhausts}
 use Rattle.imap_node.proofs.node.Node.drain.Goals as goal
 
 pub returns-in-Err-clause-stalled : goal.returns-in-Err-clause-stalled
 returns-in-Err-clause-stalled c =
-    (λ t. subst HoldsRipe (sym c.in-Err.ensures.err) (refused_stalls id_of clock_of Exhausts (received_ops c.loop-applied.self.state) c.in-Err.field-0 c.in-Err.ensures.answer), λ t. refl)
+    (λ t. subst HoldsRipeOp (sym c.in-Err.ensures.err) (refused_stalls id_of clock_of Exhausts (received_ops c.loop-applied.self.state) c.in-Err.field-0 c.in-Err.ensures.answer), λ t. refl)
 
 pub loop-applied-preserved : goal.loop-applied-preserved
 loop-applied-preserved c =

@@ -11,7 +11,7 @@ use Rattle.imap_node.proofs.node.Node.plan_for.Goals as goal
 pub returns-clause-planned : goal.returns-clause-planned
 returns-clause-planned c =
     let old = c.self.inside in
-    let done = c.prepare_for-outcome in
+    let done = c.prepare_input-outcome in
     let replica = done.new.replica in
     let node : NodeWithRoom = record { state = record { start = replica.start; applied = replica.applied; held = replica.held; sessions = done.new.sessions }; room = replica.room } in
     let opened : IsOpen old.sessions c.args.session = subst (λ (k : NodeWithRoom). IsOpen k.state.sessions c.args.session) (sym c.self.view_is) (awaits_open c.args.self.now.state c.args.session c.args.input.now c.requires) in
@@ -21,7 +21,7 @@ returns-clause-planned c =
 
 pub returns-clause-responds : goal.returns-clause-responds
 returns-clause-responds c =
-    let done = c.prepare_for-outcome in
+    let done = c.prepare_input-outcome in
     let replica = c.self.inside.replica in
     let old : NodeState = record { start = replica.start; applied = replica.applied; held = replica.held; sessions = c.self.inside.sessions } in
     let session = c.in-Some.entry.now in
@@ -33,6 +33,6 @@ returns-clause-responds c =
 pub invariant_of-self : goal.invariant_of-self
 invariant_of-self c =
     let old = c.self.inside in
-    let done = c.prepare_for-outcome in
+    let done = c.prepare_input-outcome in
     noted_as old.replica.start done.new.replica.start old.replica.applied done.new.replica.applied old.sessions done.new.sessions old.feeds c.make_room.new.feeds done.ensures.start done.ensures.applied done.ensures.sessions c.make_room.ensures
     c.self.invariant

@@ -1,7 +1,7 @@
-use Rattle.imap_types.proofs.UnionLemmas.{united_more}
+use Rattle.imap_types.proofs.UnionLemmas.{united_flags_take}
 use Rattle.imap_types.proofs.versions.Versions.flags.Goals as goal
 
 pub loop-version-preserved : goal.loop-version-preserved
 loop-version-preserved c =
-    united_more c.args.self.now.list.now c.loop-version.union c.add_flags.new.union c.loop-version.version-index c.version-item.result
+    united_flags_take c.args.self.now.list.now c.loop-version.union c.add_flags.new.union c.loop-version.version-index c.version-item.result
     c.loop-version-test.true c.version-item.is c.loop-version.invariant c.in_ok-add_flags.ensures

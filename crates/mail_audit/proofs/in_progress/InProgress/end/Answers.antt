@@ -6,7 +6,7 @@ use Rattle.mail_audit.specs.Counts.{count_of}
 use Rattle.mail_audit.specs.NumberedCommands.{AreRising, stored_for, numbers_of}
 use Rattle.mail_audit.specs.Transcripts.{without_ended}
 use Rattle.mail_audit.specs.declared.in_progress.RunningCommand.{RunningCommand}
-use Rattle.mail_audit.proofs.RunningLemmas.{counted_less, first_ended, first_taken, first_exists, none_ended, rising_less}
+use Rattle.mail_audit.proofs.RunningLemmas.{counted_remove, first_ended, first_taken, first_exists, none_ended, rising_remove}
 use Rattle.mail_audit.proofs.in_progress.InProgress.end.Goals as goal
 
 pub returns-in_default : goal.returns-in_default
@@ -16,12 +16,12 @@ returns-in_default c =
 
 pub overflow_sub-self : goal.overflow_sub-self
 overflow_sub-self c =
-    let m = counted_less (λ (r : RunningCommand). r.may_expunge) (is_at (nat_cmp c.in-Some.number)) c.self.inside.commands.entries c.in-Some-remove.command (c.in-Some-remove.ensures {u = tt}).value in
+    let m = counted_remove (λ (r : RunningCommand). r.may_expunge) (is_at (nat_cmp c.in-Some.number)) c.self.inside.commands.entries c.in-Some-remove.command (c.in-Some-remove.ensures {u = tt}).value in
     grind (arith, m, c.self.invariant.0, c.from.ensures)
 
 pub overflow_sub-self-in-Some-remove : goal.overflow_sub-self-in-Some-remove
 overflow_sub-self-in-Some-remove c =
-    let m = counted_less (λ (r : RunningCommand). r.idles) (is_at (nat_cmp c.in-Some.number)) c.self.inside.commands.entries c.in-Some-remove.command (c.in-Some-remove.ensures {u = tt}).value in
+    let m = counted_remove (λ (r : RunningCommand). r.idles) (is_at (nat_cmp c.in-Some.number)) c.self.inside.commands.entries c.in-Some-remove.command (c.in-Some-remove.ensures {u = tt}).value in
     grind (arith, m, c.self.invariant.1, c.from-in-Some-remove.ensures)
 
 pub invariant_of-self-in-Some-remove : goal.invariant_of-self-in-Some-remove
@@ -32,15 +32,15 @@ invariant_of-self-in-Some-remove c =
     let test = is_at (nat_cmp n) in
     let o = c.in-Some.ensures {u = tt} in
     let removed = c.in-Some-remove.ensures {u = tt} in
-    let m = counted_less (λ (r : RunningCommand). r.may_expunge) test es c.in-Some-remove.command removed.value in
-    let k = counted_less (λ (r : RunningCommand). r.idles) test es c.in-Some-remove.command removed.value in
+    let m = counted_remove (λ (r : RunningCommand). r.may_expunge) test es c.in-Some-remove.command removed.value in
+    let k = counted_remove (λ (r : RunningCommand). r.idles) test es c.in-Some-remove.command removed.value in
     let a = ap (λ (xs : List (ℕ × RunningCommand)). count_of (λ (r : RunningCommand). r.may_expunge) (values_of xs)) removed.entries in
     let b = ap (λ (xs : List (ℕ × RunningCommand)). count_of (λ (r : RunningCommand). r.idles) (values_of xs)) removed.entries in
     let f = c.from.ensures in
     let g = c.from-in-Some-remove.ensures in (
       grind (arith, m, a, f, inv.0),
       grind (arith, k, b, g, inv.1),
-      subst (AreRising 0 c.self.inside.next) (sym removed.entries) (rising_less 0 c.self.inside.next test es inv.2),
+      subst (AreRising 0 c.self.inside.next) (sym removed.entries) (rising_remove 0 c.self.inside.next test es inv.2),
       λ tag. ap (numbers_of tag) removed.entries ∙ first_taken 0 c.self.inside.next c.args.tag.now es n c.self.inside.numbers.entries c.take_first.new.numbers.entries inv.2 inv.3 o.taken o.others tag,
     )
 

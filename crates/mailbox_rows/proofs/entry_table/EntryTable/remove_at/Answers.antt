@@ -14,9 +14,9 @@ invariant_of-self c =
     let k = c.args.place in
     let old = c.remove-old.result in
     let f = indexed_value t.uids.entries in
-    let h = indexed_value c.forget.new.uids.entries in
+    let h = indexed_value c.remove_origin.new.uids.entries in
     let inside : k < length es = subst (λ es. k < length es) (sym (ap (λ x. x.entries) c.self.view_is)) c.requires in
-    let at = subst (λ (e : ListingEntry). (i : OpId) → h i ≡ (if is_id e.origin i then None else f i)) c.remove-old.ensures.value c.forget.ensures.lookups in (
+    let at = subst (λ (e : ListingEntry). (i : OpId) → h i ≡ (if is_id e.origin i then None else f i)) c.remove-old.ensures.value c.remove_origin.ensures.lookups in (
       subst (AreRising 1) (sym c.remove-old.ensures.items) (rising_without 1 es k c.self.invariant.0),
       subst (IsUidIndex h) (sym c.remove-old.ensures.items) (uid_index_without f h es k old inside c.self.invariant.0 at c.self.invariant.1),
       subst (AreNoted t.modseqs.entries) (sym c.remove-old.ensures.items) (noted_without t.modseqs.entries es k c.self.invariant.2),

@@ -9,10 +9,10 @@ returns-in-Some c =
     let es = o.list.items in
     let origin = c.args.origin.now in
     let f = indexed_over o.own.entries o.stored.now.entries in
-    subst (λ es. MatchOption c.place_with.result (Lacks origin es) (IsAt origin es)) (ap (λ x. x.entries) c.self.view_is) (match_weaker (LacksAt c.in-Some.uid origin es) (Lacks origin es) (IsAt origin es) c.place_with.result (lacks_indexed f origin c.in-Some.uid es c.self.invariant.1 (sym c.uid_over.ensures ∙ c.in-Some.is)) c.place_with.ensures)
+    subst (λ es. MatchOption c.place_with.result (Lacks origin es) (IsAt origin es)) (ap (λ x. x.entries) c.self.view_is) (match_weaker (LacksAt c.in-Some.uid origin es) (Lacks origin es) (IsAt origin es) c.place_with.result (lacks_indexed f origin c.in-Some.uid es c.self.invariant.1 (sym c.uid_of_origin.ensures ∙ c.in-Some.is)) c.place_with.ensures)
 
 pub returns-in-None : goal.returns-in-None
 returns-in-None c =
     let o = c.self.inside in
     let origin = c.args.origin.now in
-    subst (Lacks origin) (ap (λ x. x.entries) c.self.view_is) (lacks_unindexed (indexed_over o.own.entries o.stored.now.entries) origin o.list.items c.self.invariant.1 (sym c.uid_over.ensures ∙ c.in-None.is))
+    subst (Lacks origin) (ap (λ x. x.entries) c.self.view_is) (lacks_unindexed (indexed_over o.own.entries o.stored.now.entries) origin o.list.items c.self.invariant.1 (sym c.uid_of_origin.ensures ∙ c.in-None.is))

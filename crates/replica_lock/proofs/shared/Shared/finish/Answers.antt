@@ -6,4 +6,4 @@ weaker (Ok a) f h = h
 weaker (Err e) f h = f e h
 
 pub returns-clause-denied : goal.returns-clause-denied
-returns-clause-denied g c = weaker c.settle.result (λ e h. (c.into_inner.result.journal, h)) c.settle.ensures.denied
+returns-clause-denied g c = weaker c.settle.result (λ e h. (c.into_inner.result, h)) c.settle.ensures.denied

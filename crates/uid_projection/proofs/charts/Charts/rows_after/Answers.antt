@@ -1,5 +1,5 @@
 use Rattle.std.proofs.Common.{◌≡◌, ◌∙◌, ◌++◌, ap, sym, subst}
-use Rattle.folder_state.specs.AfterOps.{after}
+use Rattle.folder_state.specs.AfterOps.{contents_after}
 use Rattle.folder_state.specs.Tables.{contents_of}
 use Rattle.uid_projection.specs.FolderAhead.{folder_of}
 use Rattle.uid_projection.specs.NextOps.{IsNextAhead}
@@ -30,4 +30,4 @@ returns c = λ list f m a not_exhausted.
     let chart = b.shows list value w (c.in_ok-chart.ensures.shows list s.next_k f.table f.nothing) in
     let shown = subst (λ m. IsChart s.start m (list ++ ops) y.uidnext y.highest y.entries.entries) (sym own) chart in
     if_ok c.folder_and_chart_ahead.result (λ rows e. e ∙ ap (λ m. listing s.start m (list ++ ops)) own)
-    (c.folder_and_chart_ahead.ensures s.start (list ++ ops) (after value ops) (made_after value list ops m a) (b.ahead value first.ahead) shown)
+    (c.folder_and_chart_ahead.ensures s.start (list ++ ops) (contents_after value ops) (made_after value list ops m a) (b.ahead value first.ahead) shown)

@@ -12,7 +12,7 @@ pub returns-in-Some : goal.returns-in-Some
 returns-in-Some c = λ list f a same.
     let x = c.in-Some.chart.now in
     let up = f.table.shows c.args.name.now x (sym c.in-Some.ensures) in
-    IfOk-weaker c.uids_of_messages_named.result _ _ (λ uids adds. stays_but c.args.self.now.start c.args.name.now list c.args.ops.now a _ _ _ up.shows _ up.versions uids.items adds same) c.uids_of_messages_named.ensures
+    IfOk-weaker c.uids_of_named_messages.result _ _ (λ uids adds. stays_but c.args.self.now.start c.args.name.now list c.args.ops.now a _ _ _ up.shows _ up.versions uids.items adds same) c.uids_of_named_messages.ensures
 
 pub returns-in-None : goal.returns-in-None
 returns-in-None c = λ list f a same.

@@ -9,8 +9,8 @@ use Rattle.uid_projection.specs.ChartTable.{HasRooms, IsTable, modseqs_by}
 use Rattle.uid_projection.proofs.NextOpLemmas.{made_by, next_on, next_rooms, others_ready, unmoved}
 use Rattle.uid_projection.proofs.charts.ChartsFollowerFolders.note.Goals as goal
 
-pub note_on-requires-clause-next : goal.note_on-requires-clause-next
-note_on-requires-clause-next c =
+pub advance_charts-requires-clause-next : goal.advance_charts-requires-clause-next
+advance_charts-requires-clause-next c =
     let (list, f, r, d, m) = c.requires in
     let o = c.args.op.now in
     let value = contents_of c.args.value.now in
@@ -25,18 +25,18 @@ returns-then-names_folder-clause-follows c = λ list f r d m.
     record {
       first = f.first;
       applied = r.applied;
-      table = subst (λ (q : Op). IsTable c.args.self.now.start (list ++ q ∷ []) c.note_on.new.next_k c.note_on.new.charts.entries) e (c.note_on.ensures.next list next);
+      table = subst (λ (q : Op). IsTable c.args.self.now.start (list ++ q ∷ []) c.advance_charts.new.next_k c.advance_charts.new.charts.entries) e (c.advance_charts.ensures.next list next);
       nothing = f.nothing;
     }
 
-pub note_on-requires-clause-rooms : goal.note_on-requires-clause-rooms
-note_on-requires-clause-rooms c =
+pub advance_charts-requires-clause-rooms : goal.advance_charts-requires-clause-rooms
+advance_charts-requires-clause-rooms c =
     let (list, f, r, d, m) = c.requires in
     next_rooms c.args.self.now list c.args.op.now c.op-op.result.now c.op-op.ensures.op r (sym c.names_folder.ensures ∙ c.if-names_folder.true)
 
 pub returns-then-names_folder-clause-others : goal.returns-then-names_folder-clause-others
 returns-then-names_folder-clause-others c = λ list rest f r d m.
-    others_ready c.args.self.now (record { start = c.args.self.now.start; next_k = c.note_on.new.next_k; charts = c.note_on.new.charts; nothing = c.args.self.now.nothing }) list c.args.op.now rest refl (subst (λ (q : Op). (g : Option OpId) (n k : ℕ) (folder : List ℕ) → HasRooms g (n + 1) (k + modseqs_by q) folder c.args.self.now.charts.entries → HasRooms g n k folder c.note_on.new.charts.entries) c.op-op.ensures.op c.note_on.ensures.rooms) r
+    others_ready c.args.self.now (record { start = c.args.self.now.start; next_k = c.advance_charts.new.next_k; charts = c.advance_charts.new.charts; nothing = c.args.self.now.nothing }) list c.args.op.now rest refl (subst (λ (q : Op). (g : Option OpId) (n k : ℕ) (folder : List ℕ) → HasRooms g (n + 1) (k + modseqs_by q) folder c.args.self.now.charts.entries → HasRooms g n k folder c.advance_charts.new.charts.entries) c.op-op.ensures.op c.advance_charts.ensures.rooms) r
 
 pub returns-else-names_folder-clause-follows : goal.returns-else-names_folder-clause-follows
 returns-else-names_folder-clause-follows c = λ list f r d m.

@@ -1,13 +1,13 @@
 use Rattle.std.proofs.Common.{◌≤◌, length, arith}
-use Rattle.uid_projection.proofs.MailboxLemmas.{message_of_all, are_owned_more, are_fresh_more}
+use Rattle.uid_projection.proofs.MailboxLemmas.{message_of_all, are_owned_insert, are_fresh_step}
 use Rattle.uid_projection.proofs.folder_ahead.FolderAhead.mailbox.Goals as goal
 
 pub loop-at-preserved : goal.loop-at-preserved
 loop-at-preserved c =
     let now = c.in_ok-put_owned_at.ensures {u = tt} in
     let before = c.loop-at.invariant in (
-      λ orderly. are_owned_more c.args.self.now _ c.loop-at.fresh.entries c.put_owned_at.new.fresh.entries now orderly (before.0 orderly),
-      are_fresh_more c.args.self.now c.loop-at.at c.loop-at.fresh.entries c.put_owned_at.new.fresh.entries now before.1,
+      λ orderly. are_owned_insert c.args.self.now _ c.loop-at.fresh.entries c.put_owned_at.new.fresh.entries now orderly (before.0 orderly),
+      are_fresh_step c.args.self.now c.loop-at.at c.loop-at.fresh.entries c.put_owned_at.new.fresh.entries now before.1,
     )
 
 pub returns : goal.returns

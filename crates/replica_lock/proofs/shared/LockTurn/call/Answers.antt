@@ -1,0 +1,14 @@
+use Rattle.std.proofs.Common.{◌≡◌, Err, Ok, Result, ◌∙◌}
+use Rattle.std.specs.Prelude.{OnOk}
+use Rattle.replica_lock.specs.Histories.{BookState, entry_count}
+use Rattle.replica_lock.specs.Passes.{IsCall, IsCalled, PassState}
+use Rattle.replica_lock.specs.declared.event.BookEvent.{BookEvent}
+use Rattle.replica_lock.proofs.shared.LockTurn.call.Goals as goal
+
+-- what the caller knows of a call, if the pass stays as the call left it
+called_after : {T E : Type 0} (r : Result T E) (old new : BookState) (event : BookEvent) (p q later : PassState) → OnOk r (IsCall old event new p q) → later ≡ q → OnOk r (IsCalled p event later)
+called_after (Ok x) old new event p q later h e = (old.node, new.node, h.0, entry_count new, h.1, h.4, e ∙ h.5)
+called_after (Err fault) old new event p q later h e = tt
+
+pub returns-clause-called : goal.returns-clause-called
+returns-clause-called g c = called_after c.call-result.result c.deref_mut.result.now c.call-result.new.self c.args.event c.args.pass.now c.call-result.new.pass c.trim.new.pass c.call-result.ensures.called c.trim.ensures.pass
