@@ -5,7 +5,7 @@ ghost use Rattle.std.specs.Prelude.{◌≡◌};
 use crate::actions::{Action, FinalReport, Scene, Step};
 use crate::caller::{Caller, Replica};
 use crate::channels::{Channels, Lines};
-use crate::fixtures::{book_from, join, operation, operations};
+use crate::fixtures::{book_from, join, operations};
 use crate::output::{write_answers, write_id};
 use crate::scene::{output_of, wrong_scene};
 use crdt_ops::SoundOp;
@@ -152,66 +152,6 @@ fn joins_end_as_expected(rt: HostRuntime) -> Result<(), Fail> {
     let wrong = wrong_case(rt.alloc())?;
     assert_eq!(rt; wrong.as_str(), "");
     Ok(())
-}
-
-/// The number of folders that a replica can create: UIDVALIDITY is below 2^32, and 65,536 times the
-/// number of the creation plus the replica's number.
-const MOST_FOLDERS: u32 = 65_535;
-
-/// The creation of a folder by the first replica, after `before` others.
-fn creation(alloc: Global, before: u32) -> Option<SoundOp> {
-    if before == 0 {
-        return operation(alloc, "1:1 - create f1");
-    }
-    let number = before.saturating_add(1);
-    let line = format!(in alloc; "1:{number} 1={before} create f{number}").ok()?;
-    operation(alloc, line.as_str())
-}
-
-fn push_creations(alloc: Global, count: u32, ops: &mut Vec<SoundOp>) -> bool {
-    for before in 0..count {
-        let Some(op) = creation(alloc, before) else {
-            return false;
-        };
-        if ops.push(op).is_err() {
-            return false;
-        }
-    }
-    true
-}
-
-/// The creations of this many folders by the first replica, one after another.
-fn creations(alloc: Global, count: u32) -> Option<Vec<SoundOp>> {
-    let mut ops = Vec::new(alloc);
-    if push_creations(alloc, count, &mut ops) {
-        Some(ops)
-    } else {
-        drop(ops);
-        None
-    }
-}
-
-/// Whether a replica can't join with the creations of this many folders, since a number is used up.
-fn is_exhausted_by(alloc: Global, count: u32) -> Option<bool> {
-    let id = ReplicaId::new(2)?;
-    let ops = creations(alloc, count)?;
-    let joined = Book::join(alloc, id, &ops);
-    drop(ops);
-    match joined {
-        Ok(book) => {
-            drop(book);
-            Some(false)
-        }
-        Err(fault) => Some(fault == JoinFault::Exhausted),
-    }
-}
-
-#[test]
-fn a_join_uses_up_a_number(rt: HostRuntime) {
-    assert_eq!(rt;
-        is_exhausted_by(rt.alloc(), MOST_FOLDERS.saturating_add(1)),
-        Some(true)
-    );
 }
 
 /// The actions at the first replica before the second joins.
