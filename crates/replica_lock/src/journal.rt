@@ -36,6 +36,8 @@ impl Drop for Block {
 pub struct ForgottenEntries {
     blocks: Vec<Block>,
     entries: Vec<CompactEntry>,
+    /// The octets that all of them take, by their own estimates.
+    octets: u64,
 }
 
 // By hand, so that its owner drops it whole.
@@ -44,6 +46,7 @@ impl Drop for ForgottenEntries {
         let Self {
             blocks: _,
             entries: _,
+            octets: _,
         } = self;
     }
 }
@@ -54,16 +57,24 @@ impl ForgottenEntries {
         ForgottenEntries {
             blocks: Vec::new(alloc),
             entries: Vec::new(alloc),
+            octets: 0,
         }
+    }
+
+    /// The octets that the entries take, by their own estimates.
+    pub(crate) fn octets(&self) -> u64 {
+        self.octets
     }
 
     /// Adds all entries of a block; if memory runs out, they are dropped at once.
     fn push_block(&mut self, block: Block) {
+        self.octets = self.octets.saturating_add(block.octets);
         drop(self.blocks.push(block));
     }
 
     /// Adds an entry; if memory runs out, it is dropped at once.
     fn push_entry(&mut self, entry: CompactEntry) {
+        self.octets = self.octets.saturating_add(entry.octets());
         drop(self.entries.push(entry));
     }
 }

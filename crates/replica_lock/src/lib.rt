@@ -39,8 +39,11 @@
 //!   remains: to forget a hundred thousand takes 200 moves of a block and at most 511 removals. So
 //!   `Book::entry` looks at each block before the entry's own.
 //! - Forgotten entries are dropped by the caller (`ForgottenEntries`): a pass stores those of its
-//!   calls until `Pass::drop_spent`, which a connection's thread calls after the answer was written
-//!   and without the lock.
+//!   calls, and the outcome of an earlier one, until `Pass::take_spent`, which a connection's thread
+//!   calls after the answer was written and without the lock. It drops little itself
+//!   (`SpentMemory::is_small`) and lets another thread drop the rest: the answers of a FETCH of
+//!   20,000 messages take some milliseconds to free, for which the client's next command would
+//!   wait.
 //! - The forgotten entries are in no value that contracts see. The invariant says that some
 //!   entries, as many, precede the journal (`IsPast`), so no ghost data is needed. All facts about
 //!   the whole history, also the number of sessions that were opened, are stated of one such list
@@ -106,6 +109,7 @@ mod pass;
 mod reply_equality;
 mod session_signals;
 mod shared;
+mod spent_memory;
 
 pub use book::{Book, JournalEntry};
 pub use compact_entry::{CompactEntry, EntryRef};
@@ -120,3 +124,4 @@ pub use laws::books_with_same_ops_agree;
 pub use outcome::Outcome;
 pub use pass::Pass;
 pub use shared::{Gate, LockTurn, Shared};
+pub use spent_memory::SpentMemory;

@@ -159,8 +159,8 @@ impl<L: Ledger> Shared<L> {
             self.signals.signal_of(session).notify_all();
         }
         // The outcome of the previous call is dropped only here, after the lock was released: it
-        // may be long. The entries that the book forgot at this call are dropped by
-        // `Pass::drop_spent`, or else before the pass's next call.
+        // may be long. The entries that the book forgot at this call are taken out by
+        // `Pass::take_spent`, or else dropped before the pass's next call.
         match result {
             Ok(last) => {
                 pass.store_spent(last);

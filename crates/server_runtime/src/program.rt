@@ -1,11 +1,12 @@
 //! The program: from its command line to its status.
 
+use crate::background::{BackgroundTask, MOST_TASKS};
 use crate::joining_replica::JoiningReplica;
 use crate::replica_end::ReplicaEnd;
-use crate::replica_handle::{CopyRequest, JoinSignal, JoiningReplicas, ReplicaHandle};
+use crate::replica_handle::{JoinSignal, JoiningReplicas, ReplicaHandle};
 use crate::replica_threads::{ReplicaSetup, StartMode, serve};
 use crate::server_state::{ServerState, StopCounter};
-use crossbeam_channel::{Receiver, Sender, unbounded};
+use crossbeam_channel::{Receiver, Sender, bounded, unbounded};
 use log::{Log, error};
 use replica_links::PeerMsg;
 use server_settings::{CommandLine, Join, Place, listen_at, print_fault, settings_or_status};
@@ -17,9 +18,9 @@ use std::thread::Threads;
 use std::{env, io};
 use tags_clocks::ReplicaId;
 
-/// The size, in octets, of the block that raises the C library's thresholds: a little less than 32
-/// MiB.
-const LARGEST_BLOCK: usize = 33_000_000;
+/// The size, in octets, of the block that raises the C library's thresholds: 1 MiB, more than the
+/// answers of a FETCH of 1,000 messages take.
+const LARGEST_BLOCK: usize = 1 << 20;
 
 /// Why the server can't run. The log prints its text.
 #[derive(Debug, Drop, thiserror::Error)]
@@ -262,7 +263,7 @@ fn add_setup<'a>(
         return Err(RunFault::UnknownReplica);
     };
     let own = opened.replicas.len();
-    let (messages, copy_requests) = match add_replica(alloc, address, &mut opened.replicas) {
+    let (messages, background_tasks) = match add_replica(alloc, address, &mut opened.replicas) {
         Ok(ends) => ends,
         Err(fault) => {
             drop(start_mode);
@@ -273,7 +274,7 @@ fn add_setup<'a>(
         replica,
         own,
         messages,
-        copy_requests,
+        background_tasks,
         start_mode,
     };
     match opened.parts.push(part) {
@@ -287,14 +288,14 @@ fn add_replica(
     alloc: Global,
     address: Option<SocketAddr>,
     handles: &mut Vec<ReplicaHandle>,
-) -> Result<(Receiver<PeerMsg>, Receiver<CopyRequest>), RunFault> {
+) -> Result<(Receiver<PeerMsg>, Receiver<BackgroundTask>), RunFault> {
     let (link, messages) = unbounded(alloc)?;
-    let (copy_requests, copies) = unbounded(alloc)?;
+    let (background_tasks, tasks) = bounded(alloc, MOST_TASKS)?;
     handles.push(ReplicaHandle {
         link,
-        copy_requests,
+        background_tasks,
         address: Mutex::new(address),
         send_lock: Mutex::new(()),
     })?;
-    Ok((messages, copies))
+    Ok((messages, tasks))
 }
