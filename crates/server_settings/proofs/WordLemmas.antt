@@ -8,10 +8,9 @@ use Rattle.clap.specs.declared.parser.matches.Found.{Found}
 use Rattle.clap.specs.Simple.{is_simple}
 use Rattle.clap.proofs.OnLiterals.{clap_on_literals}
 use Rattle.clap_laws.proofs.MatchesLemmas.{first_value_of_rows, one_text_of_rows}
-use Rattle.server_settings.specs.Options.{NamesAccess, server_words}
-use Rattle.server_settings.specs.Settings.{access_of}
+use Rattle.server_settings.specs.Options.{NamesAccess, NamesJournalBound, server_words}
+use Rattle.server_settings.specs.Settings.{IsJournalBound, access_of}
 use Rattle.server_settings.specs.declared.settings.Access.{Access}
-use Rattle.server_settings.specs.declared.settings.Access.TheVariants.{Password, Preauth}
 
 -- ---- the access
 
@@ -43,6 +42,13 @@ access_is_named found is_preauth user pass None e none on off u p = tt
 access_is_named found is_preauth user pass (Some access) e none on off u p =
     let one = one_text_of_rows found (codes "preauth") in
     rows_name_access (rows_of found) is_preauth user pass access (sym e) (λ h. none (one ∙ h)) (λ h. on (one ∙ h)) (λ h. off (one ∙ h)) (u ∙ first_value_of_rows found (codes "user")) (p ∙ first_value_of_rows found (codes "pass"))
+
+-- ---- the bound of each journal
+
+pub journal_is_named : (found : Found) (rows : List Row) (value : Option (Bor (List ℕ))) (bound : Option ℕ) → rows_of found ≡ rows → option_map (λ s. s.now) value ≡ first_value found (codes "journal")
+    → IsJournalBound (option_map (λ s. s.now) value) bound → NamesJournalBound rows bound
+journal_is_named found rows value bound same given is =
+    subst (λ (text : Option (List ℕ)). IsJournalBound text bound) (given ∙ first_value_of_rows found (codes "journal") ∙ ap (first_of (codes "journal")) same) is
 
 -- clap's matches of the words that the program knows
 pub server_is_simple : is_simple server_words ≡ true

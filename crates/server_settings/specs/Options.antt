@@ -1,10 +1,12 @@
--- The words of the server's command line, in the terms of `clap`, and the access that they name.
+-- The words of the server's command line, in the terms of `clap`, and the access and the bound of
+-- journals that they name.
 
-use Rattle.std.specs.Prelude.{◌≡◌, ℕ, true, List, None, Some, codes}
+use Rattle.std.specs.Prelude.{◌≡◌, ℕ, true, List, Option, None, Some, codes}
 use Rattle.clap.specs.Lexer.{usize_max}
 use Rattle.clap.specs.Words.{App, Row, Rule, first_of, new_app, new_rule, one_of, with_rule}
 use Rattle.clap.specs.declared.builder.action.ArgAction.TheVariants.{Append, Set, SetTrue}
 use Rattle.clap.specs.declared.builder.value_parser.ValueParser.TheVariants.{Unsigned}
+use Rattle.server_settings.specs.Settings.{IsJournalBound}
 use Rattle.server_settings.specs.declared.settings.Access.{Access}
 use Rattle.server_settings.specs.declared.settings.Access.TheVariants.{Password, Preauth}
 
@@ -65,3 +67,9 @@ NamesAccess rows (Password user pass) =
     ((one_of (codes "preauth") rows ≡ Some (codes "true")) → ⊥)
     × (first_of (codes "user") rows ≡ Some user.now)
     × (first_of (codes "pass") rows ≡ Some pass.now)
+
+-- ---- the bound of each journal
+
+-- The bound is that of the value of `--journal`, or the one without a value if it wasn't given.
+abbrev pub NamesJournalBound : List Row → Option ℕ → Type 0
+NamesJournalBound rows bound = IsJournalBound (first_of (codes "journal") rows) bound

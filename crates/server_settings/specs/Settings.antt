@@ -1,10 +1,12 @@
--- The replicas that a command line names, and the form of the words that name them.
+-- The replicas that a command line names, the form of the words that name them, and the bound of
+-- their journals.
 
-use Rattle.std.specs.Prelude.{◌≡◌, ◌≢◌, ◌<◌, ◌==◌, ℕ, Bool, false, true, List, [], ◌∷◌, ◌++◌}
-use Rattle.std.specs.Prelude.{Option, None, Some, map}
+use Rattle.std.specs.Prelude.{◌≡◌, ◌≢◌, ◌<◌, ◌==◌, ◌*◌, ◌^◌, ◌⊎◌, ℕ, Bool, false, true, List, []}
+use Rattle.std.specs.Prelude.{◌∷◌, ◌++◌, Option, None, Some, codes, map}
 use Rattle.std.specs.Borrow.{Bor}
 use Rattle.std.specs.Fmt.{decimal}
 use Rattle.std.specs.List.{list_any}
+use Rattle.std.specs.Str.Parse.{IsNumeral, digits_value, without_leading_plus}
 use Rattle.server_settings.specs.declared.settings.Access.{Access}
 use Rattle.server_settings.specs.declared.settings.Access.TheVariants.{Password, Preauth}
 use Rattle.server_settings.specs.declared.settings.Join.{Join}
@@ -62,6 +64,40 @@ IsJoinText text join =
     × IsPlaceText place join.place
     × IsNameText peer join.peer
     × (text ≡ place ++ 47 ∷ peer)
+
+-- The text is a number: its decimal digits, at least one, with or without leading zeros and a
+-- leading `+`.
+abbrev pub IsNumberText : List ℕ → ℕ → Type 0
+IsNumberText text number =
+    IsNumeral 10 (without_leading_plus text)
+    × (number ≡ digits_value 10 (without_leading_plus text))
+
+-- The text is a unit of this many octets: no text is a single octet, and `K`, `M` and `G` are
+-- powers of 1,024.
+abbrev pub IsUnit : List ℕ → ℕ → Type 0
+IsUnit text octets =
+    ((text ≡ []) × (octets ≡ 1))
+    ⊎ ((text ≡ codes "K") × (octets ≡ 1024))
+    ⊎ ((text ≡ codes "M") × (octets ≡ 1024 ^ 2))
+    ⊎ ((text ≡ codes "G") × (octets ≡ 1024 ^ 3))
+
+-- The text is a number followed by its unit, and this many octets, fewer than 2 ^ 64.
+abbrev pub IsOctetsText : List ℕ → ℕ → Type 0
+IsOctetsText text octets =
+    (digits unit : List ℕ)
+    × (number size : ℕ)
+    × (text ≡ digits ++ unit)
+    × IsNumberText digits number
+    × IsUnit unit size
+    × (octets ≡ number * size)
+    × (octets < 2 ^ 64)
+
+-- The most octets that each journal may take, by the value of `--journal`: 64 * 1,024 * 1,024 if it
+-- isn't given, and without a bound if it is `all`.
+abbrev pub IsJournalBound : Option (List ℕ) → Option ℕ → Type 0
+IsJournalBound None bound = bound ≡ Some (64 * 1024 * 1024)
+IsJournalBound (Some text) None = text ≡ codes "all"
+IsJournalBound (Some text) (Some octets) = IsOctetsText text octets
 
 -- Who may use the server: every client, or one that gives this user and this password. There is no
 -- access for any other combination.

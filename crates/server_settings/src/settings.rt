@@ -1,15 +1,16 @@
 //! The program's command line.
 
-ghost use Rattle.std.specs.Prelude.{ℕ, ◌≡◌, ◌++◌, ◌∷◌, ◌<◌, [], false, true, IfNone, IfOk, IfSome};
-ghost use Rattle.std.specs.Prelude.{OnOk, Some, map, slice_get};
-ghost use Rattle.clap.specs.Words.{app_of, found_of, matches_of, rows_of};
+ghost use Rattle.std.specs.Prelude.{List, ℕ, ◌≡◌, ◌++◌, ◌∷◌, ◌<◌, ◌≤◌, [], false, true, IfNone};
+ghost use Rattle.std.specs.Prelude.{IfOk, IfSome, OnOk, Some, map, option_map, slice_get};
+ghost use Rattle.clap.specs.Words.{IsUnsignedIn, app_of, found_of, matches_of, rows_of};
 ghost use Rattle.clap_laws.specs.Words.{AddWords, IsWord};
-ghost use Rattle.server_settings.specs.Options.{NamesAccess, join_word, preauth_word, replica_word};
-ghost use Rattle.server_settings.specs.Options.{server_words, stop_word, with_access_words};
-ghost use Rattle.server_settings.specs.Options.{with_replica_words, word_with_value};
-ghost use Rattle.server_settings.specs.Settings.{AreNames, HavePeers, IsJoinText, IsNameText};
-ghost use Rattle.server_settings.specs.Settings.{IsPlaceText, access_of, is_named, names_of};
-ghost use Rattle.server_settings.specs.Settings.{join_names_of};
+ghost use Rattle.server_settings.specs.Options.{NamesAccess, NamesJournalBound, join_word};
+ghost use Rattle.server_settings.specs.Options.{preauth_word, replica_word, server_words};
+ghost use Rattle.server_settings.specs.Options.{stop_word, with_access_words, with_replica_words};
+ghost use Rattle.server_settings.specs.Options.{word_with_value};
+ghost use Rattle.server_settings.specs.Settings.{AreNames, HavePeers, IsJoinText, IsJournalBound};
+ghost use Rattle.server_settings.specs.Settings.{IsNameText, IsNumberText, IsPlaceText, IsUnit};
+ghost use Rattle.server_settings.specs.Settings.{access_of, is_named, join_names_of, names_of};
 ghost use Rattle.server_settings.specs.declared.settings.Join.{Join};
 ghost use Rattle.server_settings.specs.declared.settings.Place.{Place};
 
@@ -144,14 +145,17 @@ pub enum UsageFault<'a> {
 /// Reads the words of a command line; the first is the program's name. Errors are found in this
 /// order: in the words, in the access, in the journals' bound, in the replicas in their order, and
 /// in those that are to join in theirs. The access is the one that clap finds in the words: only
-/// `--preauth`, or `--user` and `--pass` without it. The replicas' names are distinct, from 1 to
-/// 65,535; each that joins takes the operations of one that exists before it.
+/// `--preauth`, or `--user` and `--pass` without it. The journals' bound is that of the value of
+/// `--journal`, and 64M without it. The replicas' names are distinct, from 1 to 65,535; each that
+/// joins takes the operations of one that exists before it.
 pub fn read_settings<'a>(
     alloc: Global,
     words: &'a [String],
 ) -> Result<CommandLine<'a>, SettingsFault<'a>>
     ensures access { IfOk result (λ settings. NamesAccess
         (matches_of server_words (map ⟦<String as AsStr>⟧.text words.entry.now)) settings.access) }
+    ensures journal { IfOk result (λ settings. NamesJournalBound
+        (matches_of server_words (map ⟦<String as AsStr>⟧.text words.entry.now)) settings.journal) }
     ensures names { IfOk result (λ settings. AreNames
         (names_of settings.places.items ++ join_names_of settings.joins.items)) }
     ensures peers { IfOk result
@@ -304,7 +308,10 @@ const JOURNAL_BOUND: u64 = 64 << 20;
 
 /// The most octets that each journal may take, by the value of `--journal`; `None` if there is no
 /// bound. `Err` if the value is no number that fits, or if memory runs out.
-fn journal_bound<'a>(alloc: Global, value: Option<&'a str>) -> Result<Option<u64>, Error> {
+fn journal_bound<'a>(alloc: Global, value: Option<&'a str>) -> Result<Option<u64>, Error>
+    ensures { IfOk result
+        (λ bound. IsJournalBound (option_map (λ text. text.now) value.entry) bound) }
+{
     let Some(value) = value else {
         return Ok(Some(JOURNAL_BOUND));
     };
@@ -313,12 +320,13 @@ fn journal_bound<'a>(alloc: Global, value: Option<&'a str>) -> Result<Option<u64
     }
     let (digits, unit) = split_unit(value);
     let count = number_of(alloc, digits, u64::MAX / unit)?;
-    Ok(Some(count.saturating_mul(unit)))
+    Ok(Some(count * unit))
 }
 
 /// A number's text without its unit, and the unit: `K`, `M` and `G` are powers of 1,024.
 fn split_unit(text: &str) -> (&str, u64)
-    ensures { 0 < result.1 }
+    ensures positive { 0 < result.1 }
+    ensures unit { (unit : List ℕ) × (text.now ≡ result.0.now ++ unit) × IsUnit unit result.1 }
 {
     if let Some(digits) = text.strip_suffix('K') {
         return (digits, 1 << 10);
@@ -333,13 +341,26 @@ fn split_unit(text: &str) -> (&str, u64)
 }
 
 /// The number from 0 to `most` that this text is; `Err` is what clap says of any other text.
-fn number_of(alloc: Global, text: &str, most: u64) -> Result<u64, Error> {
+fn number_of(alloc: Global, text: &str, most: u64) -> Result<u64, Error>
+    ensures number { IfOk result (λ number. IsNumberText text.now number) }
+    ensures most { IfOk result (λ number. number ≤ most) }
+{
+    check_number(alloc, text, most)?;
+    match text.parse::<u64>() {
+        Ok(number) => Ok(number),
+        Err(_) => unreachable!(),
+    }
+}
+
+/// Has clap check that this text is a number from 0 to `most`; `Err` is what it says of any other.
+fn check_number(alloc: Global, text: &str, most: u64) -> Result<(), Error>
+    ensures { IfOk result (λ _. IsUnsignedIn 0 most text.now) }
+{
     let words = ["imap_server", "--journal", text];
     let number = word_with_value(alloc, "journal", "").value_parser(ValueParser::unsigned(0, most));
     let command = Command::new(alloc, "imap_server").arg(number)?;
-    let matches = command.try_get_matches_from(&words)?;
-    // The words give the number, so that there is one.
-    Ok(matches.get_one::<u64>("journal").unwrap_or(0))
+    command.try_get_matches_from(&words)?;
+    Ok(())
 }
 
 /// The access that these options name: only `--preauth`, or `--user` and `--pass` without it.

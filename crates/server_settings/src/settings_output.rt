@@ -2,7 +2,7 @@
 
 ghost use Rattle.std.specs.Prelude.{◌++◌, IfOk, map};
 ghost use Rattle.clap.specs.Words.{matches_of};
-ghost use Rattle.server_settings.specs.Options.{NamesAccess, server_words};
+ghost use Rattle.server_settings.specs.Options.{NamesAccess, NamesJournalBound, server_words};
 ghost use Rattle.server_settings.specs.Settings.{AreNames, HavePeers, names_of, join_names_of};
 
 use crate::settings::{CommandLine, SettingsFault, UsageFault, is_out_of_memory, read_settings};
@@ -18,6 +18,8 @@ pub fn settings_or_status<'a, R: Print + AllocGlobal>(
 ) -> Result<CommandLine<'a>, u8>
     ensures access { IfOk result (λ settings. NamesAccess
         (matches_of server_words (map ⟦<String as AsStr>⟧.text words.entry.now)) settings.access) }
+    ensures journal { IfOk result (λ settings. NamesJournalBound
+        (matches_of server_words (map ⟦<String as AsStr>⟧.text words.entry.now)) settings.journal) }
     ensures names { IfOk result (λ settings. AreNames
         (names_of settings.places.items ++ join_names_of settings.joins.items)) }
     ensures peers { IfOk result
