@@ -108,7 +108,7 @@ fn converse_and_feed<
     ended
 }
 
-fn converse_on_stream<L: Ledger, R: Wait + Clock, G: Gate>(
+fn converse_on_stream<L: Ledger, R: Threads + Wait + Clock, G: Gate>(
     rt: &R,
     alloc: Global,
     gate: &mut G,
@@ -122,7 +122,7 @@ fn converse_on_stream<L: Ledger, R: Wait + Clock, G: Gate>(
         gate,
     );
     let device = SocketReader::new(rt, connection.stream);
-    let mut source = SessionReader::new(rt, connection, device);
+    let mut source = SessionReader::new(rt, connection.shared_phase, connection.pass, device);
     let mut sink = Wire::new(SocketWriter::new(connection.stream));
     let ended = converse_over(rt, alloc, &mut source, &mut sink, &mut port);
     drop(port);

@@ -1,17 +1,17 @@
 //! Replicas that join while the server runs.
 
-use crate::background::BackgroundTask;
-use crate::replica_handle::others;
+use crate::replica_handle::{CopyRequest, others};
 use crate::server_state::ServerState;
 use crdt_ops::SoundOp;
 use crossbeam_channel::{Receiver, Sender, unbounded};
-use replica_lock::Book;
+use replica_lock::{Book, Pass, Shared};
 use server_settings::{Join, Place};
 use std::alloc::Global;
 use std::fmt;
 use std::net::{Net, TcpListener, TcpStream};
 use std::rt::Clock;
 use std::sync::Wait;
+use std::sync::ledger::Ledger;
 use std::time::Duration;
 use tags_clocks::ReplicaId;
 
@@ -148,8 +148,30 @@ fn request_op_copies<R: Wait + Clock>(
     }
     let (reply, copies) = unbounded(alloc).ok()?;
     handle
-        .background_tasks
-        .send(rt, BackgroundTask::Copy(reply))
+        .copy_requests
+        .send(rt, CopyRequest::Copy(reply))
         .ok()?;
     copies.recv_timeout(rt, Duration::from_secs(60)).ok()?
+}
+
+/// Answers requests for copies of a replica's operations until one says `Stop`, and returns the
+/// pass.
+pub fn send_copies<L: Ledger, R: Wait>(
+    rt: &R,
+    alloc: Global,
+    shared: &Shared<L>,
+    pass: Pass<L>,
+    copy_requests: &Receiver<CopyRequest>,
+) -> Pass<L> {
+    for _ in rt.forever() {
+        match copy_requests.recv(rt) {
+            Ok(CopyRequest::Copy(reply)) => {
+                let copies = shared.ops_copy(rt, alloc, &pass).ok();
+                let _ = reply.send(rt, copies);
+            }
+            Ok(CopyRequest::Stop) => return pass,
+            Err(_) => return pass,
+        }
+    }
+    pass
 }

@@ -26,13 +26,17 @@
 //!   that size from memory that it owns, and returns the end of an arena to the system only if 2
 //!   MiB of it are unused. Both grow with the largest block that is freed. A block of 33 MB left
 //!   twice as much unused memory in the arenas after looks at large mailboxes.
+//! - What a session's pass no longer needs is freed before its connection reads, in a thread of its
+//!   own unless it is small (`SessionReader::free_spent`). A thread of the replica that did this for
+//!   all connections would need a channel in the state that they share, and the proof that this
+//!   state may be shared would have to look through all that a reply and a journal can hold.
 //! - Each replica's ledger is named in a call of its own, by `Brand`: a function can't call itself
 //!   with another ledger, so a program with a list of replicas starts a thread for each, and that
 //!   thread's function names the ledger.
 //! - A replica that hasn't joined yet is sent nothing. It asks for what is issued while it joins,
 //!   since its first messages ask all others: those operations are in its peers' lists by then.
-//! - A peer makes copies of its operations in its background thread, since each replica's ledger
-//!   has a name that only its own threads know. A replica that gets no copies within a minute can't
+//! - A peer makes copies of its operations in a thread of its own, since each replica's ledger has
+//!   a name that only its own threads know. A replica that gets no copies within a minute can't
 //!   join.
 //! - The thread whose connection ended first starts the joins, and waits for each; a connection
 //!   that ends in the meantime waits too. So `--stop-after` is checked after all joins.
@@ -91,7 +95,6 @@
 //!   two threads share one and either may shut it down.
 #![tactic(auto)]
 
-mod background;
 mod connection_threads;
 mod feeder;
 mod joining_replica;
@@ -107,13 +110,12 @@ mod shared_phase;
 mod socket;
 mod totals;
 
-pub use background::BackgroundTask;
 pub use connection_threads::{ReplicaContext, converse_over};
 pub use joining_replica::{JoinOutcome, JoiningReplica};
 pub use peer_sender::PeerSender;
 pub use program::{RunFault, open_all, run};
 pub use replica_end::ReplicaEnd;
-pub use replica_handle::{JoinSignal, JoiningReplicas, ReplicaHandle};
+pub use replica_handle::{CopyRequest, JoinSignal, JoiningReplicas, ReplicaHandle};
 pub use replica_threads::{ReplicaSetup, StartMode, serve, serve_over};
 pub use server_settings::{
     Access, CommandLine, Join, Place, SettingsFault, UsageFault, access_of, read_settings,

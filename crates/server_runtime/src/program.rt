@@ -1,12 +1,11 @@
 //! The program: from its command line to its status.
 
-use crate::background::{BackgroundTask, MOST_TASKS};
 use crate::joining_replica::JoiningReplica;
 use crate::replica_end::ReplicaEnd;
-use crate::replica_handle::{JoinSignal, JoiningReplicas, ReplicaHandle};
+use crate::replica_handle::{CopyRequest, JoinSignal, JoiningReplicas, ReplicaHandle};
 use crate::replica_threads::{ReplicaSetup, StartMode, serve};
 use crate::server_state::{ServerState, StopCounter};
-use crossbeam_channel::{Receiver, Sender, bounded, unbounded};
+use crossbeam_channel::{Receiver, Sender, unbounded};
 use log::{Log, error};
 use replica_links::PeerMsg;
 use server_settings::{CommandLine, Join, Place, listen_at, print_fault, settings_or_status};
@@ -263,7 +262,7 @@ fn add_setup<'a>(
         return Err(RunFault::UnknownReplica);
     };
     let own = opened.replicas.len();
-    let (messages, background_tasks) = match add_replica(alloc, address, &mut opened.replicas) {
+    let (messages, copy_requests) = match add_replica(alloc, address, &mut opened.replicas) {
         Ok(ends) => ends,
         Err(fault) => {
             drop(start_mode);
@@ -274,7 +273,7 @@ fn add_setup<'a>(
         replica,
         own,
         messages,
-        background_tasks,
+        copy_requests,
         start_mode,
     };
     match opened.parts.push(part) {
@@ -288,14 +287,14 @@ fn add_replica(
     alloc: Global,
     address: Option<SocketAddr>,
     handles: &mut Vec<ReplicaHandle>,
-) -> Result<(Receiver<PeerMsg>, Receiver<BackgroundTask>), RunFault> {
+) -> Result<(Receiver<PeerMsg>, Receiver<CopyRequest>), RunFault> {
     let (link, messages) = unbounded(alloc)?;
-    let (background_tasks, tasks) = bounded(alloc, MOST_TASKS)?;
+    let (copy_requests, copies) = unbounded(alloc)?;
     handles.push(ReplicaHandle {
         link,
-        background_tasks,
+        copy_requests,
         address: Mutex::new(address),
         send_lock: Mutex::new(()),
     })?;
-    Ok((messages, tasks))
+    Ok((messages, copies))
 }

@@ -3,21 +3,30 @@
 ghost use Rattle.std.specs.Prelude.{◌≡◌, IfOk};
 ghost use Rattle.server_runtime.specs.Places.{all_but};
 
-use crate::background::BackgroundTask;
+use crdt_ops::SoundOp;
 use crossbeam_channel::{Receiver, Sender};
 use replica_links::{LinkMsg, PeerMsg};
-use replica_lock::SpentMemory;
 use std::alloc::{AllocError, Global};
 use std::net::{Net, SocketAddr, TcpListener, TcpStream};
 use std::sync::{Mutex, Wait};
+
+/// A request to the thread that copies its replica's operations.
+#[derive(Drop)]
+pub enum CopyRequest {
+    /// Send copies of the operations, in the order in which they were applied; `None` if memory
+    /// runs out.
+    Copy(Sender<Option<Vec<SoundOp>>>),
+    /// End the thread.
+    Stop,
+}
 
 /// A replica, as others reach it.
 #[derive(Drop)]
 pub struct ReplicaHandle {
     /// Sends messages to it.
     pub link: Sender<PeerMsg>,
-    /// Sends tasks to its background thread.
-    pub background_tasks: Sender<BackgroundTask>,
+    /// Sends requests for copies of its operations.
+    pub copy_requests: Sender<CopyRequest>,
     /// The address at which it listens; `None` as long as it hasn't joined.
     pub address: Mutex<Option<SocketAddr>>,
     /// Locked from a client's command until what it issued was sent, so that the others get a
@@ -43,20 +52,8 @@ impl ReplicaHandle {
         }
     }
 
-    /// Frees what a pass no longer needs. The background thread does it, unless it is small or
-    /// `MOST_TASKS` tasks are waiting already.
-    pub fn free<R: Wait>(&self, rt: &R, spent: SpentMemory) {
-        if spent.is_small() {
-            drop(spent);
-            return;
-        }
-        let _ = self
-            .background_tasks
-            .try_send(rt, BackgroundTask::Free(spent));
-    }
-
     /// Wakes the replica's threads, so that they notice that the server stops: by a connection, a
-    /// message `Stop` from the replica's own place, and a task `Stop`.
+    /// message `Stop` from the replica's own place, and a request `Stop`.
     pub fn wake<R: Wait + Net<Listener = TcpListener, Stream = TcpStream>>(
         &self,
         rt: &R,
@@ -72,7 +69,7 @@ impl ReplicaHandle {
             message: LinkMsg::Stop,
         };
         let _ = self.link.send(rt, msg);
-        let _ = self.background_tasks.send(rt, BackgroundTask::Stop);
+        let _ = self.copy_requests.send(rt, CopyRequest::Stop);
     }
 }
 

@@ -4,12 +4,11 @@ ghost use Rattle.std.specs.Prelude.{◌≡◌, ℕ, IfOk, IfSome, Some, map, sli
 ghost use Rattle.server_laws.specs.BookWorlds.{KeepTheHeadline};
 ghost use Rattle.server_runtime.specs.ReplicaEnds.{AreEndsOf, IsEndOf, books_of};
 
-use crate::background::{BackgroundTask, carry_out_tasks};
 use crate::connection_threads::{ReplicaContext, converse_and_close, refuse_connection};
-use crate::joining_replica::{JoinedReplica, JoiningReplica};
+use crate::joining_replica::{JoinedReplica, JoiningReplica, send_copies};
 use crate::peer_sender::PeerSender;
 use crate::replica_end::{ReplicaEnd, end_of, ends_keep_the_headline};
-use crate::replica_handle::others;
+use crate::replica_handle::{CopyRequest, others};
 use crate::server_state::ServerState;
 use crate::totals::{Totals, totals_of};
 use crossbeam_channel::Receiver;
@@ -47,8 +46,8 @@ pub struct ReplicaSetup<'a> {
     pub own: usize,
     /// Messages from the other replicas.
     pub messages: Receiver<PeerMsg>,
-    /// The tasks of its background thread.
-    pub background_tasks: Receiver<BackgroundTask>,
+    /// Requests for copies of its operations.
+    pub copy_requests: Receiver<CopyRequest>,
     /// How it starts.
     pub start_mode: StartMode<'a>,
 }
@@ -76,8 +75,8 @@ pub struct ReplicaInputs {
     pub listener: TcpListener,
     /// Messages from the other replicas.
     pub messages: Receiver<PeerMsg>,
-    /// The tasks of its background thread.
-    pub background_tasks: Receiver<BackgroundTask>,
+    /// Requests for copies of its operations.
+    pub copy_requests: Receiver<CopyRequest>,
     /// The places of the others.
     pub peers: Vec<usize>,
     /// Whether it first asks the others for what it lacks.
@@ -232,7 +231,7 @@ fn run_setup<
         replica,
         own,
         messages,
-        background_tasks,
+        copy_requests,
         start_mode,
     } = setup;
     let (started, asks) = match start_mode {
@@ -259,7 +258,7 @@ fn run_setup<
         own,
         listener,
         messages,
-        background_tasks,
+        copy_requests,
         peers,
         asks,
     };
@@ -467,14 +466,14 @@ fn accepted_connections<L: Ledger, R: Log, G: Gate + Drop>(
 }
 
 /// Serves the connections of a listener, each in a thread of its own, until the server stops. Two
-/// further threads serve the link and carry out tasks in the background.
+/// further threads serve the link and the requests for copies.
 fn serve_listener<
     L: Ledger + Send + Sync,
     R: Threads + Wait + Clock + Log + Sync + Net<Listener = TcpListener, Stream = TcpStream>,
 >(rt: &R, alloc: Global, first: Pass<L>, served: &ServedReplica<'_, L>) -> Pass<L> {
     let mut first = first;
     let link_pass = first.cut();
-    let background_pass = first.cut();
+    let copy_pass = first.cut();
     thread::scope(thread::scope_env(), rt, |scope| {
         if let Some(pass) = link_pass {
             let _ = scope.spawn(move || {
@@ -482,14 +481,14 @@ fn serve_listener<
                 return_pass(rt, served.returned, pass)
             });
         }
-        if let Some(pass) = background_pass {
+        if let Some(pass) = copy_pass {
             let _ = scope.spawn(move || {
-                let pass = carry_out_tasks(
+                let pass = send_copies(
                     rt,
                     alloc,
                     served.context.shared,
                     pass,
-                    &served.inputs.background_tasks,
+                    &served.inputs.copy_requests,
                 );
                 return_pass(rt, served.returned, pass)
             });

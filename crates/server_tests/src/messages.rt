@@ -91,11 +91,11 @@ struct Handles {
 /// Adds a replica that listens at this address, or that hasn't joined yet if there is none.
 fn add_handle(alloc: Global, address: Option<SocketAddr>, three: &mut Handles) -> Option<()> {
     let (link, messages) = unbounded(alloc).ok()?;
-    let (background_tasks, _) = unbounded(alloc).ok()?;
+    let (copy_requests, _) = unbounded(alloc).ok()?;
     three.messages.push(messages).ok()?;
     let handle = ReplicaHandle {
         link,
-        background_tasks,
+        copy_requests,
         address: Mutex::new(address),
         send_lock: Mutex::new(()),
     };

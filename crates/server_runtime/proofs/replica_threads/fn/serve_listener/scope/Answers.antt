@@ -9,8 +9,8 @@ use Rattle.server_runtime.proofs.replica_threads.fn.serve_listener.scope.Goals a
 pub spawn-requires-send-F : goal.spawn-requires-send-F
 spawn-requires-send-F g c κs within = search (served_sync, pass.the_send, heap.the_send, heap.the_field_send, sendable) depth 60 fits 20000
 
-pub spawn-requires-in-Some-background_pass-send-F : goal.spawn-requires-in-Some-background_pass-send-F
-spawn-requires-in-Some-background_pass-send-F g c κs within = search (served_sync, pass.the_send, heap.the_send, heap.the_field_send, sendable) depth 60 fits 20000
+pub spawn-requires-in-Some-copy_pass-send-F : goal.spawn-requires-in-Some-copy_pass-send-F
+spawn-requires-in-Some-copy_pass-send-F g c κs within = search (served_sync, pass.the_send, heap.the_send, heap.the_field_send, sendable) depth 60 fits 20000
 
 pub spawn-requires-in-loop-stream-send-F : goal.spawn-requires-in-loop-stream-send-F
 spawn-requires-in-loop-stream-send-F g c κs within = search (served_sync, accepted.the_send, accepted.the_field_send, open_gate.the_send, open_gate.the_field_send, heap.the_send, heap.the_field_send, sendable) depth 60 fits 20000
