@@ -1,0 +1,4 @@
+pub mod LogLemmas
+pub mod DeviceLemmas
+pub mod ReplicaLemmas
+pub mod CrashLemmas

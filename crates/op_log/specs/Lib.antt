@@ -1,0 +1,6 @@
+pub mod Lines
+pub mod Entries
+pub mod Formats
+pub mod Crashes
+pub mod Recovery
+pub mod Damage
