@@ -6,3 +6,4 @@ pub mod RecoveryLemmas
 pub mod DamageLemmas
 pub mod FormatLemmas
 pub mod UndamagedLemmas
+pub mod FormLemmas

@@ -33,6 +33,7 @@ mod entry;
 mod format;
 mod laws;
 mod line;
+mod op_forms;
 mod recovery;
 
 pub use damage::is_damaged;
@@ -42,4 +43,5 @@ pub use laws::{
     lines_before_are_recovered,
 };
 pub use line::{first_text, push_line};
+pub use op_forms::op_has_text;
 pub use recovery::{LogFault, Recovered, recover};
