@@ -1,7 +1,16 @@
--- Octets on a device, as calls leave them.
+-- Devices as contracts see them, and octets on a device as calls leave them.
 
 use Rattle.std.specs.Prelude.{◌≡◌, ℕ, ◌+◌, Bool, true, ◌==◌, List, ◌++◌, drop, length, take}
 use Rattle.std.specs.List.{list_all}
+
+-- A device: whether contracts say what it contains (they say it of no file); all octets, as a read
+-- returns them; the first octets, which were synced and not written since, so that a crash leaves
+-- them; and the number of first octets of which the next sync says so.
+pub record DeviceState : Type 0 where
+  pub is_known : Bool
+  pub contents : List ℕ
+  pub synced : List ℕ
+  pub certain : ℕ
 
 -- Octets over which others were written at a place.
 abbrev pub with_octets_at : ℕ → List ℕ → List ℕ → List ℕ

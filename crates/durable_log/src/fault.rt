@@ -12,6 +12,9 @@ pub enum StoreFault {
     /// Memory ran out; nothing was done.
     #[error("no memory")]
     NoMemory,
+    /// The device has no space for the zeros that were to be written ahead; the log is as it was.
+    #[error("no space")]
+    NoSpace,
     /// What was synced was damaged: a later commit says that more octets had been synced than these
     /// first ones, which are whole batches, or the log lacks its first line.
     #[error("damaged at octet {octets}")]

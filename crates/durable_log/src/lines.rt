@@ -1,16 +1,16 @@
-//! The lines of batches.
+//! The lines of batches, and zeros.
 
-ghost use Rattle.std.specs.Prelude.{◌≡◌, ◌++◌, OnOk, map};
-ghost use Rattle.crdt_ops.specs.Form.{Each, IsInForm};
+ghost use Rattle.std.specs.Prelude.{◌≡◌, ◌++◌, IfOk, OnOk, length, map, true};
 ghost use Rattle.op_log.specs.Entries.{AreLawful, IsLawful, entry_text, lines_of};
 ghost use Rattle.op_log.specs.Lines.{line_of};
 ghost use Rattle.op_log.specs.declared.entry.Entry.TheVariants.{Apply};
+ghost use Rattle.durable_log.specs.Devices.{are_zeros};
 ghost use Rattle.durable_log.specs.Logs.{batch_entries, entry_of_op, first_entries};
 
 use crc32c::Crc32c;
 use crdt_ops::SoundOp;
 use merge_laws::Caused;
-use op_log::{Entry, push_entry, push_line};
+use op_log::{Entry, op_has_text, push_entry, push_line};
 use std::alloc::{AllocError, Global};
 use tags_clocks::ReplicaId;
 
@@ -39,7 +39,6 @@ pub fn push_batch(
     synced: u64,
     log: &mut Vec<u8>,
 ) -> Result<(), AllocError>
-    requires { Each IsInForm ops.now }
     ensures lines { OnOk result
         (log.new.items ≡ log.old.items ++ lines_of (batch_entries ops.now synced)) }
     ensures lawful { OnOk result (AreLawful (batch_entries ops.now synced)) }
@@ -54,7 +53,6 @@ fn push_ops(
     ops: &[SoundOp],
     log: &mut Vec<u8>,
 ) -> Result<(), AllocError>
-    requires { Each IsInForm ops.now }
     ensures lines { OnOk result
         (log.new.items ≡ log.old.items ++ lines_of (map entry_of_op ops.now)) }
     ensures lawful { OnOk result (AreLawful (map entry_of_op ops.now)) }
@@ -71,12 +69,12 @@ fn push_op(
     op: &SoundOp,
     log: &mut Vec<u8>,
 ) -> Result<(), AllocError>
-    requires { IsInForm op.now }
     ensures line { OnOk result
         (log.new.items ≡ log.old.items ++ line_of (entry_text (Apply op.now))) }
     ensures lawful { IsLawful (Apply op.now) }
 {
     let _sound = op.op();
+    op_has_text(op);
     let entry = Entry::Apply {
         op: op.copy(alloc)?,
     };
@@ -96,4 +94,14 @@ fn push_entry_line(
     let mut text = Vec::new(alloc);
     push_entry(alloc, entry, &mut text)?;
     push_line(checksums, &text, log)
+}
+
+/// So many zeros; `Err` if memory runs out.
+pub fn zeros(alloc: Global, count: usize) -> Result<Vec<u8>, AllocError>
+    ensures zeros { IfOk result (λ zeros. are_zeros zeros.items ≡ true) }
+    ensures count { IfOk result (λ zeros. length zeros.items ≡ count) }
+{
+    let mut zeros = Vec::new(alloc);
+    zeros.resize(count, 0)?;
+    Ok(zeros)
 }

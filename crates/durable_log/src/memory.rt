@@ -1,6 +1,6 @@
 //! `MemoryDevice`: a device in memory, for tests. It shows that the contracts of `LogDevice` agree.
 
-ghost use Rattle.std.specs.Prelude.{◌≡◌, ◌≤◌, ◌++◌, ℕ, List, OnOk, take, vec_len};
+ghost use Rattle.std.specs.Prelude.{◌≡◌, ◌≤◌, ◌++◌, ℕ, List, OnOk, min, take, true, vec_len};
 ghost use Rattle.durable_log.specs.Devices.{with_octets_at};
 
 use crate::device::{DeviceFault, LogDevice};
@@ -10,22 +10,36 @@ use std::alloc::{AllocError, Global};
 #[derive(Drop)]
 pub struct MemoryDevice {
     octets: Vec<u8>,
+    /// The number of first octets that were synced and not written since.
     synced: usize,
+    /// The number of first octets that a sync syncs.
+    certain: usize,
     ghost within: { synced ≤ vec_len octets },
 }
 
 impl MemoryDevice {
     /// A device with these octets, all of them synced.
-    pub fn new(octets: Vec<u8>) -> MemoryDevice {
+    pub fn new(octets: Vec<u8>) -> MemoryDevice
+        ensures octets { result.octets ≡ octets }
+        ensures synced { result.synced ≡ vec_len octets }
+        ensures certain { result.certain ≡ vec_len octets }
+    {
         let synced = octets.len();
-        MemoryDevice { octets, synced }
+        MemoryDevice {
+            octets,
+            synced,
+            certain: synced,
+        }
     }
 }
 
 impl LogDevice for MemoryDevice {
-    ghost contents = { λ m. m.octets.items };
-
-    ghost synced = { λ m. take m.synced m.octets.items };
+    ghost state = { λ m. record {
+      is_known = true;
+      contents = m.octets.items;
+      synced = take m.synced m.octets.items;
+      certain = m.certain;
+    } };
 
     fn read(&mut self, alloc: Global) -> Result<Vec<u8>, DeviceFault> {
         match self.octets.to_vec(alloc) {
@@ -35,29 +49,49 @@ impl LogDevice for MemoryDevice {
     }
 
     fn write(&mut self, place: usize, octets: &[u8]) -> Result<(), DeviceFault> {
-        if place < self.synced {
-            self.synced = place;
-        }
+        self.synced = lesser(self.synced, place);
         if self.octets.len() < place {
             return Err(DeviceFault::Failed);
         }
+        let Some(end) = place.checked_add(octets.len()) else {
+            return Err(DeviceFault::NoSpace);
+        };
         match write_at(&mut self.octets, place, octets) {
-            Ok(()) => Ok(()),
+            Ok(()) => {
+                self.certain = certain_after(self.certain, place, end);
+                Ok(())
+            }
             Err(_) => Err(DeviceFault::NoMemory),
         }
     }
 
     fn sync(&mut self) -> Result<(), DeviceFault> {
-        self.synced = self.octets.len();
+        self.synced = lesser(self.certain, self.octets.len());
         Ok(())
     }
 
     fn cut(&mut self, octets: usize) -> Result<(), DeviceFault> {
-        if octets < self.synced {
-            self.synced = octets;
-        }
+        self.synced = lesser(self.synced, octets);
         self.octets.truncate(octets);
         Ok(())
+    }
+}
+
+fn lesser(one: usize, other: usize) -> usize
+    ensures { result ≡ min one other }
+{
+    if one < other { one } else { other }
+}
+
+/// How many first octets are certain after those from a place to an end were written.
+fn certain_after(certain: usize, place: usize, end: usize) -> usize
+    ensures stays { certain ≤ result }
+    ensures raised { place ≤ certain → end ≤ result }
+{
+    if place <= certain && certain < end {
+        end
+    } else {
+        certain
     }
 }
 

@@ -1,19 +1,21 @@
 //! `RecoveredLog`: a log that was read and tested, before anything is written.
 
-ghost use Rattle.std.specs.Prelude.{◌≡◌, ◌⊎◌, ◌++◌, ℕ, List, IfErr, IfOk, MatchResult, take};
+ghost use Rattle.std.specs.Prelude.{◌≡◌, ◌⊎◌, ◌++◌, ◌∷◌, ℕ, List, [], IfErr, IfOk, MatchResult};
+ghost use Rattle.std.specs.Prelude.{OnOk, length, take, true};
 ghost use Rattle.crdt_ops.specs.Ops.{clock_of, id_of};
 ghost use Rattle.merge_laws.specs.Orders.{IsCausal};
 ghost use Rattle.op_log.specs.Entries.{committed_entries, ops_of};
 ghost use Rattle.op_log.specs.declared.entry.Entry.{Entry};
-ghost use Rattle.durable_log.specs.Logs.{IsCrashedLog, IsRecoveredLog, IsStoreFault};
+ghost use Rattle.durable_log.specs.Logs.{HasOps, IsCrashedLog, IsRecoveredLog, IsStoreFault};
 ghost use Rattle.durable_log.specs.declared.fault.StoreFault.TheVariants.{Failed, NoMemory};
 
 use crate::device::{DeviceFault, LogDevice};
 use crate::fault::StoreFault;
-use crate::recovery::{are_zeros, recover_log, unsynced_place};
+use crate::layout::{LogLayout, read_layout};
 use crc32c::Crc32c;
+use crdt_ops::SoundOp;
 use op_log::Entry;
-use std::alloc::Global;
+use std::alloc::{AllocError, Global};
 use tags_clocks::ReplicaId;
 
 /// A log on a device that was read and tested, and to which nothing was written since.
@@ -21,45 +23,43 @@ use tags_clocks::ReplicaId;
 pub struct RecoveredLog<D: LogDevice> {
     pub(crate) device: D,
     pub(crate) checksums: Crc32c,
-    /// The number of octets of the committed lines.
-    pub(crate) octets: usize,
-    /// Whether only zeros follow these.
-    pub(crate) is_padded: bool,
-    /// The place from which what was written may not have reached the device.
-    pub(crate) place: usize,
-    /// The octets from there to the end of the committed lines.
-    pub(crate) unsynced: Vec<u8>,
+    pub(crate) layout: LogLayout,
+    /// The number of operations in the committed lines.
+    pub(crate) op_count: u64,
 }
 
 impl<D: LogDevice + Drop> RecoveredLog<D> {
-    /// Reads the log of a replica, and returns its committed entries too; nothing is written.
+    /// Reads the log of a replica, and returns its operations too, those of the committed entries
+    /// in their order; nothing is written.
     ///
-    /// Of a log that a crash left, these are all entries that had been synced, and then whole
-    /// batches of what was being written, in order; the only faults are `NoMemory` and `Failed`. Of
-    /// any other log, `Unsound` and `LaterFormat` are those of [`op_log::recover`]; then `Damaged`,
-    /// if a commit after the committed lines says that more had been synced, or the first line is
-    /// missing; then `OtherReplica`.
+    /// Of a log that a crash left, these are the operations of all entries that had been synced,
+    /// and then of whole batches of what was being written, in order; the only faults are
+    /// `NoMemory` and `Failed`. Of any other log, `Unsound` and `LaterFormat` are those of
+    /// [`op_log::recover`]; then `Damaged`, if a commit after the committed lines says that more
+    /// had been synced, or the first line is missing; then `OtherReplica`. Never `NoSpace`.
     pub fn read(
         alloc: Global,
         device: D,
         replica: ReplicaId,
-    ) -> Result<(RecoveredLog<D>, Vec<Entry>), StoreFault>
-        ensures recovered { IfOk result
-            (λ found. IsRecoveredLog D.contents replica found.0 found.1.items) }
-        ensures unchanged { IfOk result
-            (λ found. (D.contents found.0.device ≡ D.contents device)
-            × (D.synced found.0.device ≡ D.synced device)) }
-        ensures fault { IfErr result (IsStoreFault replica (D.contents device)) }
-        ensures crash { (synced unsynced : List Entry)
-            → IsCrashedLog replica synced unsynced (D.contents device)
+    ) -> Result<(RecoveredLog<D>, Vec<SoundOp>), StoreFault>
+        ensures recovered { (D.state device).is_known ≡ true
+            → IfOk result (λ found. HasOps D.state replica found.0 found.1.items) }
+        ensures unchanged { IfOk result (λ found. D.state found.0.device ≡ D.state device) }
+        ensures counted { IfOk result (λ found. found.0.op_count ≡ length found.1.items) }
+        ensures fault { (D.state device).is_known ≡ true
+            → IfErr result (IsStoreFault replica (D.state device).contents) }
+        ensures crash { (synced unsynced : List Entry) → (D.state device).is_known ≡ true
+            → IsCrashedLog replica synced unsynced (D.state device).contents
             → MatchResult result
             (λ found. (count : ℕ)
-            × (found.1.items ≡ synced ++ committed_entries (take count unsynced)))
+            × IsRecoveredLog D.state replica found.0
+            (synced ++ committed_entries (take count unsynced))
+            × (found.1.items ≡ ops_of (synced ++ committed_entries (take count unsynced))))
             (λ fault. (fault ≡ NoMemory) ⊎ (fault ≡ Failed)) }
-        ensures causal { (synced unsynced : List Entry)
-            → IsCrashedLog replica synced unsynced (D.contents device)
+        ensures causal { (synced unsynced : List Entry) → (D.state device).is_known ≡ true
+            → IsCrashedLog replica synced unsynced (D.state device).contents
             → IsCausal id_of clock_of (ops_of (synced ++ unsynced))
-            → IfOk result (λ found. IsCausal id_of clock_of (ops_of found.1.items)) }
+            → IfOk result (λ found. IsCausal id_of clock_of found.1.items) }
     {
         read_log(alloc, device, replica)
     }
@@ -69,36 +69,82 @@ fn read_log<D: LogDevice + Drop>(
     alloc: Global,
     device: D,
     replica: ReplicaId,
-) -> Result<(RecoveredLog<D>, Vec<Entry>), StoreFault>
-    ensures recovered { IfOk result
-        (λ found. IsRecoveredLog D.contents replica found.0 found.1.items) }
-    ensures unchanged { IfOk result
-        (λ found. (D.contents found.0.device ≡ D.contents device)
-        × (D.synced found.0.device ≡ D.synced device)) }
-    ensures fault { IfErr result (IsStoreFault replica (D.contents device)) }
+) -> Result<(RecoveredLog<D>, Vec<SoundOp>), StoreFault>
+    ensures recovered { (D.state device).is_known ≡ true
+        → IfOk result (λ found. HasOps D.state replica found.0 found.1.items) }
+    ensures unchanged { IfOk result (λ found. D.state found.0.device ≡ D.state device) }
+    ensures counted { IfOk result (λ found. found.0.op_count ≡ length found.1.items) }
+    ensures fault { (D.state device).is_known ≡ true
+        → IfErr result (IsStoreFault replica (D.state device).contents) }
 {
     let mut device = device;
-    let checksums = Crc32c::new();
     let log = match device.read(alloc) {
         Ok(log) => log,
         Err(DeviceFault::NoMemory) => return Err(StoreFault::NoMemory),
-        Err(DeviceFault::Failed) => return Err(StoreFault::Failed),
+        Err(_) => return Err(StoreFault::Failed),
     };
-    let (entries, octets) = recover_log(alloc, &checksums, replica, &log)?;
-    let place = unsynced_place(&entries, octets);
-    let Ok(unsynced) = log[place..octets].to_vec(alloc) else {
+    let checksums = Crc32c::new();
+    match read_layout(alloc, &checksums, replica, &log) {
+        Ok((layout, entries)) => {
+            drop(log);
+            with_ops(alloc, device, checksums, layout, entries)
+        }
+        Err(fault) => Err(fault),
+    }
+}
+
+/// The recovered log with this layout, and the operations of its entries, in the same memory. `Err`
+/// if memory runs out for their list.
+fn with_ops<D: LogDevice + Drop>(
+    alloc: Global,
+    device: D,
+    checksums: Crc32c,
+    layout: LogLayout,
+    entries: Vec<Entry>,
+) -> Result<(RecoveredLog<D>, Vec<SoundOp>), StoreFault>
+    ensures device { IfOk result (λ found. found.0.device ≡ device) }
+    ensures layout { IfOk result (λ found. found.0.layout ≡ layout) }
+    ensures op_count { IfOk result (λ found. found.0.op_count ≡ length (ops_of entries.items)) }
+    ensures counted { IfOk result (λ found. found.0.op_count ≡ length found.1.items) }
+    ensures ops { IfOk result (λ found. found.1.items ≡ ops_of entries.items) }
+    ensures fault { IfErr result (λ fault. fault ≡ NoMemory) }
+{
+    let Ok(ops) = ops_of(alloc, entries) else {
         return Err(StoreFault::NoMemory);
     };
-    let is_padded = are_zeros(&log[octets..]);
+    let op_count = ops.len() as u64;
     Ok((
         RecoveredLog {
             device,
             checksums,
-            octets,
-            is_padded,
-            place,
-            unsynced,
+            layout,
+            op_count,
         },
-        entries,
+        ops,
     ))
+}
+
+/// The operations of entries, in the same memory. `Err` if memory runs out for their list.
+fn ops_of(alloc: Global, entries: Vec<Entry>) -> Result<Vec<SoundOp>, AllocError>
+    ensures { IfOk result (λ ops. ops.items ≡ ops_of entries.items) }
+{
+    let mut ops = Vec::new(alloc);
+    for entry in entries {
+        push_op_of(entry, &mut ops)?;
+    }
+    Ok(ops)
+}
+
+/// Appends the operation of an entry, if it has one.
+fn push_op_of(entry: Entry, ops: &mut Vec<SoundOp>) -> Result<(), AllocError>
+    ensures { OnOk result (ops.new.items ≡ ops.old.items ++ ops_of (entry ∷ [])) }
+{
+    match entry {
+        Entry::Begin { replica: _ } => Ok(()),
+        Entry::Apply { op } => {
+            ops.push(op)?;
+            Ok(())
+        }
+        Entry::Commit { synced: _ } => Ok(()),
+    }
 }

@@ -1,7 +1,6 @@
 //! The octets of a log, read and tested.
 
 ghost use Rattle.std.specs.Prelude.{◌≡◌, ◌≤◌, ◌∷◌, [], IfErr, IfOk, length};
-ghost use Rattle.durable_log.specs.Devices.{are_zeros};
 ghost use Rattle.durable_log.specs.Logs.{IsSoundLog, IsStoreFault, entries_fault};
 ghost use Rattle.durable_log.specs.Replicas.{has_first_line, other_replica};
 
@@ -94,27 +93,5 @@ fn other_name(replica: ReplicaId, entry: &Entry) -> Option<ReplicaId>
     match entry {
         Entry::Begin { replica: name } => { if *name == replica { None } else { Some(*name) } }
         _ => None,
-    }
-}
-
-/// Whether all octets are zero.
-pub fn are_zeros(octets: &[u8]) -> bool
-    ensures { result ≡ are_zeros octets.now }
-{
-    octets.iter().all(|octet| *octet == 0)
-}
-
-/// The place from which what was written may not have reached the device, by the last commit; at
-/// most `octets`.
-pub fn unsynced_place(entries: &[Entry], octets: usize) -> usize
-    ensures { result ≤ octets }
-{
-    let Some(Entry::Commit { synced }) = entries.last() else {
-        return 0;
-    };
-    if *synced < octets as u64 {
-        *synced as usize
-    } else {
-        octets
     }
 }

@@ -2,4 +2,4 @@ use Rattle.durable_log.proofs.CrashLemmas.{crashed_write}
 use Rattle.durable_log.proofs.laws.crashes_of_writes_leave_what_was_synced.Goals as goal
 
 pub returns : goal.returns
-returns g c = crashed_write g.D.LogDevice.contents g.D.LogDevice.synced
+returns g c = crashed_write g.D.LogDevice.state

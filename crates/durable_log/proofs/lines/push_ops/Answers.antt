@@ -1,5 +1,4 @@
-use Rattle.crdt_ops.specs.Form.{IsInForm}
-use Rattle.durable_log.proofs.LogLemmas.{form_rest, lawful_more, lines_of_op}
+use Rattle.durable_log.proofs.LogLemmas.{lawful_more, lines_of_op}
 use Rattle.durable_log.proofs.lines.push_ops.Goals as goal
 
 pub loop-op-preserved : goal.loop-op-preserved
@@ -10,5 +9,4 @@ loop-op-preserved c =
     record {
       lines = lines_of_op c.args.log.now.items c.loop-op.log.items c.push_op.new.log.items ops i op c.loop-op-test.true c.op-item.is c.loop-op.invariant.lines c.in_ok-push_op.ensures.line;
       lawful = lawful_more ops i op c.loop-op-test.true c.op-item.is c.loop-op.invariant.lawful c.in_ok-push_op.ensures.lawful;
-      form = (form_rest IsInForm ops i op c.loop-op-test.true c.op-item.is c.loop-op.invariant.form).1;
     }
