@@ -1,0 +1,24 @@
+//! Tests of checksums and logs, of properties that no clause states.
+//!
+//! Checksums are those that other programs compute. A log in memory is written, synced, cut short
+//! and read again; one over a device that is full, or fails, goes on or does nothing any more. Logs
+//! in files are written, read again after a torn end, refused by name if they are damaged, and a
+//! folder is locked once. Each law and each call that takes memory is called once.
+#![tactic(auto)]
+
+#[cfg(test)]
+mod checksums;
+#[cfg(test)]
+mod faults;
+#[cfg(test)]
+mod files;
+#[cfg(test)]
+mod fixtures;
+#[cfg(test)]
+mod full_device;
+#[cfg(test)]
+mod full_logs;
+#[cfg(test)]
+mod laws;
+#[cfg(test)]
+mod memory_logs;
