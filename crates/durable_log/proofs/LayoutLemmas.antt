@@ -1,4 +1,4 @@
-use Rattle.std.proofs.Common.{◌≡◌, ℕ, ◌+◌, ◌-◌, ◌≤◌, min, Bool, true, cond, List, [], ◌∷◌, ◌++◌, length, take, drop, Option, Some, None, Result, Ok, Err, IfErr, IfOk, zero, suc, refl, sym, ap, ◌∙◌, subst, arith}
+use Rattle.std.proofs.Common.{◌≡◌, ℕ, ◌+◌, ◌-◌, ◌≤◌, min, true, cond, List, [], ◌∷◌, ◌++◌, length, take, drop, Some, Result, Ok, Err, IfErr, IfOk, zero, suc, sym, ap, ◌∙◌, subst, arith}
 use Rattle.std.proofs.lemmas.List.{length-drop, length-take-le}
 use Rattle.std.specs.List.{slice_get}
 use Rattle.crdt_ops.specs.declared.op.Op.{Op}
@@ -6,7 +6,7 @@ use Rattle.op_log.specs.Entries.{lines_of, ops_of}
 use Rattle.op_log.specs.declared.entry.Entry.{Entry}
 use Rattle.op_log.specs.declared.entry.Entry.TheVariants.{Apply, Begin, Commit}
 use Rattle.durable_log.specs.Devices.{DeviceState, are_zeros, with_octets_at}
-use Rattle.durable_log.specs.Logs.{HasOps, IsLastCommitCertain, IsLayout, IsRecoveredLog, IsSoundLog, IsStoreFault, synced_place}
+use Rattle.durable_log.specs.Logs.{HasOps, IsLastCommitCertain, IsLayout, IsSoundLog, IsStoreFault, synced_place}
 use Rattle.durable_log.specs.declared.fault.StoreFault.{StoreFault}
 use Rattle.durable_log.specs.declared.fault.StoreFault.TheVariants.{NoMemory}
 use Rattle.durable_log.specs.declared.layout.LogLayout.{LogLayout}

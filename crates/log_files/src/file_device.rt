@@ -1,7 +1,6 @@
 //! `FileDevice`: the file of a log.
 
 ghost use Rattle.std.specs.Prelude.{[], false};
-ghost use Rattle.durable_log.specs.Devices.{DeviceState};
 
 use durable_log::{DeviceFault, LogDevice};
 use std::alloc::Global;

@@ -1,4 +1,4 @@
-use Rattle.std.proofs.Common.{◌≡◌, ℕ, List, ◌-◌, ◌∙◌, ap, drop, length, refl, subst, sym, take}
+use Rattle.std.proofs.Common.{List, ◌∙◌, ap, refl, subst, sym}
 use Rattle.std.proofs.lemmas.List.{take_rest}
 use Rattle.op_log.specs.declared.entry.Entry.{Entry}
 use Rattle.durable_log.specs.Devices.{are_zeros}

@@ -1,4 +1,4 @@
-use Rattle.std.proofs.Common.{◌≤◌, ◌+◌, List, ℕ, ◌∙◌, ap, arith, length, refl}
+use Rattle.std.proofs.Common.{List, ℕ, ◌∙◌, ap, arith, refl}
 use Rattle.durable_log.specs.Devices.{with_octets_at}
 use Rattle.durable_log.proofs.DeviceLemmas.{place_within, prefix_of_padded}
 use Rattle.durable_log.proofs.LogLemmas.{entries_after_full, entries_after_grow, room_within, synced_after_cut, synced_after_write}

@@ -1,4 +1,4 @@
-use Rattle.std.proofs.Common.{ℕ, List, ◌∙◌, ap, min, take}
+use Rattle.std.proofs.Common.{ℕ, ◌∙◌, ap, min, take}
 use Rattle.durable_log.proofs.DeviceLemmas.{take_cut}
 use Rattle.durable_log.proofs.memory.MemoryDeviceLogDevice.cut.Goals as goal
 

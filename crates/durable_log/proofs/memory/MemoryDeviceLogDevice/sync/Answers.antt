@@ -1,4 +1,4 @@
-use Rattle.std.proofs.Common.{ℕ, List, ◌∙◌, ap, min, take}
+use Rattle.std.proofs.Common.{ℕ, ◌∙◌, ap, min, take}
 use Rattle.std.proofs.lemmas.List.{take_min}
 use Rattle.durable_log.proofs.memory.MemoryDeviceLogDevice.sync.Goals as goal
 

@@ -1,4 +1,4 @@
-use Rattle.std.proofs.Common.{ℕ, ◌≤◌, List, drop, ◌∙◌, ap, arith, length, min, sym, take}
+use Rattle.std.proofs.Common.{ℕ, ◌≤◌, drop, ◌∙◌, ap, arith, length, min, sym, take}
 use Rattle.std.proofs.lemmas.List.{take-append-drop}
 use Rattle.durable_log.proofs.DeviceLemmas.{take_before, take_both}
 use Rattle.durable_log.proofs.memory.MemoryDeviceLogDevice.write.Goals as goal
