@@ -1,0 +1,5 @@
+pub mod EntryOrderLemmas
+pub mod RestorationLemmas
+pub mod LineCountLemmas
+pub mod LogDumpLemmas
+mod CrashedDumpLemmas

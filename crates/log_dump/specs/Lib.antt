@@ -1,0 +1,4 @@
+pub mod EntryOrder
+pub mod LogDumps
+pub mod Restoration
+pub mod Output
