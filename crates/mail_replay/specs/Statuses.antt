@@ -1,8 +1,11 @@
--- The program's status and its last line for each end of a replay or an audit.
+-- The program's status for each end of a replay, an audit or a log's dump, and the last line of a
+-- replay.
 
 use Rattle.std.specs.Prelude.{ℕ, Option, Some, None}
 use Rattle.mail_script.specs.declared.outcome_line.OutcomeLine.{OutcomeLine}
 use Rattle.mail_script.specs.declared.outcome_line.OutcomeLine.TheVariants as lines
+use Rattle.log_dump.specs.declared.dump_end.LogDumpEnd.{LogDumpEnd}
+use Rattle.log_dump.specs.declared.dump_end.LogDumpEnd.TheVariants as dumps
 use Rattle.mail_audit.specs.declared.verdict.AuditEnd.{AuditEnd}
 use Rattle.mail_audit.specs.declared.verdict.AuditEnd.TheVariants as audits
 use Rattle.mail_replay.specs.declared.replay_end.ReplayEnd.{ReplayEnd}
@@ -33,3 +36,11 @@ audit_status_of (audits.Unreadable line) = 3
 audit_status_of audits.ReadFailed = 3
 audit_status_of audits.WriteFailed = 3
 audit_status_of audits.NoMemory = 3
+
+-- The program's status after the dump of a log: 0 if it was written, otherwise 3.
+abbrev pub log_status_of : LogDumpEnd → ℕ
+log_status_of dumps.Done = 0
+log_status_of (dumps.Unreadable octets) = 3
+log_status_of dumps.ReadFailed = 3
+log_status_of dumps.WriteFailed = 3
+log_status_of dumps.NoMemory = 3

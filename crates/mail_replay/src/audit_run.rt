@@ -36,8 +36,8 @@ pub fn audit_from<R: Print + AllocGlobal, S: Read + Drop>(rt: &R, mut input: S) 
     }
 }
 
-/// Prints why nothing was audited, and returns the status 3.
-fn report_failure<R: Print>(rt: &R, why: &[u8]) -> u8 {
+/// Prints why an input isn't read, and returns the status 3.
+pub(crate) fn report_failure<R: Print>(rt: &R, why: &[u8]) -> u8 {
     let mut writer = io::writer(rt);
     let _ = writer.write_all(why);
     let _ = writer.flush();

@@ -1,6 +1,6 @@
 //! The parts of the program `mail_tool`: its command line, the replay of a script (replicas,
-//! sessions and what clients send in them, line by line), the audit of its output, and the status
-//! with which it ends.
+//! sessions and what clients send in them, line by line), the audit of its output, the dump of a
+//! replica's log, and the status with which it ends.
 //!
 //! The contract of `replay` holds for any reader and writer whose octets are known: the text
 //! written is the output of the script's lines, one after another, and the end names the first line
@@ -10,8 +10,8 @@
 //! status and the last line for each end; that this line is written is only tested.
 //!
 //! `dumps_are_right` joins the definitions of nodes and of the audit: the dump that a node writes
-//! is a right dump. The laws of `dump_forms` say that every sound operation has a text. Nothing
-//! calls these laws.
+//! is a right dump. `log_dumps_are_right` says this of the dump of a log. The laws of `dump_forms`
+//! say that every sound operation has a text. Nothing calls these laws.
 //!
 //! # Decided
 //!
@@ -43,6 +43,8 @@ mod deliveries;
 mod dump_forms;
 mod dump_laws;
 mod exchanges;
+mod log_laws;
+mod log_run;
 mod program;
 mod program_request;
 mod replay_end;
@@ -54,6 +56,7 @@ mod script_state;
 mod transcript_lines;
 
 pub use audit_run::{audit_file, audit_from};
+pub use log_run::{dump_log_file, dump_log_from};
 pub use program::run;
 pub use program_request::{ProgramRequest, read_words};
 pub use replay_end::ReplayEnd;

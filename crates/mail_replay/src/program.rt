@@ -1,6 +1,7 @@
 //! The program: what its command line asks for, and the status with which it ends.
 
 use crate::audit_run::{audit_file, audit_from};
+use crate::log_run::{dump_log_file, dump_log_from};
 use crate::program_request::{ProgramRequest, read_words};
 use crate::replay_end::ReplayEnd;
 use crate::replay_run::replay;
@@ -12,8 +13,9 @@ use std::rt::{Env, Files};
 use std::{env, fs, io};
 
 /// Reads the command line, does what it asks for, and returns the program's status: 0 if a script
-/// was served to its end, an audit answered yes, or help was asked for; 1 if an audit answered no;
-/// 2 if the command line is wrong; 3 if a script ended early or an input can't be audited.
+/// was served to its end, an audit answered yes, a log's dump was printed, or help was asked for; 1
+/// if an audit answered no; 2 if the command line is wrong; 3 if a script ended early, or an input
+/// can't be audited, or a log can't be read.
 pub fn run<R: Env + Files + Input + Print + AllocGlobal>(rt: &R) -> u8 {
     match words(rt) {
         Ok(words) => run_words(rt, &words),
@@ -35,6 +37,8 @@ fn run_words<R: Files + Input + Print + AllocGlobal>(rt: &R, words: &[String]) -
         },
         Ok(ProgramRequest::Audit { file: None }) => audit_from(rt, rt.reader()),
         Ok(ProgramRequest::Audit { file: Some(path) }) => audit_file(rt, path),
+        Ok(ProgramRequest::Log { file: None }) => dump_log_from(rt, rt.reader()),
+        Ok(ProgramRequest::Log { file: Some(path) }) => dump_log_file(rt, path),
         Err(error) => explain(rt, error),
     }
 }

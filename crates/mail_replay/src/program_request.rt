@@ -10,6 +10,8 @@ pub enum ProgramRequest<'a> {
     Replay { file: Option<&'a str> },
     /// Audit the output in this file, or on the standard input.
     Audit { file: Option<&'a str> },
+    /// Dump the log in this file, or on the standard input.
+    Log { file: Option<&'a str> },
 }
 
 /// Reads the words of a command line, which begin with the program's name.
@@ -18,6 +20,9 @@ pub fn read_words<'a>(alloc: Global, words: &'a [String]) -> Result<ProgramReque
     Ok(match matches.subcommand() {
         Some(("audit", audit)) => ProgramRequest::Audit {
             file: audit.get_str("FILE"),
+        },
+        Some(("log", log)) => ProgramRequest::Log {
+            file: log.get_str("FILE"),
         },
         Some((_, replay)) => ProgramRequest::Replay {
             file: replay.get_str("FILE"),
@@ -38,8 +43,13 @@ fn command_words<'a>(alloc: Global) -> Result<Command<'a>, AllocError> {
     let audit = Command::new(alloc, "audit")
         .about("Audit what a replay printed")
         .arg(input)?;
+    let path = Arg::new(alloc, "FILE").help("The log; the standard input without it");
+    let log = Command::new(alloc, "log")
+        .about("Print the dump of a replica's log")
+        .arg(path)?;
     Command::new(alloc, "mail_tool")
         .subcommand_required(true)
         .subcommand(replay)?
-        .subcommand(audit)
+        .subcommand(audit)?
+        .subcommand(log)
 }
