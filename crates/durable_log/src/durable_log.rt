@@ -178,6 +178,13 @@ impl<D: LogDevice> DurableLog<D> {
         self.room
     }
 
+    /// Whether the device failed. The log does nothing any more then.
+    pub fn has_failed(&self) -> bool
+        ensures { result ≡ self.now.failed }
+    {
+        self.failed
+    }
+
     /// The number of operations that were written.
     pub fn op_count(&self) -> u64
         ensures { result ≡ self.now.op_count }

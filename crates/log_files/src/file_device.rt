@@ -54,7 +54,10 @@ impl LogDevice for FileDevice {
     }
 
     fn cut(&mut self, octets: usize) -> Result<(), DeviceFault> {
-        done(self.file.set_len(octets as u64))
+        match done(self.file.set_len(octets as u64)) {
+            Ok(()) => done(self.file.sync_all()),
+            Err(fault) => Err(fault),
+        }
     }
 }
 

@@ -6,4 +6,5 @@ pub mod RecoveryLemmas
 pub mod DamageLemmas
 pub mod FormatLemmas
 pub mod UndamagedLemmas
+pub mod LineBoundLemmas
 pub mod FormLemmas

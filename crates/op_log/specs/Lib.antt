@@ -4,3 +4,4 @@ pub mod Formats
 pub mod Crashes
 pub mod Recovery
 pub mod Damage
+pub mod LineBounds

@@ -2,16 +2,18 @@
 
 ghost use Rattle.std.specs.Prelude.{◌≡◌, ◌<◌, ◌≤◌, ◌++◌, ◌∷◌, ℕ, List, drop, false, length};
 ghost use Rattle.std.specs.Prelude.{map, take, true};
-ghost use Rattle.crdt_ops.specs.Form.{Each};
+ghost use Rattle.crdt_ops.specs.Form.{Each, IsInForm};
+ghost use Rattle.crdt_ops.specs.declared.op.Op.{Op};
 ghost use Rattle.crdt_ops.specs.Reading.{parts_at};
 ghost use Rattle.op_log.specs.Crashes.{BeginsWithWrittenLines, HasOnlyWrittenLines};
 ghost use Rattle.op_log.specs.Crashes.{IsCrashState};
 ghost use Rattle.op_log.specs.Damage.{HasSyncedAtMost, has_commit_beyond};
 ghost use Rattle.op_log.specs.Entries.{AreLawful, EndsWithCommit, entry_text, lines_of};
+ghost use Rattle.op_log.specs.LineBounds.{line_bound};
 ghost use Rattle.op_log.specs.Lines.{AreTexts, IsText, line_of, log_of, recovered_texts};
 ghost use Rattle.op_log.specs.Recovery.{IsRecovered};
 ghost use Rattle.op_log.specs.declared.entry.Entry.{Entry};
-ghost use Rattle.op_log.specs.declared.entry.Entry.TheVariants.{Commit};
+ghost use Rattle.op_log.specs.declared.entry.Entry.TheVariants.{Apply, Commit};
 
 /// Whatever follows whole lines, they are recovered before what is recovered of it.
 pub fn lines_before_are_recovered()
@@ -49,4 +51,9 @@ pub fn crash_states_are_undamaged()
         → Each (HasSyncedAtMost (length (lines_of synced))) unsynced
         → IsRecovered log entries octets
         → has_commit_beyond octets (parts_at 10 (drop octets log)) ≡ false }
+{}
+
+/// The line of an operation has at most as many octets as `line_bound` says.
+pub fn lines_are_within_bounds()
+    ensures { (op : Op) → IsInForm op → length (line_of (entry_text (Apply op))) ≤ line_bound op }
 {}

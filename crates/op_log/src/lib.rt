@@ -12,7 +12,9 @@
 //! there, in order, `recover` returns all that was synced, then whole batches of what was written,
 //! and no fault but want of memory. [`is_damaged`] says whether a commit after these lines shows
 //! that more had been synced; the law [`crash_states_are_undamaged`] says that no crash leaves such
-//! a log.
+//! a log. [`line_bound`] says how many octets an operation's line has at most, without a pass over
+//! its text, so that room can be set aside before the operation exists
+//! ([`lines_are_within_bounds`]).
 //!
 //! # Decided
 //!
@@ -33,6 +35,7 @@ mod entry;
 mod format;
 mod laws;
 mod line;
+mod line_bounds;
 mod op_forms;
 mod recovery;
 
@@ -40,8 +43,9 @@ pub use damage::is_damaged;
 pub use entry::{Entry, EntryFault, push_entry, read_entry};
 pub use laws::{
     crash_states_are_undamaged, cuts_leave_written_lines, damage_before_commit_is_found,
-    lines_before_are_recovered,
+    lines_are_within_bounds, lines_before_are_recovered,
 };
 pub use line::{first_text, push_line};
+pub use line_bounds::{line_bound, lines_bound};
 pub use op_forms::op_has_text;
 pub use recovery::{LogFault, Recovered, recover};
