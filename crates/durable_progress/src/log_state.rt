@@ -38,8 +38,8 @@ impl<D: LogDevice + Drop> LogState<D> {
         }
     }
 
-    /// Whether who waits for the first `count` operations to be synced must still wait: they aren't,
-    /// the log didn't fail, and somebody else has it.
+    /// Whether who waits for the first `count` operations to be synced must still wait: they
+    /// aren't, the log didn't fail, and somebody else has it.
     pub fn must_wait(&self, count: u64) -> bool
         ensures { IsTrue result ↔ IsAwaited self.now count }
     {
@@ -72,10 +72,16 @@ impl<D: LogDevice + Drop> LogState<D> {
     /// Takes back the log that was lent. What it says is synced counts from now on; if it failed,
     /// nobody is lent it again.
     pub fn put(&mut self, log: DurableLog<D>)
-        ensures works { log.failed ≡ false
-            → self.new ≡ record { log = Some log; synced = log.synced_count; failed = self.old.failed } }
-        ensures failed { log.failed ≡ true
-            → self.new ≡ record { log = None; synced = self.old.synced; failed = true } }
+        ensures works { log.failed ≡ false → self.new ≡ record {
+          log = Some log;
+          synced = log.synced_count;
+          failed = self.old.failed;
+        } }
+        ensures failed { log.failed ≡ true → self.new ≡ record {
+          log = None;
+          synced = self.old.synced;
+          failed = true;
+        } }
     {
         if log.has_failed() {
             drop(log);

@@ -1,9 +1,9 @@
 //! The program `join_limit`, which lets a replica join with the creations of as many folders as a
 //! replica can hold, and with those of one more, and prints how each join ends.
 //!
-//! UIDVALIDITY is below 2^32, and 65,536 times the number of the creation plus the replica's number,
-//! so that the 65,536th creation is refused. It is a program and no test since a test, which is
-//! built with all checks, would take minutes for so many operations.
+//! UIDVALIDITY is below 2^32, and 65,536 times the number of the creation plus the replica's
+//! number, so that the 65,536th creation is refused. It is a program and no test since a test,
+//! which is built with all checks, would take minutes for so many operations.
 #![tactic(auto)]
 
 use crdt_ops::{SoundOp, into_sound_op, read_op};

@@ -39,8 +39,8 @@
 //!   remains: to forget a hundred thousand takes 200 moves of a block and at most 511 removals. So
 //!   `Book::entry` looks at each block before the entry's own.
 //! - Forgotten entries are dropped by the caller (`ForgottenEntries`): a pass stores those of its
-//!   calls, and the outcome of an earlier one, until `Pass::take_spent`, which a connection's thread
-//!   calls after the answer was written and without the lock. It drops little itself
+//!   calls, and the outcome of an earlier one, until `Pass::take_spent`. A connection's thread
+//!   calls that after the answer was written and without the lock. It drops little itself
 //!   (`SpentMemory::is_small`) and lets another thread drop the rest: the answers of a FETCH of
 //!   20,000 messages take some milliseconds to free, for which the client's next command would
 //!   wait.

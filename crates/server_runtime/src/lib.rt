@@ -27,8 +27,8 @@
 //!   MiB of it are unused. Both grow with the largest block that is freed. A block of 33 MB left
 //!   twice as much unused memory in the arenas after looks at large mailboxes.
 //! - What a session's pass no longer needs is freed before its connection reads, in a thread of its
-//!   own unless it is small (`SessionReader::free_spent`). A thread of the replica that did this for
-//!   all connections would need a channel in the state that they share, and the proof that this
+//!   own unless it is small (`SessionReader::free_spent`). A thread of the replica that did this
+//!   for all connections would need a channel in the state that they share, and the proof that this
 //!   state may be shared would have to look through all that a reply and a journal can hold.
 //! - Each replica's ledger is named in a call of its own, by `Brand`: a function can't call itself
 //!   with another ledger, so a program with a list of replicas starts a thread for each, and that
