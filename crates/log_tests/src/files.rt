@@ -7,6 +7,7 @@ use std::alloc::Global;
 use std::fs;
 use std::fs::{File, OpenOptions};
 use std::io::Write;
+use std::os::unix::fs::MetadataExt;
 use std::rt::Files;
 use std::test::Fail;
 
@@ -71,13 +72,22 @@ fn append_to_log<R: Files<File = File>>(
     Ok(log.synced_count())
 }
 
+/// The permissions of a file or a folder.
+fn mode_of<R: Files<File = File>>(rt: &R, path: &str) -> Result<u32, Trouble> {
+    Ok(fs::metadata(rt, path)?.mode() & 0o777)
+}
+
 const WRITTEN: &str = "log_tests_written/user/store";
+
+const WRITTEN_LOG: &str = "log_tests_written/user/store/replica-1.log";
 
 #[test]
 fn logs_in_files_are_read_again(rt: HostRuntime) -> Result<(), Fail> {
     let alloc = rt.alloc();
     let _ = fs::remove_dir_all(&rt, "log_tests_written");
     write_log(&rt, alloc, WRITTEN)?;
+    assert_eq!(rt; mode_of(&rt, WRITTEN)?, 0o700);
+    assert_eq!(rt; mode_of(&rt, WRITTEN_LOG)?, 0o600);
     assert!(rt; has_lines(&rt, alloc, WRITTEN, LINES)?);
     assert!(rt; text_of_log(&rt, alloc, WRITTEN, 2)?.is_none());
     assert_eq!(rt;
