@@ -7,7 +7,7 @@ use std::alloc::Global;
 use std::fs;
 use std::fs::{File, OpenOptions};
 use std::io::Write;
-use std::os::unix::fs::MetadataExt;
+use std::os::unix::fs::{FileExt, MetadataExt};
 use std::rt::Files;
 use std::test::Fail;
 
@@ -128,6 +128,46 @@ fn torn_ends_are_cut_off(rt: HostRuntime) -> Result<(), Fail> {
         5
     );
     fs::remove_dir_all(&rt, TORN)?;
+    Ok(())
+}
+
+const DAMAGED: &str = "log_tests_damaged";
+
+const DAMAGED_LOG: &str = "log_tests_damaged/replica-1.log";
+
+/// Writes another octet at a place of a file.
+fn damage<R: Files<File = File>>(rt: &R, path: &str, place: u64) -> Result<(), Trouble> {
+    let file = OpenOptions::new().write(true).open(rt, path)?;
+    file.write_all_at(b"~", place)?;
+    Ok(())
+}
+
+/// The fault of reading the log of a replica.
+fn fault_of_read<R: Files<File = File>>(
+    rt: &R,
+    alloc: Global,
+    number: u32,
+) -> Result<Option<FolderFault>, Trouble> {
+    let folder = StoreFolder::open(rt, alloc, DAMAGED)?;
+    Ok(folder.read_log(rt, alloc, replica(number)?).err())
+}
+
+#[test]
+fn damaged_files_are_refused(rt: HostRuntime) -> Result<(), Fail> {
+    let alloc = rt.alloc();
+    let _ = fs::remove_dir_all(&rt, DAMAGED);
+    write_log(&rt, alloc, DAMAGED)?;
+    fs::copy(&rt, DAMAGED_LOG, "log_tests_damaged/replica-2.log")?;
+    let other = FolderFault::OtherReplica {
+        replica: replica(1)?,
+    };
+    assert_eq!(rt; fault_of_read(&rt, alloc, 2)?, Some(other));
+    damage(&rt, DAMAGED_LOG, 40)?;
+    assert_eq!(rt;
+        fault_of_read(&rt, alloc, 1)?,
+        Some(FolderFault::Damaged { octets: 35 })
+    );
+    fs::remove_dir_all(&rt, DAMAGED)?;
     Ok(())
 }
 
