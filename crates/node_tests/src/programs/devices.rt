@@ -29,10 +29,10 @@ end
 /// A reader that gives one octet per read, and once, after `before` reads, an error of this kind
 /// instead.
 #[derive(Drop)]
-struct OneOctetReader {
-    octets: &'static [u8],
-    before: usize,
-    fault: Option<ErrorKind>,
+pub struct OneOctetReader {
+    pub octets: &'static [u8],
+    pub before: usize,
+    pub fault: Option<ErrorKind>,
 }
 
 impl Read for OneOctetReader {
@@ -71,10 +71,10 @@ impl Read for EmptyLinesReader {
 
 /// A writer that takes one octet per write and `room` octets in all, and may fail to flush.
 #[derive(Drop)]
-struct BoundedWriter {
-    taken: Vec<u8>,
-    room: usize,
-    flushes: bool,
+pub struct BoundedWriter {
+    pub taken: Vec<u8>,
+    pub room: usize,
+    pub flushes: bool,
 }
 
 impl Write for BoundedWriter {

@@ -34,6 +34,17 @@ fn asks_for_audit(alloc: Global, words: &[&str], file: Option<&str>) -> bool {
     }
 }
 
+/// Whether these words ask for the dump of the log in this file.
+fn asks_for_log(alloc: Global, words: &[&str], file: Option<&str>) -> bool {
+    let Ok(words) = owned(alloc, words) else {
+        return false;
+    };
+    match read_words(alloc, &words) {
+        Ok(request) => request == ProgramRequest::Log { file },
+        Err(_) => false,
+    }
+}
+
 /// Whether these words are refused for this reason, with status 2.
 fn are_refused(alloc: Global, words: &[&str], why: ErrorKind) -> bool {
     let Ok(words) = owned(alloc, words) else {
@@ -59,7 +70,18 @@ fn reads_each_line(alloc: Global) -> bool {
         )
 }
 
+fn reads_each_log_line(alloc: Global) -> bool {
+    asks_for_log(alloc, &["mail_tool", "log"], None)
+        && asks_for_log(alloc, &["mail_tool", "log", "a file"], Some("a file"))
+        && are_refused(
+            alloc,
+            &["mail_tool", "log", "a", "b"],
+            ErrorKind::UnknownArgument,
+        )
+}
+
 #[test]
 fn reads_the_command_line(rt: HostRuntime) {
     assert!(rt; reads_each_line(rt.alloc()));
+    assert!(rt; reads_each_log_line(rt.alloc()));
 }
