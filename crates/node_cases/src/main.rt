@@ -6,8 +6,8 @@
 //! kinds, and docs/formats.md says what their cases are.
 //!
 //! The cases themselves are played by the libraries `imap_cases`, `replica_cases` and
-//! `world_cases`, and by two modules of this program: `mail_rows` for scripts and inputs of the
-//! audit, and `node_costs` for the time that a node's calls take.
+//! `world_cases`, and by two modules of this program: `mail_rows` for scripts, inputs of the audit
+//! and logs, and `node_costs` for the time that a node's calls take.
 #![tactic(auto)]
 
 mod mail_rows;
@@ -47,6 +47,7 @@ fn output(alloc: Global, kind: &str, cases: &str) -> Result<Vec<u8>, AllocError>
         "idle" => world_cases::play_idle(alloc),
         "worlds" => world_cases::play(alloc, cases),
         "audits" => mail_rows::play_audits(alloc, cases),
+        "logs" => mail_rows::play_logs(alloc, cases),
         "rows" => mail_rows::play(alloc, cases),
         _ => b"no such kind\n".to_vec(alloc),
     }

@@ -17,17 +17,23 @@ pub fn play_audits(alloc: Global, text: &str) -> Result<Vec<u8>, AllocError> {
 /// Puts a case's title, and after it the audit's answer to its input.
 fn put_case(alloc: Global, case: &str, output: &mut Vec<u8>) -> Result<(), AllocError> {
     let (title, lines) = case.split_once('\n').unwrap_or((case, ""));
-    output.extend_from_slice(b"== ")?;
-    output.extend_from_slice(title.as_bytes())?;
-    output.push(b'\n')?;
+    put_title(title, output)?;
     let input = input_of(alloc, lines)?;
     let mut reader = input.as_slice();
     let _end = audit(alloc, &mut reader, output);
     Ok(())
 }
 
+/// Puts the line of a title.
+pub(super) fn put_title(title: &str, output: &mut Vec<u8>) -> Result<(), AllocError> {
+    output.extend_from_slice(b"== ")?;
+    output.extend_from_slice(title.as_bytes())?;
+    output.push(b'\n')?;
+    Ok(())
+}
+
 /// The input that these lines spell.
-fn input_of(alloc: Global, lines: &str) -> Result<Vec<u8>, AllocError> {
+pub(super) fn input_of(alloc: Global, lines: &str) -> Result<Vec<u8>, AllocError> {
     let mut input = Vec::new(alloc);
     for line in lines.split_terminator('\n') {
         take_line(alloc, line, &mut input)?;
