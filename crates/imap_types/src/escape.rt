@@ -1,7 +1,7 @@
 //! The escape by which lines of text carry any octets.
 
 ghost use Rattle.std.specs.Prelude.{◌≡◌, ◌++◌, ℕ, true, List, [], ◌∷◌, Option, Some, None, IfOk};
-ghost use Rattle.std.specs.Prelude.{OnErr, OnOk, ◌<◌, length};
+ghost use Rattle.std.specs.Prelude.{OnErr, OnOk, ◌<◌, ◌≤◌, length, take};
 ghost use Rattle.imap_types.specs.Escape.{AreOctets, IsReading, escape_text, escape_octet};
 ghost use Rattle.imap_types.specs.Escape.{hex_digit, hex_octet, is_escape, is_hex, is_plain};
 ghost use Rattle.imap_types.specs.Escape.{unescape, with_octets_before, hex_value};
@@ -69,10 +69,46 @@ fn push_escaped(escape: Escape, octets: &[u8], out: &mut Vec<u8>) -> Result<(), 
     ensures ok { OnOk result (out.new.items ≡ out.old.items ++ escape_text escape octets.now) }
     ensures extends { (more : List ℕ) × (out.new.items ≡ out.old.items ++ more) }
 {
-    for octet in octets {
-        push_octet(escape, *octet, out)?;
+    let mut rest = octets;
+    while !rest.is_empty() {
+        rest = push_run(escape, rest, out)?;
     }
     Ok(())
+}
+
+/// Appends the octets that stand for themselves, up to the first that doesn't, and the spelling of
+/// that one; returns the octets after it. It takes a run of octets at once.
+fn push_run<'a>(escape: Escape, octets: &'a [u8], out: &mut Vec<u8>) -> Result<&'a [u8], AllocError>
+    requires { 0 < length octets.now }
+    ensures ok { IfOk result (λ rest. out.new.items ++ escape_text escape rest.now
+        ≡ out.old.items ++ escape_text escape octets.now) }
+    ensures shorter { IfOk result (λ rest. length rest.now < length octets.now) }
+    ensures extends { (more : List ℕ) × (out.new.items ≡ out.old.items ++ more) }
+{
+    let (plain, others) = octets.split_at(plain_count(escape, octets));
+    out.extend_from_slice(plain)?;
+    match others {
+        [first, rest @ ..] => {
+            push_octet(escape, *first, out)?;
+            Ok(rest)
+        }
+        [] => Ok(others),
+    }
+}
+
+/// How many octets stand for themselves before the first that doesn't.
+fn plain_count(escape: Escape, octets: &[u8]) -> usize
+    ensures within { result ≤ length octets.now }
+    ensures plain { escape_text escape (take result octets.now) ≡ take result octets.now }
+{
+    let mut count = 0usize;
+    for octet in octets {
+        if !is_plain(escape, *octet) {
+            return count;
+        }
+        count += 1;
+    }
+    count
 }
 
 fn push_octet(escape: Escape, octet: u8, out: &mut Vec<u8>) -> Result<(), AllocError>
