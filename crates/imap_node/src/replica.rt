@@ -99,6 +99,14 @@ impl ReplicaState {
         self.charts_now().start().replica
     }
 
+    /// The numbers that the replica's counters began with. UIDs began with 1 or more.
+    pub fn start(&self) -> Counters
+        ensures start { result ≡ self.now.start }
+        ensures from_one { 1 ≤ result.uid }
+    {
+        self.charts_now().start()
+    }
+
     /// The operations applied, in their order, which is causal.
     pub fn op_list(&self) -> &[SoundOp]
         ensures applied { result.now ≡ self.now.applied }

@@ -10,7 +10,7 @@ use Rattle.mail_replay.specs.declared.script_state.ScriptSession.{ScriptSession}
 use Rattle.mail_replay.proofs.ScriptStateLemmas.{some_same}
 use Rattle.mail_script.specs.Script.{Means}
 use Rattle.mail_script.specs.declared.script.ScriptLine.{ScriptLine}
-use Rattle.mail_script.specs.declared.script.ScriptLine.TheVariants.{Blank, Node, Now, Open, Line, Send, Poll, Close, Show, Deliver, Forge, Drain, Settle, Agree, Join}
+use Rattle.mail_script.specs.declared.script.ScriptLine.TheVariants.{Blank, Node, Now, Open, Line, Send, Poll, Close, Show, Deliver, Forge, Drain, Settle, Agree, Join, Restart}
 
 -- a session has one connection, with one replica
 pub one_talking : (setup : ScriptContents) (name : List ℕ) (t u : IsFeedable setup name) → (u.replica ≡ t.replica) × (u.connection ≡ t.connection)
@@ -53,3 +53,4 @@ has_first_uid line (Drain replica) h = tt
 has_first_uid line Settle h = tt
 has_first_uid line (Agree first second) h = tt
 has_first_uid line (Join replica peer) h = tt
+has_first_uid line (Restart replica) h = tt

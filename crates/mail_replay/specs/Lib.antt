@@ -5,5 +5,6 @@ pub mod Faults
 pub mod Joins
 pub mod Lines
 pub mod Replays
+pub mod Restarts
 pub mod ScriptState
 pub mod Transcript

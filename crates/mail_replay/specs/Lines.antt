@@ -17,7 +17,7 @@ use Rattle.mail_script.specs.declared.script.ScriptLine.{ScriptLine}
 use Rattle.mail_script.specs.declared.script.ScriptLine.TheVariants.{Blank, Node, Now, Open, Line}
 use Rattle.mail_script.specs.declared.script.ScriptLine.TheVariants.{Send, Poll, Close, Show}
 use Rattle.mail_script.specs.declared.script.ScriptLine.TheVariants.{Deliver, Forge, Drain, Settle}
-use Rattle.mail_script.specs.declared.script.ScriptLine.TheVariants.{Agree, Join}
+use Rattle.mail_script.specs.declared.script.ScriptLine.TheVariants.{Agree, Join, Restart}
 use Rattle.mail_script.specs.declared.transcript.Speaker.TheVariants.{Server}
 use Rattle.imap_node.specs.Nodes.{IsActive, NodeWithRoom, NodeState, with_session_closed}
 use Rattle.imap_node.specs.Sessions.{IsOpen, OpensSession}
@@ -25,6 +25,7 @@ use Rattle.imap_node.specs.declared.sessions.Auth.TheVariants.{Preauth}
 use Rattle.mail_replay.specs.Deliveries.{DeliversTo, DrainsAt, ForgesAt, Issued, with_node}
 use Rattle.mail_replay.specs.Exchanges.{ComparesReplicas, SettlesReplicas}
 use Rattle.mail_replay.specs.Joins.{JoinsReplica}
+use Rattle.mail_replay.specs.Restarts.{RestartsReplica}
 use Rattle.mail_replay.specs.ScriptState.{IsNew, ScriptContents, replica_place, session_place}
 use Rattle.mail_replay.specs.Transcript.{transcript}
 use Rattle.mail_replay.specs.declared.script_state.Connection.{Connection}
@@ -218,6 +219,7 @@ ServesLine old (Drain replica) more new = DrainsAt old replica more new
 ServesLine old Settle more new = SettlesReplicas old more new
 ServesLine old (Agree first second) more new = ComparesReplicas old first second more × (new ≡ old)
 ServesLine old (Join replica peer) more new = JoinsReplica old replica peer more new
+ServesLine old (Restart replica) more new = (more ≡ []) × RestartsReplica old replica new
 
 -- A line that can't be served in this state: it names something that isn't declared, or declares
 -- something that is, or names a session that has ended or an operation that was never issued, or
@@ -243,6 +245,7 @@ IsMisplaced setup (Agree first second) =
     IsNone (replica_place setup.replicas first) ⊎ IsNone (replica_place setup.replicas second)
 IsMisplaced setup (Join replica peer) =
     IsSome (replica_place setup.replicas replica) ⊎ IsNone (replica_place setup.replicas peer)
+IsMisplaced setup (Restart replica) = IsNone (replica_place setup.replicas replica)
 
 -- A line that can't be served in this state, whatever its meaning.
 abbrev pub IsBad : ScriptContents → List ℕ → Type 0

@@ -22,6 +22,10 @@
 //!   reports it, and the script continues; an `open` that runs out of memory ends the script. A
 //!   poll that the node refuses prints nothing.
 //!
+//! - `restart R` prints nothing, and ends R's sessions without a word; their names are used up.
+//!   What R's sessions issued can still be delivered. If memory runs out, the replay ends with `no
+//!   memory` and nothing changes.
+//!
 //! - `deliver ID R` names operations that a replica's sessions issued. A forged operation with the
 //!   replica's own name is applied there and counts for its clock, but isn't one that it issued.
 //!   Copies of the issued operations are stored (`IssuedOps`).
@@ -51,6 +55,7 @@ mod replay_end;
 mod replay_run;
 mod replay_status;
 mod script_join;
+mod script_restart;
 mod script_service;
 mod script_state;
 mod transcript_lines;

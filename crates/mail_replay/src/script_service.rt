@@ -30,6 +30,7 @@ ghost use Rattle.imap_connection.specs.declared.turn.Turn.{Turn};
 use crate::deliveries::{deliver, drain, forge};
 use crate::exchanges::{compare, exchange};
 use crate::script_join::join;
+use crate::script_restart::restart;
 use crate::script_state::{
     Connection, ScriptReplica, ScriptSession, ScriptState, replica_place, session_place,
 };
@@ -162,6 +163,7 @@ fn serve(
         ScriptLine::Settle => exchange(alloc, setup, printed),
         ScriptLine::Agree { first, second } => compare(setup, first, second, printed),
         ScriptLine::Join { replica, peer } => join(alloc, setup, replica, peer, printed),
+        ScriptLine::Restart { replica } => restart(alloc, setup, replica),
     }
 }
 

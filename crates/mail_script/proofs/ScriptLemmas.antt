@@ -9,11 +9,11 @@ use Rattle.mail_script.specs.Fields.{IsFirstK, IsFirstUid, IsNumber, IsReplica, 
 use Rattle.mail_script.specs.Reading.{◌>>=◌, IsReading, agree_at, cut_at, deliver_at, fields_at, first_numbers_at, forge_at, id_at, join_at, keyword_at, line_at, moment_at, node_at, open_at, replica_at, session_at, session_and_text_at, word_or_words_at, words_at}
 use Rattle.mail_script.specs.Script.{Means, first_numbers_text}
 use Rattle.mail_script.specs.declared.script.ScriptWord.{ScriptWord}
-use Rattle.mail_script.specs.declared.script.ScriptWord.TheVariants.{Node as NodeWord, Now as NowWord, Open as OpenWord, Line as LineWord, Send as SendWord, Poll as PollWord, Close as CloseWord, Show as ShowWord, Deliver as DeliverWord, Forge as ForgeWord, Drain as DrainWord, Agree as AgreeWord, Join as JoinWord}
+use Rattle.mail_script.specs.declared.script.ScriptWord.TheVariants.{Node as NodeWord, Now as NowWord, Open as OpenWord, Line as LineWord, Send as SendWord, Poll as PollWord, Close as CloseWord, Show as ShowWord, Deliver as DeliverWord, Forge as ForgeWord, Drain as DrainWord, Agree as AgreeWord, Join as JoinWord, Restart as RestartWord}
 use Rattle.mail_script.specs.declared.script.LineFault.{LineFault}
 use Rattle.mail_script.specs.declared.script.LineFault.TheVariants.{NotALine, NoMemory}
 use Rattle.mail_script.specs.declared.script.ScriptLine.{ScriptLine}
-use Rattle.mail_script.specs.declared.script.ScriptLine.TheVariants.{Blank, Node, Now, Open, Line, Send, Poll, Close, Show, Deliver, Forge, Drain, Settle, Agree, Join}
+use Rattle.mail_script.specs.declared.script.ScriptLine.TheVariants.{Blank, Node, Now, Open, Line, Send, Poll, Close, Show, Deliver, Forge, Drain, Settle, Agree, Join, Restart}
 use Rattle.text_fields.proofs.FieldLemmas.{bind_some, bound, chosen, cut_complete, cut_sound, decimal_lacks, id_complete, id_lacks, id_sound, replica_complete, replica_sound}
 use Rattle.mail_script.proofs.FieldLemmas.{cut_none, first_numbers_complete, first_numbers_sound, moment_complete, moment_sound, session_complete, session_sound, spoken_complete, spoken_sound, numbers_text}
 use Rattle.std.specs.Prelude.{codes}
@@ -33,6 +33,7 @@ keyword_text ForgeWord = codes "forge"
 keyword_text DrainWord = codes "drain"
 keyword_text AgreeWord = codes "agree"
 keyword_text JoinWord = codes "join"
+keyword_text RestartWord = codes "restart"
 
 -- the word is this one of the table, or a later one
 picked : (word text : List ℕ) (k : ScriptWord) (next : Option ScriptWord) (keyword : ScriptWord) → text ≡ keyword_text k → cond (bytes_eq word text) (Some k) next ≡ Some keyword → (next ≡ Some keyword → word ≡ keyword_text keyword) → word ≡ keyword_text keyword
@@ -58,7 +59,8 @@ keyword_sound word keyword h =
     picked word (codes "drain") DrainWord _ keyword refl h (λ h.
     picked word (codes "agree") AgreeWord _ keyword refl h (λ h.
     picked word (codes "join") JoinWord _ keyword refl h (λ h.
-    absurd (let k = h in cc))))))))))))))
+    picked word (codes "restart") RestartWord _ keyword refl h (λ h.
+    absurd (let k = h in cc)))))))))))))))
 
 -- the line says what is read after each word
 node_sound : (fields : List ℕ) (cut : Option (List ℕ × List ℕ)) (value : ScriptLine) → ((parts : List ℕ × List ℕ) → cut ≡ Some parts → fields ≡ parts.0 ++ 32 ∷ parts.1) → node_at cut fields ≡ Some value → Means (codes "node " ++ fields) value
@@ -184,6 +186,7 @@ fields_sound ForgeWord fields value h = forge_sound fields value h
 fields_sound DrainWord fields value h = replica_line_sound (codes "drain") fields Drain value (λ r i e. (i, ap (λ (t : List ℕ). codes "drain " ++ t) e)) h
 fields_sound AgreeWord fields value h = agree_sound fields value h
 fields_sound JoinWord fields value h = join_sound fields value h
+fields_sound RestartWord fields value h = replica_line_sound (codes "restart") fields Restart value (λ r i e. (i, ap (λ (t : List ℕ). codes "restart " ++ t) e)) h
 
 words_sound : (line : List ℕ) (value : ScriptLine) → words_at line ≡ Some value → Means line value
 unfolding words_at
@@ -231,6 +234,7 @@ read_on ForgeWord fields = refl
 read_on DrainWord fields = refl
 read_on AgreeWord fields = refl
 read_on JoinWord fields = refl
+read_on RestartWord fields = refl
 
 read_of : (keyword : ScriptWord) (line fields : List ℕ) (value : ScriptLine) → line ≡ keyword_text keyword ++ 32 ∷ fields → fields_at keyword fields ≡ Some value → line_at line ≡ Some value
 read_of keyword line fields value e h = ap line_at e ∙ read_on keyword fields ∙ h
@@ -309,6 +313,7 @@ line_complete line (Drain r) h = read_of DrainWord line (decimal r) (Drain r) h.
 line_complete line Settle h = ap line_at h ∙ settle_complete
 line_complete line (Agree r s) h = read_of AgreeWord line (decimal r ++ 32 ∷ decimal s) (Agree r s) h.2 (agree_complete r s h.0 h.1)
 line_complete line (Join r s) h = read_of JoinWord line (decimal r ++ 32 ∷ decimal s) (Join r s) h.2 (join_complete r s h.0 h.1)
+line_complete line (Restart r) h = read_of RestartWord line (decimal r) (Restart r) h.1 (bound (replica_at (decimal r)) _ r (replica_complete r h.0))
 
 pub ok_by : (line : List ℕ) (r : Result ScriptLine LineFault) → IsReading (λ value. value) r (line_at line) → IfOk r (λ value. Means line value)
 ok_by line (Ok value) g = line_sound line value g

@@ -25,13 +25,14 @@ use Rattle.mail_script.specs.declared.script.ScriptWord.TheVariants.{Forge as Fo
 use Rattle.mail_script.specs.declared.script.ScriptWord.TheVariants.{Drain as DrainWord}
 use Rattle.mail_script.specs.declared.script.ScriptWord.TheVariants.{Agree as AgreeWord}
 use Rattle.mail_script.specs.declared.script.ScriptWord.TheVariants.{Join as JoinWord}
+use Rattle.mail_script.specs.declared.script.ScriptWord.TheVariants.{Restart as RestartWord}
 use Rattle.mail_script.specs.declared.script.LineFault.{LineFault}
 use Rattle.mail_script.specs.declared.script.LineFault.TheVariants.{NotALine, NoMemory}
 use Rattle.mail_script.specs.declared.script.ScriptLine.{ScriptLine}
 use Rattle.mail_script.specs.declared.script.ScriptLine.TheVariants.{Blank, Node, Now, Open, Line}
 use Rattle.mail_script.specs.declared.script.ScriptLine.TheVariants.{Send, Poll, Close, Show}
 use Rattle.mail_script.specs.declared.script.ScriptLine.TheVariants.{Deliver, Forge, Drain, Settle}
-use Rattle.mail_script.specs.declared.script.ScriptLine.TheVariants.{Agree, Join}
+use Rattle.mail_script.specs.declared.script.ScriptLine.TheVariants.{Agree, Join, Restart}
 
 -- A fault other than lack of memory means that the text can't be read.
 abbrev pub FailsReading : {Y : Type 0} → LineFault → Option Y → Type 0
@@ -96,7 +97,8 @@ keyword_at word =
     else (if bytes_eq word (codes "drain") then Some DrainWord
     else (if bytes_eq word (codes "agree") then Some AgreeWord
     else (if bytes_eq word (codes "join") then Some JoinWord
-    else None))))))))))))
+    else (if bytes_eq word (codes "restart") then Some RestartWord
+    else None)))))))))))))
 
 -- Reads the fields after `node`.
 unfoldable pub node_at : Option (List ℕ × List ℕ) → List ℕ → Option ScriptLine
@@ -160,6 +162,7 @@ fields_at ForgeWord fields = forge_at fields
 fields_at DrainWord fields = replica_at fields >>= (λ replica. Some (Drain replica))
 fields_at AgreeWord fields = agree_at fields
 fields_at JoinWord fields = join_at fields
+fields_at RestartWord fields = replica_at fields >>= (λ replica. Some (Restart replica))
 
 -- Reads a line that consists of a word and its fields.
 unfoldable pub words_at : List ℕ → Option ScriptLine

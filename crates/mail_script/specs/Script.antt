@@ -10,7 +10,7 @@ use Rattle.mail_script.specs.declared.script.ScriptLine.{ScriptLine}
 use Rattle.mail_script.specs.declared.script.ScriptLine.TheVariants.{Blank, Node, Now, Open, Line}
 use Rattle.mail_script.specs.declared.script.ScriptLine.TheVariants.{Send, Poll, Close, Show}
 use Rattle.mail_script.specs.declared.script.ScriptLine.TheVariants.{Deliver, Forge, Drain, Settle}
-use Rattle.mail_script.specs.declared.script.ScriptLine.TheVariants.{Agree, Join}
+use Rattle.mail_script.specs.declared.script.ScriptLine.TheVariants.{Agree, Join, Restart}
 
 -- The first numbers of a replica's counters, which follow the replica's own number.
 abbrev pub first_numbers_text : ℕ → ℕ → List ℕ
@@ -60,3 +60,4 @@ Means line (Join replica peer) =
     IsReplica replica
     × IsReplica peer
     × (line ≡ codes "join " ++ (decimal replica ++ 32 ∷ decimal peer))
+Means line (Restart replica) = IsReplica replica × (line ≡ codes "restart " ++ decimal replica)

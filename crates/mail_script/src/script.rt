@@ -88,6 +88,10 @@ pub enum ScriptLine {
         replica: ReplicaId,
         peer: ReplicaId,
     },
+    /// `restart R` has a replica start again from the operations that it applied.
+    Restart {
+        replica: ReplicaId,
+    },
 }
 
 /// Why a line can't be read.
@@ -142,6 +146,7 @@ pub enum ScriptWord {
     Drain,
     Agree,
     Join,
+    Restart,
 }
 
 /// Reads a line, which is passed without its LF; a CR before the LF belongs to the line. `NotALine`
@@ -223,6 +228,8 @@ fn read_keyword(word: &[u8]) -> Result<ScriptWord, LineFault>
         Ok(ScriptWord::Agree)
     } else if word == b"join".as_slice() {
         Ok(ScriptWord::Join)
+    } else if word == b"restart".as_slice() {
+        Ok(ScriptWord::Restart)
     } else {
         Err(LineFault::NotALine)
     }
@@ -266,6 +273,10 @@ fn after_keyword(alloc: Global, keyword: ScriptWord, fields: &[u8]) -> Result<Sc
         }
         ScriptWord::Agree => agree(fields),
         ScriptWord::Join => join(fields),
+        ScriptWord::Restart => {
+            let replica = replica(fields)?;
+            Ok(ScriptLine::Restart { replica })
+        }
     }
 }
 

@@ -17,7 +17,7 @@ pub fn cut(text: &str) -> (&str, &str) {
 }
 
 /// The event that a line spells: `open R`, `command R S TEXT`, `line R S TEXT`, `poll R S`,
-/// `deliver R ID`, `drain R`, `close R S` or `join R S`.
+/// `deliver R ID`, `drain R`, `close R S`, `join R S` or `restart R`.
 pub fn event(alloc: Global, line: &str) -> Result<Event, Trouble> {
     let (word, rest) = cut(line);
     match word {
@@ -26,6 +26,7 @@ pub fn event(alloc: Global, line: &str) -> Result<Event, Trouble> {
             auth: Auth::Preauth,
         }),
         "drain" => Ok(Event::Drain { at: replica(rest)? }),
+        "restart" => Ok(Event::Restart { at: replica(rest)? }),
         "deliver" => delivery_event(rest),
         "join" => join_event(rest),
         _ => session_event(alloc, word, rest),

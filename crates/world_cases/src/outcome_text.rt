@@ -25,16 +25,19 @@ pub fn put_outcome(alloc: Global, line: &str, outcome: &Outcome, page: &mut Word
         Outcome::Closed => page.put(" Closed"),
         Outcome::PassedOver => page.put(" PassedOver"),
         Outcome::Joined => page.put(" Joined"),
-        Outcome::NotJoined { fault } => page.put(join_refusal_text(*fault)),
+        Outcome::NotJoined { fault } => put_refusal(" NotJoined", *fault, page),
+        Outcome::Restarted => page.put(" Restarted"),
+        Outcome::NotRestarted { fault } => put_refusal(" NotRestarted", *fault, page),
     }
     page.put("\n");
 }
 
-fn join_refusal_text(fault: JoinRefusal) -> &'static str {
-    match fault {
-        JoinRefusal::Exhausted => " NotJoined Exhausted",
-        JoinRefusal::NoMemory => " NotJoined NoMemory",
-    }
+fn put_refusal(outcome: &str, fault: JoinRefusal, page: &mut Words) {
+    page.put(outcome);
+    page.put(match fault {
+        JoinRefusal::Exhausted => " Exhausted",
+        JoinRefusal::NoMemory => " NoMemory",
+    });
 }
 
 fn open_fault_text(fault: OpenFault) -> &'static str {

@@ -56,7 +56,7 @@ pub fn random_event(
     match chance.below(24) {
         0 | 1 => Ok(noted_event(note, open_event(alloc, chance, at)?)),
         2 => Ok(noted_event(note, close_event(chance, at, session))),
-        3 => Ok(noted_event(note, Event::Drain { at })),
+        3 => Ok(noted_event(note, drain_event(chance, at))),
         4 | 5 | 6 | 7 | 8 => Ok(noted_event(note, delivery_event(chance, at, nodes)?)),
         _ => session_event(alloc, chance, nodes, note),
     }
@@ -104,6 +104,15 @@ fn close_event(chance: &mut Chance, at: ReplicaId, session: SessionNo) -> Event 
         Event::Close { at, session }
     } else {
         Event::Poll { at, session }
+    }
+}
+
+/// A replica applies held operations, or starts again.
+fn drain_event(chance: &mut Chance, at: ReplicaId) -> Event {
+    if chance.is_one_in(4) {
+        Event::Restart { at }
+    } else {
+        Event::Drain { at }
     }
 }
 

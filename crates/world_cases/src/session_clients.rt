@@ -41,6 +41,10 @@ impl SessionClients {
                 self.set_client(note, None);
                 Ok(())
             }
+            Outcome::Restarted => {
+                self.end_sessions(note);
+                Ok(())
+            }
             _ => Ok(()),
         }
     }
@@ -51,6 +55,13 @@ impl SessionClients {
             *client = fresh;
         } else {
             drop(fresh);
+        }
+    }
+
+    /// No session of the replica has a mailbox selected any more.
+    fn end_sessions(&mut self, note: Note) {
+        for session in 1..=SESSIONS {
+            self.set_client(Note { session, ..note }, None);
         }
     }
 

@@ -21,6 +21,7 @@ pub struct Tally {
     has_held: bool,
     has_repeat: bool,
     has_drained: bool,
+    has_restarted: bool,
     has_closed: bool,
     has_passed: bool,
     has_exists: bool,
@@ -45,6 +46,7 @@ impl Tally {
             has_held: false,
             has_repeat: false,
             has_drained: false,
+            has_restarted: false,
             has_closed: false,
             has_passed: false,
             has_exists: false,
@@ -72,9 +74,11 @@ impl Tally {
             Outcome::Closed => self.has_closed = true,
             Outcome::PassedOver => self.has_passed = true,
             Outcome::Joined => {}
-            Outcome::NotOpened { .. } | Outcome::NotTaken { .. } | Outcome::NotJoined { .. } => {
-                self.has_impossible = true
-            }
+            Outcome::Restarted => self.has_restarted = true,
+            Outcome::NotOpened { .. }
+            | Outcome::NotTaken { .. }
+            | Outcome::NotJoined { .. }
+            | Outcome::NotRestarted { .. } => self.has_impossible = true,
         }
         !matches!(outcome, Outcome::PassedOver)
     }
@@ -158,6 +162,7 @@ impl Tally {
         page.put_if(self.has_held, " Held");
         page.put_if(self.has_repeat, " Repeat");
         page.put_if(self.has_drained, " Drained");
+        page.put_if(self.has_restarted, " Restarted");
         page.put_if(self.has_impossible, " strange");
     }
 

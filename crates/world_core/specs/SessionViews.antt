@@ -14,7 +14,7 @@ use Rattle.session_view.specs.Views.{AreRising, entries_of}
 use Rattle.world_core.specs.declared.event.Event.{Event}
 use Rattle.world_core.specs.declared.event.Event.TheVariants as events
 use Rattle.world_core.specs.declared.event.Outcome.{Outcome}
-use Rattle.world_core.specs.declared.event.Outcome.TheVariants.{Replied}
+use Rattle.world_core.specs.declared.event.Outcome.TheVariants.{Replied, Restarted}
 use Rattle.world_core.specs.Replicas.{IsAt, Replicas}
 
 -- ---- views of sessions
@@ -45,6 +45,11 @@ AnswersReplayTo old name n input (Replied reply) new =
     ≡ view_after_input node.start node.applied (session_view_at old name n) input reply
 AnswersReplayTo old name n input _ new = session_view_at new name n ≡ session_view_at old name n
 
+-- A restart ends each session of the replica. If it is refused or passed over, their views stay.
+abbrev pub EndsSessions : Replicas → ℕ → Outcome → Replicas → Type 0
+EndsSessions old name Restarted new = (n : ℕ) → session_view_at new name n ≡ None
+EndsSessions old name _ new = (n : ℕ) → session_view_at new name n ≡ session_view_at old name n
+
 abbrev pub AnswersReplay : Replicas → Event → Outcome → Replicas → Type 0
 AnswersReplay old (events.Command at session moment tagged) outcome new =
     AnswersReplayTo old at session (inputs.Command moment tagged) outcome new
@@ -52,6 +57,7 @@ AnswersReplay old (events.IdleLine at session line) outcome new =
     AnswersReplayTo old at session (inputs.Line line) outcome new
 AnswersReplay old (events.Poll at session) outcome new =
     AnswersReplayTo old at session inputs.Poll outcome new
+AnswersReplay old (events.Restart at) outcome new = EndsSessions old at outcome new
 AnswersReplay old _ outcome new = Unit {0}
 
 -- After a full sync, and after a SELECT or an EXAMINE, a session's view is its mailbox's listing,
@@ -78,16 +84,18 @@ FullSyncShowsListing (events.Poll at session) outcome new =
     FullSyncShowsListingTo at session inputs.Poll outcome new
 FullSyncShowsListing _ outcome new = Unit {0}
 
--- The event is this session's, or closes it.
+-- The event is this session's, or closes it, or restarts its replica.
 abbrev pub IsOfSession : Event → ℕ → ℕ → Type 0
 IsOfSession (events.Command at session moment tagged) name n = (name ≡ at) × (n ≡ session)
 IsOfSession (events.IdleLine at session line) name n = (name ≡ at) × (n ≡ session)
 IsOfSession (events.Poll at session) name n = (name ≡ at) × (n ≡ session)
 IsOfSession (events.Close at session) name n = (name ≡ at) × (n ≡ session)
+IsOfSession (events.Restart at) name n = name ≡ at
 IsOfSession _ name n = ⊥
 
 -- The view of the event's session is its view before with the answers replayed, and its mailbox's
--- listing after a full sync; the view of every other session stays as it was.
+-- listing after a full sync; after a restart no session of the replica has a view; the view of
+-- every other session stays as it was.
 pub record Replays (old : Replicas) (event : Event) (outcome : Outcome) (new : Replicas) :
     Type 0 where
   pub replayed : AnswersReplay old event outcome new

@@ -11,6 +11,7 @@ use Rattle.imap_node.specs.OlderViews.{AreOlderViews}
 use Rattle.imap_node.specs.Nodes.{NodeState, received_ops}
 use Rattle.imap_node.specs.Operations.{clock_of, id_of}
 use Rattle.world_core.specs.Replicas.{IsAt, IsIssuedIn, Replicas}
+use Rattle.world_core.specs.Restarts.{LacksOwnNumbers}
 use Rattle.world_core.specs.SessionViews.{SessionViewsAscend}
 
 -- What holds of a world in which each operation was issued by one of its replicas.
@@ -57,3 +58,9 @@ AllNodesGrow old new =
     × IsAt new name after
     × HasGrown before.applied after.applied
     × (after.start ≡ before.start)
+
+-- No counter of a replica lacks a number for an operation that the replica applied: a restart is
+-- refused only if memory runs out.
+abbrev pub CountersLast : Replicas → Type 0
+CountersLast replicas =
+    (name : ℕ) (node : NodeState) → IsAt replicas name node → ¬ LacksOwnNumbers node

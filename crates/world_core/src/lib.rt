@@ -3,7 +3,8 @@
 //! A world is a list of nodes with distinct names. Sessions open and close, send commands, lines
 //! and polls, and any operation that some replica issued may be delivered at any node, at any later
 //! time, any number of times. A replica with a new name may join at any time, with the operations
-//! that another one applied.
+//! that another one applied. A replica may start again at any time, as after a crash: the
+//! operations that it applied stay, those that it holds are lost, and its sessions end.
 //!
 //! [`run`] takes a list of such events, and its contract is the promise for which the project
 //! exists: whatever the events are, replicas that applied the same operations have the same
@@ -28,6 +29,8 @@
 //!   last.
 //! - `settle` stops at the first operation that a counter refuses, although others could still be
 //!   exchanged. What was delivered stays.
+//! - A restart makes a new node and delivers the operations of the old one to it, which it replaces
+//!   only then. So a restart for which memory runs out changes nothing.
 //! - Conflicts are searched for only between nodes. No single node can have one, since it refuses a
 //!   different operation with an id that it received.
 #![tactic(auto)]
@@ -42,12 +45,14 @@ mod session_events;
 mod settlement;
 mod world;
 mod world_join;
+mod world_restart;
 mod world_step;
 
 pub use agreement::{Agreement, agree};
 pub use event::{Event, Outcome};
-pub use laws::{settling_keeps_promises, worlds_keep_their_promises};
+pub use laws::{restarts_keep_promises, settling_keeps_promises, worlds_keep_their_promises};
 pub use run_events::{Outcomes, run};
 pub use settlement::{SettleFault, settle};
 pub use world::{World, WorldFault};
 pub use world_join::{JoinRefusal, joined_node};
+pub use world_restart::restarted_node;

@@ -4,13 +4,17 @@ ghost use Rattle.std.specs.Prelude.{◌≡◌, ◌↔◌, IsTrue, false, true};
 ghost use Rattle.imap_node.specs.declared.input.Input.TheVariants as inputs;
 ghost use Rattle.world_core.specs.Steps.{AnswersBy, AwaitsInput, ClosesBy, DrainsBy, OpensBy};
 ghost use Rattle.world_core.specs.Steps.{DeliversOne};
+ghost use Rattle.world_core.specs.Restarts.{RestartsBy};
 
 use crate::event::Outcome;
+use crate::world_join::JoinRefusal;
+use crate::world_restart::restarted_node;
 use crdt_ops::SoundOp;
 use imap_node::{Auth, Node, OpenFault, SessionNo};
 use imap_syntax::{IdleLine, Tagged};
 use imap_types::Moment;
 use std::alloc::Global;
+use std::mem;
 
 /// Opens a session.
 pub fn open(node: &mut Node, auth: Auth) -> Outcome
@@ -112,5 +116,23 @@ pub fn close(node: &mut Node, session: SessionNo) -> Outcome
         Outcome::Closed
     } else {
         Outcome::PassedOver
+    }
+}
+
+/// Makes the node again from the operations that it applied.
+pub fn restart(alloc: Global, node: &mut Node) -> Outcome
+    ensures { RestartsBy node.old.state result node.new.state }
+{
+    match restarted_node(alloc, node) {
+        Ok(restarted) => {
+            drop(mem::replace(node, restarted));
+            Outcome::Restarted
+        }
+        Err(JoinRefusal::Exhausted) => Outcome::NotRestarted {
+            fault: JoinRefusal::Exhausted,
+        },
+        Err(JoinRefusal::NoMemory) => Outcome::NotRestarted {
+            fault: JoinRefusal::NoMemory,
+        },
     }
 }

@@ -1,7 +1,7 @@
 //! Replicas that join a world.
 
-ghost use Rattle.std.specs.Prelude.{◌≡◌, ◌≢◌, ◌∷◌, ◌++◌, [], Err, IfErr, IsTrue, MatchResult, None};
-ghost use Rattle.std.specs.Prelude.{OnErr, OnOk, false};
+ghost use Rattle.std.specs.Prelude.{◌≡◌, ◌≢◌, ◌≤◌, ◌∷◌, ◌++◌, [], Err, IfErr, IsTrue, MatchResult};
+ghost use Rattle.std.specs.Prelude.{None, OnErr, OnOk, false};
 ghost use Rattle.crdt_ops.specs.declared.op.Op.{Op};
 ghost use Rattle.imap_node.specs.Nodes.{NodeState, joined_node, unused_node};
 ghost use Rattle.merge_laws.specs.Orders.{IsCausal, IsRipe};
@@ -25,7 +25,7 @@ use tags_clocks::ReplicaId;
 use thiserror::Error;
 use uid_projection::Counters;
 
-/// Why a replica with another one's operations can't be made.
+/// Why a replica can't be made with operations that another one applied, or that it applied itself.
 #[derive(Clone, Copy, Debug, PartialEq, Eq, Error)]
 pub enum JoinRefusal {
     /// One of its counters has no number left for one of the operations.
@@ -128,10 +128,26 @@ pub fn joined_node(alloc: Global, name: ReplicaId, from: &Node) -> Result<Node, 
         uid: 1,
         k: 1,
     };
+    node_with_ops(alloc, start, from.op_list())
+}
+
+/// A replica with these first numbers that applied copies of the operations, in their order, and
+/// has received nothing else. `Exhausted` if one of its counters has no number left for one of
+/// them; `NoMemory` if memory runs out.
+///
+/// It costs as much as delivering the operations.
+pub fn node_with_ops(alloc: Global, start: Counters, ops: &[SoundOp]) -> Result<Node, JoinRefusal>
+    requires from_one { 1 ≤ start.uid }
+    requires causal { IsCausal id_of clock_of ops.now }
+    ensures { MatchResult result
+        (λ node. (node.state ≡ record (unused_node start) { applied = ops.now })
+        × (¬ Exhausts start [] ops.now))
+        (λ why. why ≡ UsedUp → Exhausts start [] ops.now) }
+{
     let Ok(mut node) = Node::new(alloc, start) else {
         return Err(JoinRefusal::NoMemory);
     };
-    if let Err(why) = apply_copies(alloc, &mut node, from.op_list()) {
+    if let Err(why) = apply_copies(alloc, &mut node, ops) {
         drop(node);
         return Err(why);
     }

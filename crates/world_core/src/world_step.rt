@@ -36,6 +36,7 @@ pub fn step(alloc: Global, nodes: &mut Vec<Node>, event: Event) -> Outcome
         Event::Drain { at } => drain(alloc, nodes, at),
         Event::Close { at, session } => close(nodes, at, session),
         Event::Join { name, peer } => join_step(alloc, nodes, name, peer),
+        Event::Restart { at } => restart(alloc, nodes, at),
     }
 }
 
@@ -133,6 +134,16 @@ fn close(nodes: &mut [Node], at: ReplicaId, session: SessionNo) -> Outcome
 {
     match place_of(nodes, at) {
         Some(place) => session_events::close(&mut nodes[place], session),
+        None => Outcome::PassedOver,
+    }
+}
+
+fn restart(alloc: Global, nodes: &mut [Node], at: ReplicaId) -> Outcome
+    ensures { Steps (nodes_by_name (all_without_room nodes.old)) (events.Restart at) result
+        (nodes_by_name (all_without_room nodes.new)) }
+{
+    match place_of(nodes, at) {
+        Some(place) => session_events::restart(alloc, &mut nodes[place]),
         None => Outcome::PassedOver,
     }
 }

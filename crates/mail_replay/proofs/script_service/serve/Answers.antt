@@ -86,3 +86,9 @@ returns-in-Join-clause-ok c = rw c.in-Join.is c.join.ensures.ok
 
 pub returns-in-Join-clause-memory : goal.returns-in-Join-clause-memory
 returns-in-Join-clause-memory c = λ e. nothing_printed _ _ _ _ _ (inl refl) c.join.ensures.err e
+
+pub returns-in-Restart-clause-ok : goal.returns-in-Restart-clause-ok
+returns-in-Restart-clause-ok c = rw c.in-Restart.is (on_ok c.restart.result (λ d. ([], (refl, d), sym (append-nil _))) c.restart.ensures.ok)
+
+pub returns-in-Restart-clause-memory : goal.returns-in-Restart-clause-memory
+returns-in-Restart-clause-memory c = λ e. ([], inl refl, sym (append-nil _))

@@ -29,3 +29,6 @@ returns-in-Close c = step_written c.args.nodes.now.items c.deref_mut-in-Close.re
 
 pub returns-in-Join : goal.returns-in-Join
 returns-in-Join c = subst (λ (x : Event). Steps (nodes_by_name (all_without_room c.args.nodes.now.items)) x c.join_step.result (nodes_by_name (all_without_room c.join_step.new.nodes.items))) (sym c.in-Join.is) c.join_step.ensures
+
+pub returns-in-Restart : goal.returns-in-Restart
+returns-in-Restart c = step_written c.args.nodes.now.items c.deref_mut-in-Restart.result.now c.restart.new.nodes _ c.args.event (events.Restart c.in-Restart.at) c.restart.result c.in-Restart.is c.deref_mut-in-Restart.ensures.value c.restart.auto.nodes c.deref_mut-in-Restart.ensures.len c.restart.ensures
