@@ -7,6 +7,7 @@ use crate::exchanges::{compare, exchange};
 use crate::joins::{declare, join};
 use crate::play_fault::PlayFault;
 use crate::play_state::{PlayRecord, PlayState, replica_place};
+use crate::restarts::restart;
 use crate::session_lines::{close_session, feed, open, poll_session};
 use imap_connection::{Node, write_dump};
 use imap_types::Octets;
@@ -78,6 +79,7 @@ fn play_meaning(
         ScriptLine::Settle => exchange(alloc, state, record),
         ScriptLine::Agree { first, second } => compare(state, first, second, record),
         ScriptLine::Join { replica, peer } => join(alloc, state, replica, peer, record),
+        ScriptLine::Restart { replica } => restart(alloc, state, replica, record),
     }
 }
 
@@ -104,7 +106,7 @@ fn declare_new(alloc: Global, state: &mut PlayState, start: &Counters) -> Result
 }
 
 /// The book of a replica that has received nothing, made once more if memory runs out.
-fn new_book(alloc: Global, start: &Counters) -> Result<Book, AllocError>
+pub fn new_book(alloc: Global, start: &Counters) -> Result<Book, AllocError>
     requires { 1 ≤ start.now.uid }
 {
     match new_book_once(alloc, start) {

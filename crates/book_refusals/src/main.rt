@@ -1,7 +1,7 @@
 //! The program `book_refusals`, which plays the script on its standard input as `mail_tool replay`
 //! does, but with books (`replica_lock::Book`) in place of nodes: each input of a session, delivery
-//! and drain is an event of a book, and each join makes a book. It prints what `mail_tool replay`
-//! prints, and ends with the same status.
+//! and drain is an event of a book, each join makes a book, and each restart restores one. It
+//! prints what `mail_tool replay` prints, and ends with the same status.
 //!
 //! It is made to be run with one allocation refused, by `tools/refuse_memory --book`. An event for
 //! which memory ran out is given to its book once more, and the output must then be the same. What
@@ -27,6 +27,7 @@ mod play;
 mod play_fault;
 mod play_state;
 mod program;
+mod restarts;
 mod session_lines;
 mod state_text;
 mod talk;

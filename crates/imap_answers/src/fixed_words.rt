@@ -143,6 +143,8 @@ pub enum Refusal {
     LiteralTooLong,
     /// `NO [UNAVAILABLE]`: memory ran out.
     NoMemory,
+    /// `NO [UNAVAILABLE]`: the replica's store has no room for the command's operations.
+    NoStoreRoom,
     /// `BAD`: no such command.
     UnknownCommand,
     /// `BAD`: the command's syntax is wrong.
@@ -178,6 +180,7 @@ impl Refusal {
             Refusal::NumberUsedUp => b"NO [LIMIT] number used up",
             Refusal::LiteralTooLong => b"NO [LIMIT] literal too long",
             Refusal::NoMemory => b"NO [UNAVAILABLE] no memory",
+            Refusal::NoStoreRoom => b"NO [UNAVAILABLE] no room in the store",
             Refusal::UnknownCommand => b"BAD unknown command",
             Refusal::BadSyntax => b"BAD syntax",
             Refusal::NotNow => b"BAD not now",

@@ -52,6 +52,7 @@ without old new n line refusals.TooManyVersions closed s m h r = absurd (false�
 without old new n line refusals.KeywordTooLong closed s m h r = absurd (false≢true m)
 without old new n line refusals.NumberUsedUp closed s m h r = absurd (false≢true m)
 without old new n line refusals.LiteralTooLong closed s m h r = absurd (false≢true m)
+without old new n line refusals.NoStoreRoom closed s m h r = absurd (false≢true m)
 without old new n line refusals.UnknownCommand closed s m h r = absurd (false≢true m)
 without old new n line refusals.BadSyntax closed s m h r = absurd (false≢true m)
 without old new n line refusals.NotNow closed s m h r = absurd (false≢true m)

@@ -218,6 +218,7 @@ refused-round_trip tag refusal.KeywordTooLong rest = refl
 refused-round_trip tag refusal.NumberUsedUp rest = refl
 refused-round_trip tag refusal.LiteralTooLong rest = refl
 refused-round_trip tag refusal.NoMemory rest = refl
+refused-round_trip tag refusal.NoStoreRoom rest = refl
 refused-round_trip tag refusal.UnknownCommand rest = refl
 refused-round_trip tag refusal.BadSyntax rest = refl
 refused-round_trip tag refusal.NotNow rest = refl

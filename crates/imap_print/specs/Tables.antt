@@ -45,8 +45,9 @@ refusals =
     refusal.NoSuchMailbox ∷ refusal.NoDestination ∷ refusal.MailboxExists ∷ refusal.NameNotAllowed
     ∷ refusal.InboxStays ∷ refusal.NotInProfile ∷ refusal.LoginFailed ∷ refusal.ReadOnly
     ∷ refusal.TooManyKeywords ∷ refusal.TooManyVersions ∷ refusal.KeywordTooLong
-    ∷ refusal.NumberUsedUp ∷ refusal.LiteralTooLong ∷ refusal.NoMemory ∷ refusal.UnknownCommand
-    ∷ refusal.BadSyntax ∷ refusal.NotNow ∷ refusal.NoSuchMessage ∷ refusal.DoneExpected ∷ []
+    ∷ refusal.NumberUsedUp ∷ refusal.LiteralTooLong ∷ refusal.NoMemory ∷ refusal.NoStoreRoom
+    ∷ refusal.UnknownCommand ∷ refusal.BadSyntax ∷ refusal.NotNow ∷ refusal.NoSuchMessage
+    ∷ refusal.DoneExpected ∷ []
 
 -- The names of completed commands.
 abbrev pub commands : List CompletedWord

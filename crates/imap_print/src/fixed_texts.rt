@@ -165,6 +165,7 @@ pub fn refusal_word(bytes: &[u8]) -> Option<(Refusal, &[u8])>
         Refusal::NumberUsedUp,
         Refusal::LiteralTooLong,
         Refusal::NoMemory,
+        Refusal::NoStoreRoom,
         Refusal::UnknownCommand,
         Refusal::BadSyntax,
         Refusal::NotNow,

@@ -300,7 +300,7 @@ fn book_with_ops<L: Ledger, R: Wait>(
     shared.finish(passes).ok().zip(ops)
 }
 
-fn restored(alloc: Global, ops: &[SoundOp]) -> Option<Book> {
+fn restored(alloc: Global, ops: Vec<SoundOp>) -> Option<Book> {
     let id = ReplicaId::new(1)?;
     Book::restore(alloc, id, ops).ok()
 }
@@ -319,7 +319,7 @@ fn write_restored<R: Wait>(
     rt: &R,
     alloc: Global,
     text: &mut String,
-    ops: &[SoundOp],
+    ops: Vec<SoundOp>,
 ) -> Result<(), AllocError> {
     let Some(book) = restored(alloc, ops) else {
         return text.push_str("refused\n");
@@ -361,9 +361,7 @@ fn text_of_restored<R: Wait>(rt: &R, alloc: Global) -> Result<String, AllocError
         return Ok(text);
     };
     drop(book);
-    let written = write_restored(rt, alloc, &mut text, &ops);
-    drop(ops);
-    written?;
+    write_restored(rt, alloc, &mut text, ops)?;
     Ok(text)
 }
 

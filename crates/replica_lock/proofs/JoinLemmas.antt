@@ -1,4 +1,4 @@
-use Rattle.std.proofs.Common.{◌≡◌, ◌↔◌, inl, inr, ℕ, zero, suc, ◌+◌, ◌<◌, Bool, true, false, None, Result, Ok, Err, List, [], ◌∷◌, ◌++◌, length, length-append, take, map, append-nil, refl, sym, ap, ◌∙◌, subst, arith, IsTrue}
+use Rattle.std.proofs.Common.{◌≡◌, ◌↔◌, inl, inr, ℕ, zero, suc, ◌+◌, ◌<◌, Bool, true, false, None, Result, Ok, Err, List, [], ◌∷◌, ◌++◌, length, length-append, take, drop, map, append-nil, refl, sym, ap, ◌∙◌, subst, arith, IsTrue}
 use Rattle.std.proofs.Common.{get_or}
 use Rattle.std.specs.Prelude.{IfErr, IfOk, OnOk, IsErrAnd}
 use Rattle.std.proofs.lemmas.List.{take_more}
@@ -251,6 +251,26 @@ module _ (name : ℕ) (ops : List Op) (i : ℕ) (op : Op) (l : i < length ops) (
 
   pub restore_fault_at : (why : JoinFault) → IsApplyFault book.node op why → IsRestoreFault name ops why
   restore_fault_at = restore_fault_here name (restored_book name) (λ front. refl) book_with_restored_op (restored_book_append name) ops i op l at book s
+
+-- the first of the operations that are left after some, and those after it
+next_of_rest_suc : (ops : List Op) (i : ℕ) (op : Op) (rest : List Op) → drop i ops ≡ op ∷ rest → (i < length ops) × (op ≡ get_or ops i op) × (drop (suc i) ops ≡ rest)
+next_of_rest_suc [] zero op rest e = absurd cc
+next_of_rest_suc [] (suc i) op rest e = absurd cc
+next_of_rest_suc (x ∷ ops) zero op rest e = (omega (arith), sym (ap (λ (os : List Op). get_or os 0 op) e), ap (λ (os : List Op). drop 1 os) e)
+next_of_rest_suc (x ∷ ops) (suc i) op rest e = let r = next_of_rest_suc ops i op rest e in (omega (arith, r.0), r.1, r.2)
+
+pub next_of_rest : (ops : List Op) (i : ℕ) (op : Op) (rest : List Op) → drop i ops ≡ op ∷ rest → (i < length ops) × (op ≡ get_or ops i op) × (drop (i + 1) ops ≡ rest)
+next_of_rest ops i op rest e =
+    let r = next_of_rest_suc ops i op rest e in
+    let one : suc i ≡ i + 1 = omega (arith) in
+    (r.0, r.1, subst (λ (n : ℕ). drop n ops ≡ rest) one r.2)
+
+-- all operations were delivered once none is left
+pub all_taken : (ops : List Op) (i : ℕ) → drop i ops ≡ [] → take i ops ≡ ops
+all_taken [] zero e = refl
+all_taken [] (suc i) e = refl
+all_taken (x ∷ ops) zero e = absurd cc
+all_taken (x ∷ ops) (suc i) e = ap (λ (os : List Op). x ∷ os) (all_taken ops i e)
 
 -- the copy of a clock is the clock of a list of applied operations
 pub clock_of_applied : {E : Type 0} (applied : List Op) (r : Result (List (ℕ × ℕ)) E) → IsCausal id_of clock_of applied → IfOk r (λ clock. IsClockOf id_of applied clock)

@@ -25,7 +25,7 @@ module _ (L : RattleType) (g : ledger.Ghosts L.Denot) where
   locked_send : IsSend L → IsSend (locked.the_row L g)
   locked_send ledger = view_send (counted_inside.the_row L g) _ _ _ _
       (recorded_send (counted_inside.the_field L g).row _ _ (counted_inside.the_type L g).to_one
-      (struct_send (shape (counted_inside.the_type L g)) (book_send, (search (calls.the_send, sendable), (search sendable, tt)))))
+      (struct_send (shape (counted_inside.the_type L g)) (book_send, (search (calls.the_send, sendable), (search sendable, (search sendable, (search sendable, (search sendable, tt))))))))
 
   pub shared_send : IsSend L → IsSync L → IsSend (shared.the_row L g)
   shared_send ledger shares = recorded_send (shared.the_field L g).row _ _ (shared.the_type L g).to_one

@@ -6,16 +6,21 @@ ghost use Rattle.imap_node.specs.SessionFeeds.{IsCurrent};
 ghost use Rattle.imap_node.specs.Replays.{view_at};
 ghost use Rattle.session_view.specs.ViewState.{ViewState};
 ghost use Rattle.replica_lock.specs.Passes.{HaveOutcomes, PassState, HasOutcomeAt, calls_of};
-ghost use Rattle.replica_lock.specs.Passes.{parts_of};
+ghost use Rattle.replica_lock.specs.Passes.{LacksRoomAt, parts_of, returned_event, unmade_call};
 ghost use Rattle.replica_lock.specs.Histories.{IsQuietAfter, book_after_forget, entry_count};
 ghost use Rattle.replica_lock.specs.Steps.{ends_session};
+ghost use Rattle.replica_lock.specs.declared.event.BookEvent.TheVariants.{Deliver};
+ghost use Rattle.replica_lock.specs.declared.faults.CallFault.TheVariants.{NoStoreRoom};
 
 use crate::book::Book;
 use crate::event::BookEvent;
-use crate::faults::{CallFault, FinishFault};
+use crate::faults::{CallFault, FinishFault, StepFault, UnmadeCall};
 use crate::outcome::Outcome;
 use crate::pass::Pass;
+use crate::store_room::{has_room, octets_of_delivery, octets_received};
+use crdt_ops::SoundOp;
 use imap_node::SessionNo;
+use op_log::line_bound;
 use std::alloc::Global;
 use std::marker::Model;
 use std::sync::ledger::{Book as Calls, Ledger};
@@ -27,6 +32,13 @@ pub struct CountedBook<L: Ledger> {
     /// The most octets that the journal's entries may take after a call, by their own estimates;
     /// `None` if there is no bound.
     bound: Option<u64>,
+    /// The octets for which the replica's log has room; `None` if there is no log.
+    room: Option<u64>,
+    /// The octets of that room which are set aside for operations that were received or issued and
+    /// aren't written yet, by the bounds of `op_log`.
+    set_aside: u64,
+    /// Whether no thread may wait for a session's changes any more.
+    waits_ended: bool,
 }
 
 // By hand, so that crates above drop it whole.
@@ -36,6 +48,9 @@ impl<L: Ledger> Drop for CountedBook<L> {
             book: _,
             calls: _,
             bound: _,
+            room: _,
+            set_aside: _,
+            waits_ended: _,
         } = self;
     }
 }
@@ -56,12 +71,20 @@ impl<L: Ledger> CountedBook<L> {
     ghost use Rattle.replica_lock.specs.Passes.{IsFinishFault, is_missing};
 
     /// A book, each of whose entries is counted in `calls`. After a call the journal's entries take
-    /// at most `bound` octets, if there is a bound.
-    pub fn new(book: Book, calls: Calls<L>, bound: Option<u64>) -> CountedBook<L>
+    /// at most `bound` octets, if there is a bound. The replica's log, if there is one, has room
+    /// for `room` octets.
+    pub fn new(book: Book, calls: Calls<L>, bound: Option<u64>, room: Option<u64>) -> CountedBook<L>
         requires { entry_count book ≡ calls.total }
         ensures { result ≡ book }
     {
-        CountedBook { book, calls, bound }
+        CountedBook {
+            book,
+            calls,
+            bound,
+            room,
+            set_aside: 0,
+            waits_ended: false,
+        }
     }
 
     /// The number of entries ever made, forgotten ones included.
@@ -101,17 +124,22 @@ impl<L: Ledger> CountedBook<L> {
     }
 
     /// Takes an event for a caller, and returns the outcome of the caller's previous call, which
-    /// may be dropped once the lock is released. An error changes nothing. An open session can
-    /// always be closed, unless the journal was cut.
+    /// may be dropped once the lock is released. An error changes nothing, and returns the event if
+    /// only the replica's log lacked room. An open session can always be closed, unless the journal
+    /// was cut.
     pub fn call(
         &mut self,
         alloc: Global,
         pass: &mut Pass<L>,
         event: BookEvent,
-    ) -> Result<Option<Outcome>, CallFault>
+    ) -> Result<Option<Outcome>, UnmadeCall>
         ensures called { OnOk result (IsCall self.old event self.new pass.old pass.new) }
         ensures unchanged { OnErr result ((self.new ≡ self.old) × (pass.new ≡ pass.old)) }
-        ensures refused { IfErr result (IsCallFault pass.old.seen (entry_count self.old)) }
+        ensures refused { IfErr result
+            (λ unmade. IsCallFault pass.old.seen (entry_count self.old) unmade.fault) }
+        ensures returned { IfErr result
+            (λ unmade. unmade.event ≡ returned_event event unmade.fault) }
+        ensures lacking { IfErr result (λ unmade. LacksRoomAt self.old.node event unmade.fault) }
         ensures close { pass.old.seen ≤ entry_count self.old
             → ends_session self.old.node event ≡ true → IsOk result }
     {
@@ -119,14 +147,72 @@ impl<L: Ledger> CountedBook<L> {
         let seen = pass.seen();
         if actual < seen {
             drop(event);
-            return Err(CallFault::Torn { seen, actual });
+            return Err(UnmadeCall {
+                fault: CallFault::Torn { seen, actual },
+                event: None,
+            });
         }
-        let outcome = match self.book.step(alloc, event) {
+        let delivered = octets_of_delivery(&event);
+        let room = self.free_room();
+        let outcome = match self.book.step_within(alloc, event, room) {
             Ok(outcome) => outcome,
-            Err(_) => return Err(CallFault::NoRoom),
+            Err(fault) => return Err(unmade_call(fault)),
         };
+        if self.room.is_some() {
+            let octets = octets_received(&outcome, delivered);
+            self.set_aside = self.set_aside.saturating_add(octets);
+        }
         let place = self.book.len();
-        Ok(pass.note(&mut self.calls, outcome, place))
+        let listed = self.book.op_count() as u64;
+        Ok(pass.note(&mut self.calls, outcome, place, listed))
+    }
+
+    /// The room of the replica's log that isn't set aside; `None` if there is no log.
+    fn free_room(&self) -> Option<u64> {
+        let room = self.room?;
+        Some(room.saturating_sub(self.set_aside))
+    }
+
+    /// Whether the log has room for so many octets that aren't set aside, or there is no log.
+    pub fn has_room_for(&self, octets: u64) -> bool {
+        has_room(self.free_room(), octets)
+    }
+
+    /// The octets that the log needs, at most, for the delivery of an operation; `None` if it has
+    /// room for them.
+    pub fn lacked_room(&self, op: &SoundOp) -> Option<u64>
+        ensures { IfSome result (λ octets. LacksRoomAt self.now.node (Deliver op.now)
+            (NoStoreRoom octets)) }
+    {
+        let octets = line_bound(op);
+        if has_room(self.free_room(), octets) {
+            None
+        } else {
+            Some(octets)
+        }
+    }
+
+    /// Notes that the replica's log, if there is one, has room for `room` octets, after operations
+    /// were written for which `written` octets had been set aside.
+    pub fn set_room(&mut self, room: u64, written: u64)
+        ensures { self.new ≡ self.old }
+    {
+        if self.room.is_some() {
+            self.room = Some(room);
+        }
+        self.set_aside = self.set_aside.saturating_sub(written);
+    }
+
+    /// Notes that no thread may wait for a session's changes any more.
+    pub fn end_waits(&mut self)
+        ensures { self.new ≡ self.old }
+    {
+        self.waits_ended = true;
+    }
+
+    /// Whether no thread may wait for a session's changes any more.
+    pub fn have_waits_ended(&self) -> bool {
+        self.waits_ended
     }
 
     /// Forgets the oldest entries until the others take no more octets than the bound. The pass
@@ -161,6 +247,9 @@ impl<L: Ledger> CountedBook<L> {
             book,
             mut calls,
             bound: _,
+            room: _,
+            set_aside: _,
+            waits_ended: _,
         } = self;
         let mismatch = first_mismatch(&book, &passes);
         let entries = book.len();
@@ -179,6 +268,22 @@ impl<L: Ledger> CountedBook<L> {
             }
             None => Ok(book),
         }
+    }
+}
+
+/// The call that a step's fault leaves unmade.
+fn unmade_call(fault: StepFault) -> UnmadeCall
+    ensures { result ≡ unmade_call fault }
+{
+    match fault {
+        StepFault::NoRoom => UnmadeCall {
+            fault: CallFault::NoRoom,
+            event: None,
+        },
+        StepFault::NoStoreRoom { octets, event } => UnmadeCall {
+            fault: CallFault::NoStoreRoom { octets },
+            event: Some(event),
+        },
     }
 }
 

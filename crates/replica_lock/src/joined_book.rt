@@ -61,14 +61,15 @@ impl Book {
     /// `NotCausal` at the first that isn't ripe after those before it. `Exhausted` if one of its
     /// counters has no number left for one. `NoMemory` if memory runs out.
     ///
-    /// It costs as much as the deliveries, and stores one copy of each operation, the replica's.
-    pub fn restore(alloc: Global, id: ReplicaId, ops: &[SoundOp]) -> Result<Book, JoinFault>
+    /// It costs as much as the deliveries, and copies no operation for good.
+    pub fn restore(alloc: Global, id: ReplicaId, ops: Vec<SoundOp>) -> Result<Book, JoinFault>
         ensures { MatchResult result
-            (λ book. (book ≡ restored_book id ops.now)
-            × IsCausal id_of clock_of ops.now × (¬ Exhausts (first_numbers id) [] ops.now))
-            (IsRestoreFault id ops.now) }
+            (λ book. (book ≡ restored_book id ops.items)
+            × IsCausal id_of clock_of ops.items × (¬ Exhausts (first_numbers id) [] ops.items))
+            (IsRestoreFault id ops.items) }
     {
         let Ok(mut book) = first_book(alloc, id) else {
+            drop(ops);
             return Err(JoinFault::NoMemory);
         };
         if let Err(fault) = restore_all(alloc, &mut book, ops) {
@@ -109,11 +110,11 @@ fn take_all(alloc: Global, book: &mut Book, ops: &[SoundOp]) -> Result<(), JoinF
 
 /// Delivers the operations, one after another, to a replica that has received nothing, and forgets
 /// the entries. Stops at the first that isn't applied.
-fn restore_all(alloc: Global, book: &mut Book, ops: &[SoundOp]) -> Result<(), JoinFault>
+fn restore_all(alloc: Global, book: &mut Book, ops: Vec<SoundOp>) -> Result<(), JoinFault>
     requires { book.old ≡ restored_book book.old.node.start.replica [] }
-    ensures ok { OnOk result ((book.new ≡ restored_book book.old.node.start.replica ops.now)
-        × IsCausal id_of clock_of ops.now × (¬ Exhausts book.old.node.start [] ops.now)) }
-    ensures fault { IfErr result (IsRestoreFault book.old.node.start.replica ops.now) }
+    ensures ok { OnOk result ((book.new ≡ restored_book book.old.node.start.replica ops.items)
+        × IsCausal id_of clock_of ops.items × (¬ Exhausts book.old.node.start [] ops.items)) }
+    ensures fault { IfErr result (IsRestoreFault book.old.node.start.replica ops.items) }
 {
     for op in ops {
         restore_op(alloc, book, op)?;
@@ -121,17 +122,17 @@ fn restore_all(alloc: Global, book: &mut Book, ops: &[SoundOp]) -> Result<(), Jo
     Ok(())
 }
 
-/// Delivers a copy of an operation to a replica that holds nothing and whose journal is empty, and
-/// forgets the entry.
-fn restore_op(alloc: Global, book: &mut Book, op: &SoundOp) -> Result<(), JoinFault>
+/// Delivers an operation to a replica that holds nothing and whose journal is empty, and forgets
+/// the entry.
+fn restore_op(alloc: Global, book: &mut Book, op: SoundOp) -> Result<(), JoinFault>
     requires held { book.old.node.held ≡ [] }
     requires journal { book.old.journal ≡ [] }
-    ensures ok { OnOk result ((book.new ≡ book_with_restored_op book.old op.now)
-        × IsRipe id_of clock_of book.old.node.applied op.now
-        × (¬ Exhausts book.old.node.start book.old.node.applied (op.now ∷ []))) }
-    ensures fault { IfErr result (IsApplyFault book.old.node op.now) }
+    ensures ok { OnOk result ((book.new ≡ book_with_restored_op book.old op)
+        × IsRipe id_of clock_of book.old.node.applied op
+        × (¬ Exhausts book.old.node.start book.old.node.applied (op ∷ []))) }
+    ensures fault { IfErr result (IsApplyFault book.old.node op) }
 {
-    take(alloc, book, op)?;
+    deliver(alloc, book, op)?;
     let mut forgotten = ForgottenEntries::new(alloc);
     book.forget(1, &mut forgotten);
     Ok(())
@@ -145,10 +146,21 @@ fn take(alloc: Global, book: &mut Book, op: &SoundOp) -> Result<(), JoinFault>
         × (¬ Exhausts book.old.node.start book.old.node.applied (op.now ∷ []))) }
     ensures fault { IfErr result (IsApplyFault book.old.node op.now) }
 {
-    let id = op.id();
     let Ok(op) = op.copy(alloc) else {
         return Err(JoinFault::NoMemory);
     };
+    deliver(alloc, book, op)
+}
+
+/// Delivers an operation to a replica that holds nothing.
+fn deliver(alloc: Global, book: &mut Book, op: SoundOp) -> Result<(), JoinFault>
+    requires { book.old.node.held ≡ [] }
+    ensures ok { OnOk result ((book.new ≡ book_with_op book.old op)
+        × IsRipe id_of clock_of book.old.node.applied op
+        × (¬ Exhausts book.old.node.start book.old.node.applied (op ∷ []))) }
+    ensures fault { IfErr result (IsApplyFault book.old.node op) }
+{
+    let id = op.id();
     let Ok(outcome) = book.step(alloc, BookEvent::Deliver { op }) else {
         return Err(JoinFault::NoMemory);
     };

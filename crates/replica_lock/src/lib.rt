@@ -58,6 +58,14 @@
 //!   after it, so that each open session can be closed; the book counts its open sessions. The
 //!   places of all entries ever made, and of these closes, fit into 64 bits; otherwise the answer
 //!   is `NoRoom`.
+//! - A replica with a log is given the octets for which that has room (`Shared::with_store`,
+//!   `set_room`). A command is refused between its plan and its commit if the lines of what it
+//!   issues may take more, by bounds without a pass over texts (`op_log::lines_bound`), which is
+//!   the last reason to refuse it; a delivery is refused before it is made. What is received or
+//!   issued has its octets set aside until it is written, an operation that is held too: when it is
+//!   applied it needs no more, and no delivery looks at the held ones.
+//! - `Shared::end_waits` ends the waits for changes, so that sessions that idle at a replica whose
+//!   log failed learn it.
 //! - `Shared::wait_session_change` is a call besides `wait_change`. It waits until an entry after
 //!   those seen may concern other sessions (it issued operations or may have applied some) and the
 //!   session's own feed has notes or missed some, or until the session is closed. Each session has
@@ -110,11 +118,12 @@ mod reply_equality;
 mod session_signals;
 mod shared;
 mod spent_memory;
+mod store_room;
 
 pub use book::{Book, JournalEntry};
 pub use compact_entry::{CompactEntry, EntryRef};
 pub use event::BookEvent;
-pub use faults::{CallFault, FinishFault, JoinFault, NoRoom};
+pub use faults::{CallFault, FinishFault, JoinFault, NoRoom, StepFault, UnmadeCommand};
 pub use fetch_answers::FetchAnswers;
 pub use fetch_exchange::FetchExchange;
 pub use fetch_line::{FetchLine, SystemFlags};

@@ -1,24 +1,29 @@
 //! One event at a node, and the journal entry that stores it.
 
-ghost use Rattle.std.specs.Prelude.{◌≡◌, ◌↔◌, true, IfOk, IsOk, IsTrue, OnErr};
+ghost use Rattle.std.specs.Prelude.{◌≡◌, ◌↔◌, ◌+◌, true, IfErr, IfOk, IsOk, IsTrue, OnErr};
 ghost use Rattle.imap_node.specs.Sessions.{IsOpen};
 ghost use Rattle.imap_syntax.specs.declared.command.Command.TheVariants as commands;
 ghost use Rattle.replica_lock.specs.Steps.{IsAwaitedInput, IsStep, TakesInput, ends_session};
 ghost use Rattle.replica_lock.specs.Steps.{event_of};
+ghost use Rattle.replica_lock.specs.StoreRoom.{HasRoomFor, IsStepFault, octets_needed};
+ghost use Rattle.op_log.specs.LineBounds.{line_bound};
+ghost use Rattle.replica_lock.specs.declared.faults.StepFault.TheVariants.{NoRoom};
 ghost use Rattle.replica_lock.specs.declared.event.BookEvent.TheVariants as events;
 ghost use Rattle.replica_lock.specs.declared.outcome.Outcome.TheVariants as outcomes;
 
 use crate::compact_entry::{CompactEntry, PendingEntry, is_done};
 use crate::event::{BookEvent, event_of};
-use crate::faults::NoRoom;
+use crate::faults::StepFault;
 use crate::fetch_exchange::FetchExchange;
 use crate::outcome::Outcome;
+use crate::store_room::{has_room, octets_of_reply};
 use causal_inbox::{DeliverFault, Delivered};
 use crdt_ops::SoundOp;
 use imap_node::{Auth, Input, Node, OpenFault, Reply, SessionNo};
 use imap_syntax::{Command, Tagged};
 use imap_types::Moment;
 use merge_laws::Caused;
+use op_log::line_bound;
 use std::alloc::{AllocError, Global};
 
 /// The result of a step.
@@ -30,14 +35,24 @@ pub struct StepResult {
     pub outcome: Outcome,
 }
 
-/// Takes an event at a node. `Err` if memory runs out for the journal entry; the node is then as it
-/// was. The close of a session takes no memory.
-pub fn step_node(alloc: Global, node: &mut Node, event: BookEvent) -> Result<StepResult, NoRoom>
+/// Takes an event at a node, if its log has room for so many octets as the operations need that the
+/// node may receive by it; `None` if there is no log. An `Err` leaves the node as it was: `NoStoreRoom`, with
+/// the event, exactly if the log has too little room, unless memory runs out first; `NoRoom` if
+/// memory runs out for the journal entry. The close of a session takes no memory.
+pub fn step_node(
+    alloc: Global,
+    node: &mut Node,
+    event: BookEvent,
+    room: Option<u64>,
+) -> Result<StepResult, StepFault>
     ensures stored { IfOk result
         (λ stepped. stepped.stored ≡ record { event = event; outcome = stepped.outcome }) }
     ensures step { IfOk result
         (λ stepped. IsStep node.old.state event stepped.outcome node.new.state) }
+    ensures room { IfOk result
+        (λ stepped. HasRoomFor room (octets_needed event stepped.outcome)) }
     ensures err { OnErr result (node.new.state ≡ node.old.state) }
+    ensures fault { IfErr result (IsStepFault node.old.state event room) }
     ensures close { ends_session node.old.state event ≡ true → IsOk result }
 {
     match event {
@@ -46,31 +61,42 @@ pub fn step_node(alloc: Global, node: &mut Node, event: BookEvent) -> Result<Ste
             session,
             moment,
             tagged,
-        } => input_step(alloc, node, session, Input::Command { moment, tagged }),
-        BookEvent::Line { session, line } => input_step(alloc, node, session, Input::Line { line }),
-        BookEvent::Poll { session } => input_step(alloc, node, session, Input::Poll),
-        BookEvent::Deliver { op } => deliver_step(alloc, node, op),
+        } => input_step(
+            alloc,
+            node,
+            session,
+            Input::Command { moment, tagged },
+            room,
+        ),
+        BookEvent::Line { session, line } => {
+            input_step(alloc, node, session, Input::Line { line }, room)
+        }
+        BookEvent::Poll { session } => input_step(alloc, node, session, Input::Poll, room),
+        BookEvent::Deliver { op } => deliver_step(alloc, node, op, room),
         BookEvent::Drain => drain_step(alloc, node),
         BookEvent::Close { session } => close_step(alloc, node, session),
     }
 }
 
 /// Opens a session.
-fn open_step(alloc: Global, node: &mut Node, auth: Auth) -> Result<StepResult, NoRoom>
+fn open_step(alloc: Global, node: &mut Node, auth: Auth) -> Result<StepResult, StepFault>
     ensures stored { IfOk result
         (λ stepped. stepped.stored
         ≡ record { event = events.Open auth; outcome = stepped.outcome }) }
     ensures step { IfOk result
         (λ stepped. IsStep node.old.state (events.Open auth) stepped.outcome node.new.state) }
+    ensures octets { IfOk result
+        (λ stepped. octets_needed (events.Open auth) stepped.outcome ≡ 0) }
     ensures err { OnErr result (node.new.state ≡ node.old.state) }
+    ensures fault { IfErr result (λ fault. fault ≡ NoRoom) }
 {
     let Ok(stored) = copy_auth(alloc, &auth) else {
         drop(auth);
-        return Err(NoRoom);
+        return Err(StepFault::NoRoom);
     };
     let Ok(pending) = PendingEntry::new(alloc, BookEvent::Open { auth: stored }) else {
         drop(auth);
-        return Err(NoRoom);
+        return Err(StepFault::NoRoom);
     };
     let answer = node.open(auth);
     Ok(StepResult {
@@ -112,26 +138,39 @@ fn awaits(node: &Node, session: SessionNo, input: &Input) -> bool
     }
 }
 
-/// Gives a session an input, or passes it over if the session doesn't take it.
+/// Gives a session an input, or passes it over if the session doesn't take it. It is refused if the
+/// log has too little room for what it would issue.
 fn input_step(
     alloc: Global,
     node: &mut Node,
     session: SessionNo,
     input: Input,
-) -> Result<StepResult, NoRoom>
+    room: Option<u64>,
+) -> Result<StepResult, StepFault>
     ensures stored { IfOk result (λ stepped. stepped.stored
         ≡ record { event = event_of session input; outcome = stepped.outcome }) }
     ensures step { IfOk result
         (λ stepped. TakesInput node.old.state session input stepped.outcome node.new.state) }
+    ensures room { IfOk result (λ stepped. HasRoomFor room
+        (octets_needed (event_of session input) stepped.outcome)) }
     ensures err { OnErr result (node.new.state ≡ node.old.state) }
+    ensures fault { IfErr result (IsStepFault node.old.state (event_of session input) room) }
 {
     if !awaits(node, session, &input) {
         return pass_over(alloc, event_of(session, input));
     }
     let plan = node.plan_for(alloc, session, &input);
+    let octets = octets_of_reply(plan.reply());
+    if !has_room(room, octets) {
+        drop(plan);
+        return Err(StepFault::NoStoreRoom {
+            octets,
+            event: event_of(session, input),
+        });
+    }
     let Ok(stored) = input_entry(alloc, session, input, plan.reply()) else {
         drop(plan);
-        return Err(NoRoom);
+        return Err(StepFault::NoRoom);
     };
     let reply = node.commit(plan);
     Ok(StepResult {
@@ -211,13 +250,14 @@ fn whole_entry(alloc: Global, event: BookEvent, reply: &Reply) -> Result<Compact
 }
 
 /// Passes over an event that isn't possible. `Err` if memory runs out for its journal entry.
-fn pass_over(alloc: Global, event: BookEvent) -> Result<StepResult, NoRoom>
+fn pass_over(alloc: Global, event: BookEvent) -> Result<StepResult, StepFault>
     ensures stored { IfOk result
         (λ stepped. stepped.stored ≡ record { event = event; outcome = stepped.outcome }) }
     ensures outcome { IfOk result (λ stepped. stepped.outcome ≡ outcomes.PassedOver) }
+    ensures fault { IfErr result (λ fault. fault ≡ NoRoom) }
 {
     let Ok(pending) = PendingEntry::new(alloc, event) else {
-        return Err(NoRoom);
+        return Err(StepFault::NoRoom);
     };
     Ok(StepResult {
         stored: pending.finish(Outcome::PassedOver),
@@ -225,21 +265,35 @@ fn pass_over(alloc: Global, event: BookEvent) -> Result<StepResult, NoRoom>
     })
 }
 
-/// Delivers an operation.
-fn deliver_step(alloc: Global, node: &mut Node, op: SoundOp) -> Result<StepResult, NoRoom>
+/// Delivers an operation, if the log has room for it.
+fn deliver_step(
+    alloc: Global,
+    node: &mut Node,
+    op: SoundOp,
+    room: Option<u64>,
+) -> Result<StepResult, StepFault>
     ensures stored { IfOk result (λ stepped. stepped.stored
         ≡ record { event = events.Deliver op; outcome = stepped.outcome }) }
     ensures step { IfOk result
         (λ stepped. IsStep node.old.state (events.Deliver op) stepped.outcome node.new.state) }
+    ensures room { IfOk result (λ stepped. HasRoomFor room (line_bound op)) }
     ensures err { OnErr result (node.new.state ≡ node.old.state) }
+    ensures fault { IfErr result (IsStepFault node.old.state (events.Deliver op) room) }
 {
+    let octets = line_bound(&op);
+    if !has_room(room, octets) {
+        return Err(StepFault::NoStoreRoom {
+            octets,
+            event: BookEvent::Deliver { op },
+        });
+    }
     let Ok(stored) = op.copy(alloc) else {
         drop(op);
-        return Err(NoRoom);
+        return Err(StepFault::NoRoom);
     };
     let Ok(pending) = PendingEntry::new(alloc, BookEvent::Deliver { op: stored }) else {
         drop(op);
-        return Err(NoRoom);
+        return Err(StepFault::NoRoom);
     };
     let answer = node.deliver(alloc, op);
     Ok(StepResult {
@@ -254,16 +308,20 @@ fn outcome_of_delivery(answer: &Result<Delivered, DeliverFault>) -> Outcome
     Outcome::Delivered { answer: *answer }
 }
 
-/// Applies held operations whose causes were applied.
-fn drain_step(alloc: Global, node: &mut Node) -> Result<StepResult, NoRoom>
+/// Applies held operations whose causes were applied. The log has room for them since they were
+/// delivered.
+fn drain_step(alloc: Global, node: &mut Node) -> Result<StepResult, StepFault>
     ensures stored { IfOk result
         (λ stepped. stepped.stored ≡ record { event = events.Drain; outcome = stepped.outcome }) }
     ensures step { IfOk result
         (λ stepped. IsStep node.old.state events.Drain stepped.outcome node.new.state) }
+    ensures octets { IfOk result
+        (λ stepped. octets_needed events.Drain stepped.outcome ≡ 0) }
     ensures err { OnErr result (node.new.state ≡ node.old.state) }
+    ensures fault { IfErr result (λ fault. fault ≡ NoRoom) }
 {
     let Ok(pending) = PendingEntry::new(alloc, BookEvent::Drain) else {
-        return Err(NoRoom);
+        return Err(StepFault::NoRoom);
     };
     let drained = node.drain(alloc);
     Ok(StepResult {
@@ -273,12 +331,15 @@ fn drain_step(alloc: Global, node: &mut Node) -> Result<StepResult, NoRoom>
 }
 
 /// Closes a session, if it is open.
-fn close_step(alloc: Global, node: &mut Node, session: SessionNo) -> Result<StepResult, NoRoom>
+fn close_step(alloc: Global, node: &mut Node, session: SessionNo) -> Result<StepResult, StepFault>
     ensures stored { IfOk result (λ stepped. stepped.stored
         ≡ record { event = events.Close session; outcome = stepped.outcome }) }
     ensures step { IfOk result
         (λ stepped. IsStep node.old.state (events.Close session) stepped.outcome node.new.state) }
+    ensures octets { IfOk result
+        (λ stepped. octets_needed (events.Close session) stepped.outcome ≡ 0) }
     ensures err { OnErr result (node.new.state ≡ node.old.state) }
+    ensures fault { IfErr result (λ fault. fault ≡ NoRoom) }
     ensures close { ends_session node.old.state (events.Close session) ≡ true → IsOk result }
 {
     if !node.is_open(session) {

@@ -52,4 +52,12 @@ impl SessionSignals {
             }
         }
     }
+
+    /// Signals each session.
+    pub fn notify_all(&self) {
+        for signal in self.own.iter() {
+            signal.notify_all();
+        }
+        self.common.notify_all();
+    }
 }

@@ -1,7 +1,7 @@
 //! A replica that threads share.
 
 ghost use Rattle.std.specs.Prelude.{◌≡◌, ◌≢◌, OnOk, OnErr, ◌<◌, IfOk, IfErr, IfSome, IsSome, List};
-ghost use Rattle.std.specs.Prelude.{None, false};
+ghost use Rattle.std.specs.Prelude.{None, drop, false};
 ghost use Rattle.causal_inbox.specs.Inbox.{IsClockOf, uncovered_ops};
 ghost use Rattle.crdt_ops.specs.declared.op.Op.{Op};
 ghost use Rattle.merge_laws.specs.Orders.{IsCausal};
@@ -10,7 +10,7 @@ ghost use Rattle.imap_node.specs.Operations.{clock_of, id_of};
 use crate::book::Book;
 use crate::counted_book::CountedBook;
 use crate::event::BookEvent;
-use crate::faults::{CallFault, FinishFault};
+use crate::faults::{CallFault, FinishFault, UnmadeCall, UnmadeCommand};
 use crate::outcome::Outcome;
 use crate::pass::Pass;
 use crate::session_signals::SessionSignals;
@@ -50,6 +50,7 @@ pub struct LockTurn<'a, L: Ledger> {
 
 impl<'a, L: Ledger> LockTurn<'a, L> {
     ghost use Rattle.replica_lock.specs.Passes.{IsCalled, IsCalledIn, IsCallRefused};
+    ghost use Rattle.replica_lock.specs.Passes.{returned_event};
     ghost use Rattle.replica_lock.specs.declared.event.BookEvent.TheVariants as events;
 
     /// Takes an event, and then forgets the journal's oldest entries as far as its bound demands.
@@ -58,10 +59,12 @@ impl<'a, L: Ledger> LockTurn<'a, L> {
         alloc: Global,
         pass: &mut Pass<L>,
         event: BookEvent,
-    ) -> Result<Option<Outcome>, CallFault>
+    ) -> Result<Option<Outcome>, UnmadeCall>
         ensures called { OnOk result (IsCalled pass.old event pass.new) }
         ensures unchanged { OnErr result (pass.new ≡ pass.old) }
-        ensures refused { IfErr result (IsCallRefused pass.old.seen) }
+        ensures refused { IfErr result (λ unmade. IsCallRefused pass.old.seen unmade.fault) }
+        ensures returned { IfErr result
+            (λ unmade. unmade.event ≡ returned_event event unmade.fault) }
     {
         let result = self.locked.call(alloc, pass, event);
         self.locked.trim(pass);
@@ -96,14 +99,14 @@ impl<'a, L: Ledger> LockTurn<'a, L> {
                 pass.store_spent(last);
                 Ok(())
             }
-            Err(fault) => Err(fault),
+            Err(unmade) => Err(unmade.into_fault()),
         }
     }
 }
 
 impl<L: Ledger> Shared<L> {
     ghost use Rattle.replica_lock.specs.Passes.{ArePassesOfBook, IsCalled, IsCalledIn};
-    ghost use Rattle.replica_lock.specs.Passes.{IsFinishFault};
+    ghost use Rattle.replica_lock.specs.Passes.{IsFinishFault, returned_command, returned_event};
     ghost use Rattle.replica_lock.specs.Passes.{IsCallRefused, is_missing, parts_of, unused_pass};
     ghost use Rattle.replica_lock.specs.Histories.{BookState, entry_count};
     ghost use Rattle.replica_lock.specs.declared.event.BookEvent.TheVariants as events;
@@ -115,7 +118,7 @@ impl<L: Ledger> Shared<L> {
         requires parts { (blank.parts ≡ L.parts) × (L.parts ≡ 4294967295) }
         ensures { result.1 ≡ unused_pass 4294967295 (entry_count book) }
     {
-        Shared::with_bound(blank, book, None)
+        Shared::with_store(blank, book, None, None)
     }
 
     /// Puts a replica under a lock, as `new` does. After each call the journal forgets its oldest
@@ -126,13 +129,29 @@ impl<L: Ledger> Shared<L> {
         requires parts { (blank.parts ≡ L.parts) × (L.parts ≡ 4294967295) }
         ensures { result.1 ≡ unused_pass 4294967295 (entry_count book) }
     {
+        Shared::with_store(blank, book, bound, None)
+    }
+
+    /// Puts a replica under a lock, as `with_bound` does. Its log has room for `room` octets;
+    /// `None` if there is no log. A command or delivery is refused if that is too little for the
+    /// operations that it issues or delivers; these take their part of the room, held ones too.
+    pub fn with_store(
+        blank: Blank,
+        book: Book,
+        bound: Option<u64>,
+        room: Option<u64>,
+    ) -> (Shared<L>, Pass<L>)
+        requires name { blank.name ≡ L.name }
+        requires parts { (blank.parts ≡ L.parts) × (L.parts ≡ 4294967295) }
+        ensures { result.1 ≡ unused_pass 4294967295 (entry_count book) }
+    {
         let (calls, share) = blank.open::<L>();
         let mut calls = calls;
         let entries = book.len();
         let signals = SessionSignals::new(book.alloc());
         let pass = Pass::whole(&mut calls, share, entries);
         let shared = Shared {
-            locked: Mutex::new(CountedBook::new(book, calls, bound)),
+            locked: Mutex::new(CountedBook::new(book, calls, bound, room)),
             changed: Condvar::new(),
             signals,
         };
@@ -150,6 +169,26 @@ impl<L: Ledger> Shared<L> {
         ensures unchanged { OnErr result (pass.new ≡ pass.old) }
         ensures refused { IfErr result (IsCallRefused pass.old.seen) }
     {
+        match self.try_call(rt, alloc, pass, event) {
+            Ok(()) => Ok(()),
+            Err(unmade) => Err(unmade.into_fault()),
+        }
+    }
+
+    /// Makes a call; if only the log lacks room, its event is returned.
+    fn try_call<R: Wait>(
+        &self,
+        rt: &R,
+        alloc: Global,
+        pass: &mut Pass<L>,
+        event: BookEvent,
+    ) -> Result<(), UnmadeCall>
+        ensures called { OnOk result (IsCalled pass.old event pass.new) }
+        ensures unchanged { OnErr result (pass.new ≡ pass.old) }
+        ensures refused { IfErr result (λ unmade. IsCallRefused pass.old.seen unmade.fault) }
+        ensures returned { IfErr result
+            (λ unmade. unmade.event ≡ returned_event event unmade.fault) }
+    {
         let woken = woken_session(&event);
         pass.drop_forgotten();
         let mut turn = self.turn(rt);
@@ -166,7 +205,7 @@ impl<L: Ledger> Shared<L> {
                 pass.store_spent(last);
                 Ok(())
             }
-            Err(fault) => Err(fault),
+            Err(unmade) => Err(unmade),
         }
     }
 
@@ -204,7 +243,8 @@ impl<L: Ledger> Shared<L> {
         self.call(rt, alloc, pass, BookEvent::Open { auth })
     }
 
-    /// Gives the pass's session a command that arrived at this moment.
+    /// Gives the pass's session a command that arrived at this moment. If only the replica's log
+    /// lacks room for its operations, the command is returned.
     pub fn command<R: Wait>(
         &self,
         rt: &R,
@@ -212,12 +252,14 @@ impl<L: Ledger> Shared<L> {
         pass: &mut Pass<L>,
         moment: Moment,
         tagged: Tagged,
-    ) -> Result<(), CallFault>
+    ) -> Result<(), UnmadeCommand>
         requires { IsSome pass.old.session }
         ensures called { OnOk result
             (IsCalledIn pass.old (λ n. events.Command n moment tagged) pass.new) }
         ensures unchanged { OnErr result (pass.new ≡ pass.old) }
-        ensures refused { IfErr result (IsCallRefused pass.old.seen) }
+        ensures refused { IfErr result (λ unmade. IsCallRefused pass.old.seen unmade.fault) }
+        ensures returned { IfErr result
+            (λ unmade. unmade.tagged ≡ returned_command tagged unmade.fault) }
     {
         let Some(session) = pass.session() else {
             unreachable!()
@@ -227,7 +269,10 @@ impl<L: Ledger> Shared<L> {
             moment,
             tagged,
         };
-        self.call(rt, alloc, pass, event)
+        match self.try_call(rt, alloc, pass, event) {
+            Ok(()) => Ok(()),
+            Err(unmade) => Err(unmade.into_command()),
+        }
     }
 
     /// Gives the pass's session a line, in IDLE (RFC 2177, section 3).
@@ -310,8 +355,8 @@ impl<L: Ledger> Shared<L> {
     }
 
     /// Waits until this session may have to be sent something for an entry after the first `seen`,
-    /// and returns the number of entries ever made then; `None` if the session is closed. It looks
-    /// again when the session begins to idle. While the session idles, the wait is woken only when
+    /// and returns the number of entries ever made then; `None` if the session is closed, or if the
+    /// waits have ended. It looks again when the session begins to idle. While the session idles, the wait is woken only when
     /// the session's own feed has notes or missed some, and at the session's close.
     pub fn wait_session_change<R: Wait>(&self, rt: &R, session: SessionNo, seen: u64) -> Option<u64>
         ensures { IfSome result (λ length. seen < length) }
@@ -320,12 +365,19 @@ impl<L: Ledger> Shared<L> {
             rt,
             self.locked.lock(rt),
             |locked| !locked.has_session_change(session, seen)
-                && locked.book().node().is_open(session),
+                && locked.book().node().is_open(session)
+                && !locked.have_waits_ended(),
         );
         if !locked.has_session_change(session, seen) {
             return None;
         }
         Some(locked.len())
+    }
+
+    /// Ends all waits for changes of sessions, those of now and later ones.
+    pub fn end_waits<R: Wait>(&self, rt: &R) {
+        self.locked.lock(rt).end_waits();
+        self.signals.notify_all();
     }
 
     /// Copies of the operations that the replica applied, in their order; `Err` if memory runs out.
@@ -366,6 +418,43 @@ impl<L: Ledger> Shared<L> {
             × (ops.items ≡ uncovered_ops id_of clock.now applied)) }
     {
         ops_of_book_since(alloc, self.locked.lock(rt).book(), clock)
+    }
+
+    /// Copies of the operations that the replica applied after the first `count`, in their order;
+    /// `Err` if memory runs out. It takes the lock, and makes no entry.
+    pub fn ops_after<R: Wait>(
+        &self,
+        rt: &R,
+        alloc: Global,
+        count: u64,
+    ) -> Result<Vec<SoundOp>, AllocError>
+        ensures { IfOk result (λ ops. (applied : List Op) × IsCausal id_of clock_of applied
+            × (ops.items ≡ drop count applied)) }
+    {
+        ops_of_book_after(alloc, self.locked.lock(rt).book(), count)
+    }
+
+    /// The number of operations that the replica applied. It takes the lock, and makes no entry.
+    pub fn op_count<R: Wait>(&self, rt: &R) -> u64 {
+        self.locked.lock(rt).book().op_count() as u64
+    }
+
+    /// The octets that the replica's log needs, at most, for the delivery of an operation; `None`
+    /// if it has room for them. It takes the lock, and makes no entry.
+    pub fn lacked_room<R: Wait>(&self, rt: &R, op: &SoundOp) -> Option<u64> {
+        self.locked.lock(rt).lacked_room(op)
+    }
+
+    /// Whether the replica's log, if there is one, has room for so many octets that aren't set aside
+    /// for operations that it received. It takes the lock, and makes no entry.
+    pub fn has_room_for<R: Wait>(&self, rt: &R, octets: u64) -> bool {
+        self.locked.lock(rt).has_room_for(octets)
+    }
+
+    /// Notes that the replica's log, if there is one, has room for `room` octets, after operations
+    /// were written whose lines have `written` octets at most, by `op_log::lines_bound`.
+    pub fn set_room<R: Wait>(&self, rt: &R, room: u64, written: u64) {
+        self.locked.lock(rt).set_room(room, written);
     }
 
     /// Removes the lock and returns the book if no pass is missing. `Missing` if one is, `Strange`
@@ -439,6 +528,18 @@ fn ops_of_book_since(alloc: Global, book: &Book, clock: &Clock) -> Result<Vec<So
 {
     let _ops = book.node().op_list();
     book.node().ops_since(alloc, clock)
+}
+
+/// Copies of the operations applied after the first `count`, in their order.
+fn ops_of_book_after(alloc: Global, book: &Book, count: u64) -> Result<Vec<SoundOp>, AllocError>
+    ensures ops { IfOk result (λ ops. ops.items ≡ drop count book.now.node.applied) }
+    ensures causal { IsCausal id_of clock_of book.now.node.applied }
+{
+    let ops = book.node().op_list();
+    if count > ops.len() as u64 {
+        return Ok(Vec::new(alloc));
+    }
+    copy_ops(alloc, &ops[count as usize..])
 }
 
 /// Copies of the operations, in their order.

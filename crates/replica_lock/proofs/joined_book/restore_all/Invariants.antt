@@ -1,6 +1,9 @@
-use Rattle.std.proofs.Common.{take}
+use Rattle.std.proofs.Common.{◌≡◌, ℕ, drop, take}
 use Rattle.replica_lock.proofs.JoinLemmas.{IsRestoredBook}
 use Rattle.replica_lock.proofs.joined_book.restore_all.Given as goal
 
+-- the first operations were delivered, and the others are left
 abbrev pub invariant-loop-op : goal.invariant-loop-op
-invariant-loop-op l = IsRestoredBook l.initial.book.node.start.replica (take l.op-index l.ops) l.book
+invariant-loop-op l =
+    (i : ℕ) × (drop i l.fn.ops.items ≡ l.op-iterator.rest.items)
+    × IsRestoredBook l.initial.book.node.start.replica (take i l.fn.ops.items) l.book

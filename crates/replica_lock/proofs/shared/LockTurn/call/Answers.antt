@@ -1,8 +1,9 @@
-use Rattle.std.proofs.Common.{◌≡◌, Err, Ok, Result, ◌∙◌}
+use Rattle.std.proofs.Common.{◌≡◌, ℕ, Err, IfErr, Ok, Result, ◌∙◌}
 use Rattle.std.specs.Prelude.{OnOk}
 use Rattle.replica_lock.specs.Histories.{BookState, entry_count}
-use Rattle.replica_lock.specs.Passes.{IsCall, IsCalled, PassState}
+use Rattle.replica_lock.specs.Passes.{IsCall, IsCallFault, IsCallRefused, IsCalled, PassState}
 use Rattle.replica_lock.specs.declared.event.BookEvent.{BookEvent}
+use Rattle.replica_lock.specs.declared.faults.UnmadeCall.{UnmadeCall}
 use Rattle.replica_lock.proofs.shared.LockTurn.call.Goals as goal
 
 -- what the caller knows of a call, if the pass stays as the call left it
@@ -12,3 +13,11 @@ called_after (Err fault) old new event p q later h e = tt
 
 pub returns-clause-called : goal.returns-clause-called
 returns-clause-called g c = called_after c.call-result.result c.deref_mut.result.now c.call-result.new.self c.args.event c.args.pass.now c.call-result.new.pass c.trim.new.pass c.call-result.ensures.called c.trim.ensures.pass
+
+-- what the caller knows of a call that wasn't made
+refused_after : {T : Type 0} (r : Result T UnmadeCall) (seen actual : ℕ) → IfErr r (λ unmade. IsCallFault seen actual unmade.fault) → IfErr r (λ unmade. IsCallRefused seen unmade.fault)
+refused_after (Ok x) seen actual h = h
+refused_after (Err unmade) seen actual h = (actual, h)
+
+pub returns-clause-refused : goal.returns-clause-refused
+returns-clause-refused g c = refused_after c.call-result.result c.args.pass.now.seen (entry_count c.deref_mut.result.now) c.call-result.ensures.refused
