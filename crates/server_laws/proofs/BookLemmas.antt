@@ -36,7 +36,7 @@ none_named (first ∷ books) name none book i =
     ]
 
 -- no entry of an interleaving bears such a name
-no_entries : (books : List BookState) (interleaving : List ReplicaEntry) (name : ℕ) → ((item : ReplicaEntry) → IsIn item interleaving → (book : BookState) × IsIn book books × (book.node.start.replica ≡ item.replica))
+pub no_entries : (books : List BookState) (interleaving : List ReplicaEntry) (name : ℕ) → ((item : ReplicaEntry) → IsIn item interleaving → (book : BookState) × IsIn book books × (book.node.start.replica ≡ item.replica))
     → current_world books name ≡ None → entries_of_replica interleaving name ≡ []
 no_entries books [] name theirs none = refl
 no_entries books (item ∷ interleaving) name theirs none =

@@ -37,7 +37,7 @@ begins_with_none starts first = record {
 
 -- ---- one more entry
 
-entries_append_one : (interleaving : List ReplicaEntry) (one : ReplicaEntry) (name : ℕ) → name ≡ one.replica → entries_of_replica (interleaving ++ one ∷ []) name ≡ entries_of_replica interleaving name ++ one.entry ∷ []
+pub entries_append_one : (interleaving : List ReplicaEntry) (one : ReplicaEntry) (name : ℕ) → name ≡ one.replica → entries_of_replica (interleaving ++ one ∷ []) name ≡ entries_of_replica interleaving name ++ one.entry ∷ []
 entries_append_one [] one name e = entries_here one [] name e
 entries_append_one (item ∷ interleaving) one name e = elim (eqb_tells name item.replica) [
   | inl t ↦
@@ -50,7 +50,7 @@ entries_append_one (item ∷ interleaving) one name e = elim (eqb_tells name ite
       ∙ ap (λ (es : List JournalEntry). es ++ one.entry ∷ []) (sym (entries_past item interleaving name f.1))
 ]
 
-entries_stay : (interleaving : List ReplicaEntry) (one : ReplicaEntry) (name : ℕ) → name ≢ one.replica → entries_of_replica (interleaving ++ one ∷ []) name ≡ entries_of_replica interleaving name
+pub entries_stay : (interleaving : List ReplicaEntry) (one : ReplicaEntry) (name : ℕ) → name ≢ one.replica → entries_of_replica (interleaving ++ one ∷ []) name ≡ entries_of_replica interleaving name
 entries_stay [] one name e = entries_past one [] name e
 entries_stay (item ∷ interleaving) one name e = elim (eqb_tells name item.replica) [
   | inl t ↦
@@ -64,7 +64,7 @@ entries_stay (item ∷ interleaving) one name e = elim (eqb_tells name item.repl
 ]
 
 -- a cut of an interleaving with one more entry is at its end, or within the rest
-cut_last : (interleaving front back : List ReplicaEntry) (one other : ReplicaEntry) → interleaving ++ one ∷ [] ≡ front ++ other ∷ back → ((interleaving ≡ front) × (one ≡ other)) ⊎ ((rest : List ReplicaEntry) × (interleaving ≡ front ++ other ∷ rest))
+pub cut_last : (interleaving front back : List ReplicaEntry) (one other : ReplicaEntry) → interleaving ++ one ∷ [] ≡ front ++ other ∷ back → ((interleaving ≡ front) × (one ≡ other)) ⊎ ((rest : List ReplicaEntry) × (interleaving ≡ front ++ other ∷ rest))
 cut_last [] [] back one other k = inl (refl, cc)
 cut_last [] (a ∷ []) back one other k = absurd cc
 cut_last [] (a ∷ b ∷ front) back one other k = absurd cc
@@ -82,7 +82,7 @@ same_starts [] old new back e = ap (λ (s : Counters). s ∷ starts_of back) e
 same_starts (book ∷ front) old new back e = ap (λ (ss : List Counters). start_of book ∷ ss) (same_starts front old new back e)
 
 -- the other books have other names
-named_apart : (front : List BookState) (old : BookState) (back : List BookState) → HaveDistinctNames (starts_of (front ++ old ∷ back)) → (book : BookState) → IsIn book (front ++ back) → book.node.start.replica ≢ old.node.start.replica
+pub named_apart : (front : List BookState) (old : BookState) (back : List BookState) → HaveDistinctNames (starts_of (front ++ old ∷ back)) → (book : BookState) → IsIn book (front ++ back) → book.node.start.replica ≢ old.node.start.replica
 named_apart [] old back apart book i = apart.0 book.node.start (start_in back book i)
 named_apart (first ∷ front) old back apart book i = elim i [
   | inl same ↦ λ e. apart.0 old.node.start (start_in (front ++ old ∷ back) old (in_middle old front back)) (sym e ∙ ap (λ (b : BookState). b.node.start.replica) (sym same))
@@ -90,13 +90,13 @@ named_apart (first ∷ front) old back apart book i = elim i [
 ]
 
 module _ (books later : List BookState) (item : ReplicaEntry) (w : TakesStep books item later) where
-  started : w.new.node.start ≡ w.old.node.start
+  pub started : w.new.node.start ≡ w.old.node.start
   started = (counts_after_step w.old.node item.entry.event item.entry.outcome w.new.node w.step).start
 
   pub starts_stay : starts_of later ≡ starts_of books
   starts_stay = ap starts_of w.after ∙ same_starts w.front w.old w.new w.back started ∙ ap starts_of (sym w.before)
 
-  new_named : w.new.node.start.replica ≡ item.replica
+  pub new_named : w.new.node.start.replica ≡ item.replica
   new_named = ap (λ (s : Counters). s.replica) started ∙ sym w.named
 
   module _ (interleaving : List ReplicaEntry) (given : IsLinkedInterleaving books interleaving) (given_apart : HaveDistinctNames (starts_of books)) (issued : (op : Op) → item.entry.event ≡ Deliver op → IsIssuedAmong interleaving op) where

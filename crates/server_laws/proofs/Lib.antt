@@ -4,4 +4,6 @@ pub mod RunLemmas
 pub mod BookLemmas
 pub mod LinkLemmas
 pub mod GrowLemmas
+pub mod RestoredLemmas
+pub mod RestoredGrowLemmas
 pub mod ExampleLemmas

@@ -1,13 +1,15 @@
 //! Laws on interleavings of histories: statements over definitions, each a clause of a function
 //! that does nothing.
 
-ghost use Rattle.std.specs.Prelude.{◌≡◌, ℕ, List, [], ◌∷◌, ◌++◌, map};
+ghost use Rattle.std.specs.Prelude.{◌≡◌, ℕ, ◌++◌, List, [], ◌∷◌, map};
 ghost use Rattle.causal_inbox.specs.Inbox.{IsClockOf};
 ghost use Rattle.crdt_ops.specs.Meanings.{MeansTheSame};
 ghost use Rattle.crdt_ops.specs.declared.op.Op.{Op};
-ghost use Rattle.imap_node.specs.Operations.{id_of};
-ghost use Rattle.merge_laws.specs.Orders.{IsIn};
+ghost use Rattle.imap_node.specs.Nodes.{NodeState, first_numbers, joined_node, unused_node};
+ghost use Rattle.imap_node.specs.Operations.{clock_of, id_of};
+ghost use Rattle.merge_laws.specs.Orders.{IsCausal, IsIn};
 ghost use Rattle.replica_lock.specs.Histories.{BookState};
+ghost use Rattle.replica_lock.specs.JoinedBook.{restored_book};
 ghost use Rattle.replica_lock.specs.declared.book.JournalEntry.{JournalEntry};
 ghost use Rattle.replica_lock.specs.declared.event.BookEvent.TheVariants.{Deliver};
 ghost use Rattle.server_laws.specs.WorldEvents.{event_of, outcome_of};
@@ -18,10 +20,17 @@ ghost use Rattle.server_laws.specs.Interleavings.{TakesStep, unused_book};
 ghost use Rattle.server_laws.specs.BookWorlds.{AllLead, AreIssuedBeforeDeliveryFrom};
 ghost use Rattle.server_laws.specs.BookWorlds.{IsLinkedInterleaving, starting_world, current_world};
 ghost use Rattle.server_laws.specs.BookWorlds.{starts_of};
+ghost use Rattle.server_laws.specs.RestoredBooks.{AreLeftByRun, IsHistorySince};
+ghost use Rattle.server_laws.specs.RestoredBooks.{IsKnownOrIssued, IsRestoredInterleaving};
+ghost use Rattle.server_laws.specs.RestoredBooks.{KeepTheHeadlineThroughRestarts, restart_of};
+ghost use Rattle.server_laws.specs.RestoredBooks.{restart_outcome};
 ghost use Rattle.world_core.specs.Headline.{Headline};
 ghost use Rattle.world_core.specs.WorldPromises.{IsIssuedWorld};
-ghost use Rattle.world_core.specs.Replicas.{IsAt, IsIssuedIn, Replicas};
+ghost use Rattle.world_core.specs.Replicas.{IsAt, IsIssuedIn, Replicas, nodes_by_name};
 ghost use Rattle.world_core.specs.Steps.{Runs};
+ghost use Rattle.world_core.specs.declared.event.Event.{Event};
+ghost use Rattle.world_core.specs.declared.event.Outcome.{Outcome};
+ghost use Rattle.uid_projection.specs.Exhaustion.{Exhausts};
 ghost use Rattle.uid_projection.specs.declared.first_numbers.Counters.{Counters};
 ghost use Rattle.world_core.specs.Worlds.{AreFromOne, HaveDistinctNames};
 
@@ -101,4 +110,35 @@ pub fn interleavings_grow()
     ensures apart { (books later : List BookState) (item : ReplicaEntry)
         → TakesStep books item later
         → starts_of later ≡ starts_of books }
+{}
+
+/// Replicas that are restored with the lists that crashes left of one run continue that run: the
+/// run, a restart of each replica, and any interleaving of what happened since are one run, with
+/// the entries' events and outcomes. So the headline holds for all of it, and UIDs and
+/// mod-sequences are for good from each moment before the crash to each one after it.
+///
+/// An operation may be delivered if it is in the list of one of the restored replicas, or was
+/// issued since. Such interleavings exist: nothing has happened yet at a book that `Book::restore`
+/// makes (`begins`), and each step of a book extends an interleaving by its entry, if an operation
+/// that the step delivers was known or issued (`grows`).
+pub fn restored_books_continue_runs()
+    ensures begins { (name : ℕ) (ops : List Op) → IsCausal id_of clock_of ops
+        → ¬ Exhausts (first_numbers name) [] ops
+        → IsHistorySince (joined_node name ops) (restored_book name ops) [] }
+    ensures grows { (crashed : List NodeState) (books later : List BookState)
+        (interleaving : List ReplicaEntry) (item : ReplicaEntry)
+        → IsRestoredInterleaving crashed books interleaving
+        → HaveDistinctNames (starts_of books)
+        → TakesStep books item later
+        → ((op : Op) → item.entry.event ≡ Deliver op → IsKnownOrIssued crashed interleaving op)
+        → IsRestoredInterleaving crashed later (interleaving ++ item ∷ []) }
+    ensures runs { (starts : List Counters) (before : List Event) (answers : List Outcome)
+        (crashed : List NodeState) (books : List BookState) (interleaving : List ReplicaEntry)
+        → AreLeftByRun starts before answers crashed
+        → IsRestoredInterleaving crashed books interleaving
+        → Runs (nodes_by_name (map unused_node starts))
+        (before ++ (map restart_of crashed ++ map event_of interleaving))
+        (answers ++ (map restart_outcome crashed ++ map outcome_of interleaving))
+        (current_world books) }
+    ensures headline { (books : List BookState) → KeepTheHeadlineThroughRestarts books }
 {}

@@ -10,7 +10,8 @@
 //! pass on operations in replicas' lists meet it, [`interleavings_grow`] that each step of a book
 //! extends such an interleaving and that a book may forget its oldest entries, and
 //! [`interleavings_by_example`] which interleavings exist in some cases, and in which cases none
-//! exists.
+//! exists. [`restored_books_continue_runs`] says the same of replicas that were restored with the
+//! lists that crashes left of one run: the headline holds through the crashes.
 #![tactic(auto)]
 
 mod books;
@@ -19,4 +20,7 @@ mod laws;
 
 pub use books::books_keep_the_headline;
 pub use examples::interleavings_by_example;
-pub use laws::{interleavings_are_runs, interleavings_grow, lists_may_be_passed_on};
+pub use laws::{
+    interleavings_are_runs, interleavings_grow, lists_may_be_passed_on,
+    restored_books_continue_runs,
+};
