@@ -1,6 +1,7 @@
 -- Words in texts and in header fields, as SEARCH looks for them (RFC 9051, section 6.4.4).
 
-use Rattle.std.specs.Prelude.{ℕ, Bool, ◌&&◌, ◌||◌, ◌==◌, List, [], ◌∷◌, length, take, if◌then◌else◌}
+use Rattle.std.specs.Prelude.{ℕ, Bool, ◌&&◌, ◌||◌, ◌==◌, List, [], ◌∷◌, length, take}
+use Rattle.std.specs.Prelude.{Option, Some, None, if◌then◌else◌}
 use Rattle.std.specs.List.{concat, list_any}
 use Rattle.std.specs.Str.{bytes_eq}
 use Rattle.imap_types.specs.Keywords.{to_lower_case}
@@ -33,3 +34,14 @@ field_holds name word field =
 abbrev pub any_field_holds : List ℕ → List ℕ → List ℕ → Bool
 any_field_holds name word text =
     list_any (field_holds name word) (fields_in (field_lines (lines_of text)))
+
+-- What follows the first colon of the first field with this name, if there is one.
+abbrev pub first_value : List ℕ → List (List (List ℕ)) → Option (List ℕ)
+first_value name [] = None
+first_value name (field ∷ fields) =
+    if first_asked (has_requested_name (name ∷ [])) field then Some (after_colon (concat field))
+    else first_value name fields
+
+-- The value of the first field with this name in a text's header (RFC 5322, section 2.2).
+abbrev pub field_value : List ℕ → List ℕ → Option (List ℕ)
+field_value name text = first_value name (fields_in (field_lines (lines_of text)))

@@ -4,7 +4,8 @@ ghost use Rattle.std.specs.Prelude.{◌≡◌, ◌≤◌, ◌&&◌, [], ◌∷�
 ghost use Rattle.mail_text.specs.Cuts.{IsAfterContinuation, IsFirstField};
 ghost use Rattle.mail_text.specs.HeaderFields.{field_lines, fields_in, has_requested_name};
 ghost use Rattle.mail_text.specs.TextLines.{lines_of};
-ghost use Rattle.mail_text.specs.TextSearch.{any_field_holds, after_colon, occurs_in};
+ghost use Rattle.mail_text.specs.TextSearch.{any_field_holds, after_colon, field_value, occurs_in};
+ghost use Rattle.std.specs.Option.{option_map};
 
 use crate::header_fields::{before_colon, is_continuation, trim_end_blanks};
 use crate::text_lines::{first_line, is_empty_line};
@@ -48,6 +49,26 @@ pub fn field_contains_nocase(
         }
     }
     Ok(false)
+}
+
+/// What follows the first colon of the first header field of this name (RFC 5322, section 2.2),
+/// with its line ends; `None` if there is no such field. Time is linear in the header's length.
+pub fn field_value<'a>(text: &'a [u8], name: &[u8]) -> Option<&'a [u8]>
+    ensures { option_map (λ value. value.now) result ≡ field_value name.now text.now }
+{
+    let mut rest = text;
+    for _ in 0..text.len() {
+        match first_field(rest) {
+            None => return None,
+            Some(field) => {
+                if has_field_name(field.line, name) {
+                    return Some(after_colon(field.octets));
+                }
+                rest = field.rest;
+            }
+        }
+    }
+    None
 }
 
 /// Whether the field with this first line and these octets has this name and contains a word.

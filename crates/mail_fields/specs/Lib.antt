@@ -1,0 +1,4 @@
+pub mod ElementReading
+pub mod HeaderValues
+pub mod Parameters
+pub mod Written

@@ -1,0 +1,14 @@
+//! What is true of all values.
+
+ghost use Rattle.std.specs.Prelude.{◌≡◌, ℕ, List, Some};
+ghost use Rattle.mail_fields.specs.Parameters.{media_type_of};
+ghost use Rattle.mail_fields.specs.Written.{AreParameters, IsToken, written_value};
+ghost use Rattle.mail_fields.specs.declared.parameters.Parameter.{Parameter};
+
+/// A type with parameters is read as it was written.
+pub fn written_types_are_read()
+    ensures { (major minor : List ℕ) (parameters : List Parameter) → IsToken major → IsToken minor
+        → AreParameters parameters
+        → media_type_of (written_value major minor parameters)
+        ≡ Some ((major, minor), parameters) }
+{}

@@ -1,0 +1,4 @@
+pub mod ShiftLemmas
+pub mod SpellingLemmas
+pub mod ReadingLemmas
+pub mod DecodingLemmas

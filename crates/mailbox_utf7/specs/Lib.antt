@@ -1,0 +1,3 @@
+pub mod Engine
+pub mod ModifiedUtf7
+pub mod Reading
