@@ -20,4 +20,5 @@ lent (Some log) state = (Log log, record state { log = None })
 -- What who waited for the first operations gets, and the state after that.
 abbrev pub lent_log : {D : Type 0} → LogState D → ℕ → LogLoan D × LogState D
 lent_log state count =
-    if nat_lt state.synced count then lent state.log state else (Synced, state)
+    if state.failed then (Failed, state)
+    else if nat_lt state.synced count then lent state.log state else (Synced, state)

@@ -9,7 +9,7 @@ use durable_log::{DurableLog, LogDevice};
 pub enum LogLoan<D: LogDevice> {
     /// They are.
     Synced,
-    /// The log failed before. Nothing more will be synced.
+    /// The log failed. Nothing more will be synced.
     Failed,
     /// They aren't yet. This is the log; the caller must write it, and give it back.
     Log(DurableLog<D>),
@@ -52,6 +52,9 @@ impl<D: LogDevice + Drop> LogState<D> {
         ensures loan { result ≡ (lent_log self.old count).0 }
         ensures state { self.new ≡ (lent_log self.old count).1 }
     {
+        if self.failed {
+            return LogLoan::Failed;
+        }
         if self.synced >= count {
             return LogLoan::Synced;
         }

@@ -24,7 +24,7 @@ impl<D: LogDevice + Drop> LogProgress<D> {
     /// Waits until the replica's first `count` operations are synced, the log has failed, or nobody
     /// else has it. In the last case the caller is lent the log: it must write what the replica
     /// applied, sync it, and give it back. If the operations are synced already, it waits for
-    /// nobody.
+    /// nobody. Once the log failed everybody learns that.
     pub fn wait_for<R: Wait>(&self, rt: &R, count: u64) -> LogLoan<D> {
         let mut state = self
             .changed

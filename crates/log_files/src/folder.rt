@@ -13,7 +13,7 @@ use durable_log::{DurableLog, RecoveredLog, StoreFault};
 use std::alloc::{AllocError, Global};
 use std::fs;
 use std::fs::{File, TryLockError};
-use std::io::ErrorKind;
+use std::io::{ErrorKind, Read};
 use std::rt::Files;
 use tags_clocks::ReplicaId;
 
@@ -26,8 +26,9 @@ pub struct StoreFolder {
 
 impl StoreFolder {
     /// Opens the folder of a store: makes it with its parents if there is none, for its owner only,
-    /// and locks it. `InUse` if another process has locked it, `CannotWrite` if it can't be made or
-    /// locked, `NoMemory` if memory runs out.
+    /// locks it, and syncs the names in it, which a process that was killed may not have done.
+    /// `InUse` if another process has locked it, `CannotWrite` if it can't be made, locked or
+    /// synced, `NoMemory` if memory runs out.
     pub fn open<R: Files<File = File>>(
         rt: &R,
         alloc: Global,
@@ -41,9 +42,35 @@ impl StoreFolder {
         let Ok(owned) = String::from_str(alloc, path) else {
             return Err(FolderFault::NoMemory);
         };
-        match lock_folder(rt, alloc, path) {
-            Ok(lock) => Ok(StoreFolder { path: owned, lock }),
-            Err(fault) => Err(fault),
+        let lock = match lock_folder(rt, alloc, path) {
+            Ok(lock) => lock,
+            Err(fault) => return Err(fault),
+        };
+        match sync_folder(rt, path) {
+            Ok(()) => Ok(StoreFolder { path: owned, lock }),
+            Err(_) => Err(FolderFault::CannotWrite),
+        }
+    }
+
+    /// The replicas that have a log in the folder, in no order. `CannotWrite` if the folder can't be
+    /// read, `NoMemory` if memory runs out.
+    pub fn replicas<R: Files<File = File>>(
+        &self,
+        rt: &R,
+        alloc: Global,
+    ) -> Result<Vec<ReplicaId>, FolderFault>
+        ensures { IfErr result IsMakeFault }
+    {
+        let Ok(mut folder) = rt.open_dir(self.path.as_str()) else {
+            return Err(FolderFault::CannotWrite);
+        };
+        let mut names = Vec::new(alloc);
+        let Ok(_) = folder.read_to_end(&mut names) else {
+            return Err(FolderFault::CannotWrite);
+        };
+        match replicas_of_names(alloc, &names) {
+            Ok(replicas) => Ok(replicas),
+            Err(_) => Err(FolderFault::NoMemory),
         }
     }
 
@@ -123,6 +150,23 @@ impl StoreFolder {
         let number = replica.get();
         format!(in alloc; "{folder}/replica-{number}.{ending}")
     }
+}
+
+/// The replicas whose logs have these names, each of which a NUL ends. `Err` if memory runs out.
+fn replicas_of_names(alloc: Global, names: &[u8]) -> Result<Vec<ReplicaId>, AllocError> {
+    let mut replicas = Vec::new(alloc);
+    for name in names.split(|octet| *octet == 0) {
+        if let Some(replica) = replica_of_name(name) {
+            replicas.push(replica)?;
+        }
+    }
+    Ok(replicas)
+}
+
+/// The replica whose log has this name, if it is the name of a log.
+fn replica_of_name(name: &[u8]) -> Option<ReplicaId> {
+    let field = name.strip_prefix(b"replica-")?.strip_suffix(b".log")?;
+    text_fields::replica(field)
 }
 
 /// Locks the folder at a path, as long as the returned file is open.

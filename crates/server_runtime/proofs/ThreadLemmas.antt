@@ -5,18 +5,22 @@ use denote.Ref.{NamedLft}
 use denote.Struct.Declared.{shape}
 use Rattle.std.proofs.Crossing.{Vec-send}
 use Rattle.std.proofs.net.tcp.TcpStream.TheSendSync as stream
+use Rattle.std.proofs.option.Option.TheSendSync as option
 use Rattle.std.proofs.sync.Mutex.TheSendSync as mutex
 use Rattle.std.specs.contracts.alloc.Global as heap
 use Rattle.std.specs.contracts.impls.GlobalAllocator.TheImpl.{ghosts}
 use Rattle.std.specs.contracts.sync.Mutex as locked
 use Rattle.std.specs.contracts.vec.Vec as list
 use Rattle.std.specs.declared.sync.ledger.Ledger as ledger
-use Rattle.replica_lock.proofs.ThreadLemmas.{shared_sync}
+use Rattle.replica_lock.proofs.ThreadLemmas.{book_send, shared_sync}
 use Rattle.replica_lock.proofs.pass.Pass.TheSendSync as passes
 use Rattle.replica_lock.specs.contracts.pass.Pass as pass
 use Rattle.server_runtime.proofs.server_state.ServerState.TheSendSync as server
+use Rattle.server_runtime.proofs.replica_store.ReplicaStore.TheSendSync as store
+use Rattle.server_runtime.proofs.replica_threads.ThreadSetup.TheSendSync as setup
 use Rattle.server_runtime.proofs.shared_phase.SharedPhase.TheSendSync as phase
 use Rattle.server_runtime.proofs.replica_threads.ReplicaInputs.TheSendSync as ends
+use Rattle.server_runtime.specs.contracts.replica_threads.SetupSlot as slot
 use Rattle.server_runtime.specs.contracts.connection_threads.ReplicaContext as context
 use Rattle.server_runtime.specs.contracts.connection_threads.ConnectionContext as connection
 use Rattle.server_runtime.specs.contracts.replica_threads.ServedReplica as served
@@ -31,7 +35,8 @@ module _ (L : RattleType) (g : ledger.Ghosts L.Denot) where
 module _ (a : NamedLft) (L : RattleType) (g : ledger.Ghosts L.Denot) where
   pub context_sync : IsSend L → IsSync L → IsSync (context.the_row a L g)
   context_sync ledger shares = recorded_sync (context.the_field a L g).row _ _ (context.the_type a L g).to_one
-      (struct_sync (shape (context.the_type a L g)) (search (server.the_sync, sendable), (search sendable, (search (shared_sync, sendable), tt))))
+      (struct_sync (shape (context.the_type a L g))
+      (search (server.the_sync, sendable), (search sendable, (search (shared_sync, sendable), (search (option.the_field_sync, store.the_sync, sendable) depth 30 fits 20000, tt)))))
 
   pub connection_sync : IsSend L → IsSync L → IsSync (connection.the_row a L g)
   connection_sync ledger shares = recorded_sync (connection.the_field a L g).row _ _ (connection.the_type a L g).to_one
@@ -41,3 +46,9 @@ module _ (a : NamedLft) (L : RattleType) (g : ledger.Ghosts L.Denot) where
   pub served_sync : IsSend L → IsSync L → IsSync (served.the_row a L g)
   served_sync ledger shares = recorded_sync (served.the_field a L g).row _ _ (served.the_type a L g).to_one
       (struct_sync (shape (served.the_type a L g)) (search (context_sync, sendable), (search (ends.the_sync, sendable), (search (returned_shared, sendable), tt))))
+
+module _ (a : NamedLft) where
+  pub slot_sync : IsSync (slot.the_row a)
+  slot_sync = recorded_sync (slot.the_field a).row _ _ (slot.the_type a).to_one
+      (struct_sync (shape (slot.the_type a))
+      (search sendable, (search (mutex.the_sync, option.the_field_send, setup.the_send, setup.the_field_send, sendable) depth 30, (search (mutex.the_sync, option.the_field_send, book_send, sendable) depth 30, tt))))

@@ -1,11 +1,14 @@
 -- What a connection's calls do at its replica, by the passes and by the positions before and after
 -- them.
 
-use Rattle.std.specs.Prelude.{◌≡◌, ◌⊎◌, ◌≤◌, ℕ, List, [], Option, None, Some, Result, Ok, Err}
+use Rattle.std.specs.Prelude.{◌≡◌, ◌⊎◌, ◌≤◌, ℕ, Bool, true, false, List, [], Option, None, Some}
+use Rattle.std.specs.Prelude.{Result, Ok, Err}
 use Rattle.std.specs.List.{flat_map}
 use Rattle.imap_answers.specs.AnswerText.{text_of_answer}
 use Rattle.imap_answers.specs.declared.fixed_words.Login.{Login}
+use Rattle.imap_answers.specs.declared.fixed_words.Refusal.TheVariants.{NoStoreRoom}
 use Rattle.imap_node.specs.declared.reply.Reply.{Reply}
+use Rattle.imap_node.specs.declared.reply.Reply.TheVariants.{Refused}
 use Rattle.imap_node.specs.declared.sessions.OpenFault.TheVariants as refusals
 use Rattle.imap_syntax.specs.declared.command.Tagged.{Tagged}
 use Rattle.server_runtime.specs.Logins.{auth_of, login_of}
@@ -21,6 +24,11 @@ use Rattle.replica_lock.specs.declared.event.BookEvent.{BookEvent}
 use Rattle.replica_lock.specs.declared.event.BookEvent.TheVariants as events
 use Rattle.replica_lock.specs.declared.outcome.Outcome.{Outcome}
 use Rattle.replica_lock.specs.declared.outcome.Outcome.TheVariants.{Opened, Replied}
+
+-- Whether a replica has a store.
+abbrev pub stores : {A : Type 0} → Option A → Bool
+stores None = false
+stores (Some store) = true
 
 -- A pass made one call with this event, or none.
 abbrev pub CallsOnce : PassState → BookEvent → PassState → Type 0
@@ -58,24 +66,34 @@ OpensIn access p (Err TooManySessions) q =
     × (q.last ≡ Some (Opened (Err refusals.TooManySessions)))
 OpensIn access p (Err fault) q = Unit {0}
 
--- The result of a command, or of a line of IDLE, by the pass before and after: the outcome of one
--- call with exactly this command, at some moment, or with exactly this line, in the session of the
--- pass.
-abbrev pub StepsIn : PassState → PortCall → Result Reply PortFault → PassState → Type 0
-StepsIn p (calls.Command tagged) (Ok reply) q =
+-- The outcome of one call with exactly this command, at some moment, in the session of the pass.
+abbrev pub IsCarriedOut : PassState → Tagged → Reply → PassState → Type 0
+IsCarriedOut p tagged reply q =
     (moment : ℕ)
     × IsCalledIn p (λ n. events.Command n moment tagged) q
     × (q.last ≡ Some (Replied reply))
-StepsIn p (calls.Line line) (Ok reply) q =
+
+-- A command for which the replica's store has no room is refused, and no call is made.
+abbrev pub IsRefusedForRoom : PassState → Reply → PassState → Type 0
+IsRefusedForRoom p reply q = (reply ≡ Refused NoStoreRoom false) × (q ≡ p)
+
+-- The result of a command, or of a line of IDLE, by the pass before and after, at a replica with or
+-- without a store: the outcome of one call with exactly this command, at some moment, or with
+-- exactly this line, in the session of the pass; or the refusal of a command for which the store
+-- has no room.
+abbrev pub StepsIn : Bool → PassState → PortCall → Result Reply PortFault → PassState → Type 0
+StepsIn stores p (calls.Command tagged) (Ok reply) q =
+    IsCarriedOut p tagged reply q ⊎ ((stores ≡ true) × IsRefusedForRoom p reply q)
+StepsIn stores p (calls.Line line) (Ok reply) q =
     IsCalledIn p (λ n. events.Line n line) q × (q.last ≡ Some (Replied reply))
-StepsIn p call (Err fault) q = Unit {0}
+StepsIn stores p call (Err fault) q = Unit {0}
 
 -- The result of a command or line, by at most one call.
-abbrev pub StepsOnce : PassState → PortCall → Result Reply PortFault → PassState → Type 0
-StepsOnce p (calls.Command tagged) response q =
-    StepsIn p (calls.Command tagged) response q × CommandsOnce p tagged q
-StepsOnce p (calls.Line line) response q =
-    StepsIn p (calls.Line line) response q × CallsOnceIn p (λ n. events.Line n line) q
+abbrev pub StepsOnce : Bool → PassState → PortCall → Result Reply PortFault → PassState → Type 0
+StepsOnce stores p (calls.Command tagged) response q =
+    StepsIn stores p (calls.Command tagged) response q × CommandsOnce p tagged q
+StepsOnce stores p (calls.Line line) response q =
+    StepsIn stores p (calls.Line line) response q × CallsOnceIn p (λ n. events.Line n line) q
 
 -- A pass opened a session for a connection, after the pass had seen the journal at least up to the
 -- connection's position; the connection's new position is the pass's.
@@ -106,9 +124,11 @@ OpensByCall access from (Err fault) to = Unit {0}
 
 -- The result of a command, or of a line of IDLE, is that of a call of some pass in the connection's
 -- session, between these positions in the journal: the call's entry is at the second, after the
--- first. After a fault the session is the same, and the position isn't before the first.
-abbrev pub StepsByCall : SessionPosition → PortCall → Result Reply PortFault → SessionPosition
-    → Type 0
-StepsByCall from call (Ok reply) to =
-    (p : PassState) × (q : PassState) × ContinuesFrom from p q to × StepsIn p call (Ok reply) q
-StepsByCall from call (Err fault) to = (to.session ≡ from.session) × (from.seen ≤ to.seen)
+-- first; at a replica with a store it may be the refusal of a command for which the store has no
+-- room. After a fault the session is the same, and the position isn't before the first.
+abbrev pub StepsByCall : Bool → SessionPosition → PortCall → Result Reply PortFault
+    → SessionPosition → Type 0
+StepsByCall stores from call (Ok reply) to =
+    (p : PassState) × (q : PassState) × ContinuesFrom from p q to
+    × StepsIn stores p call (Ok reply) q
+StepsByCall stores from call (Err fault) to = (to.session ≡ from.session) × (from.seen ≤ to.seen)

@@ -2,14 +2,16 @@
 
 ghost use Rattle.std.specs.Prelude.{◌≡◌, ◌<◌};
 ghost use Rattle.imap_connection.specs.Conversations.{IsConversation};
-ghost use Rattle.server_runtime.specs.Calls.{OpensByCall, StepsByCall};
+ghost use Rattle.server_runtime.specs.Calls.{OpensByCall, StepsByCall, stores};
 
 use crate::feeder::feed;
+use crate::replica_store::{ReplicaStore, SyncFault};
 use crate::server_state::ServerState;
 use crate::session_port::SessionPort;
 use crate::session_reader::SessionReader;
 use crate::shared_phase::SharedPhase;
 use crate::socket::{SocketReader, SocketWriter};
+use crate::synced_sink::SyncedSink;
 use imap_connection::{Ended, Sink, Source, Wire, converse, log_text_of};
 use imap_lex::Limits;
 use log::{Log, info};
@@ -34,6 +36,8 @@ pub struct ReplicaContext<'a, L: Ledger> {
     pub own: usize,
     /// The replica.
     pub shared: &'a Shared<L>,
+    /// Its store, if it has one.
+    pub store: Option<&'a ReplicaStore>,
 }
 
 /// The state that the two threads of a connection share.
@@ -77,11 +81,38 @@ pub fn converse_and_close<
             shared_phase: &shared_phase,
         },
     );
+    let ConversationEnd { ended, unsynced } = ended;
     log_end(rt, ended);
-    if !is_unreachable(ended) {
+    match unsynced {
+        Some(fault) => write_bye(stream, bye_of(fault)),
+        None => {}
+    }
+    if unsynced.is_some() || !is_unreachable(ended) {
         drain_and_close(stream);
     }
     pass.into_inner()
+}
+
+/// How a conversation ended.
+#[derive(Clone, Copy, Debug, PartialEq, Eq)]
+struct ConversationEnd {
+    /// Why it ended.
+    ended: Ended,
+    /// Why the last answers weren't written, if they show what isn't synced.
+    unsynced: Option<SyncFault>,
+}
+
+/// The line that ends a connection whose answers show what isn't synced.
+pub fn bye_of(fault: SyncFault) -> &'static [u8] {
+    match fault {
+        SyncFault::StoreFailed => b"* BYE store failed\r\n",
+        SyncFault::NoMemory => b"* BYE no memory\r\n",
+    }
+}
+
+/// Writes that line, if the client takes it.
+pub fn write_bye(stream: &TcpStream, line: &[u8]) {
+    let _ = SocketWriter::new(stream).write_all(line);
 }
 
 /// Holds the conversation, while a second thread sends the session what changed when it idles;
@@ -90,20 +121,11 @@ fn converse_and_feed<
     L: Ledger + Send + Sync,
     R: Threads + Wait + Clock + Log + Sync,
     G: Gate + Send,
->(rt: &R, alloc: Global, gate: &mut G, connection: &ConnectionContext<'_, L>) -> Ended {
+>(rt: &R, alloc: Global, gate: &mut G, connection: &ConnectionContext<'_, L>) -> ConversationEnd {
     let (ended, ()) = thread::join(
         rt,
         || converse_on_stream(rt, alloc, gate, connection),
-        || {
-            feed(
-                rt,
-                alloc,
-                connection.context.shared,
-                connection.pass,
-                connection.shared_phase,
-                connection.stream,
-            )
-        },
+        || feed(rt, alloc, connection),
     );
     ended
 }
@@ -113,7 +135,7 @@ fn converse_on_stream<L: Ledger, R: Threads + Wait + Clock, G: Gate>(
     alloc: Global,
     gate: &mut G,
     connection: &ConnectionContext<'_, L>,
-) -> Ended {
+) -> ConversationEnd {
     let mut port = SessionPort::new(
         rt,
         connection.context,
@@ -123,11 +145,13 @@ fn converse_on_stream<L: Ledger, R: Threads + Wait + Clock, G: Gate>(
     );
     let device = SocketReader::new(rt, connection.stream);
     let mut source = SessionReader::new(rt, connection.shared_phase, connection.pass, device);
-    let mut sink = Wire::new(SocketWriter::new(connection.stream));
+    let writer = Wire::new(SocketWriter::new(connection.stream));
+    let mut sink = SyncedSink::new(rt, alloc, connection.context, connection.pass, writer);
     let ended = converse_over(rt, alloc, &mut source, &mut sink, &mut port);
+    let unsynced = sink.fault();
     drop(port);
     connection.shared_phase.end(rt);
-    ended
+    ConversationEnd { ended, unsynced }
 }
 
 /// Holds a conversation as a session of a replica under its lock, over any source of octets and any
@@ -145,8 +169,9 @@ pub fn converse_over<L: Ledger, R: Wait + Clock, G: Gate, S: Source, K: Sink>(
 ) -> Ended
     requires source { S.failures source.old < 18446744073709551615 }
     requires sink { K.failures sink.old < 18446744073709551615 }
-    ensures { IsConversation (λ s r t. OpensByCall s.server.now.access s.at r t.at)
-        (λ s call r t. StepsByCall s.at call r t.at) (λ s t. Unit {0}) port.old port.new
+    ensures { IsConversation (λ s r t. OpensByCall s.context.now.server.now.access s.at r t.at)
+        (λ s call r t. StepsByCall (stores s.context.now.store) s.at call r t.at)
+        (λ s t. Unit {0}) port.old port.new
         Limits.STANDARD (S.left source.old) (S.left source.new) (S.is_ended source.new)
         (K.taken sink.old) (K.taken sink.new) result }
 {

@@ -6,15 +6,17 @@ ghost use Rattle.std.specs.Option.{option_map};
 ghost use Rattle.imap_answers.specs.AnswerText.{text_of_answer as printed_answer};
 ghost use Rattle.server_runtime.specs.Calls.{text_of_poll};
 
-use crate::shared_phase::SharedPhase;
+use crate::connection_threads::{ConnectionContext, ReplicaContext, bye_of, write_bye};
+use crate::replica_store::SyncFault;
 use crate::socket::SocketWriter;
+use crate::synced_sink::sync_shown;
 use imap_answers::Answer;
 use imap_node::Reply;
 use imap_print::print;
 use replica_lock::{CallFault, Outcome, Pass, Shared};
 use std::alloc::{AllocError, Global};
 use std::io::Write;
-use std::net::{Shutdown, TcpStream};
+use std::net::Shutdown;
 use std::sync::ledger::Ledger;
 use std::sync::{Mutex, Wait};
 
@@ -22,36 +24,65 @@ use std::sync::{Mutex, Wait};
 /// until the connection ends. The thread wakes when the session's own feed has something to send,
 /// and at the end of the connection; otherwise it sleeps. The answers of a poll are written whole;
 /// if that fails, the connection is shut down.
-pub fn feed<L: Ledger, R: Wait>(
-    rt: &R,
-    alloc: Global,
-    shared: &Shared<L>,
-    pass: &Mutex<Pass<L>>,
-    shared_phase: &SharedPhase,
-    stream: &TcpStream,
-) {
+pub fn feed<L: Ledger, R: Wait>(rt: &R, alloc: Global, connection: &ConnectionContext<'_, L>) {
+    let shared_phase = connection.shared_phase;
     let mut looked = 0;
     for _ in rt.forever() {
         if !shared_phase.await_idling(rt) {
             return;
         }
-        let Some(session) = pass.lock(rt).session() else {
+        let Some(session) = connection.pass.lock(rt).session() else {
             return;
         };
-        let Some(now) = shared.wait_session_change(rt, session, looked) else {
-            return;
+        let Some(now) = connection
+            .context
+            .shared
+            .wait_session_change(rt, session, looked)
+        else {
+            if end_if_failed(rt, connection) {
+                return;
+            }
+            continue;
         };
+        sync_applied(rt, alloc, connection.context);
         if !shared_phase.await_idling(rt) {
             return;
         }
-        match poll_and_write(rt, alloc, shared, pass, shared_phase, stream) {
+        match poll_and_write(rt, alloc, connection) {
             PollOutcome::Done => looked = now,
             PollOutcome::Busy => {}
             PollOutcome::Failed => {
-                let _ = stream.shutdown(Shutdown::Both);
+                let _ = connection.stream.shutdown(Shutdown::Both);
                 return;
             }
         }
+    }
+}
+
+/// Ends the connection of an idling session if the replica's store failed. False if the store
+/// failed and the connection's thread is at work, which finds out itself.
+fn end_if_failed<L: Ledger, R: Wait>(rt: &R, connection: &ConnectionContext<'_, L>) -> bool {
+    let Some(store) = connection.context.store else {
+        return true;
+    };
+    if !store.has_failed(rt) {
+        return true;
+    }
+    let phase = connection.shared_phase.phase.lock(rt);
+    let idles = phase.reads && phase.idles;
+    if idles {
+        write_bye(connection.stream, bye_of(SyncFault::StoreFailed));
+        let _ = connection.stream.shutdown(Shutdown::Both);
+    }
+    drop(phase);
+    idles
+}
+
+/// Syncs what the replica applied, before the poll that shows it: the poll's answers are written
+/// while the connection's phase is locked, and seldom have to wait then.
+fn sync_applied<L: Ledger, R: Wait>(rt: &R, alloc: Global, context: &ReplicaContext<'_, L>) {
+    if let Some(store) = context.store {
+        let _ = store.sync_to(rt, alloc, context, context.shared.op_count(rt));
     }
 }
 
@@ -67,21 +98,18 @@ enum PollOutcome {
 }
 
 /// Polls the session, if it still idles and its connection's thread still waits for the client, and
-/// writes the answers.
+/// writes the answers once all that they show is synced.
 fn poll_and_write<L: Ledger, R: Wait>(
     rt: &R,
     alloc: Global,
-    shared: &Shared<L>,
-    pass: &Mutex<Pass<L>>,
-    shared_phase: &SharedPhase,
-    stream: &TcpStream,
+    connection: &ConnectionContext<'_, L>,
 ) -> PollOutcome {
-    let phase = shared_phase.phase.lock(rt);
+    let phase = connection.shared_phase.phase.lock(rt);
     if !phase.reads || !phase.idles {
         return PollOutcome::Busy;
     }
-    let written = match poll_text(rt, alloc, shared, pass) {
-        Some(text) => write_all(stream, &text),
+    let written = match poll_text(rt, alloc, connection.context.shared, connection.pass) {
+        Some(text) => write_synced(rt, alloc, connection, &text),
         None => false,
     };
     drop(phase);
@@ -92,8 +120,22 @@ fn poll_and_write<L: Ledger, R: Wait>(
     }
 }
 
-fn write_all(stream: &TcpStream, text: &[u8]) -> bool {
-    text.is_empty() || SocketWriter::new(stream).write_all(text).is_ok()
+/// Writes the text of a poll, if there is any, once all that it shows is synced. False if that or
+/// the write fails.
+fn write_synced<L: Ledger, R: Wait>(
+    rt: &R,
+    alloc: Global,
+    connection: &ConnectionContext<'_, L>,
+    text: &[u8],
+) -> bool {
+    if text.is_empty() {
+        return true;
+    }
+    if let Err(fault) = sync_shown(rt, alloc, connection.context, connection.pass) {
+        write_bye(connection.stream, bye_of(fault));
+        return false;
+    }
+    SocketWriter::new(connection.stream).write_all(text).is_ok()
 }
 
 /// The text of a poll's answers, empty if the poll is refused. `None` if memory runs out or the
@@ -110,7 +152,7 @@ fn poll_text<L: Ledger, R: Wait>(
     }
     match shared.poll(rt, alloc, &mut pass) {
         Ok(()) => text_of_outcome(alloc, pass.last()).ok(),
-        Err(CallFault::NoRoom) => Some(Vec::new(alloc)),
+        Err(CallFault::NoRoom | CallFault::NoStoreRoom { .. }) => Some(Vec::new(alloc)),
         Err(CallFault::Torn { .. }) => None,
     }
 }

@@ -1,17 +1,21 @@
 //! Replicas that join while the server runs.
 
+use crate::connection_threads::ReplicaContext;
 use crate::replica_handle::{CopyRequest, others};
+use crate::replica_store::ReplicaStore;
 use crate::server_state::ServerState;
 use crdt_ops::SoundOp;
 use crossbeam_channel::{Receiver, Sender, unbounded};
-use replica_lock::{Book, Pass, Shared};
+use durable_log::DurableLog;
+use log_files::FileDevice;
+use replica_lock::{Book, Pass};
 use server_settings::{Join, Place};
 use std::alloc::Global;
 use std::fmt;
 use std::net::{Net, TcpListener, TcpStream};
 use std::rt::Clock;
-use std::sync::Wait;
 use std::sync::ledger::Ledger;
+use std::sync::{Mutex, Wait};
 use std::time::Duration;
 use tags_clocks::ReplicaId;
 
@@ -26,6 +30,8 @@ pub struct JoiningReplica<'a> {
     pub begin: Receiver<()>,
     /// Sends the signal that it has joined, or couldn't.
     pub done: Sender<()>,
+    /// Its log without operations, until it joins; `None` if the server stores nothing.
+    pub log: Mutex<Option<DurableLog<FileDevice>>>,
 }
 
 /// A replica that runs: its book, its listener, and the places of the others.
@@ -37,6 +43,8 @@ pub struct JoinedReplica {
     pub listener: TcpListener,
     /// The places of the others.
     pub peers: Vec<usize>,
+    /// Its store, if it has one.
+    pub store: Option<ReplicaStore>,
 }
 
 /// Whether a replica joined. The program prints its text.
@@ -110,11 +118,18 @@ impl JoiningReplica<'_> {
             drop(listener);
             return None;
         };
+        let Some(store) = store_of_joining(alloc, replica, self.log.lock(rt).take(), &book) else {
+            drop(peers);
+            drop(listener);
+            drop(book);
+            return None;
+        };
         handle.open(rt, address);
         Some(JoinedReplica {
             book,
             listener,
             peers,
+            store,
         })
     }
 }
@@ -132,6 +147,32 @@ fn book_of_joining<R: Wait + Clock>(
     let book = Book::join(alloc, replica, &ops);
     drop(ops);
     book.ok()
+}
+
+/// The store of a replica that joins, with all its operations, if it has a log; `None` if that
+/// can't be written.
+fn store_of_joining(
+    alloc: Global,
+    replica: ReplicaId,
+    log: Option<DurableLog<FileDevice>>,
+    book: &Book,
+) -> Option<Option<ReplicaStore>> {
+    let Some(mut log) = log else {
+        return Some(None);
+    };
+    if !write_all(alloc, &mut log, book.node().op_list()) {
+        drop(log);
+        return None;
+    }
+    match ReplicaStore::new(alloc, replica, log) {
+        Ok(store) => Some(Some(store)),
+        Err(_) => None,
+    }
+}
+
+/// Writes and syncs the operations. False if that fails.
+fn write_all(alloc: Global, log: &mut DurableLog<FileDevice>, ops: &[SoundOp]) -> bool {
+    (ops.is_empty() || log.append(alloc, ops).is_ok()) && log.sync().is_ok()
 }
 
 /// Copies of the operations that the replica at a place applied. `None` if it hasn't joined, if
@@ -155,18 +196,18 @@ fn request_op_copies<R: Wait + Clock>(
 }
 
 /// Answers requests for copies of a replica's operations until one says `Stop`, and returns the
-/// pass.
+/// pass. Copies are sent once the operations are synced.
 pub fn send_copies<L: Ledger, R: Wait>(
     rt: &R,
     alloc: Global,
-    shared: &Shared<L>,
+    context: &ReplicaContext<'_, L>,
     pass: Pass<L>,
     copy_requests: &Receiver<CopyRequest>,
 ) -> Pass<L> {
     for _ in rt.forever() {
         match copy_requests.recv(rt) {
             Ok(CopyRequest::Copy(reply)) => {
-                let copies = shared.ops_copy(rt, alloc, &pass).ok();
+                let copies = synced_copies(rt, alloc, context, &pass);
                 let _ = reply.send(rt, copies);
             }
             Ok(CopyRequest::Stop) => return pass,
@@ -174,4 +215,25 @@ pub fn send_copies<L: Ledger, R: Wait>(
         }
     }
     pass
+}
+
+/// Copies of a replica's operations, once they are synced. `None` if memory runs out or they can't
+/// be synced.
+fn synced_copies<L: Ledger, R: Wait>(
+    rt: &R,
+    alloc: Global,
+    context: &ReplicaContext<'_, L>,
+    pass: &Pass<L>,
+) -> Option<Vec<SoundOp>> {
+    let copies = context.shared.ops_copy(rt, alloc, pass).ok()?;
+    let Some(store) = context.store else {
+        return Some(copies);
+    };
+    match store.sync_to(rt, alloc, context, copies.len() as u64) {
+        Ok(()) => Some(copies),
+        Err(_) => {
+            drop(copies);
+            None
+        }
+    }
 }

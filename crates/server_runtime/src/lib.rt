@@ -14,6 +14,11 @@
 //! the whole history, forgotten entries included. The exchange between threads is tested and not
 //! proved.
 //!
+//! A replica with a store ([`ReplicaStore`]) writes what it applied to a log. Whoever must not go
+//! on before operations are synced, such as a connection before it writes its answers, waits until
+//! they are, and if no other thread has the log, writes and syncs it itself, for all that wait. A
+//! thread of the replica looks after the log each second.
+//!
 //! # Decided
 //!
 //! - `serve` takes the allocator, the server's state (who may log in, when to stop) and one setup
@@ -71,6 +76,28 @@
 //! - A command that may issue operations holds its replica's `ReplicaHandle::send_lock` until they
 //!   are sent, so that those of several connections don't overtake each other on the way. If they
 //!   did, the receiving replica would hold them and have to ask for what it lacks.
+//! - With a store the replica's own operations are sent by whoever synced them, in the order of the
+//!   log, and no command takes `send_lock`. A request for what a replica lacks shows a clock that
+//!   may count operations which aren't synced: who is asked concludes nothing from it.
+//! - Which operations answers show is the number that the replica had applied at the session's last
+//!   call (`Pass::listed`), so an answer also waits for operations of other sessions that it
+//!   doesn't show: which ones it shows would have to be found out for each command.
+//! - Room in the log is asked for before a command or a delivery is carried out: once the replica
+//!   applied it, a write that fails can't be undone. Zeros are written ahead, a MiB at a time, 16
+//!   MiB by the thread that looks after the log and else as many as are lacking, so that a full
+//!   disk is met then, and a sync needs no new space. A command that lacks room is given again once
+//!   there is some. One that may need more than 4 GiB is refused at once, since the bound of a
+//!   text's line is three times its octets and its zeros would fill the disk.
+//! - A disk that was found to be full isn't tried for a second. Deliveries that are refused
+//!   meanwhile are asked for by the thread that looks after the log, once there is room: if each
+//!   asked for all that is lacking, the answers would be refused too, and pile up.
+//! - After a failed write or sync the log is never tried again, and nothing of the replica is
+//!   written any more, not even answers that show nothing new: a client of such a replica should
+//!   go to another one.
+//! - A replica is restored by delivering its operations to a new one, before anything is written.
+//!   The logs of the replicas that aren't started are read too, for an operation that a started one
+//!   issued and its own log lacks: it would give the number again. A log of theirs that can't be
+//!   read is passed over, or it couldn't be left out.
 //! - A read of a connection polls for octets for 50 microseconds before it sleeps, if the previous
 //!   octets arrived within that time (`SocketReader`), and lets other threads run between two
 //!   polls: waking a thread takes longer than answering most commands. So a client that sends one
@@ -98,16 +125,21 @@
 mod connection_threads;
 mod feeder;
 mod joining_replica;
+mod link_peers;
 mod peer_sender;
 mod program;
 mod replica_end;
 mod replica_handle;
+mod replica_store;
 mod replica_threads;
+mod restoring;
 mod server_state;
 mod session_port;
 mod session_reader;
 mod shared_phase;
 mod socket;
+mod store_taker;
+mod synced_sink;
 mod totals;
 
 pub use connection_threads::{ReplicaContext, converse_over};
@@ -116,7 +148,9 @@ pub use peer_sender::PeerSender;
 pub use program::{RunFault, open_all, run};
 pub use replica_end::ReplicaEnd;
 pub use replica_handle::{CopyRequest, JoinSignal, JoiningReplicas, ReplicaHandle};
+pub use replica_store::{ReplicaStore, SyncFault};
 pub use replica_threads::{ReplicaSetup, StartMode, serve, serve_over};
+pub use restoring::{RestoreFault, RestoredReplica, UnrestoredReplica};
 pub use server_settings::{
     Access, CommandLine, Join, Place, SettingsFault, UsageFault, access_of, read_settings,
 };

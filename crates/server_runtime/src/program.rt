@@ -4,14 +4,19 @@ use crate::joining_replica::JoiningReplica;
 use crate::replica_end::ReplicaEnd;
 use crate::replica_handle::{CopyRequest, JoinSignal, JoiningReplicas, ReplicaHandle};
 use crate::replica_threads::{ReplicaSetup, StartMode, serve};
+use crate::restoring::{RestoredReplica, UnrestoredReplica, restore_all};
 use crate::server_state::{ServerState, StopCounter};
 use crossbeam_channel::{Receiver, Sender, unbounded};
+use durable_log::DurableLog;
 use log::{Log, error};
+use log_files::{FileDevice, FolderFault, StoreFolder};
 use replica_links::PeerMsg;
+use replica_lock::Book;
 use server_settings::{CommandLine, Join, Place, listen_at, print_fault, settings_or_status};
 use std::alloc::{AllocError, AllocFailed, Global};
+use std::fs::File;
 use std::net::{Net, SocketAddr, TcpListener, TcpStream};
-use std::rt::{Clock, Env};
+use std::rt::{Clock, Env, Files};
 use std::sync::{Mutex, Wait};
 use std::thread::Threads;
 use std::{env, io};
@@ -27,6 +32,9 @@ pub enum RunFault {
     /// An address can't be listened at. This was printed already.
     #[error("an address can't be listened at")]
     CannotListen,
+    /// The replicas can't be restored. Why was printed already.
+    #[error("the replicas can't be restored")]
+    CannotRestore,
     /// Memory ran out.
     #[error("there is no memory for it")]
     NoMemory,
@@ -70,6 +78,7 @@ pub fn run<
         + Clock
         + Log
         + Sync
+        + Files<File = File>
         + Net<Listener = TcpListener, Stream = TcpStream>,
 >(rt: &R) -> u8 {
     match words(rt) {
@@ -91,6 +100,7 @@ fn run_words<
         + Clock
         + Log
         + Sync
+        + Files<File = File>
         + Net<Listener = TcpListener, Stream = TcpStream>,
 >(rt: &R, words: &[String]) -> u8 {
     let settings = match settings_or_status(rt, words) {
@@ -99,7 +109,7 @@ fn run_words<
     };
     match run_as(rt, rt.alloc(), &settings) {
         Ok(()) => 0,
-        Err(RunFault::CannotListen) => 1,
+        Err(RunFault::CannotListen | RunFault::CannotRestore) => 1,
         Err(why) => {
             error!(rt; "the server can't run: {why}");
             print_fault(rt)
@@ -116,6 +126,7 @@ fn run_as<
         + Clock
         + Log
         + Sync
+        + Files<File = File>
         + Net<Listener = TcpListener, Stream = TcpStream>,
 >(rt: &R, alloc: Global, settings: &CommandLine<'_>) -> Result<(), RunFault> {
     let (server, setups) = open_all(rt, alloc, settings)?;
@@ -155,11 +166,16 @@ struct Opened<'a> {
     parts: Vec<ReplicaSetup<'a>>,
     /// The signals for the replicas that are to join.
     signals: Vec<JoinSignal>,
+    /// The folder of the replicas' logs.
+    store: Option<StoreFolder>,
 }
 
 /// Listens at the addresses, in their order. Returns the state that the server's threads will
 /// share, and the replicas' setups. An error drops the listeners that were made.
-pub fn open_all<'a, R: Print + Log + Net<Listener = TcpListener, Stream = TcpStream>>(
+pub fn open_all<
+    'a,
+    R: Print + Log + Files<File = File> + Net<Listener = TcpListener, Stream = TcpStream>,
+>(
     rt: &R,
     alloc: Global,
     settings: &CommandLine<'a>,
@@ -168,6 +184,7 @@ pub fn open_all<'a, R: Print + Log + Net<Listener = TcpListener, Stream = TcpStr
         replicas: Vec::new(alloc),
         parts: Vec::new(alloc),
         signals: Vec::new(alloc),
+        store: None,
     };
     if let Err(fault) = open_each(rt, alloc, settings, &mut opened) {
         drop(opened);
@@ -177,65 +194,180 @@ pub fn open_all<'a, R: Print + Log + Net<Listener = TcpListener, Stream = TcpStr
         replicas: handles,
         parts,
         signals,
+        store,
     } = opened;
     let server = ServerState {
         access: settings.access,
         replicas: handles,
         joining: JoiningReplicas::new(signals),
         journal: settings.journal,
+        store,
         stop: StopCounter::after(settings.stop_after),
     };
     Ok((server, parts))
 }
 
-fn open_each<'a, R: Print + Log + Net<Listener = TcpListener, Stream = TcpStream>>(
+fn open_each<
+    'a,
+    R: Print + Log + Files<File = File> + Net<Listener = TcpListener, Stream = TcpStream>,
+>(
     rt: &R,
     alloc: Global,
     settings: &CommandLine<'a>,
     opened: &mut Opened<'a>,
 ) -> Result<(), RunFault> {
+    let mut restored = Vec::new(alloc);
+    if let Some(path) = settings.store {
+        restored = restore(rt, alloc, settings, path, opened)?;
+    }
     for place in settings.places.iter() {
-        open_place(rt, alloc, place, opened)?;
+        let restored = take_restored(place.replica, &mut restored);
+        open_place(rt, alloc, place, restored, opened)?;
     }
     for join in settings.joins.iter() {
-        await_join(alloc, settings, join, opened)?;
+        let restored = take_restored(join.place.replica, &mut restored);
+        open_join(rt, alloc, settings, join, restored, opened)?;
     }
     Ok(())
 }
 
-/// Listens at a replica's address, prints that it does, and adds the replica.
+/// Adds a replica that is to join. If its log has operations, it joined before, and listens.
+fn open_join<'a, R: Print + Log + Net<Listener = TcpListener, Stream = TcpStream>>(
+    rt: &R,
+    alloc: Global,
+    settings: &CommandLine<'a>,
+    join: &Join<'a>,
+    restored: Option<RestoredReplica>,
+    opened: &mut Opened<'a>,
+) -> Result<(), RunFault> {
+    let Some(restored) = restored else {
+        return await_join(alloc, settings, join, None, opened);
+    };
+    if restored.book.op_count() > 0 {
+        return open_place(rt, alloc, &join.place, Some(restored), opened);
+    }
+    let RestoredReplica {
+        replica: _,
+        book,
+        log,
+    } = restored;
+    drop(book);
+    await_join(alloc, settings, join, Some(log), opened)
+}
+
+/// Opens the folder of the logs, and restores the replicas from them. If that isn't possible,
+/// prints why.
+fn restore<R: Print + Files<File = File>>(
+    rt: &R,
+    alloc: Global,
+    settings: &CommandLine<'_>,
+    path: &str,
+    opened: &mut Opened<'_>,
+) -> Result<Vec<RestoredReplica>, RunFault> {
+    let restored = match StoreFolder::open(rt, alloc, path) {
+        Ok(folder) => {
+            let restored = restore_all(rt, alloc, &folder, settings);
+            opened.store = Some(folder);
+            restored
+        }
+        Err(FolderFault::InUse) => {
+            println!(rt; "{}", FolderFault::InUse)?;
+            return Err(RunFault::CannotRestore);
+        }
+        Err(fault) => Err(without_folder(settings, fault)?),
+    };
+    match restored {
+        Ok(restored) => Ok(restored),
+        Err(unrestored) => {
+            println!(rt; "{unrestored}")?;
+            Err(RunFault::CannotRestore)
+        }
+    }
+}
+
+/// The first replica, which isn't restored since the folder of the logs can't be used.
+fn without_folder(
+    settings: &CommandLine<'_>,
+    fault: FolderFault,
+) -> Result<UnrestoredReplica, RunFault> {
+    let first = settings.places.first().ok_or(RunFault::UnknownReplica)?;
+    let replica = ReplicaId::new(u32::from(first.replica)).ok_or(RunFault::UnknownReplica)?;
+    Ok(UnrestoredReplica::of_folder(replica, fault))
+}
+
+/// Takes out the restored replica with this name, if there is one.
+fn take_restored(name: u16, restored: &mut Vec<RestoredReplica>) -> Option<RestoredReplica> {
+    let place = restored
+        .iter()
+        .position(|restored| restored.replica.get() == u32::from(name))?;
+    Some(restored.swap_remove(place))
+}
+
+/// Prints how many operations a replica was restored with, if it was; listens at its address,
+/// prints that it does, and adds the replica.
 fn open_place<R: Print + Log + Net<Listener = TcpListener, Stream = TcpStream>>(
     rt: &R,
     alloc: Global,
     place: &Place<'_>,
+    restored: Option<RestoredReplica>,
     opened: &mut Opened<'_>,
 ) -> Result<(), RunFault> {
+    if let Some(restored) = &restored {
+        println!(rt; "restored {} {}", place.replica, restored.book.op_count())?;
+    }
     let Some((listener, address)) = listen_at(rt, place)? else {
+        drop(restored);
         return Err(RunFault::CannotListen);
     };
-    let start_mode = StartMode::Listening(listener);
-    add_setup(alloc, place.replica, start_mode, Some(address), opened)
+    let (start_mode, book) = match restored {
+        Some(restored) => {
+            let RestoredReplica {
+                replica: _,
+                book,
+                log,
+            } = restored;
+            (StartMode::Restored(listener, log), Some(book))
+        }
+        None => (StartMode::Listening(listener), None),
+    };
+    add_setup(
+        alloc,
+        place.replica,
+        start_mode,
+        book,
+        Some(address),
+        opened,
+    )
 }
 
-/// Adds a replica that is to join, with its signals.
+/// Adds a replica that is to join, with its signals, and its log if the server has a store.
 fn await_join<'a>(
     alloc: Global,
     settings: &CommandLine<'a>,
     join: &Join<'a>,
+    log: Option<DurableLog<FileDevice>>,
     opened: &mut Opened<'a>,
 ) -> Result<(), RunFault> {
     let Some(peer) = settings.place_of_name(join.peer) else {
+        drop(log);
         return Err(RunFault::UnknownReplica);
     };
-    let (begin, done) = add_join_signal(alloc, &mut opened.signals)?;
+    let (begin, done) = match add_join_signal(alloc, &mut opened.signals) {
+        Ok(ends) => ends,
+        Err(fault) => {
+            drop(log);
+            return Err(fault);
+        }
+    };
     let joiner = JoiningReplica {
         join: *join,
         peer,
         begin,
         done,
+        log: Mutex::new(log),
     };
     let start_mode = StartMode::Joining(joiner);
-    add_setup(alloc, join.place.replica, start_mode, None, opened)
+    add_setup(alloc, join.place.replica, start_mode, None, None, opened)
 }
 
 /// Adds the signals for a replica that is to join, and returns the replica's sides of them.
@@ -254,11 +386,13 @@ fn add_setup<'a>(
     alloc: Global,
     name: u16,
     start_mode: StartMode<'a>,
+    book: Option<Book>,
     address: Option<SocketAddr>,
     opened: &mut Opened<'a>,
 ) -> Result<(), RunFault> {
     let Some(replica) = ReplicaId::new(u32::from(name)) else {
         drop(start_mode);
+        drop(book);
         return Err(RunFault::UnknownReplica);
     };
     let own = opened.replicas.len();
@@ -266,6 +400,7 @@ fn add_setup<'a>(
         Ok(ends) => ends,
         Err(fault) => {
             drop(start_mode);
+            drop(book);
             return Err(fault);
         }
     };
@@ -275,11 +410,10 @@ fn add_setup<'a>(
         messages,
         copy_requests,
         start_mode,
+        book,
     };
-    match opened.parts.push(part) {
-        Ok(()) => Ok(()),
-        Err(_) => Err(RunFault::NoMemory),
-    }
+    opened.parts.push(part)?;
+    Ok(())
 }
 
 /// Adds a replica's handle, and returns the receivers of what others send by it.

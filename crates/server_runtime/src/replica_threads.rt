@@ -6,15 +6,19 @@ ghost use Rattle.server_runtime.specs.ReplicaEnds.{AreEndsOf, IsEndOf, books_of}
 
 use crate::connection_threads::{ReplicaContext, converse_and_close, refuse_connection};
 use crate::joining_replica::{JoinedReplica, JoiningReplica, send_copies};
-use crate::peer_sender::PeerSender;
+use crate::link_peers::LinkPeers;
 use crate::replica_end::{ReplicaEnd, end_of, ends_keep_the_headline};
 use crate::replica_handle::{CopyRequest, others};
+use crate::replica_store::ReplicaStore;
 use crate::server_state::ServerState;
+use crate::store_taker::StoreTaker;
 use crate::totals::{Totals, totals_of};
 use crossbeam_channel::Receiver;
+use durable_log::DurableLog;
 use imap_node::Node;
 use log::{Log, info};
-use replica_links::{Gate, LinkInput, PeerMsg, ReplicaTaker, link_worker};
+use log_files::FileDevice;
+use replica_links::{Gate, LinkInput, PeerMsg, link_worker};
 use replica_lock::{Book, Pass, Shared};
 use std::alloc::{AllocError, Global};
 use std::marker::Brand;
@@ -33,6 +37,8 @@ use uid_projection::Counters;
 pub enum StartMode<'a> {
     /// It listens, and has received nothing.
     Listening(TcpListener),
+    /// It listens, with the book that was restored from its log.
+    Restored(TcpListener, DurableLog<FileDevice>),
     /// It joins at a signal.
     Joining(JoiningReplica<'a>),
 }
@@ -50,19 +56,37 @@ pub struct ReplicaSetup<'a> {
     pub copy_requests: Receiver<CopyRequest>,
     /// How it starts.
     pub start_mode: StartMode<'a>,
+    /// Its book, if it was restored.
+    pub book: Option<Book>,
 }
 
-/// A replica's setup, until its thread takes it, with its name.
+/// What the thread of a replica needs to start besides its name and its book.
+#[derive(Drop)]
+struct ThreadSetup<'a> {
+    own: usize,
+    messages: Receiver<PeerMsg>,
+    copy_requests: Receiver<CopyRequest>,
+    start_mode: StartMode<'a>,
+}
+
+/// A replica's setup, until its thread takes it, with its name. The book is apart, since that it
+/// may be sent to a thread is a lemma of its own.
 #[derive(Drop)]
 struct SetupSlot<'a> {
     replica: ReplicaId,
-    setup: Mutex<Option<ReplicaSetup<'a>>>,
+    setup: Mutex<Option<ThreadSetup<'a>>>,
+    book: Mutex<Option<Book>>,
 }
 
 impl<'a> SetupSlot<'a> {
     /// The setup; `None` if it was taken already.
-    fn take<R: Wait>(&self, rt: &R) -> Option<ReplicaSetup<'a>> {
+    fn take<R: Wait>(&self, rt: &R) -> Option<ThreadSetup<'a>> {
         self.setup.lock(rt).take()
+    }
+
+    /// The book, if the replica was restored; `None` if it was taken already.
+    fn take_book<R: Wait>(&self, rt: &R) -> Option<Book> {
+        self.book.lock(rt).take()
     }
 }
 
@@ -155,12 +179,34 @@ fn slots_of<'a>(
 {
     let mut slots = Vec::new(alloc);
     for setup in setups {
-        slots.push(SetupSlot {
-            replica: setup.replica,
-            setup: Mutex::new(Some(setup)),
-        })?;
+        slots.push(slot_of(setup))?;
     }
     Ok(slots)
+}
+
+/// The slot of a setup.
+fn slot_of<'a>(setup: ReplicaSetup<'a>) -> SetupSlot<'a>
+    ensures { result.replica ≡ setup.entry.replica }
+{
+    let ReplicaSetup {
+        replica,
+        own,
+        messages,
+        copy_requests,
+        start_mode,
+        book,
+    } = setup;
+    let setup = ThreadSetup {
+        own,
+        messages,
+        copy_requests,
+        start_mode,
+    };
+    SetupSlot {
+        replica,
+        setup: Mutex::new(Some(setup)),
+        book: Mutex::new(book),
+    }
 }
 
 /// Runs the replicas in these slots, each in a thread of its own. `Err` if memory runs out.
@@ -212,7 +258,7 @@ fn run_at<
         return ReplicaEnd::Lost;
     };
     match slot.take(rt) {
-        Some(setup) => end_of(slot.replica, run_setup(rt, alloc, server, setup)),
+        Some(setup) => end_of(slot.replica, run_setup(rt, alloc, server, slot, setup)),
         None => ReplicaEnd::Lost,
     }
 }
@@ -226,9 +272,15 @@ fn run_setup<
         + Print
         + Sync
         + Net<Listener = TcpListener, Stream = TcpStream>,
->(rt: &R, alloc: Global, server: &ServerState<'_>, setup: ReplicaSetup<'_>) -> ReplicaEnd {
-    let ReplicaSetup {
-        replica,
+>(
+    rt: &R,
+    alloc: Global,
+    server: &ServerState<'_>,
+    slot: &SetupSlot<'_>,
+    setup: ThreadSetup<'_>,
+) -> ReplicaEnd {
+    let replica = slot.replica;
+    let ThreadSetup {
         own,
         messages,
         copy_requests,
@@ -238,6 +290,18 @@ fn run_setup<
         StartMode::Listening(listener) => (
             start_listening(alloc, server, replica, own, listener),
             false,
+        ),
+        StartMode::Restored(listener, log) => (
+            start_restored(
+                alloc,
+                server,
+                replica,
+                slot.take_book(rt),
+                own,
+                listener,
+                log,
+            ),
+            true,
         ),
         StartMode::Joining(joiner) => match joiner.join(rt, alloc, server, replica, own) {
             Some(joined) => (Some(joined), true),
@@ -249,6 +313,7 @@ fn run_setup<
             book,
             listener,
             peers,
+            store,
         },
     ) = started
     else {
@@ -262,7 +327,15 @@ fn run_setup<
         peers,
         asks,
     };
-    run_replica::<Brand, R>(rt, alloc, Blank::new(4_294_967_295), server, book, inputs)
+    run_replica::<Brand, R>(
+        rt,
+        alloc,
+        Blank::new(4_294_967_295),
+        server,
+        book,
+        store,
+        inputs,
+    )
 }
 
 /// A new replica with its listener; `None` if memory runs out.
@@ -286,7 +359,31 @@ fn start_listening(
         book,
         listener,
         peers,
+        store: None,
     })
+}
+
+/// A restored replica with its listener; `None` if memory runs out or it has no book.
+fn start_restored(
+    alloc: Global,
+    server: &ServerState<'_>,
+    replica: ReplicaId,
+    book: Option<Book>,
+    own: usize,
+    listener: TcpListener,
+    log: DurableLog<FileDevice>,
+) -> Option<JoinedReplica> {
+    let peers = others(alloc, server.replicas.len(), own);
+    let store = ReplicaStore::new(alloc, replica, log);
+    match (book, peers, store) {
+        (Some(book), Ok(peers), Ok(store)) => Some(JoinedReplica {
+            book,
+            listener,
+            peers,
+            store: Some(store),
+        }),
+        _ => None,
+    }
 }
 
 /// The book of a replica that has received nothing and whose UIDs count from 1; `None` if memory
@@ -312,15 +409,19 @@ fn run_replica<
     blank: Blank,
     server: &ServerState<'_>,
     book: Book,
+    store: Option<ReplicaStore>,
     inputs: ReplicaInputs,
 ) -> ReplicaEnd
     requires { (blank.name ≡ L.name) × (blank.parts ≡ L.parts) × (L.parts ≡ 4294967295) }
 {
-    let (shared, first) = Shared::<L>::with_bound(blank, book, server.journal);
+    let room = store.as_ref().map(|store| store.room(rt));
+    let (shared, first) = Shared::<L>::with_store(blank, book, server.journal, room);
+    let stored = store.as_ref();
     let context = ReplicaContext {
         server: server,
         own: inputs.own,
         shared: &shared,
+        store: stored,
     };
     let returned = Mutex::new(Vec::new(alloc));
     let first = serve_listener(
@@ -333,6 +434,9 @@ fn run_replica<
             returned: &returned,
         },
     );
+    if let Some(store) = context.store {
+        store.tidy(rt, alloc, &context);
+    }
     let mut passes = returned.into_inner();
     if passes.push(first).is_err() {
         return ReplicaEnd::Lost;
@@ -371,15 +475,15 @@ fn run_link<L: Ledger, R: Wait + Clock>(
     if pass.session().is_some() {
         return pass;
     }
-    let mut taker = ReplicaTaker::new(rt, alloc, context.shared, pass);
-    let mut sender = PeerSender::new(rt, context.server, context.own);
+    let mut taker = StoreTaker::new(rt, alloc, context, pass);
+    let mut peers = LinkPeers::new(rt, alloc, context);
     let input = LinkInput {
         messages: &inputs.messages,
         peers: &inputs.peers,
         asks_first: inputs.asks,
         rest: Duration::from_secs(60),
     };
-    link_worker(rt, &mut OpenGate, &input, &mut taker, &mut sender);
+    link_worker(rt, &mut OpenGate, &input, &mut taker, &mut peers);
     taker.into_pass()
 }
 
@@ -465,8 +569,9 @@ fn accepted_connections<L: Ledger, R: Log, G: Gate + Drop>(
     Ok(pending)
 }
 
-/// Serves the connections of a listener, each in a thread of its own, until the server stops. Two
-/// further threads serve the link and the requests for copies.
+/// Serves the connections of a listener, each in a thread of its own, until the server stops.
+/// Further threads serve the link and the requests for copies, and look after the log, if there is
+/// one.
 fn serve_listener<
     L: Ledger + Send + Sync,
     R: Threads + Wait + Clock + Log + Sync + Net<Listener = TcpListener, Stream = TcpStream>,
@@ -486,12 +591,15 @@ fn serve_listener<
                 let pass = send_copies(
                     rt,
                     alloc,
-                    served.context.shared,
+                    served.context,
                     pass,
                     &served.inputs.copy_requests,
                 );
                 return_pass(rt, served.returned, pass)
             });
+        }
+        if served.context.store.is_some() {
+            let _ = scope.spawn(move || keep_store(rt, alloc, served));
         }
         for stream in served.inputs.listener.incoming() {
             if served.context.server.stop.is_over(rt) {
@@ -516,8 +624,22 @@ fn serve_listener<
                 end_one(rt, served.context.server)
             });
         }
+        if let Some(store) = served.context.store {
+            store.stop(rt);
+        }
         first
     })
+}
+
+/// Looks after the replica's log, if there is one, until the server stops.
+fn keep_store<L: Ledger, R: Wait + Clock + Log>(
+    rt: &R,
+    alloc: Global,
+    served: &ServedReplica<'_, L>,
+) {
+    if let Some(store) = served.context.store {
+        store.keep(rt, alloc, served.context, &served.inputs.peers);
+    }
 }
 
 /// Counts a connection that ended. After the first one, the replicas that are to join do so; after

@@ -7,6 +7,7 @@ use crate::replica_handle::{JoiningReplicas, ReplicaHandle};
 use imap_answers::Login;
 use imap_node::{Auth, Credentials};
 use imap_types::Octets;
+use log_files::StoreFolder;
 use server_settings::Access;
 use std::alloc::{AllocError, Global};
 use std::sync::{Mutex, Wait};
@@ -54,6 +55,8 @@ pub struct ServerState<'a> {
     pub joining: JoiningReplicas,
     /// The most octets that each replica's journal may take; `None` if there is no bound.
     pub journal: Option<u64>,
+    /// The folder of the replicas' logs; `None` if the server stores nothing.
+    pub store: Option<StoreFolder>,
     /// When the server stops.
     pub stop: StopCounter,
 }

@@ -1,46 +1,51 @@
 //! One session of a replica under its lock, as the port of a conversation.
 
 ghost use Rattle.std.specs.Prelude.{◌≡◌, ◌⊎◌, ◌≤◌, ◌<◌, ℕ, [], Err, IfOk, IsOk, IsSome, IsTrue, Ok};
-ghost use Rattle.std.specs.Prelude.{OnErr, OnOk, Some, length, vec_capacity};
+ghost use Rattle.std.specs.Prelude.{OnErr, OnOk, Some, false, length, true, vec_capacity};
 ghost use Rattle.std.specs.Option.{option_map};
+ghost use Rattle.imap_answers.specs.declared.fixed_words.Refusal.TheVariants.{NoStoreRoom};
+ghost use Rattle.imap_node.specs.declared.reply.Reply.TheVariants.{Refused};
 ghost use Rattle.imap_node.specs.declared.sessions.OpenFault.TheVariants as refusals;
+ghost use Rattle.replica_lock.specs.Passes.{IsCalledIn};
 ghost use Rattle.imap_connection.specs.PortCalls as calls;
 ghost use Rattle.imap_connection.specs.Batches.{CarriesCommands};
 ghost use Rattle.imap_connection.specs.declared.fault.PortFault.TheVariants.{NoRoom};
 ghost use Rattle.imap_connection.specs.declared.fault.PortFault.TheVariants.{TooManySessions, Torn};
 ghost use Rattle.server_runtime.specs.Calls.{CallsOnce, CallsOnceIn, CommandsOnce, IsClosedIn};
 ghost use Rattle.server_runtime.specs.Calls.{OpensByCall, OpensIn, StepsByCall, StepsIn, StepsOnce};
+ghost use Rattle.server_runtime.specs.Calls.{stores};
 ghost use Rattle.server_runtime.specs.Logins.{auth_of};
 ghost use Rattle.replica_lock.specs.declared.event.BookEvent.TheVariants as events;
 ghost use Rattle.replica_lock.specs.declared.outcome.Outcome.TheVariants.{Opened, Replied};
 
 use crate::connection_threads::ReplicaContext;
 use crate::peer_sender::PeerSender;
-use crate::server_state::{ServerState, auth_of, login_of};
+use crate::replica_store::Growth;
+use crate::server_state::{auth_of, login_of};
 use crate::shared_phase::SharedPhase;
 use crdt_ops::SoundOp;
-use imap_answers::Login;
+use imap_answers::{Login, Refusal};
 use imap_connection::{Port, PortFault};
 use imap_node::{OpenFault, Reply, SessionNo};
 use imap_syntax::{Command, IdleLine, Tagged};
 use imap_types::Moment;
 use replica_links::Gate;
-use replica_lock::{CallFault, LockTurn, Outcome, Pass, Shared};
+use replica_lock::{CallFault, LockTurn, Outcome, Pass, UnmadeCommand};
 use std::alloc::Global;
 use std::rt::Clock;
 use std::sync::ledger::Ledger;
 use std::sync::{Mutex, MutexGuard, Wait};
 use std::time::{SystemTime, UNIX_EPOCH};
 
+/// How often a command is given, if each time the replica's store has no room for it.
+const MAX_TRIES: u32 = 16;
+
 /// A session whose pass is under a lock of its own, which is taken for one call at a time.
 #[derive(Drop)]
 pub struct SessionPort<'a, L: Ledger, R: Wait + Clock, G: Gate> {
     rt: &'a R,
-    shared: &'a Shared<L>,
+    context: &'a ReplicaContext<'a, L>,
     pass: &'a Mutex<Pass<L>>,
-    server: &'a ServerState<'a>,
-    /// The replica's own place among all.
-    own: usize,
     shared_phase: &'a SharedPhase,
     gate: &'a mut G,
     commands: u64,
@@ -60,17 +65,15 @@ impl<'a, L: Ledger, R: Wait + Clock, G: Gate> SessionPort<'a, L, R, G> {
     /// A port for a session at the replica of this context, which no call has opened yet.
     pub fn new(
         rt: &'a R,
-        context: &ReplicaContext<'a, L>,
+        context: &'a ReplicaContext<'a, L>,
         pass: &'a Mutex<Pass<L>>,
         shared_phase: &'a SharedPhase,
         gate: &'a mut G,
     ) -> SessionPort<'a, L, R, G> {
         SessionPort {
             rt,
-            shared: context.shared,
+            context,
             pass,
-            server: context.server,
-            own: context.own,
             shared_phase: shared_phase,
             gate,
             commands: 0,
@@ -85,18 +88,18 @@ impl<'a, L: Ledger, R: Wait + Clock, G: Gate> SessionPort<'a, L, R, G> {
 impl<'a, L: Ledger, R: Wait + Clock, G: Gate> SessionPort<'a, L, R, G> {
     /// Opens the session in its pass, by at most one call.
     fn open_in(&self, alloc: Global, pass: &mut Pass<L>) -> Result<Login, PortFault>
-        ensures response { OpensIn self.now.server.now.access pass.old result pass.new }
-        ensures once { CallsOnce pass.old (events.Open (auth_of self.now.server.now.access))
-            pass.new }
+        ensures response { OpensIn self.now.context.now.server.now.access pass.old result pass.new }
+        ensures once { CallsOnce pass.old
+            (events.Open (auth_of self.now.context.now.server.now.access)) pass.new }
     {
         if pass.session().is_some() {
             return Err(PortFault::PassedOver);
         }
-        let Ok(auth) = auth_of(alloc, self.server.access) else {
+        let Ok(auth) = auth_of(alloc, self.context.server.access) else {
             return Err(PortFault::NoMemory);
         };
-        match self.shared.open(self.rt, alloc, pass, auth) {
-            Ok(()) => login_of_outcome(pass.last(), login_of(self.server.access)),
+        match self.context.shared.open(self.rt, alloc, pass, auth) {
+            Ok(()) => login_of_outcome(pass.last(), login_of(self.context.server.access)),
             Err(fault) => Err(fault_of(fault)),
         }
     }
@@ -108,7 +111,8 @@ impl<'a, L: Ledger, R: Wait + Clock, G: Gate> SessionPort<'a, L, R, G> {
         pass: &mut Pass<L>,
         tagged: Tagged,
     ) -> Result<Reply, PortFault>
-        ensures response { StepsIn pass.old (calls.Command tagged) result pass.new }
+        ensures response { StepsIn (stores self.now.context.now.store) pass.old
+            (calls.Command tagged) result pass.new }
         ensures once { CommandsOnce pass.old tagged pass.new }
     {
         if pass.session().is_none() {
@@ -118,12 +122,80 @@ impl<'a, L: Ledger, R: Wait + Clock, G: Gate> SessionPort<'a, L, R, G> {
         let idles = matches!(&tagged.command, Command::Idle);
         let moment = moment_now(self.rt);
         let _send_lock = self.send_lock_for(&tagged.command);
-        match self.shared.command(self.rt, alloc, pass, moment, tagged) {
+        match self.give_with_room(alloc, pass, moment, tagged) {
             Ok(()) => {
                 self.follow(alloc, idles, pass.last());
                 reply_of_outcome(pass.last())
             }
+            Err(CallFault::NoStoreRoom { .. }) => self.refuse_for_room(),
             Err(fault) => Err(fault_of(fault)),
+        }
+    }
+
+    /// Gives the session a command in its pass. If the replica's store has no room for its
+    /// operations, room is made, and the command is given again, a few times, since other commands
+    /// may take the room. `NoStoreRoom` if no room can be made.
+    fn give_with_room(
+        &self,
+        alloc: Global,
+        pass: &mut Pass<L>,
+        moment: Moment,
+        tagged: Tagged,
+    ) -> Result<(), CallFault>
+        requires { IsSome pass.old.session }
+        ensures called { OnOk result
+            (IsCalledIn pass.old (λ n. events.Command n moment tagged) pass.new) }
+        ensures unchanged { OnErr result (pass.new ≡ pass.old) }
+    {
+        let mut pending = tagged;
+        for _ in 0..MAX_TRIES {
+            let unmade = match self
+                .context
+                .shared
+                .command(self.rt, alloc, pass, moment, pending)
+            {
+                Ok(()) => return Ok(()),
+                Err(unmade) => unmade,
+            };
+            let UnmadeCommand { fault, tagged } = unmade;
+            let Some(tagged) = tagged else {
+                return Err(fault);
+            };
+            if let Err(fault) = self.make_room(alloc, fault) {
+                drop(tagged);
+                return Err(fault);
+            }
+            pending = tagged;
+        }
+        drop(pending);
+        Err(CallFault::NoStoreRoom { octets: 0 })
+    }
+
+    /// Makes the room in the replica's store for want of which a call wasn't made. An error says why
+    /// it still isn't.
+    fn make_room(&self, alloc: Global, fault: CallFault) -> Result<(), CallFault> {
+        let (Some(store), CallFault::NoStoreRoom { octets }) = (self.context.store, fault) else {
+            return Err(fault);
+        };
+        match store.grow(self.rt, alloc, self.context, octets) {
+            Growth::HasRoom => Ok(()),
+            Growth::NoMemory => Err(CallFault::NoRoom),
+            Growth::Full | Growth::Failed => Err(fault),
+        }
+    }
+
+    /// The refusal of a command for which the replica's store has no room. A replica without a
+    /// store refuses none so.
+    fn refuse_for_room(&self) -> Result<Reply, PortFault>
+        ensures { IfOk result (λ reply. (reply ≡ Refused NoStoreRoom false)
+            × (stores self.now.context.now.store ≡ true)) }
+    {
+        match self.context.store {
+            Some(_) => Ok(Reply::Refused {
+                why: Refusal::NoStoreRoom,
+                closed: false,
+            }),
+            None => Err(PortFault::NoRoom),
         }
     }
 
@@ -138,30 +210,31 @@ impl<'a, L: Ledger, R: Wait + Clock, G: Gate> SessionPort<'a, L, R, G> {
         requires some { 0 < length commands.items }
         requires none { replies.old.items ≡ [] }
         requires room { length commands.items ≤ vec_capacity replies.old }
-        ensures { CarriesCommands StepsOnce pass.old commands.items replies.new.items result
-            pass.new }
+        ensures { CarriesCommands (StepsOnce (stores self.now.context.now.store)) pass.old
+            commands.items replies.new.items result pass.new }
     {
         if pass.session().is_none() {
             drop(commands);
             return Err(PortFault::PassedOver);
         }
         let moment = moment_now(self.rt);
-        let mut turn = self.shared.turn(self.rt);
+        let mut turn = self.context.shared.turn(self.rt);
         let response = give_all(alloc, &mut turn, pass, moment, commands, replies);
-        self.shared.end(turn);
+        self.context.shared.end(turn);
         response
     }
 
     /// Gives the session a line of IDLE in its pass, by at most one call.
     fn line_in(&self, alloc: Global, pass: &mut Pass<L>, line: IdleLine) -> Result<Reply, PortFault>
-        ensures response { StepsIn pass.old (calls.Line line) result pass.new }
+        ensures response { StepsIn (stores self.now.context.now.store) pass.old (calls.Line line)
+            result pass.new }
         ensures once { CallsOnceIn pass.old (λ n. events.Line n line) pass.new }
     {
         if pass.session().is_none() {
             return Err(PortFault::PassedOver);
         }
         self.shared_phase.set_idles(self.rt, false);
-        match self.shared.done(self.rt, alloc, pass, line) {
+        match self.context.shared.done(self.rt, alloc, pass, line) {
             Ok(()) => reply_of_outcome(pass.last()),
             Err(fault) => Err(fault_of(fault)),
         }
@@ -177,7 +250,7 @@ impl<'a, L: Ledger, R: Wait + Clock, G: Gate> SessionPort<'a, L, R, G> {
         if pass.session().is_none() {
             return Ok(());
         }
-        self.shared.close(self.rt, alloc, pass)
+        self.context.shared.close(self.rt, alloc, pass)
     }
 
     /// Whether a pass has the session of this port, and has seen at least as much of the journal.
@@ -189,28 +262,31 @@ impl<'a, L: Ledger, R: Wait + Clock, G: Gate> SessionPort<'a, L, R, G> {
     }
 
     /// The lock that orders the sending of the replica's operations, for a command that may issue
-    /// some. If operations overtook each other, the receiving replica would have to ask for them,
-    /// and this one would have to search all that it applied.
+    /// some, if these are sent at once. If operations overtook each other, the receiving replica
+    /// would have to ask for them, and this one would have to search all that it applied.
     fn send_lock_for(&self, command: &Command) -> Option<MutexGuard<'_, ()>> {
-        if !may_issue(command) {
+        if self.context.store.is_some() || !may_issue(command) {
             return None;
         }
-        let handle = self.server.replicas.get(self.own)?;
+        let handle = self.context.server.replicas.get(self.context.own)?;
         Some(handle.send_lock.lock(self.rt))
     }
 
-    /// Sends the others what a command issued, and notes whether the session idles after it.
+    /// Sends the others what a command issued, unless the replica has a store: who syncs it sends
+    /// it then. Notes whether the session idles after the command.
     fn follow(&self, alloc: Global, idles: bool, last: Option<&Outcome>) {
-        let sender = PeerSender::new(self.rt, self.server, self.own);
-        sender.send_to_all(alloc, issued_ops(last));
+        if self.context.store.is_none() {
+            let sender = PeerSender::new(self.rt, self.context.server, self.context.own);
+            sender.send_to_all(alloc, issued_ops(last));
+        }
         self.shared_phase.set_idles(self.rt, idles && is_done(last));
     }
 }
 
 impl<'a, L: Ledger, R: Wait + Clock, G: Gate> Port for SessionPort<'a, L, R, G> {
-    ghost opens = { λ s r t. OpensByCall s.server.now.access s.at r t.at };
+    ghost opens = { λ s r t. OpensByCall s.context.now.server.now.access s.at r t.at };
 
-    ghost steps = { λ s call r t. StepsByCall s.at call r t.at };
+    ghost steps = { λ s call r t. StepsByCall (stores s.context.now.store) s.at call r t.at };
 
     ghost closes = { λ s t. Unit {0} };
 
@@ -294,7 +370,8 @@ fn give_all<L: Ledger>(
     requires session { IsSome pass.old.session }
     requires none { replies.old.items ≡ [] }
     requires room { length commands.items ≤ vec_capacity replies.old }
-    ensures { CarriesCommands StepsOnce pass.old commands.items replies.new.items result pass.new }
+    ensures { CarriesCommands (StepsOnce false) pass.old commands.items replies.new.items result
+        pass.new }
 {
     for tagged in commands {
         match give_command(alloc, turn, pass, moment, tagged) {
@@ -314,7 +391,7 @@ fn give_command<L: Ledger>(
     tagged: Tagged,
 ) -> Result<Reply, PortFault>
     requires session { IsSome pass.old.session }
-    ensures response { StepsOnce pass.old (calls.Command tagged) result pass.new }
+    ensures response { StepsOnce false pass.old (calls.Command tagged) result pass.new }
     ensures session { IsOk result → IsSome pass.new.session }
 {
     match turn.command(alloc, pass, moment, tagged) {
@@ -327,7 +404,7 @@ fn fault_of(fault: CallFault) -> PortFault
     ensures { (result ≡ NoRoom) ⊎ (result ≡ Torn) }
 {
     match fault {
-        CallFault::NoRoom => PortFault::NoRoom,
+        CallFault::NoRoom | CallFault::NoStoreRoom { .. } => PortFault::NoRoom,
         CallFault::Torn { .. } => PortFault::Torn,
     }
 }

@@ -8,7 +8,7 @@ use Rattle.clap.specs.declared.parser.matches.Found.{Found}
 use Rattle.clap.specs.Simple.{is_simple}
 use Rattle.clap.proofs.OnLiterals.{clap_on_literals}
 use Rattle.clap_laws.proofs.MatchesLemmas.{first_value_of_rows, one_text_of_rows}
-use Rattle.server_settings.specs.Options.{NamesAccess, NamesJournalBound, server_words}
+use Rattle.server_settings.specs.Options.{NamesAccess, NamesJournalBound, NamesStore, server_words}
 use Rattle.server_settings.specs.Settings.{IsJournalBound, access_of}
 use Rattle.server_settings.specs.declared.settings.Access.{Access}
 
@@ -49,6 +49,11 @@ pub journal_is_named : (found : Found) (rows : List Row) (value : Option (Bor (L
     → IsJournalBound (option_map (λ s. s.now) value) bound → NamesJournalBound rows bound
 journal_is_named found rows value bound same given is =
     subst (λ (text : Option (List ℕ)). IsJournalBound text bound) (given ∙ first_value_of_rows found (codes "journal") ∙ ap (first_of (codes "journal")) same) is
+
+-- ---- the store
+
+pub store_is_named : (found : Found) (rows : List Row) (value : Option (Bor (List ℕ))) → rows_of found ≡ rows → option_map (λ s. s.now) value ≡ first_value found (codes "store") → NamesStore rows value
+store_is_named found rows value same given = given ∙ first_value_of_rows found (codes "store") ∙ ap (first_of (codes "store")) same
 
 -- clap's matches of the words that the program knows
 pub server_is_simple : is_simple server_words ≡ true

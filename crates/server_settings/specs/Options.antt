@@ -1,7 +1,9 @@
--- The words of the server's command line, in the terms of `clap`, and the access and the bound of
--- journals that they name.
+-- The words of the server's command line, in the terms of `clap`, and the access, the bound of
+-- journals and the store that they name.
 
 use Rattle.std.specs.Prelude.{◌≡◌, ℕ, true, List, Option, None, Some, codes}
+use Rattle.std.specs.Borrow.{Bor}
+use Rattle.std.specs.Prelude.{option_map}
 use Rattle.clap.specs.Lexer.{usize_max}
 use Rattle.clap.specs.Words.{App, Row, Rule, first_of, new_app, new_rule, one_of, with_rule}
 use Rattle.clap.specs.declared.builder.action.ArgAction.TheVariants.{Append, Set, SetTrue}
@@ -40,11 +42,12 @@ with_access_words app =
     with_rule (with_rule (with_rule app preauth_word) (word_with_value (codes "user")))
     (word_with_value (codes "pass"))
 
--- The words for the end of the server, for journals, for replicas that join, and for replicas.
+-- The words for the end of the server, for journals, for the store, for replicas that join, and
+-- for replicas.
 abbrev pub with_replica_words : App → App
 with_replica_words app =
-    with_rule (with_rule (with_rule (with_rule app stop_word) (word_with_value (codes "journal")))
-    join_word) replica_word
+    with_rule (with_rule (with_rule (with_rule (with_rule app stop_word)
+    (word_with_value (codes "journal"))) (word_with_value (codes "store"))) join_word) replica_word
 
 -- All words that the program knows.
 abbrev pub server_words : App
@@ -73,3 +76,9 @@ NamesAccess rows (Password user pass) =
 -- The bound is that of the value of `--journal`, or the one without a value if it wasn't given.
 abbrev pub NamesJournalBound : List Row → Option ℕ → Type 0
 NamesJournalBound rows bound = IsJournalBound (first_of (codes "journal") rows) bound
+
+-- ---- the folder of the replicas' logs
+
+-- The folder is the value of `--store`; there is none if it wasn't given.
+abbrev pub NamesStore : List Row → Option (Bor (List ℕ)) → Type 0
+NamesStore rows store = option_map (λ path. path.now) store ≡ first_of (codes "store") rows

@@ -4,7 +4,8 @@ ghost use Rattle.std.specs.Prelude.{List, ℕ, ◌≡◌, ◌++◌, ◌∷◌, �
 ghost use Rattle.std.specs.Prelude.{IfOk, IfSome, OnOk, Some, map, option_map, slice_get};
 ghost use Rattle.clap.specs.Words.{IsUnsignedIn, app_of, found_of, matches_of, rows_of};
 ghost use Rattle.clap_laws.specs.Words.{AddWords, IsWord};
-ghost use Rattle.server_settings.specs.Options.{NamesAccess, NamesJournalBound, join_word};
+ghost use Rattle.server_settings.specs.Options.{NamesAccess, NamesJournalBound, NamesStore};
+ghost use Rattle.server_settings.specs.Options.{join_word};
 ghost use Rattle.server_settings.specs.Options.{preauth_word, replica_word, server_words};
 ghost use Rattle.server_settings.specs.Options.{stop_word, with_access_words, with_replica_words};
 ghost use Rattle.server_settings.specs.Options.{word_with_value};
@@ -61,6 +62,8 @@ pub struct CommandLine<'a> {
     pub stop_after: Option<u32>,
     /// The most octets that each replica's journal may take; `None` if there is no bound.
     pub journal: Option<u64>,
+    /// The folder of the replicas' logs, as it was given; `None` if the server stores nothing.
+    pub store: Option<&'a str>,
     /// The replicas in the order in which they were given; their names are distinct.
     pub places: Vec<Place<'a>>,
     /// The replicas that are to join, in their order; their names are new.
@@ -146,8 +149,8 @@ pub enum UsageFault<'a> {
 /// order: in the words, in the access, in the journals' bound, in the replicas in their order, and
 /// in those that are to join in theirs. The access is the one that clap finds in the words: only
 /// `--preauth`, or `--user` and `--pass` without it. The journals' bound is that of the value of
-/// `--journal`, and 64M without it. The replicas' names are distinct, from 1 to 65,535; each that
-/// joins takes the operations of one that exists before it.
+/// `--journal`, and 64M without it, and the store the value of `--store`. The replicas' names are
+/// distinct, from 1 to 65,535; each that joins takes the operations of one that exists before it.
 pub fn read_settings<'a>(
     alloc: Global,
     words: &'a [String],
@@ -156,6 +159,8 @@ pub fn read_settings<'a>(
         (matches_of server_words (map ⟦<String as AsStr>⟧.text words.entry.now)) settings.access) }
     ensures journal { IfOk result (λ settings. NamesJournalBound
         (matches_of server_words (map ⟦<String as AsStr>⟧.text words.entry.now)) settings.journal) }
+    ensures store { IfOk result (λ settings. NamesStore
+        (matches_of server_words (map ⟦<String as AsStr>⟧.text words.entry.now)) settings.store) }
     ensures names { IfOk result (λ settings. AreNames
         (names_of settings.places.items ++ join_names_of settings.joins.items)) }
     ensures peers { IfOk result
@@ -173,6 +178,7 @@ pub fn read_settings<'a>(
         Ok(journal) => journal,
         Err(error) => return Err(SettingsFault::Words(error)),
     };
+    let store = matches.get_str("store");
     let mut names = Vec::new(alloc);
     let places = match places_of(
         alloc,
@@ -190,6 +196,7 @@ pub fn read_settings<'a>(
         access,
         stop_after,
         journal,
+        store,
         places,
         joins,
     })
@@ -222,10 +229,10 @@ fn command_words<'a>(alloc: Global) -> Result<Command<'a>, AllocError>
 }
 
 const ABOUT: &str =
-    "Serves the mail of one user over IMAP, at several replicas that take changes from each other. Mail lives as long as the program runs.";
+    "Serves the mail of one user over IMAP, at several replicas that take changes from each other. Mail lives as long as the program runs, or in the folder that --store names.";
 
-/// The arguments for users, followed by those for the end of the server, for journals, for replicas
-/// that join, and for replicas.
+/// The arguments for users, followed by those for the end of the server, for journals, for the
+/// store, for replicas that join, and for replicas.
 fn known_words<'a>(alloc: Global) -> Result<Vec<Arg<'a>>, AllocError>
     ensures { IfOk result
         (λ words. AddWords words.items (λ app. with_replica_words (with_access_words app))) }
@@ -243,6 +250,11 @@ fn known_words<'a>(alloc: Global) -> Result<Vec<Arg<'a>>, AllocError>
             alloc,
             "journal",
             "Each replica's journal takes at most this many octets, and forgets its oldest entries: a number, with K, M or G for powers of 1,024, or all for no bound. Otherwise it is 64M.",
+        ),
+        word_with_value(
+            alloc,
+            "store",
+            "Each replica's operations are stored in this folder, and are there again at the next start. Otherwise mail lives as long as the program runs.",
         ),
         join_arg(alloc),
         replica(alloc),

@@ -2,7 +2,8 @@
 
 ghost use Rattle.std.specs.Prelude.{◌++◌, IfOk, map};
 ghost use Rattle.clap.specs.Words.{matches_of};
-ghost use Rattle.server_settings.specs.Options.{NamesAccess, NamesJournalBound, server_words};
+ghost use Rattle.server_settings.specs.Options.{NamesAccess, NamesJournalBound, NamesStore};
+ghost use Rattle.server_settings.specs.Options.{server_words};
 ghost use Rattle.server_settings.specs.Settings.{AreNames, HavePeers, names_of, join_names_of};
 
 use crate::settings::{CommandLine, SettingsFault, UsageFault, is_out_of_memory, read_settings};
@@ -20,6 +21,8 @@ pub fn settings_or_status<'a, R: Print + AllocGlobal>(
         (matches_of server_words (map ⟦<String as AsStr>⟧.text words.entry.now)) settings.access) }
     ensures journal { IfOk result (λ settings. NamesJournalBound
         (matches_of server_words (map ⟦<String as AsStr>⟧.text words.entry.now)) settings.journal) }
+    ensures store { IfOk result (λ settings. NamesStore
+        (matches_of server_words (map ⟦<String as AsStr>⟧.text words.entry.now)) settings.store) }
     ensures names { IfOk result (λ settings. AreNames
         (names_of settings.places.items ++ join_names_of settings.joins.items)) }
     ensures peers { IfOk result

@@ -5,8 +5,9 @@ use crate::scenarios::Scenario;
 use log::Log;
 use server_runtime::{CommandLine, ReplicaEnd, open_all, read_settings, serve};
 use std::alloc::{AllocError, Global};
+use std::fs::File;
 use std::net::{Net, TcpListener, TcpStream};
-use std::rt::Clock;
+use std::rt::{Clock, Files};
 use std::sync::Wait;
 use std::test::*;
 use std::thread;
@@ -21,13 +22,14 @@ fn scenario_passes<
         + Log
         + Print
         + Sync
+        + Files<File = File>
         + Net<Listener = TcpListener, Stream = TcpStream>,
 >(rt: &R, alloc: Global, settings: &CommandLine<'_>, scenario: Scenario) -> Option<bool> {
     let (server, parts) = open_all(rt, alloc, settings).ok()?;
-    let (whole, scenario_passes) = thread::join(
+    let (scenario_passes, whole) = thread::join(
         rt,
-        || are_whole(serve(rt, alloc, &server, parts)),
         || scenario.play(rt, alloc, &server),
+        || are_whole(serve(rt, alloc, &server, parts)),
     );
     Some(whole && scenario_passes == Some(true))
 }
@@ -58,6 +60,7 @@ pub fn serves_well<
         + Log
         + Print
         + Sync
+        + Files<File = File>
         + Net<Listener = TcpListener, Stream = TcpStream>,
 >(rt: &R, alloc: Global, line: &str, scenario: Scenario) -> Option<bool> {
     let words = words_of(alloc, line).ok()?;
@@ -95,6 +98,7 @@ fn serves_alone<
         + Log
         + Print
         + Sync
+        + Files<File = File>
         + Net<Listener = TcpListener, Stream = TcpStream>,
 >(rt: &R, alloc: Global) -> Option<bool> {
     let taken = TcpListener::bind(rt, "127.0.0.1:0").ok()?;
@@ -135,6 +139,22 @@ fn a_quick_client_that_reads_late_receives_everything(rt: HostRuntime) {
     let line = "imap_server --preauth --stop-after 1 1=127.0.0.1:0";
     assert_eq!(rt;
         serves_well(&rt, rt.alloc(), line, Scenario::Late),
+        Some(true)
+    );
+}
+
+/// The words of a server with a store.
+const STORED: &str =
+    "imap_server --preauth --stop-after 1 --store mail 1=127.0.0.1:0 2=127.0.0.1:0";
+
+#[test]
+fn mail_outlives_the_server(rt: HostRuntime) {
+    assert_eq!(rt;
+        serves_well(&rt, rt.alloc(), STORED, Scenario::Keep),
+        Some(true)
+    );
+    assert_eq!(rt;
+        serves_well(&rt, rt.alloc(), STORED, Scenario::Kept),
         Some(true)
     );
 }

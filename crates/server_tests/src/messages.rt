@@ -145,6 +145,7 @@ fn sent<R: Wait>(rt: &R, alloc: Global) -> Option<[Parcel; 6]> {
         replicas: handles,
         joining: JoiningReplicas::new(Vec::new(alloc)),
         journal: None,
+        store: None,
         stop: StopCounter::after(None),
     };
     match send_all(rt, alloc, &server) {

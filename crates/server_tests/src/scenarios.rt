@@ -32,6 +32,10 @@ pub enum Scenario {
     Last,
     /// Clients whose connections end in different ways.
     Ends,
+    /// A client that makes a mailbox and appends a message, which must be there at the next start.
+    Keep,
+    /// A client of the next start.
+    Kept,
 }
 
 /// The length of the message for which a late reader asks, in octets.
@@ -61,6 +65,8 @@ impl Scenario {
             Scenario::Chain => play_chain(rt, alloc, server),
             Scenario::Last => play_last(rt, alloc, server),
             Scenario::Ends => play_ends(rt, alloc, server),
+            Scenario::Keep => play_keep(rt, alloc, server),
+            Scenario::Kept => play_kept(rt, alloc, server),
         }
     }
 }
@@ -366,6 +372,66 @@ fn play_ends<R: Wait + Clock + Net<Listener = TcpListener, Stream = TcpStream>>(
     let left = leave_after_command(client_at(rt, alloc, server, 0)?);
     let left_early = leave_early(alloc, client_at(rt, alloc, server, 0)?)?;
     Some(logged_out && hung_up && was_refused && left && left_early)
+}
+
+/// Runs a client that makes mailboxes, deletes one, and appends messages; true if it received the
+/// expected answers.
+fn play_keep<R: Wait + Clock + Net<Listener = TcpListener, Stream = TcpStream>>(
+    rt: &R,
+    alloc: Global,
+    server: &ServerState<'_>,
+) -> Option<bool> {
+    let mut client = client_at(rt, alloc, server, 0)?;
+    client.exchange(b"a CREATE gone\r\n", b"a OK CREATE completed\r\n");
+    client.exchange(b"b CREATE work\r\n", b"b OK CREATE completed\r\n");
+    client.exchange(b"c DELETE gone\r\n", b"c OK DELETE completed\r\n");
+    client.exchange(
+        b"d APPEND work {3+}\r\nabc\r\n",
+        b"d OK [APPENDUID 131073 1] APPEND completed\r\n",
+    );
+    client.exchange(
+        b"e APPEND work (\\Flagged) {3+}\r\ndef\r\n",
+        b"e OK [APPENDUID 131073 2] APPEND completed\r\n",
+    );
+    client.exchange(
+        b"f SELECT work\r\n",
+        b"f OK [READ-WRITE] SELECT completed\r\n",
+    );
+    client.exchange(
+        b"g STORE 1 +FLAGS (\\Deleted)\r\n",
+        b"g OK STORE completed\r\n",
+    );
+    client.exchange(b"h EXPUNGE\r\n", b"EXPUNGE completed\r\n");
+    leave(&mut client);
+    Some(client.has_succeeded())
+}
+
+/// Runs a client of a server that was started again; true if all is as the last client of `play_keep`
+/// left it.
+fn play_kept<R: Wait + Clock + Net<Listener = TcpListener, Stream = TcpStream>>(
+    rt: &R,
+    alloc: Global,
+    server: &ServerState<'_>,
+) -> Option<bool> {
+    let mut client = client_at(rt, alloc, server, 0)?;
+    client.exchange(
+        b"a LIST \"\" *\r\n",
+        b"* LIST () \"/\" work\r\na OK LIST completed\r\n",
+    );
+    client.exchange(
+        b"b STATUS work (MESSAGES UIDNEXT UIDVALIDITY)\r\n",
+        b"* STATUS work (MESSAGES 1 UIDNEXT 3 UIDVALIDITY 131073)\r\nb OK STATUS completed\r\n",
+    );
+    client.exchange(
+        b"c SELECT work\r\n",
+        b"c OK [READ-WRITE] SELECT completed\r\n",
+    );
+    client.exchange(
+        b"d FETCH 1 (UID FLAGS BODY.PEEK[])\r\n",
+        b"* 1 FETCH (UID 2 FLAGS (\\Flagged) BODY[] {3}\r\ndef)\r\nd OK FETCH completed\r\n",
+    );
+    leave(&mut client);
+    Some(client.has_succeeded())
 }
 
 /// Logs out; false if that fails.

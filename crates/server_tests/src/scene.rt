@@ -344,6 +344,7 @@ fn serve_first<L: Ledger + Send + Sync, M: Ledger, R: Threads + Wait + Clock + L
         server: setup.server,
         own: 0,
         shared: setup.one,
+        store: None,
     };
     serve_side(rt, alloc, &context, pass, setup.signs, side)
 }
@@ -360,6 +361,7 @@ fn serve_second<L: Ledger, M: Ledger + Send + Sync, R: Threads + Wait + Clock + 
         server: setup.server,
         own: 0,
         shared: setup.two,
+        store: None,
     };
     serve_side(rt, alloc, &context, pass, setup.signs, side)
 }
@@ -509,6 +511,7 @@ fn played<L: Ledger + Send + Sync, M: Ledger + Send + Sync, R: Threads + Wait + 
         replicas: Vec::new(alloc),
         joining: JoiningReplicas::new(Vec::new(alloc)),
         journal: None,
+        store: None,
         stop: StopCounter::after(None),
     };
     let signs = Signs::new();

@@ -2,14 +2,15 @@
 
 use log::kv::Source;
 use log::span::Spans;
-use log::{Log, Metadata, Record};
-use std::alloc::Global;
+use log::{Log, Record};
+use std::alloc::{Allocator, Global};
 use std::env::FillError;
 use std::fmt::Display;
+use std::fs::{Metadata, OpenOptions};
 use std::io;
 use std::io::ErrorKind;
 use std::net::{Net, SocketAddr};
-use std::rt::{Clock, Env};
+use std::rt::{Clock, Env, Files};
 use std::sync::{Mutex, Wait};
 use std::thread::Threads;
 use std::time::Duration;
@@ -103,6 +104,56 @@ impl<'a, R: Wait + Net> Net for Terminal<'a, R> {
     }
 }
 
+impl<'a, R: Wait + Files> Files for Terminal<'a, R> {
+    type File = R::File;
+
+    type Dir = R::Dir;
+
+    fn open_file(&self, how: &OpenOptions, path: &str) -> io::Result<R::File> {
+        self.rt.open_file(how, path)
+    }
+
+    fn open_dir(&self, path: &str) -> io::Result<R::Dir> {
+        self.rt.open_dir(path)
+    }
+
+    fn metadata(&self, path: &str) -> io::Result<Metadata> {
+        self.rt.metadata(path)
+    }
+
+    fn symlink_metadata(&self, path: &str) -> io::Result<Metadata> {
+        self.rt.symlink_metadata(path)
+    }
+
+    fn copy(&self, from: &str, to: &str) -> io::Result<u64> {
+        self.rt.copy(from, to)
+    }
+
+    fn rename(&self, from: &str, to: &str) -> io::Result<()> {
+        self.rt.rename(from, to)
+    }
+
+    fn remove_file(&self, path: &str) -> io::Result<()> {
+        self.rt.remove_file(path)
+    }
+
+    fn create_dir(&self, path: &str) -> io::Result<()> {
+        self.rt.create_dir(path)
+    }
+
+    fn remove_dir(&self, path: &str) -> io::Result<()> {
+        self.rt.remove_dir(path)
+    }
+
+    fn remove_dir_all<B: Allocator>(&self, alloc: B, path: &str) -> io::Result<()> {
+        self.rt.remove_dir_all(alloc, path)
+    }
+
+    fn create_dir_with_mode(&self, path: &str, mode: u32) -> io::Result<()> {
+        self.rt.create_dir_with_mode(path, mode)
+    }
+}
+
 impl<'a, R: Wait> Env for Terminal<'a, R> {
     fn arg(&self, i: usize, buf: &mut [u8]) -> Result<usize, FillError> {
         let Some(word) = self.words.get(i) else {
@@ -145,7 +196,7 @@ impl<'a, R: Wait> Print for Terminal<'a, R> {
 }
 
 impl<'a, R: Wait> Log for Terminal<'a, R> {
-    fn enabled(&self, _metadata: &Metadata<'_>) -> bool {
+    fn enabled(&self, _metadata: &log::Metadata<'_>) -> bool {
         true
     }
 

@@ -51,6 +51,7 @@ const HELP_PARTS: &[&str] = &[
     "\n      --pass <pass>              ",
     "\n      --stop-after <stop-after>  ",
     "\n      --journal <journal>        ",
+    "\n      --store <store>            ",
     "\n      --join <join>              ",
     "\n  -h, --help                     Print help\n",
 ];

@@ -1,4 +1,4 @@
-use Rattle.std.proofs.Common.{◌≡◌, List, ◌++◌, map, sym, refl, ◌∙◌, subst}
+use Rattle.std.proofs.Common.{◌≡◌, List, ◌++◌, map, sym, ◌∙◌, subst}
 use Rattle.std.proofs.lemmas.List.{append-nil, nil_from_length}
 use Rattle.server_runtime.proofs.EndLemmas.{moved_name}
 use Rattle.server_runtime.specs.declared.replica_threads.ReplicaSetup.{ReplicaSetup}
@@ -15,7 +15,7 @@ loop-setup-preserved c =
     (λ (slots : List SetupSlot). map (λ slot. slot.replica) slots ++ map (λ setup. setup.replica) c.next.new.self.rest.items
     ≡ map (λ setup. setup.replica) c.args.setups.items)
     (sym (c.in_ok-push.ensures {u = tt}).items)
-    (moved_name (λ slot. slot.replica) (λ setup. setup.replica) c.loop-setup.slots.items _ c.in-Some.setup c.next.new.self.rest.items refl ∙ before)
+    (moved_name (λ slot. slot.replica) (λ setup. setup.replica) c.loop-setup.slots.items c.slot_of.result c.in-Some.setup c.next.new.self.rest.items c.slot_of.ensures ∙ before)
 
 pub returns : goal.returns
 returns c =

@@ -6,7 +6,7 @@ use Rattle.server_settings.proofs.settings.known_words.Goals as goal
 
 pub returns : goal.returns
 returns c = λ old new adds.
-    let words = c.preauth.result ∷ c.word_with_value.result ∷ c.word_with_value-2.result ∷ c.stop_after.result ∷ c.word_with_value-3.result ∷ c.join_arg.result ∷ c.replica.result ∷ [] in
-    let rules : List Rule = preauth_word ∷ word_with_value (codes "user") ∷ word_with_value (codes "pass") ∷ stop_word ∷ word_with_value (codes "journal") ∷ join_word ∷ replica_word ∷ [] in
-    let are : AreWords words rules = (c.preauth.ensures, (c.word_with_value.ensures, (c.word_with_value-2.ensures, (c.stop_after.ensures, (c.word_with_value-3.ensures, (c.join_arg.ensures, (c.replica.ensures, tt))))))) in
+    let words = c.preauth.result ∷ c.word_with_value.result ∷ c.word_with_value-2.result ∷ c.stop_after.result ∷ c.word_with_value-3.result ∷ c.word_with_value-4.result ∷ c.join_arg.result ∷ c.replica.result ∷ [] in
+    let rules : List Rule = preauth_word ∷ word_with_value (codes "user") ∷ word_with_value (codes "pass") ∷ stop_word ∷ word_with_value (codes "journal") ∷ word_with_value (codes "store") ∷ join_word ∷ replica_word ∷ [] in
+    let are : AreWords words rules = (c.preauth.ensures, (c.word_with_value.ensures, (c.word_with_value-2.ensures, (c.stop_after.ensures, (c.word_with_value-3.ensures, (c.word_with_value-4.ensures, (c.join_arg.ensures, (c.replica.ensures, tt)))))))) in
     added_in_turn old new words rules are (subst (λ l. AddsInTurn AddsArg old l new) c.in_ok-words.ensures.items adds)

@@ -9,7 +9,7 @@ use Rattle.replica_lock.specs.declared.outcome.Outcome.{Outcome}
 
 pub returns-in-Ok-open-clause-response : goal.returns-in-Ok-open-clause-response
 returns-in-Ok-open-clause-response g c =
-    opens_by c.args.self.now.server.now.access c.login_of.result c.in-Ok.auth c.login_of_outcome.result c.args.pass.now c.open.new.pass (option_map (λ (o : Bor Outcome). o.now) c.last.result) c.login_of.ensures c.in-Ok.ensures
+    opens_by c.args.self.now.context.now.server.now.access c.login_of.result c.in-Ok.auth c.login_of_outcome.result c.args.pass.now c.open.new.pass (option_map (λ (o : Bor Outcome). o.now) c.last.result) c.login_of.ensures c.in-Ok.ensures
     c.in-Ok-open.ensures.called c.last.ensures c.login_of_outcome.ensures.ok c.login_of_outcome.ensures.full
 
 pub returns-in-Ok-open-clause-once : goal.returns-in-Ok-open-clause-once

@@ -14,3 +14,6 @@ spawn-requires-in-Some-copy_pass-send-F g c κs within = search (served_sync, pa
 
 pub spawn-requires-in-loop-stream-send-F : goal.spawn-requires-in-loop-stream-send-F
 spawn-requires-in-loop-stream-send-F g c κs within = search (served_sync, accepted.the_send, accepted.the_field_send, open_gate.the_send, open_gate.the_field_send, heap.the_send, heap.the_field_send, sendable) depth 60 fits 20000
+
+pub spawn-requires-then-is_some-send-F : goal.spawn-requires-then-is_some-send-F
+spawn-requires-then-is_some-send-F g c κs within = search (served_sync, heap.the_send, sendable) depth 60 fits 20000
