@@ -23,6 +23,9 @@ const TWO: &[u8] =
 const CROWD_INPUT: &[u8] =
     b"a SELECT INBOX\r\nb APPEND INBOX {3+}\r\nabc\r\nc FETCH 1:* FLAGS\r\nd STORE 1 +FLAGS (\\Seen)\r\ne LOGOUT\r\n";
 
+/// How many turns the lock is held at most for a crowd: more than fifty clients need.
+const CROWD_TURNS: u64 = 100_000_000;
+
 /// The answers to each such client, whatever the others do; between these are numbers and the
 /// others' messages.
 const CROWD_ANSWERS: [&[u8]; 6] = [
@@ -274,7 +277,7 @@ fn result_of_crowd(alloc: Global, outcome: &Option<Outcome>) -> Option<(u64, u64
 #[test]
 fn a_crowd_is_served_while_a_replica_is_held(rt: HostRuntime) {
     let alloc = rt.alloc();
-    let plan = while_held(alloc, 50, 50, CROWD_INPUT, 50, TURNS);
+    let plan = while_held(alloc, 50, 50, CROWD_INPUT, 50, CROWD_TURNS);
     let outcome = outcome(&rt, alloc, plan);
     assert_eq!(rt;
         result_of_crowd(alloc, &outcome),
