@@ -35,10 +35,11 @@ pub struct StepResult {
     pub outcome: Outcome,
 }
 
-/// Takes an event at a node, if its log has room for so many octets as the operations need that the
-/// node may receive by it; `None` if there is no log. An `Err` leaves the node as it was: `NoStoreRoom`, with
-/// the event, exactly if the log has too little room, unless memory runs out first; `NoRoom` if
-/// memory runs out for the journal entry. The close of a session takes no memory.
+/// Takes an event at a node, if its log has room for the octets of the operations that the node may
+/// receive or issue by it; `None` if there is no log. An `Err` leaves the node as it was:
+/// `NoStoreRoom`, with the event, exactly if the log has too little room, unless memory runs out
+/// first; `NoRoom` if memory runs out for the journal entry. The close of a session takes no
+/// memory.
 pub fn step_node(
     alloc: Global,
     node: &mut Node,

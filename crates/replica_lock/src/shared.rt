@@ -356,8 +356,9 @@ impl<L: Ledger> Shared<L> {
 
     /// Waits until this session may have to be sent something for an entry after the first `seen`,
     /// and returns the number of entries ever made then; `None` if the session is closed, or if the
-    /// waits have ended. It looks again when the session begins to idle. While the session idles, the wait is woken only when
-    /// the session's own feed has notes or missed some, and at the session's close.
+    /// waits have ended. It looks again when the session begins to idle. While the session idles,
+    /// the wait is woken only when the session's own feed has notes or missed some, at the
+    /// session's close, and when the waits end.
     pub fn wait_session_change<R: Wait>(&self, rt: &R, session: SessionNo, seen: u64) -> Option<u64>
         ensures { IfSome result (λ length. seen < length) }
     {
