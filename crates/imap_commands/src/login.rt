@@ -1,6 +1,7 @@
 //! LOGIN (RFC 9051, section 6.2.3).
 
 ghost use Rattle.std.specs.Prelude.{◌≡◌};
+ghost use Rattle.std.specs.Str.{bytes_eq};
 ghost use Rattle.imap_commands.specs.Login.{are_credentials, login_intent};
 ghost use Rattle.imap_commands.specs.MemoryFaults.{EqualsOrLacksMemory};
 
@@ -27,10 +28,27 @@ pub fn login_intent(
     Ok(Vec::new(alloc))
 }
 
-/// Whether name and password are those of the credentials, octet by octet.
+/// Whether name and password are those of the credentials, octet by octet. Both are compared whole.
 fn are_credentials(credentials: &Credentials, user: &Octets, password: &Octets) -> bool
     ensures { result ≡ are_credentials credentials.now user.now password.now }
 {
-    credentials.user.as_bytes() == user.as_bytes()
-        && credentials.password.as_bytes() == password.as_bytes()
+    let is_user = are_same(credentials.user.as_bytes(), user.as_bytes());
+    let is_password = are_same(credentials.password.as_bytes(), password.as_bytes());
+    is_user & is_password
+}
+
+/// Whether the octets are the same. If the lengths are, all octets are compared, wherever the first
+/// difference is, so that the time doesn't show how many of a guess are right. It may show the
+/// length, and what the compiler makes of the loop is in no contract.
+fn are_same(one: &[u8], other: &[u8]) -> bool
+    ensures { result ≡ bytes_eq one.now other.now }
+{
+    if one.len() != other.len() {
+        return false;
+    }
+    let mut are_same = true;
+    for at in 0..one.len() {
+        are_same &= one[at] == other[at];
+    }
+    are_same
 }
