@@ -26,7 +26,7 @@ use Rattle.imap_connection.specs.EndReasons.{IsLastOutput, end_reason_of, failed
 use Rattle.imap_connection.specs.Requests.{AnswersItem, FailsRequest, HandlesRequest, StopsAt, call_of, texts}
 use Rattle.imap_connection.specs.Conversations.{EndsAtItem, Converses, EndsOverOctets, HasAnswered, HasAnsweredSome, HasTaken, EndsOverCut, IsCut, IsWritten, EndsOverItems, LacksAnswers}
 use Rattle.imap_connection.specs.declared.end_reason.Ended.{Ended}
-use Rattle.imap_connection.specs.declared.end_reason.Ended.TheVariants.{Logout, PeerClosed, TooManySessions, Framing, NoMemory, ReadFailed, Torn, WriteFailed}
+use Rattle.imap_connection.specs.declared.end_reason.Ended.TheVariants.{Logout, PeerClosed, TooManySessions, Framing, NoMemory, ReadFailed, Torn, WriteFailed, ServerEnded}
 use Rattle.imap_connection.specs.declared.fault.PortFault.{PortFault}
 use Rattle.imap_connection.specs.declared.fault.PortFault.TheVariants as faults
 
@@ -97,6 +97,7 @@ none_failed ReadFailed n = refl
 none_failed WriteFailed n = absurd (n refl)
 none_failed NoMemory n = refl
 none_failed Torn n = refl
+none_failed ServerEnded n = refl
 
 pub port_writes : (fault : PortFault) → failed_writes (end_reason_of fault) ≡ 0
 port_writes faults.TooManySessions = refl
@@ -104,6 +105,7 @@ port_writes faults.NoMemory = refl
 port_writes faults.NoRoom = refl
 port_writes faults.Torn = refl
 port_writes faults.PassedOver = refl
+port_writes faults.ServerEnded = refl
 
 -- the text that was buffered at first is a part of the whole
 output_after_held : (k l : Option (List ℕ)) (held output left : List ℕ) → IsOutput k held output l left → IsOutput k [] (held ++ output) l left

@@ -26,7 +26,7 @@ use Rattle.imap_connection.specs.NodeTalks.{ItemAt, ClosesAfter, IsWhole, IsOpen
 use Rattle.imap_connection.specs.Requests.{AnswersItem, texts}
 use Rattle.imap_connection.specs.Conversations.{EndsAtItem, Converses, EndsOverOctets, HasAnswered, HoldsConversation, IsCut, IsWritten, IsConversation}
 use Rattle.imap_connection.specs.declared.end_reason.Ended.{Ended}
-use Rattle.imap_connection.specs.declared.end_reason.Ended.TheVariants.{Logout, PeerClosed, TooManySessions, Framing, ReadFailed, WriteFailed, NoMemory, Torn}
+use Rattle.imap_connection.specs.declared.end_reason.Ended.TheVariants.{Logout, PeerClosed, TooManySessions, Framing, ReadFailed, WriteFailed, NoMemory, Torn, ServerEnded}
 use Rattle.imap_connection.specs.declared.fault.PortFault.{PortFault}
 use Rattle.imap_connection.specs.declared.fault.PortFault.TheVariants as faults
 use Rattle.imap_connection.proofs.OtherStepsLemmas.{closed_stops, active_after_others}
@@ -44,6 +44,7 @@ fault_not_whole faults.NoMemory w = w
 fault_not_whole faults.NoRoom w = w
 fault_not_whole faults.Torn w = w
 fault_not_whole faults.PassedOver w = w
+fault_not_whole faults.ServerEnded w = w
 
 differs_if_whole : (ended other : Ended) → (IsWhole other → ⊥) → IsWhole ended → ended ≡ other → ⊥
 differs_if_whole ended other never w e = never (subst IsWhole e w)
@@ -57,6 +58,7 @@ fault_not_logout faults.NoMemory o = o
 fault_not_logout faults.NoRoom o = o
 fault_not_logout faults.Torn o = o
 fault_not_logout faults.PassedOver o = o
+fault_not_logout faults.ServerEnded o = o
 
 -- ---- a conversation that ends after all items
 
@@ -239,6 +241,7 @@ module _ {O : Type 0} (takes_turn : O → ℕ → NodeState → ℕ → NodeStat
   has_closed WriteFailed w h = absurd w
   has_closed NoMemory w h = absurd w
   has_closed Torn w h = absurd w
+  has_closed ServerEnded w h = absurd w
 
 module _ {O : Type 0} (takes_turn : O → ℕ → NodeState → ℕ → NodeState → O → Type 0) (old new : NodeSession O) (limits : Limits) (left rest taken_before taken_now : List ℕ) (at_end : Bool) (ended : Ended) (w : IsWhole ended) where
   abbrev Outcome : Type 0

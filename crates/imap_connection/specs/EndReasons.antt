@@ -14,7 +14,8 @@ use Rattle.imap_connection.specs.declared.end_reason.Ended.TheVariants.{TooManyS
 use Rattle.imap_connection.specs.declared.end_reason.Ended.TheVariants.{Framing}
 use Rattle.imap_connection.specs.declared.end_reason.Ended.TheVariants.{ReadFailed}
 use Rattle.imap_connection.specs.declared.end_reason.Ended.TheVariants.{WriteFailed}
-use Rattle.imap_connection.specs.declared.end_reason.Ended.TheVariants.{NoMemory, Torn}
+use Rattle.imap_connection.specs.declared.end_reason.Ended.TheVariants.{NoMemory, ServerEnded}
+use Rattle.imap_connection.specs.declared.end_reason.Ended.TheVariants.{Torn}
 use Rattle.imap_connection.specs.declared.fault.PortFault.{PortFault}
 use Rattle.imap_connection.specs.declared.fault.PortFault.TheVariants as faults
 
@@ -25,9 +26,10 @@ end_reason_of faults.NoMemory = NoMemory
 end_reason_of faults.NoRoom = NoMemory
 end_reason_of faults.Torn = Torn
 end_reason_of faults.PassedOver = Torn
+end_reason_of faults.ServerEnded = ServerEnded
 
 -- The reason that the BYE of an end names (RFC 9051, section 7.1.5). After a LOGOUT the BYE has
--- been sent already; a disconnected client is sent none.
+-- been sent already; a client that the server or the network has disconnected is sent none.
 abbrev pub reason_of : Ended → Option ByeReason
 reason_of Logout = None
 reason_of PeerClosed = None
@@ -41,6 +43,7 @@ reason_of ReadFailed = None
 reason_of WriteFailed = None
 reason_of NoMemory = Some reasons.NoMemory
 reason_of Torn = Some reasons.ReplicaChanged
+reason_of ServerEnded = None
 
 -- The text of a BYE; empty if there is none.
 abbrev pub text_of_bye : Option ByeReason → List ℕ
@@ -61,6 +64,7 @@ log_text_of ReadFailed = codes "read failed"
 log_text_of WriteFailed = codes "write failed"
 log_text_of NoMemory = codes "no memory"
 log_text_of Torn = codes "replica changed"
+log_text_of ServerEnded = codes "ended by the server"
 
 -- How many reads failed in a conversation that ended in this way.
 abbrev pub failed_reads : Ended → ℕ

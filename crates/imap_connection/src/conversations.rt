@@ -40,14 +40,8 @@ struct ConversationState {
     text: Vec<u8>,
 }
 
-/// Holds a conversation with a mail client: opens a session, greets, answers what the client sends,
-/// in order, until the conversation ends, and closes the session. The answers to the octets of one
-/// read are written together, after the last of them.
-///
-/// It ends in `ReadFailed` or `WriteFailed` only if the device failed in this call, in `PeerClosed`
-/// only if the source reported its end, in `Logout` only after a LOGOUT that was answered OK, and
-/// in `Framing`, `TooManySessions` or `Torn` only if the framer or the port reported it. If memory
-/// runs out for an answer, the conversation ends after the complete answers before it.
+/// Holds a conversation with a mail client as `converse_within` does, with the standard limits on
+/// commands.
 pub fn converse<R: Wait, S: Source, K: Sink, P: Port>(
     rt: &R,
     alloc: Global,
@@ -64,11 +58,40 @@ pub fn converse<R: Wait, S: Source, K: Sink, P: Port>(
         → S.failures source.new ≡ S.failures source.old + failed_reads result }
     ensures writes { K.failures sink.new ≡ K.failures sink.old + failed_writes result }
 {
+    converse_within(rt, alloc, Limits::STANDARD, source, sink, port)
+}
+
+/// Holds a conversation with a mail client: opens a session, greets, answers what the client sends,
+/// in order, until the conversation ends, and closes the session. The answers to the octets of one
+/// read are written together, after the last of them. Commands have at most as many octets as these
+/// limits say.
+///
+/// It ends in `ReadFailed` or `WriteFailed` only if the device failed in this call, in `PeerClosed`
+/// only if the source reported its end, in `Logout` only after a LOGOUT that was answered OK, and
+/// in `Framing`, `TooManySessions` or `Torn` only if the framer or the port reported it. If memory
+/// runs out for an answer, the conversation ends after the complete answers before it.
+pub fn converse_within<R: Wait, S: Source, K: Sink, P: Port>(
+    rt: &R,
+    alloc: Global,
+    limits: Limits,
+    source: &mut S,
+    sink: &mut K,
+    port: &mut P,
+) -> Ended
+    requires source { S.failures source.old < 18446744073709551615 }
+    requires sink { K.failures sink.old < 18446744073709551615 }
+    ensures conversation { IsConversation P.opens P.steps P.closes port.old port.new limits
+        (S.left source.old) (S.left source.new) (S.is_ended source.new) (K.taken sink.old)
+        (K.taken sink.new) result }
+    ensures reads { ((result ≡ WriteFailed) → ⊥)
+        → S.failures source.new ≡ S.failures source.old + failed_reads result }
+    ensures writes { K.failures sink.new ≡ K.failures sink.old + failed_writes result }
+{
     let login = match port.open(alloc) {
         Ok(login) => login,
         Err(fault) => return write_last(sink, &mut Vec::new(alloc), end_reason_of(fault)),
     };
-    let (ended, mut text) = hold_conversation(rt, alloc, login, source, sink, port);
+    let (ended, mut text) = hold_conversation(rt, alloc, limits, login, source, sink, port);
     port.close(alloc);
     write_last(sink, &mut text, ended)
 }
@@ -114,6 +137,7 @@ fn write_bye<K: Sink>(sink: &mut K, bye: &[u8]) -> bool
 fn hold_conversation<R: Wait, S: Source, K: Sink, P: Port>(
     rt: &R,
     alloc: Global,
+    limits: Limits,
     login: Login,
     source: &mut S,
     sink: &mut K,
@@ -124,7 +148,7 @@ fn hold_conversation<R: Wait, S: Source, K: Sink, P: Port>(
     ensures conversation { (octets : List ℕ)
         × (output : List ℕ)
         × GivesOctets (S.left source.old) octets (S.left source.new)
-        × HoldsConversation P.steps port.old login Limits.STANDARD octets result.0
+        × HoldsConversation P.steps port.old login limits octets result.0
         (S.is_ended source.new) output
         port.new
         × IsLastOutput result.0 (K.taken sink.old) [] output (K.taken sink.new) result.1.items }
@@ -136,7 +160,7 @@ fn hold_conversation<R: Wait, S: Source, K: Sink, P: Port>(
         return (Ended::NoMemory, text);
     };
     let mut talk = ConversationState {
-        framer: Framer::new(alloc, Limits::STANDARD),
+        framer: Framer::new(alloc, limits),
         idling: None,
         text,
     };
@@ -165,12 +189,13 @@ fn answer_all<R: Wait, S: Source, K: Sink, P: Port>(
 ) -> Ended
     requires source { S.failures source.old < 18446744073709551615 }
     requires sink { K.failures sink.old < 18446744073709551615 }
-    requires framer { talk.old.framer ≡ record { limits = Limits.STANDARD; state = Ok start } }
+    requires framer { talk.old.framer.state ≡ Ok start }
     requires idling { talk.old.idling ≡ None }
     ensures conversation { (octets : List ℕ)
         × (output : List ℕ)
         × GivesOctets (S.left source.old) octets (S.left source.new)
-        × EndsOverOctets P.steps port.old (cut_from Limits.STANDARD (Ok start) octets) result
+        × EndsOverOctets P.steps port.old
+        (cut_from talk.old.framer.limits (Ok start) octets) result
         (S.is_ended source.new) output port.new
         × IsLastOutput result (K.taken sink.old) talk.old.text.items output (K.taken sink.new)
         talk.new.text.items }

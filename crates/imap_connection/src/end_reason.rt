@@ -27,6 +27,8 @@ pub enum Ended {
     NoMemory,
     /// The replica's journal was cut, or the replica doesn't know the session.
     Torn,
+    /// The server ended the connection.
+    ServerEnded,
 }
 
 /// How a conversation ends at this fault of the port.
@@ -37,6 +39,7 @@ pub fn end_reason_of(fault: PortFault) -> Ended
         PortFault::TooManySessions => Ended::TooManySessions,
         PortFault::NoMemory | PortFault::NoRoom => Ended::NoMemory,
         PortFault::Torn | PortFault::PassedOver => Ended::Torn,
+        PortFault::ServerEnded => Ended::ServerEnded,
     }
 }
 
@@ -46,7 +49,11 @@ pub fn bye_text_of(reason: Ended) -> &'static [u8]
     ensures { result.now ≡ bye_text_of reason }
 {
     match reason {
-        Ended::Logout | Ended::PeerClosed | Ended::ReadFailed | Ended::WriteFailed => b"",
+        Ended::Logout
+        | Ended::PeerClosed
+        | Ended::ReadFailed
+        | Ended::WriteFailed
+        | Ended::ServerEnded => b"",
         Ended::TooManySessions => b"* BYE too many sessions\r\n",
         Ended::Framing(why) => framing_text(why),
         Ended::NoMemory => b"* BYE no memory\r\n",
@@ -80,5 +87,6 @@ pub fn log_text_of(reason: Ended) -> &'static str
         Ended::WriteFailed => "write failed",
         Ended::NoMemory => "no memory",
         Ended::Torn => "replica changed",
+        Ended::ServerEnded => "ended by the server",
     }
 }

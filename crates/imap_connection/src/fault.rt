@@ -13,4 +13,6 @@ pub enum PortFault {
     Torn,
     /// The replica doesn't know the session, or the session is in another state.
     PassedOver,
+    /// The server ended the connection, as that of a client that guesses passwords.
+    ServerEnded,
 }

@@ -68,7 +68,7 @@ mod turn;
 mod turn_writer;
 mod wire;
 
-pub use conversations::converse;
+pub use conversations::{converse, converse_within};
 pub use dump::write_dump;
 pub use end_reason::{Ended, log_text_of};
 pub use fault::PortFault;

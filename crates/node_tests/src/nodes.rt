@@ -47,7 +47,7 @@ const RECEIVER_OUTPUT: &[u8] =
     b"* PREAUTH [CAPABILITY IMAP4rev2 IDLE CONDSTORE] ready\r\n* STATUS INBOX (MESSAGES 1 UIDNEXT 2)\r\na OK STATUS completed\r\n* STATUS INBOX (MESSAGES 2 UIDNEXT 3)\r\nb OK STATUS completed\r\n* STATUS INBOX (MESSAGES 2 UIDNEXT 3)\r\nc OK STATUS completed\r\n";
 
 /// Each end of a conversation, with its text in the log.
-const LOG_TEXTS: [(Ended, &str); 9] = [
+const LOG_TEXTS: [(Ended, &str); 10] = [
     (Ended::Logout, "logout"),
     (Ended::PeerClosed, "closed by the client"),
     (Ended::TooManySessions, "too many sessions"),
@@ -57,6 +57,7 @@ const LOG_TEXTS: [(Ended, &str); 9] = [
     (Ended::WriteFailed, "write failed"),
     (Ended::NoMemory, "no memory"),
     (Ended::Torn, "replica changed"),
+    (Ended::ServerEnded, "ended by the server"),
 ];
 
 /// A new replica with this number.

@@ -129,7 +129,7 @@ pub use fetch_exchange::FetchExchange;
 pub use fetch_line::{FetchLine, SystemFlags};
 pub use history_summary::HistorySummary;
 pub use journal::ForgottenEntries;
-pub use laws::books_with_same_ops_agree;
+pub use laws::{books_with_same_ops_agree, refused_commands_issue};
 pub use outcome::Outcome;
 pub use pass::Pass;
 pub use shared::{Gate, LockTurn, Shared};

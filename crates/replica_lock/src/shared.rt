@@ -50,6 +50,7 @@ pub struct LockTurn<'a, L: Ledger> {
 
 impl<'a, L: Ledger> LockTurn<'a, L> {
     ghost use Rattle.replica_lock.specs.Passes.{IsCalled, IsCalledIn, IsCallRefused};
+    ghost use Rattle.replica_lock.specs.Passes.{LacksRoomInCall, LacksRoomInSession};
     ghost use Rattle.replica_lock.specs.Passes.{returned_event};
     ghost use Rattle.replica_lock.specs.declared.event.BookEvent.TheVariants as events;
 
@@ -65,6 +66,7 @@ impl<'a, L: Ledger> LockTurn<'a, L> {
         ensures refused { IfErr result (λ unmade. IsCallRefused pass.old.seen unmade.fault) }
         ensures returned { IfErr result
             (λ unmade. unmade.event ≡ returned_event event unmade.fault) }
+        ensures lacking { IfErr result (λ unmade. LacksRoomInCall event unmade.fault) }
     {
         let result = self.locked.call(alloc, pass, event);
         self.locked.trim(pass);
@@ -85,6 +87,8 @@ impl<'a, L: Ledger> LockTurn<'a, L> {
             (IsCalledIn pass.old (λ n. events.Command n moment tagged) pass.new) }
         ensures unchanged { OnErr result (pass.new ≡ pass.old) }
         ensures refused { IfErr result (IsCallRefused pass.old.seen) }
+        ensures lacking { IfErr result
+            (LacksRoomInSession pass.old (λ n. events.Command n moment tagged)) }
     {
         let Some(session) = pass.session() else {
             unreachable!()
@@ -108,6 +112,7 @@ impl<L: Ledger> Shared<L> {
     ghost use Rattle.replica_lock.specs.Passes.{ArePassesOfBook, IsCalled, IsCalledIn};
     ghost use Rattle.replica_lock.specs.Passes.{IsFinishFault, returned_command, returned_event};
     ghost use Rattle.replica_lock.specs.Passes.{IsCallRefused, is_missing, parts_of, unused_pass};
+    ghost use Rattle.replica_lock.specs.Passes.{LacksRoomInCall, LacksRoomInSession};
     ghost use Rattle.replica_lock.specs.Histories.{BookState, entry_count};
     ghost use Rattle.replica_lock.specs.declared.event.BookEvent.TheVariants as events;
 
@@ -188,6 +193,7 @@ impl<L: Ledger> Shared<L> {
         ensures refused { IfErr result (λ unmade. IsCallRefused pass.old.seen unmade.fault) }
         ensures returned { IfErr result
             (λ unmade. unmade.event ≡ returned_event event unmade.fault) }
+        ensures lacking { IfErr result (λ unmade. LacksRoomInCall event unmade.fault) }
     {
         let woken = woken_session(&event);
         pass.drop_forgotten();
@@ -260,6 +266,8 @@ impl<L: Ledger> Shared<L> {
         ensures refused { IfErr result (λ unmade. IsCallRefused pass.old.seen unmade.fault) }
         ensures returned { IfErr result
             (λ unmade. unmade.tagged ≡ returned_command tagged unmade.fault) }
+        ensures lacking { IfErr result (λ unmade. LacksRoomInSession pass.old
+            (λ n. events.Command n moment tagged) unmade.fault) }
     {
         let Some(session) = pass.session() else {
             unreachable!()

@@ -13,15 +13,17 @@ use Rattle.imap_connection.specs.PortCalls.{PortCall}
 use Rattle.imap_connection.specs.PortCalls as calls
 use Rattle.imap_connection.specs.Batches.{CarriesCommands}
 use Rattle.imap_connection.specs.declared.fault.PortFault.{PortFault}
-use Rattle.imap_connection.specs.declared.fault.PortFault.TheVariants.{NoMemory, NoRoom, PassedOver, TooManySessions, Torn}
+use Rattle.imap_connection.specs.declared.fault.PortFault.TheVariants.{NoMemory, NoRoom, PassedOver, ServerEnded, TooManySessions, Torn}
 use Rattle.imap_connection.proofs.NodeTalkLemmas.{some_is}
 use Rattle.server_runtime.specs.Calls.{BeginsFrom, CallsOnceIn, CommandsOnce, ContinuesFrom, OpensByCall, OpensIn, StepsByCall, StepsIn, StepsOnce}
 use Rattle.server_runtime.specs.Logins.{auth_of, login_of}
 use Rattle.server_runtime.specs.declared.session_port.SessionPosition.{SessionPosition}
 use Rattle.server_settings.specs.declared.settings.Access.{Access}
-use Rattle.replica_lock.specs.Passes.{PassState, IsCalled, IsCalledIn, session_after}
+use Rattle.replica_lock.specs.Passes.{PassState, IsCalled, IsCalledIn, LacksRoomInSession, session_after}
 use Rattle.replica_lock.specs.declared.event.BookEvent.{BookEvent}
 use Rattle.replica_lock.specs.declared.event.BookEvent.TheVariants as events
+use Rattle.replica_lock.specs.declared.faults.CallFault.{CallFault}
+use Rattle.replica_lock.specs.declared.faults.CallFault.TheVariants as faults
 use Rattle.replica_lock.specs.declared.outcome.Outcome.{Outcome}
 use Rattle.replica_lock.specs.declared.outcome.Outcome.TheVariants.{Opened, Replied}
 
@@ -40,6 +42,7 @@ opens_by access login auth (Err NoMemory) p q last l a c e h f = tt
 opens_by access login auth (Err NoRoom) p q last l a c e h f = tt
 opens_by access login auth (Err Torn) p q last l a c e h f = tt
 opens_by access login auth (Err PassedOver) p q last l a c e h f = tt
+opens_by access login auth (Err ServerEnded) p q last l a c e h f = tt
 
 -- no call was made
 pub opens_by_none : (access : Access) (p q : PassState) (fault : PortFault) → (fault ≡ NoRoom) ⊎ (fault ≡ Torn) → OpensIn access p (Err fault) q
@@ -52,11 +55,17 @@ pub command_by : (stores : Bool) (tagged : Tagged) (moment : ℕ) (r : Result Re
 command_by stores tagged moment (Ok reply) p q last c e h = inl (moment, c, sym e ∙ h)
 command_by stores tagged moment (Err fault) p q last c e h = tt
 
+-- what was lacking for the command that is given again
+pub lacking_again : (p q : PassState) (tagged again : Tagged) (moment : ℕ) (fault : CallFault) → q ≡ p → again ≡ tagged → LacksRoomInSession q (λ n. events.Command n moment again) fault → LacksRoomInSession p (λ n. events.Command n moment tagged) fault
+lacking_again p q tagged again moment fault e f h =
+    subst (λ (t : Tagged). LacksRoomInSession p (λ n. events.Command n moment t) fault) f
+    (subst (λ (x : PassState). LacksRoomInSession x (λ n. events.Command n moment again) fault) e h)
+
 -- a command for which the store has no room
-pub command_refused : (stores : Bool) (tagged : Tagged) (r : Result Reply PortFault) (p q : PassState)
-    → IfOk r (λ (reply : Reply). (reply ≡ Refused NoStoreRoom false) × (stores ≡ true)) → q ≡ p → StepsIn stores p (calls.Command tagged) r q
-command_refused stores tagged (Ok reply) p q h e = inr (h.1, (h.0, e))
-command_refused stores tagged (Err fault) p q h e = tt
+pub command_refused : (stores : Bool) (tagged : Tagged) (moment octets : ℕ) (r : Result Reply PortFault) (p q : PassState)
+    → IfOk r (λ (reply : Reply). (reply ≡ Refused NoStoreRoom false) × (stores ≡ true)) → q ≡ p → LacksRoomInSession p (λ n. events.Command n moment tagged) (faults.NoStoreRoom octets) → StepsIn stores p (calls.Command tagged) r q
+command_refused stores tagged moment octets (Ok reply) p q h e l = inr (h.1, (h.0, e, (moment, octets, l)))
+command_refused stores tagged moment octets (Err fault) p q h e l = tt
 
 pub line_by : (stores : Bool) (line : IdleLine) (r : Result Reply PortFault) (p q : PassState) (last : Option Outcome)
     → IsCalledIn p (λ n. events.Line n line) q → last ≡ q.last → IfOk r (λ (reply : Reply). last ≡ Some (Replied reply)) → StepsIn stores p (calls.Line line) r q
@@ -71,6 +80,7 @@ opens_by_call access from to (Err NoMemory) p q g h = tt
 opens_by_call access from to (Err NoRoom) p q g h = tt
 opens_by_call access from to (Err Torn) p q g h = tt
 opens_by_call access from to (Err PassedOver) p q g h = tt
+opens_by_call access from to (Err ServerEnded) p q g h = tt
 
 pub steps_by_call : (stores : Bool) (call : PortCall) (from to : SessionPosition) (r : Result Reply PortFault) (p q : PassState) → ContinuesFrom from p q to → p.seen ≤ q.seen → StepsIn stores p call r q → StepsByCall stores from call r to
 steps_by_call stores call from to (Ok reply) p q g l h = (p, q, g, h)

@@ -19,9 +19,10 @@ use Rattle.imap_connection.specs.PortCalls as calls
 use Rattle.imap_connection.specs.declared.fault.PortFault.{PortFault}
 use Rattle.imap_connection.specs.declared.fault.PortFault.TheVariants.{TooManySessions}
 use Rattle.imap_connection.specs.Replies.{polled_answers}
-use Rattle.replica_lock.specs.Passes.{PassState, IsCalled, IsCalledIn}
+use Rattle.replica_lock.specs.Passes.{PassState, IsCalled, IsCalledIn, LacksRoomInSession}
 use Rattle.replica_lock.specs.declared.event.BookEvent.{BookEvent}
 use Rattle.replica_lock.specs.declared.event.BookEvent.TheVariants as events
+use Rattle.replica_lock.specs.declared.faults.CallFault.TheVariants as faults
 use Rattle.replica_lock.specs.declared.outcome.Outcome.{Outcome}
 use Rattle.replica_lock.specs.declared.outcome.Outcome.TheVariants.{Opened, Replied}
 
@@ -73,9 +74,18 @@ IsCarriedOut p tagged reply q =
     × IsCalledIn p (λ n. events.Command n moment tagged) q
     × (q.last ≡ Some (Replied reply))
 
--- A command for which the replica's store has no room is refused, and no call is made.
-abbrev pub IsRefusedForRoom : PassState → Reply → PassState → Type 0
-IsRefusedForRoom p reply q = (reply ≡ Refused NoStoreRoom false) × (q ≡ p)
+-- At some node and moment, the log of a replica lacks room for the operations that a command would
+-- issue in the session of the pass.
+abbrev pub LacksStoreRoom : PassState → Tagged → Type 0
+LacksStoreRoom p tagged =
+    (moment : ℕ)
+    × (octets : ℕ)
+    × LacksRoomInSession p (λ n. events.Command n moment tagged) (faults.NoStoreRoom octets)
+
+-- A command for whose operations the replica's store has no room is refused, and no call is made.
+abbrev pub IsRefusedForRoom : PassState → Tagged → Reply → PassState → Type 0
+IsRefusedForRoom p tagged reply q =
+    (reply ≡ Refused NoStoreRoom false) × (q ≡ p) × LacksStoreRoom p tagged
 
 -- The result of a command, or of a line of IDLE, by the pass before and after, at a replica with or
 -- without a store: the outcome of one call with exactly this command, at some moment, or with
@@ -83,7 +93,7 @@ IsRefusedForRoom p reply q = (reply ≡ Refused NoStoreRoom false) × (q ≡ p)
 -- has no room.
 abbrev pub StepsIn : Bool → PassState → PortCall → Result Reply PortFault → PassState → Type 0
 StepsIn stores p (calls.Command tagged) (Ok reply) q =
-    IsCarriedOut p tagged reply q ⊎ ((stores ≡ true) × IsRefusedForRoom p reply q)
+    IsCarriedOut p tagged reply q ⊎ ((stores ≡ true) × IsRefusedForRoom p tagged reply q)
 StepsIn stores p (calls.Line line) (Ok reply) q =
     IsCalledIn p (λ n. events.Line n line) q × (q.last ≡ Some (Replied reply))
 StepsIn stores p call (Err fault) q = Unit {0}

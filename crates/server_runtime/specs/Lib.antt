@@ -1,5 +1,6 @@
 pub mod Calls
 pub mod Logins
+pub mod PassFiles
 pub mod Places
 pub mod Totals
 pub mod ReplicaEnds

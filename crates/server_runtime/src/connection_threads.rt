@@ -4,7 +4,9 @@ ghost use Rattle.std.specs.Prelude.{◌≡◌, ◌<◌};
 ghost use Rattle.imap_connection.specs.Conversations.{IsConversation};
 ghost use Rattle.server_runtime.specs.Calls.{OpensByCall, StepsByCall, stores};
 
+use crate::client_state::{ClientConnection, EndCause};
 use crate::feeder::feed;
+use crate::replica_clients::ReplicaClients;
 use crate::replica_store::{ReplicaStore, SyncFault};
 use crate::server_state::ServerState;
 use crate::session_port::SessionPort;
@@ -12,20 +14,21 @@ use crate::session_reader::SessionReader;
 use crate::shared_phase::SharedPhase;
 use crate::socket::{SocketReader, SocketWriter};
 use crate::synced_sink::SyncedSink;
-use imap_connection::{Ended, Sink, Source, Wire, converse, log_text_of};
+use imap_connection::{Ended, Sink, Source, Wire, converse_within, log_text_of};
 use imap_lex::Limits;
 use log::{Log, info};
 use replica_links::Gate;
 use replica_lock::{Pass, Shared};
+use server_settings::ClientLimits;
 use std::alloc::Global;
 use std::io::{Read, Write};
-use std::net::{Shutdown, TcpStream};
+use std::net::{Shutdown, SocketAddr, TcpStream};
 use std::rt::Clock;
 use std::sync::ledger::Ledger;
-use std::sync::{Mutex, Wait};
+use std::sync::{Arc, Mutex, Wait};
 use std::thread;
 use std::thread::Threads;
-use std::time::Duration;
+use std::time::{Duration, Instant};
 
 /// The state that all connections of a replica share.
 #[derive(Drop)]
@@ -38,6 +41,8 @@ pub struct ReplicaContext<'a, L: Ledger> {
     pub shared: &'a Shared<L>,
     /// Its store, if it has one.
     pub store: Option<&'a ReplicaStore>,
+    /// Its clients.
+    pub clients: &'a ReplicaClients,
 }
 
 /// The state that the two threads of a connection share.
@@ -46,7 +51,7 @@ pub struct ConnectionContext<'a, L: Ledger> {
     /// The state that all connections of the replica share.
     pub context: &'a ReplicaContext<'a, L>,
     /// The connection.
-    pub stream: &'a TcpStream,
+    pub client: &'a ClientConnection,
     /// The pass of its session.
     pub pass: &'a Mutex<Pass<L>>,
     /// The phase of the connection.
@@ -64,10 +69,46 @@ pub fn converse_and_close<
     alloc: Global,
     gate: &mut G,
     context: &ReplicaContext<'_, L>,
-    stream: &TcpStream,
+    client: &Arc<ClientConnection>,
     pass: Pass<L>,
 ) -> Pass<L> {
-    let _ = stream.set_nodelay(true);
+    let (ended, pass) = converse_with_pass(rt, alloc, gate, context, client, pass);
+    let ConversationEnd { ended, unsynced } = ended;
+    let cause = client.state.cause(rt);
+    let text = text_of_end(ended, cause);
+    log_end(rt, context.clients, client.address, text);
+    match unsynced {
+        Some(fault) => write_bye(rt, client, bye_of(fault)),
+        None => {}
+    }
+    let is_reachable = match cause {
+        Some(cause) => cause == EndCause::Refusals,
+        None => unsynced.is_some() || !is_unreachable(ended),
+    };
+    if is_reachable {
+        take_leave(rt, context.clients, client);
+    }
+    context.clients.remove_stranger(rt, client.number);
+    pass
+}
+
+/// Holds the conversation with the client of a connection. Returns how it ended, and the pass.
+fn converse_with_pass<
+    L: Ledger + Send + Sync,
+    R: Threads + Wait + Clock + Log + Sync,
+    G: Gate + Send,
+>(
+    rt: &R,
+    alloc: Global,
+    gate: &mut G,
+    context: &ReplicaContext<'_, L>,
+    client: &ClientConnection,
+    pass: Pass<L>,
+) -> (ConversationEnd, Pass<L>) {
+    let _ = client.stream.set_nodelay(true);
+    let _ = client
+        .stream
+        .set_write_timeout(Some(client.state.write_time()));
     let pass = Mutex::new(pass);
     let shared_phase = SharedPhase::new();
     let ended = converse_and_feed(
@@ -76,21 +117,12 @@ pub fn converse_and_close<
         gate,
         &ConnectionContext {
             context: context,
-            stream,
+            client,
             pass: &pass,
             shared_phase: &shared_phase,
         },
     );
-    let ConversationEnd { ended, unsynced } = ended;
-    log_end(rt, ended);
-    match unsynced {
-        Some(fault) => write_bye(stream, bye_of(fault)),
-        None => {}
-    }
-    if unsynced.is_some() || !is_unreachable(ended) {
-        drain_and_close(stream);
-    }
-    pass.into_inner()
+    (ended, pass.into_inner())
 }
 
 /// How a conversation ended.
@@ -111,23 +143,39 @@ pub fn bye_of(fault: SyncFault) -> &'static [u8] {
 }
 
 /// Writes that line, if the client takes it.
-pub fn write_bye(stream: &TcpStream, line: &[u8]) {
-    let _ = SocketWriter::new(stream).write_all(line);
+pub fn write_bye<R: Wait + Clock>(rt: &R, client: &ClientConnection, line: &[u8]) {
+    let _ = SocketWriter::new(rt, client).write_all(line);
 }
 
+/// The line for a client that is turned away.
+const TURNED_AWAY: &[u8] = b"* BYE too many sessions\r\n";
+
 /// Holds the conversation, while a second thread sends the session what changed when it idles;
-/// returns once both have ended.
+/// returns once both have ended. If no second thread can be made, the client is turned away.
 fn converse_and_feed<
     L: Ledger + Send + Sync,
     R: Threads + Wait + Clock + Log + Sync,
     G: Gate + Send,
 >(rt: &R, alloc: Global, gate: &mut G, connection: &ConnectionContext<'_, L>) -> ConversationEnd {
-    let (ended, ()) = thread::join(
-        rt,
-        || converse_on_stream(rt, alloc, gate, connection),
-        || feed(rt, alloc, connection),
-    );
-    ended
+    let ended = thread::scope(thread::scope_env(), rt, |scope| {
+        if scope.spawn(move || feed(rt, alloc, connection)).is_err() {
+            return None;
+        }
+        Some(converse_on_stream(rt, alloc, gate, connection))
+    });
+    match ended {
+        Some(ended) => ended,
+        None => without_feeder(rt, connection.client),
+    }
+}
+
+/// Turns away a client for which no second thread can be made.
+fn without_feeder<R: Wait + Clock>(rt: &R, client: &ClientConnection) -> ConversationEnd {
+    write_bye(rt, client, TURNED_AWAY);
+    ConversationEnd {
+        ended: Ended::TooManySessions,
+        unsynced: None,
+    }
 }
 
 fn converse_on_stream<L: Ledger, R: Threads + Wait + Clock, G: Gate>(
@@ -139,27 +187,34 @@ fn converse_on_stream<L: Ledger, R: Threads + Wait + Clock, G: Gate>(
     let mut port = SessionPort::new(
         rt,
         connection.context,
+        connection.client,
         connection.pass,
         connection.shared_phase,
         gate,
     );
-    let device = SocketReader::new(rt, connection.stream);
+    let device = SocketReader::new(rt, connection.client);
     let mut source = SessionReader::new(rt, connection.shared_phase, connection.pass, device);
-    let writer = Wire::new(SocketWriter::new(connection.stream));
+    let writer = Wire::new(SocketWriter::new(rt, connection.client));
     let mut sink = SyncedSink::new(rt, alloc, connection.context, connection.pass, writer);
-    let ended = converse_over(rt, alloc, &mut source, &mut sink, &mut port);
+    let limits = limits_of(connection.context.server.limits);
+    let ended = converse_over_within(rt, alloc, limits, &mut source, &mut sink, &mut port);
     let unsynced = sink.fault();
     drop(port);
     connection.shared_phase.end(rt);
     ConversationEnd { ended, unsynced }
 }
 
-/// Holds a conversation as a session of a replica under its lock, over any source of octets and any
-/// sink for them. One call of the replica opens the session, for the users that the server admits.
-/// Each command and each line of IDLE that the octets read spell is one call in that session, in
-/// their order, which is also the order of their entries in the journal. The output is the
-/// greeting, the printed outcomes of these calls in that order, and the BYE that the end names; or,
-/// if a write failed, a prefix of that.
+/// The limits on the commands of a client.
+fn limits_of(limits: ClientLimits) -> Limits
+    ensures { result ≡ record Limits.STANDARD { literals = limits.literals } }
+{
+    Limits {
+        line: Limits::STANDARD.line,
+        literals: limits.literals as usize,
+    }
+}
+
+/// Holds a conversation as `converse_over_within` does, with the standard limits on commands.
 pub fn converse_over<L: Ledger, R: Wait + Clock, G: Gate, S: Source, K: Sink>(
     rt: &R,
     alloc: Global,
@@ -175,11 +230,52 @@ pub fn converse_over<L: Ledger, R: Wait + Clock, G: Gate, S: Source, K: Sink>(
         Limits.STANDARD (S.left source.old) (S.left source.new) (S.is_ended source.new)
         (K.taken sink.old) (K.taken sink.new) result }
 {
-    converse(rt, alloc, source, sink, port)
+    converse_over_within(rt, alloc, Limits::STANDARD, source, sink, port)
 }
 
-fn log_end<R: Log>(rt: &R, ended: Ended) {
-    info!(rt; "connection ended: {}", log_text_of(ended));
+/// Holds a conversation as a session of a replica under its lock, over any source of octets and any
+/// sink for them. One call of the replica opens the session, for the users that the server admits.
+/// Each command and each line of IDLE that the octets read spell is one call in that session, in
+/// their order, which is also the order of their entries in the journal. The output is the
+/// greeting, the printed outcomes of these calls in that order, and the BYE that the end names; or,
+/// if a write failed, a prefix of that.
+pub fn converse_over_within<L: Ledger, R: Wait + Clock, G: Gate, S: Source, K: Sink>(
+    rt: &R,
+    alloc: Global,
+    limits: Limits,
+    source: &mut S,
+    sink: &mut K,
+    port: &mut SessionPort<'_, L, R, G>,
+) -> Ended
+    requires source { S.failures source.old < 18446744073709551615 }
+    requires sink { K.failures sink.old < 18446744073709551615 }
+    ensures { IsConversation (λ s r t. OpensByCall s.context.now.server.now.access s.at r t.at)
+        (λ s call r t. StepsByCall (stores s.context.now.store) s.at call r t.at)
+        (λ s t. Unit {0}) port.old port.new
+        limits (S.left source.old) (S.left source.new) (S.is_ended source.new)
+        (K.taken sink.old) (K.taken sink.new) result }
+{
+    converse_within(rt, alloc, limits, source, sink, port)
+}
+
+/// The text for the end of a conversation in the log: why the server ended the connection, if it
+/// did, or else how the conversation ended.
+fn text_of_end(ended: Ended, cause: Option<EndCause>) -> &'static str {
+    match cause {
+        Some(cause) => cause.text(),
+        None => log_text_of(ended),
+    }
+}
+
+/// Logs how a connection ended, with its replica and its client's address.
+fn log_end<R: Log>(rt: &R, clients: &ReplicaClients, address: Option<SocketAddr>, text: &str) {
+    let replica = clients.replica.get();
+    match address {
+        Some(address) => {
+            info!(rt; "replica {replica}, client {address}: connection ended: {text}")
+        }
+        None => info!(rt; "replica {replica}, client unknown: connection ended: {text}"),
+    }
 }
 
 /// Whether the client can't be reached any more, so that nothing can be sent to it.
@@ -190,16 +286,32 @@ fn is_unreachable(ended: Ended) -> bool {
     )
 }
 
+/// How long taking leave of a client lasts at most, in seconds.
+const LEAVE_TIME: u64 = 2;
+
+/// Takes leave of a client, which isn't logged in any more and makes room like one that never was.
+fn take_leave<R: Wait + Clock>(rt: &R, clients: &ReplicaClients, client: &Arc<ClientConnection>) {
+    if client.state.log_out(rt) && !clients.add_stranger(rt, client) {
+        return;
+    }
+    drain_and_close(rt, &client.stream);
+}
+
 /// Shuts down the server's side of the connection, and drops what the client still sends, up to 16
-/// MiB and until it pauses for a second. A connection that is closed while octets are unread is
-/// reset, which may take the last answers from the client (RFC 9293, section 3.6.1).
-fn drain_and_close(stream: &TcpStream) {
+/// MiB, until it pauses for a second and for at most two. A connection that is closed while octets
+/// are unread is reset, which may take the last answers from the client (RFC 9293, section 3.6.1).
+fn drain_and_close<R: Clock>(rt: &R, stream: &TcpStream) {
     let _ = stream.set_nonblocking(false);
     let _ = stream.shutdown(Shutdown::Write);
-    let _ = stream.set_read_timeout(Some(Duration::from_secs(1)));
+    let Ok(began) = Instant::now(rt) else {
+        return;
+    };
     let mut piece = [0u8; 4_096];
     let mut reader = stream;
     for _ in 0..4_096u32 {
+        if !sleep_in_leave(rt, stream, began) {
+            return;
+        }
         match reader.read(&mut piece) {
             Ok(0) | Err(_) => return,
             Ok(_) => {}
@@ -207,9 +319,23 @@ fn drain_and_close(stream: &TcpStream) {
     }
 }
 
-/// Turns away a client for which no pass is left, and says so in the log.
-pub fn refuse_connection<R: Log>(rt: &R, stream: &TcpStream) {
+/// Lets the next read of a leave that began then sleep for a second, or for what is left of it.
+/// False if nothing is left.
+fn sleep_in_leave<R: Clock>(rt: &R, stream: &TcpStream, began: Instant) -> bool {
+    let Ok(elapsed) = began.elapsed(rt) else {
+        return false;
+    };
+    let left = Duration::from_secs(LEAVE_TIME).saturating_sub(elapsed);
+    !left.is_zero()
+        && stream
+            .set_read_timeout(Some(left.min(Duration::from_secs(1))))
+            .is_ok()
+}
+
+/// Turns away a client for which no pass, memory or thread is left, and says so in the log.
+pub fn refuse_connection<R: Log>(rt: &R, clients: &ReplicaClients, stream: &TcpStream) {
     let mut writer = stream;
-    let _ = writer.write_all(b"* BYE too many sessions\r\n");
-    log_end(rt, Ended::TooManySessions);
+    let _ = writer.write_all(TURNED_AWAY);
+    let address = stream.peer_addr().ok();
+    log_end(rt, clients, address, log_text_of(Ended::TooManySessions));
 }

@@ -17,6 +17,7 @@ use replica_lock::{CallFault, Outcome, Pass, Shared};
 use std::alloc::{AllocError, Global};
 use std::io::Write;
 use std::net::Shutdown;
+use std::rt::Clock;
 use std::sync::ledger::Ledger;
 use std::sync::{Mutex, Wait};
 
@@ -24,7 +25,11 @@ use std::sync::{Mutex, Wait};
 /// until the connection ends. The thread wakes when the session's own feed has something to send,
 /// and at the end of the connection; otherwise it sleeps. The answers of a poll are written whole;
 /// if that fails, the connection is shut down.
-pub fn feed<L: Ledger, R: Wait>(rt: &R, alloc: Global, connection: &ConnectionContext<'_, L>) {
+pub fn feed<L: Ledger, R: Wait + Clock>(
+    rt: &R,
+    alloc: Global,
+    connection: &ConnectionContext<'_, L>,
+) {
     let shared_phase = connection.shared_phase;
     let mut looked = 0;
     for _ in rt.forever() {
@@ -52,7 +57,7 @@ pub fn feed<L: Ledger, R: Wait>(rt: &R, alloc: Global, connection: &ConnectionCo
             PollOutcome::Done => looked = now,
             PollOutcome::Busy => {}
             PollOutcome::Failed => {
-                let _ = connection.stream.shutdown(Shutdown::Both);
+                let _ = connection.client.stream.shutdown(Shutdown::Both);
                 return;
             }
         }
@@ -61,7 +66,10 @@ pub fn feed<L: Ledger, R: Wait>(rt: &R, alloc: Global, connection: &ConnectionCo
 
 /// Ends the connection of an idling session if the replica's store failed. False if the store
 /// failed and the connection's thread is at work, which finds out itself.
-fn end_if_failed<L: Ledger, R: Wait>(rt: &R, connection: &ConnectionContext<'_, L>) -> bool {
+fn end_if_failed<L: Ledger, R: Wait + Clock>(
+    rt: &R,
+    connection: &ConnectionContext<'_, L>,
+) -> bool {
     let Some(store) = connection.context.store else {
         return true;
     };
@@ -71,8 +79,8 @@ fn end_if_failed<L: Ledger, R: Wait>(rt: &R, connection: &ConnectionContext<'_, 
     let phase = connection.shared_phase.phase.lock(rt);
     let idles = phase.reads && phase.idles;
     if idles {
-        write_bye(connection.stream, bye_of(SyncFault::StoreFailed));
-        let _ = connection.stream.shutdown(Shutdown::Both);
+        write_bye(rt, connection.client, bye_of(SyncFault::StoreFailed));
+        let _ = connection.client.stream.shutdown(Shutdown::Both);
     }
     drop(phase);
     idles
@@ -99,7 +107,7 @@ enum PollOutcome {
 
 /// Polls the session, if it still idles and its connection's thread still waits for the client, and
 /// writes the answers once all that they show is synced.
-fn poll_and_write<L: Ledger, R: Wait>(
+fn poll_and_write<L: Ledger, R: Wait + Clock>(
     rt: &R,
     alloc: Global,
     connection: &ConnectionContext<'_, L>,
@@ -122,7 +130,7 @@ fn poll_and_write<L: Ledger, R: Wait>(
 
 /// Writes the text of a poll, if there is any, once all that it shows is synced. False if that or
 /// the write fails.
-fn write_synced<L: Ledger, R: Wait>(
+fn write_synced<L: Ledger, R: Wait + Clock>(
     rt: &R,
     alloc: Global,
     connection: &ConnectionContext<'_, L>,
@@ -132,10 +140,12 @@ fn write_synced<L: Ledger, R: Wait>(
         return true;
     }
     if let Err(fault) = sync_shown(rt, alloc, connection.context, connection.pass) {
-        write_bye(connection.stream, bye_of(fault));
+        write_bye(rt, connection.client, bye_of(fault));
         return false;
     }
-    SocketWriter::new(connection.stream).write_all(text).is_ok()
+    SocketWriter::new(rt, connection.client)
+        .write_all(text)
+        .is_ok()
 }
 
 /// The text of a poll's answers, empty if the poll is refused. `None` if memory runs out or the

@@ -114,20 +114,37 @@
 //! - Passes of connections that ended are used again, so that a server that runs for long doesn't
 //!   run out of them.
 //! - After the end of a conversation the server shuts down its side of the connection and drops
-//!   what the client still sends, up to 16 MiB and until it pauses for a second. Closing a
-//!   connection while octets are unread resets it, which may take the BYE from the client (RFC
-//!   9293, section 3.6.1).
+//!   what the client still sends, up to 16 MiB, until it pauses for a second and for at most two.
+//!   Closing a connection while octets are unread resets it, which may take the BYE from the client
+//!   (RFC 9293, section 3.6.1).
+//! - Limits on time are the socket's own (`SocketReader`, `SocketWriter`), so that a limit is a
+//!   read or a write that failed, and the contracts of conversations cover it. Before a client is
+//!   logged in each read gets what is left of its time. A read or a write that has waited for more
+//!   than half of its time is taken for one that has waited for all of it: a socket that doesn't
+//!   block answers at once, and which of the two it does is known only to who set it last.
+//! - A connection adds what its client did to the replica's counts only after 256 commands and at
+//!   its end (`ClientState::count`): all connections of the replica would wait for each other at
+//!   each command.
+//! - A LOGIN waits in its connection's thread, before the pass's lock is taken, on a condition that
+//!   the end of the connection signals (`ClientState::wait`).
+//! - A connection that was accepted waits in a list for its thread (`ServedReplica::accepted`): if
+//!   no thread can be made, its pass isn't lost with the thread's closure.
 //! - `serve_over` takes connections and gates as two lists, and cuts the passes itself: a
 //!   connection for which no pass can be cut is turned away. Connections are `TcpStream`s, since
 //!   two threads share one and either may shut it down.
 #![tactic(auto)]
 
+mod accepting;
+mod client_counts;
+mod client_state;
 mod connection_threads;
 mod feeder;
 mod joining_replica;
 mod link_peers;
+mod pass_file;
 mod peer_sender;
 mod program;
+mod replica_clients;
 mod replica_end;
 mod replica_handle;
 mod replica_store;
@@ -142,17 +159,22 @@ mod store_taker;
 mod synced_sink;
 mod totals;
 
-pub use connection_threads::{ReplicaContext, converse_over};
+pub use client_counts::{ClientCounts, SharedCounts};
+pub use client_state::{ClientConnection, ClientState, EndCause, ReadAllowance};
+pub use connection_threads::{ReplicaContext, converse_over, converse_over_within};
 pub use joining_replica::{JoinOutcome, JoiningReplica};
+pub use pass_file::pass_of;
 pub use peer_sender::PeerSender;
 pub use program::{RunFault, open_all, run};
+pub use replica_clients::ReplicaClients;
 pub use replica_end::ReplicaEnd;
 pub use replica_handle::{CopyRequest, JoinSignal, JoiningReplicas, ReplicaHandle};
 pub use replica_store::{ReplicaStore, SyncFault};
 pub use replica_threads::{ReplicaSetup, StartMode, serve, serve_over};
 pub use restoring::{RestoreFault, RestoredReplica, UnrestoredReplica};
 pub use server_settings::{
-    Access, CommandLine, Join, Place, SettingsFault, UsageFault, access_of, read_settings,
+    Access, ClientLimits, CommandLine, GivenAccess, Join, Place, SettingsFault, UsageFault,
+    access_of, read_settings,
 };
 pub use server_state::{ServerState, StopCounter};
 pub use session_port::{SessionPort, SessionPosition};

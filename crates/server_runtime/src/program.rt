@@ -1,6 +1,7 @@
 //! The program: from its command line to its status.
 
 use crate::joining_replica::JoiningReplica;
+use crate::pass_file::{pass_of, read_octets};
 use crate::replica_end::ReplicaEnd;
 use crate::replica_handle::{CopyRequest, JoinSignal, JoiningReplicas, ReplicaHandle};
 use crate::replica_threads::{ReplicaSetup, StartMode, serve};
@@ -12,7 +13,9 @@ use log::{Log, error};
 use log_files::{FileDevice, FolderFault, StoreFolder};
 use replica_links::PeerMsg;
 use replica_lock::Book;
-use server_settings::{CommandLine, Join, Place, listen_at, print_fault, settings_or_status};
+use server_settings::{
+    Access, CommandLine, GivenAccess, Join, Place, listen_at, print_fault, settings_or_status,
+};
 use std::alloc::{AllocError, AllocFailed, Global};
 use std::fs::File;
 use std::net::{Net, SocketAddr, TcpListener, TcpStream};
@@ -107,12 +110,36 @@ fn run_words<
         Ok(settings) => settings,
         Err(status) => return status,
     };
-    match run_as(rt, rt.alloc(), &settings) {
+    let file = match read_pass_file(rt, rt.alloc(), settings.access) {
+        Ok(file) => file,
+        Err(status) => return status,
+    };
+    let pass = pass_of(&file).unwrap_or("");
+    match run_as(rt, rt.alloc(), &settings, settings.access.with_pass(pass)) {
         Ok(()) => 0,
         Err(RunFault::CannotListen | RunFault::CannotRestore) => 1,
         Err(why) => {
             error!(rt; "the server can't run: {why}");
             print_fault(rt)
+        }
+    }
+}
+
+/// The first octets of the file that has the password; none if the command line names no file. If
+/// the file gives no password, prints so and returns the program's status.
+fn read_pass_file<R: Print + Files<File = File>>(
+    rt: &R,
+    alloc: Global,
+    access: GivenAccess<'_>,
+) -> Result<Vec<u8>, u8> {
+    let GivenAccess::PassFile { user: _, path } = access else {
+        return Ok(Vec::new(alloc));
+    };
+    match read_octets(rt, alloc, path) {
+        Ok(octets) if pass_of(&octets).is_some() => Ok(octets),
+        _ => {
+            let _ = println!(rt; "cannot read pass {path}");
+            Err(1)
         }
     }
 }
@@ -128,8 +155,8 @@ fn run_as<
         + Sync
         + Files<File = File>
         + Net<Listener = TcpListener, Stream = TcpStream>,
->(rt: &R, alloc: Global, settings: &CommandLine<'_>) -> Result<(), RunFault> {
-    let (server, setups) = open_all(rt, alloc, settings)?;
+>(rt: &R, alloc: Global, settings: &CommandLine<'_>, access: Access<'_>) -> Result<(), RunFault> {
+    let (server, setups) = open_all(rt, alloc, settings, access)?;
     raise_memory_thresholds(alloc);
     if settings.stop_after != Some(0) && !are_whole(serve(rt, alloc, &server, setups)) {
         return Err(RunFault::Unfinished);
@@ -179,6 +206,7 @@ pub fn open_all<
     rt: &R,
     alloc: Global,
     settings: &CommandLine<'a>,
+    access: Access<'a>,
 ) -> Result<(ServerState<'a>, Vec<ReplicaSetup<'a>>), RunFault> {
     let mut opened = Opened {
         replicas: Vec::new(alloc),
@@ -197,7 +225,8 @@ pub fn open_all<
         store,
     } = opened;
     let server = ServerState {
-        access: settings.access,
+        access,
+        limits: settings.limits,
         replicas: handles,
         joining: JoiningReplicas::new(signals),
         journal: settings.journal,

@@ -4,9 +4,16 @@ ghost use Rattle.std.specs.Prelude.{◌≡◌, ℕ, IfOk, IfSome, Some, map, sli
 ghost use Rattle.server_laws.specs.BookWorlds.{KeepTheHeadline};
 ghost use Rattle.server_runtime.specs.ReplicaEnds.{AreEndsOf, IsEndOf, books_of};
 
-use crate::connection_threads::{ReplicaContext, converse_and_close, refuse_connection};
+use crate::accepting::{
+    accept, connect, pause_accepting, refuse_accepted, return_pass, serve_accepted,
+    serve_connection,
+};
+use crate::client_counts::ClientCounts;
+use crate::client_state::ClientConnection;
+use crate::connection_threads::{ReplicaContext, refuse_connection};
 use crate::joining_replica::{JoinedReplica, JoiningReplica, send_copies};
 use crate::link_peers::LinkPeers;
+use crate::replica_clients::ReplicaClients;
 use crate::replica_end::{ReplicaEnd, end_of, ends_keep_the_headline};
 use crate::replica_handle::{CopyRequest, others};
 use crate::replica_store::ReplicaStore;
@@ -25,7 +32,7 @@ use std::marker::Brand;
 use std::net::{Net, TcpListener, TcpStream};
 use std::rt::Clock;
 use std::sync::ledger::{Blank, Ledger};
-use std::sync::{Mutex, Wait};
+use std::sync::{Arc, Mutex, Wait};
 use std::thread;
 use std::thread::Threads;
 use std::time::Duration;
@@ -116,13 +123,15 @@ pub struct ServedReplica<'a, L: Ledger> {
     pub inputs: &'a ReplicaInputs,
     /// The passes of connections that ended.
     pub returned: &'a Mutex<Vec<Pass<L>>>,
+    /// The connections that no thread serves yet.
+    pub accepted: &'a Mutex<Vec<AcceptedConnection<L, OpenGate>>>,
 }
 
 /// A connection that is to be served.
 #[derive(Drop)]
 pub struct AcceptedConnection<L: Ledger, G> {
     /// The connection.
-    pub stream: TcpStream,
+    pub client: Arc<ClientConnection>,
     /// The gate that is passed before each command.
     pub gate: G,
     /// The pass of its session.
@@ -415,6 +424,7 @@ fn run_replica<
     requires { (blank.name ≡ L.name) × (blank.parts ≡ L.parts) × (L.parts ≡ 4294967295) }
 {
     let room = store.as_ref().map(|store| store.room(rt));
+    let clients = ReplicaClients::new(alloc, book.node().replica().id());
     let (shared, first) = Shared::<L>::with_store(blank, book, server.journal, room);
     let stored = store.as_ref();
     let context = ReplicaContext {
@@ -422,7 +432,9 @@ fn run_replica<
         own: inputs.own,
         shared: &shared,
         store: stored,
+        clients: &clients,
     };
+    let accepted = Mutex::new(Vec::new(alloc));
     let returned = Mutex::new(Vec::new(alloc));
     let first = serve_listener(
         rt,
@@ -432,8 +444,10 @@ fn run_replica<
             context: &context,
             inputs: &inputs,
             returned: &returned,
+            accepted: &accepted,
         },
     );
+    log_counts(rt, &context);
     if let Some(store) = context.store {
         store.tidy(rt, alloc, &context);
     }
@@ -487,45 +501,6 @@ fn run_link<L: Ledger, R: Wait + Clock>(
     taker.into_pass()
 }
 
-/// Adds a pass to those that can be used again, without what it still stores of its last calls. If
-/// memory runs out, the pass is lost.
-fn return_pass<L: Ledger, R: Wait>(rt: &R, returned: &Mutex<Vec<Pass<L>>>, mut pass: Pass<L>) {
-    pass.drop_spent();
-    let _ = returned.lock(rt).push(pass);
-}
-
-/// A pass without a session: one of a connection that ended, or a new one. `None` if no pass is
-/// left.
-fn next_pass<L: Ledger, R: Wait>(
-    rt: &R,
-    returned: &Mutex<Vec<Pass<L>>>,
-    first: &mut Pass<L>,
-) -> Option<Pass<L>> {
-    match returned.lock(rt).pop() {
-        Some(pass) => Some(pass),
-        None => first.cut(),
-    }
-}
-
-/// Serves a connection to its end, closes it, and returns its pass.
-fn serve_connection<
-    L: Ledger + Send + Sync,
-    R: Threads + Wait + Clock + Log + Sync,
-    G: Gate + Send + Drop,
->(
-    rt: &R,
-    alloc: Global,
-    context: &ReplicaContext<'_, L>,
-    accepted: AcceptedConnection<L, G>,
-) -> Pass<L> {
-    let AcceptedConnection {
-        stream,
-        mut gate,
-        pass,
-    } = accepted;
-    converse_and_close(rt, alloc, &mut gate, context, &stream, pass)
-}
-
 /// Serves these connections at once, each in a thread of its own and with the gate at the same
 /// place in the list, and returns their passes once all have ended. A connection without a gate is
 /// closed, and one for which no pass can be cut is turned away. `Err` if memory runs out; passes
@@ -542,7 +517,7 @@ pub fn serve_over<
     connections: Vec<TcpStream>,
     gates: Vec<G>,
 ) -> Result<Vec<Pass<L>>, AllocError> {
-    let pending = accepted_connections(rt, alloc, first, connections, gates)?;
+    let pending = accepted_connections(rt, alloc, context, first, connections, gates)?;
     thread::map_vec(
         rt,
         pending,
@@ -551,9 +526,10 @@ pub fn serve_over<
 }
 
 /// The connections, each with its gate and a pass. `Err` if memory runs out.
-fn accepted_connections<L: Ledger, R: Log, G: Gate + Drop>(
+fn accepted_connections<L: Ledger, R: Wait + Clock + Log, G: Gate + Drop>(
     rt: &R,
     alloc: Global,
+    context: &ReplicaContext<'_, L>,
     first: &mut Pass<L>,
     connections: Vec<TcpStream>,
     gates: Vec<G>,
@@ -561,10 +537,11 @@ fn accepted_connections<L: Ledger, R: Log, G: Gate + Drop>(
     let mut pending = Vec::new(alloc);
     for (stream, gate) in connections.into_iter().zip(gates) {
         let Some(pass) = first.cut() else {
-            refuse_connection(rt, &stream);
+            refuse_connection(rt, context.clients, &stream);
             continue;
         };
-        pending.push(AcceptedConnection { stream, gate, pass })?;
+        let client = connect(rt, alloc, context, stream).ok_or(AllocError)?;
+        pending.push(AcceptedConnection { client, gate, pass })?;
     }
     Ok(pending)
 }
@@ -601,34 +578,40 @@ fn serve_listener<
         if served.context.store.is_some() {
             let _ = scope.spawn(move || keep_store(rt, alloc, served));
         }
+        let _ = scope.spawn(move || report(rt, served));
+        let mut logged = None;
         for stream in served.inputs.listener.incoming() {
             if served.context.server.stop.is_over(rt) {
                 break;
             }
             let Ok(stream) = stream else {
+                pause_accepting(rt, served.context.clients, &mut logged);
                 continue;
             };
-            let Some(pass) = next_pass(rt, served.returned, &mut first) else {
-                refuse_connection(rt, &stream);
+            if !accept(rt, alloc, served, &mut first, stream) {
                 end_one(rt, served.context.server);
                 continue;
-            };
-            let accepted = AcceptedConnection {
-                stream,
-                gate: OpenGate,
-                pass,
-            };
-            let _ = scope.spawn(move || {
-                let pass = serve_connection(rt, alloc, served.context, accepted);
-                return_pass(rt, served.returned, pass);
-                end_one(rt, served.context.server)
-            });
+            }
+            if scope.spawn(move || serve_next(rt, alloc, served)).is_err() {
+                refuse_accepted(rt, served);
+                end_one(rt, served.context.server);
+            }
         }
+        served.context.clients.counts.stop(rt);
         if let Some(store) = served.context.store {
             store.stop(rt);
         }
         first
     })
+}
+
+/// Serves one of the connections that wait for a thread, and counts its end.
+fn serve_next<
+    L: Ledger + Send + Sync,
+    R: Threads + Wait + Clock + Log + Sync + Net<Listener = TcpListener, Stream = TcpStream>,
+>(rt: &R, alloc: Global, served: &ServedReplica<'_, L>) {
+    serve_accepted(rt, alloc, served);
+    end_one(rt, served.context.server)
 }
 
 /// Looks after the replica's log, if there is one, until the server stops.
@@ -640,6 +623,30 @@ fn keep_store<L: Ledger, R: Wait + Clock + Log>(
     if let Some(store) = served.context.store {
         store.keep(rt, alloc, served.context, &served.inputs.peers);
     }
+}
+
+/// Logs what the clients of a replica have done, each hour until the replica stops.
+fn report<L: Ledger, R: Wait + Clock + Log>(rt: &R, served: &ServedReplica<'_, L>) {
+    for _ in rt.forever() {
+        if !served.context.clients.counts.await_report(rt) {
+            return;
+        }
+        log_counts(rt, served.context);
+    }
+}
+
+/// Logs what the clients of a replica have done so far.
+fn log_counts<L: Ledger, R: Wait + Log>(rt: &R, context: &ReplicaContext<'_, L>) {
+    let ClientCounts {
+        connections,
+        sessions,
+        commands,
+        refused_logins,
+        octets,
+    } = context.clients.counts.counts(rt);
+    let operations = context.shared.op_count(rt);
+    let replica = context.clients.replica.get();
+    info!(rt; "replica {replica} so far: {connections} connections, {sessions} sessions, {commands} commands, {operations} operations, {refused_logins} refused logins, {octets} octets of messages");
 }
 
 /// Counts a connection that ended. After the first one, the replicas that are to join do so; after

@@ -8,7 +8,7 @@ use imap_answers::Login;
 use imap_node::{Auth, Credentials};
 use imap_types::Octets;
 use log_files::StoreFolder;
-use server_settings::Access;
+use server_settings::{Access, ClientLimits};
 use std::alloc::{AllocError, Global};
 use std::sync::{Mutex, Wait};
 
@@ -49,6 +49,8 @@ impl StopCounter {
 pub struct ServerState<'a> {
     /// Who may use the server.
     pub access: Access<'a>,
+    /// How long it waits for clients, and how large their literals may be.
+    pub limits: ClientLimits,
     /// The replicas; those that are to join come after the others.
     pub replicas: Vec<ReplicaHandle>,
     /// The replicas that are to join.

@@ -1,12 +1,13 @@
 //! One session of a replica under its lock, as the port of a conversation.
 
-ghost use Rattle.std.specs.Prelude.{◌≡◌, ◌⊎◌, ◌≤◌, ◌<◌, ℕ, [], Err, IfOk, IsOk, IsSome, IsTrue, Ok};
-ghost use Rattle.std.specs.Prelude.{OnErr, OnOk, Some, false, length, true, vec_capacity};
+ghost use Rattle.std.specs.Prelude.{◌≡◌, ◌⊎◌, ◌≤◌, ◌<◌, ℕ, [], Err, IfErr, IfOk, IsOk, IsSome};
+ghost use Rattle.std.specs.Prelude.{IsTrue, Ok, OnErr, OnOk, Some, false, length, true};
+ghost use Rattle.std.specs.Prelude.{vec_capacity};
 ghost use Rattle.std.specs.Option.{option_map};
 ghost use Rattle.imap_answers.specs.declared.fixed_words.Refusal.TheVariants.{NoStoreRoom};
 ghost use Rattle.imap_node.specs.declared.reply.Reply.TheVariants.{Refused};
 ghost use Rattle.imap_node.specs.declared.sessions.OpenFault.TheVariants as refusals;
-ghost use Rattle.replica_lock.specs.Passes.{IsCalledIn};
+ghost use Rattle.replica_lock.specs.Passes.{IsCalledIn, LacksRoomInSession};
 ghost use Rattle.imap_connection.specs.PortCalls as calls;
 ghost use Rattle.imap_connection.specs.Batches.{CarriesCommands};
 ghost use Rattle.imap_connection.specs.declared.fault.PortFault.TheVariants.{NoRoom};
@@ -16,8 +17,11 @@ ghost use Rattle.server_runtime.specs.Calls.{OpensByCall, OpensIn, StepsByCall, 
 ghost use Rattle.server_runtime.specs.Calls.{stores};
 ghost use Rattle.server_runtime.specs.Logins.{auth_of};
 ghost use Rattle.replica_lock.specs.declared.event.BookEvent.TheVariants as events;
+ghost use Rattle.replica_lock.specs.declared.faults.CallFault.TheVariants as faults;
 ghost use Rattle.replica_lock.specs.declared.outcome.Outcome.TheVariants.{Opened, Replied};
 
+use crate::client_counts::ClientCounts;
+use crate::client_state::ClientConnection;
 use crate::connection_threads::ReplicaContext;
 use crate::peer_sender::PeerSender;
 use crate::replica_store::Growth;
@@ -45,6 +49,7 @@ const MAX_TRIES: u32 = 16;
 pub struct SessionPort<'a, L: Ledger, R: Wait + Clock, G: Gate> {
     rt: &'a R,
     context: &'a ReplicaContext<'a, L>,
+    client: &'a ClientConnection,
     pass: &'a Mutex<Pass<L>>,
     shared_phase: &'a SharedPhase,
     gate: &'a mut G,
@@ -66,6 +71,7 @@ impl<'a, L: Ledger, R: Wait + Clock, G: Gate> SessionPort<'a, L, R, G> {
     pub fn new(
         rt: &'a R,
         context: &'a ReplicaContext<'a, L>,
+        client: &'a ClientConnection,
         pass: &'a Mutex<Pass<L>>,
         shared_phase: &'a SharedPhase,
         gate: &'a mut G,
@@ -73,6 +79,7 @@ impl<'a, L: Ledger, R: Wait + Clock, G: Gate> SessionPort<'a, L, R, G> {
         SessionPort {
             rt,
             context,
+            client,
             pass,
             shared_phase: shared_phase,
             gate,
@@ -146,8 +153,11 @@ impl<'a, L: Ledger, R: Wait + Clock, G: Gate> SessionPort<'a, L, R, G> {
         ensures called { OnOk result
             (IsCalledIn pass.old (λ n. events.Command n moment tagged) pass.new) }
         ensures unchanged { OnErr result (pass.new ≡ pass.old) }
+        ensures lacking { IfErr result
+            (LacksRoomInSession pass.old (λ n. events.Command n moment tagged)) }
     {
         let mut pending = tagged;
+        let mut last = CallFault::NoRoom;
         for _ in 0..MAX_TRIES {
             let unmade = match self
                 .context
@@ -166,14 +176,17 @@ impl<'a, L: Ledger, R: Wait + Clock, G: Gate> SessionPort<'a, L, R, G> {
                 return Err(fault);
             }
             pending = tagged;
+            last = fault;
         }
         drop(pending);
-        Err(CallFault::NoStoreRoom { octets: 0 })
+        Err(last)
     }
 
     /// Makes the room in the replica's store for want of which a call wasn't made. An error says why
     /// it still isn't.
-    fn make_room(&self, alloc: Global, fault: CallFault) -> Result<(), CallFault> {
+    fn make_room(&self, alloc: Global, fault: CallFault) -> Result<(), CallFault>
+        ensures { IfErr result (λ why. (why ≡ fault) ⊎ (why ≡ faults.NoRoom)) }
+    {
         let (Some(store), CallFault::NoStoreRoom { octets }) = (self.context.store, fault) else {
             return Err(fault);
         };
@@ -253,6 +266,73 @@ impl<'a, L: Ledger, R: Wait + Clock, G: Gate> SessionPort<'a, L, R, G> {
         self.context.shared.close(self.rt, alloc, pass)
     }
 
+    /// Counts a session, if it was opened.
+    fn count_opened(&self, is_opened: bool) {
+        if is_opened {
+            self.context.clients.counts.add(
+                self.rt,
+                ClientCounts {
+                    sessions: 1,
+                    ..ClientCounts::NONE
+                },
+            );
+        }
+    }
+
+    /// Counts commands that arrived, and the octets of the messages in them.
+    fn count(&self, commands: usize, octets: u64) {
+        let counts = self.client.state.count(self.rt, commands as u64, octets);
+        if let Some(counts) = counts {
+            self.context.clients.counts.add(self.rt, counts);
+        }
+    }
+
+    /// Adds to the replica's counts what wasn't added yet.
+    fn give_counts(&self) {
+        let counts = self.client.state.take_counts(self.rt);
+        self.context.clients.counts.add(self.rt, counts);
+    }
+
+    /// Waits until a command may be judged: a LOGIN after refused ones waits a while. False if the
+    /// connection was ended.
+    fn await_judgement(&self, command: &Command) -> bool {
+        let state = &self.client.state;
+        if state.cause(self.rt).is_some() {
+            return false;
+        }
+        if !is_login(command) {
+            return true;
+        }
+        let own = state.login_delay(self.rt);
+        let delay = own.max(self.context.clients.login_delay(self.rt));
+        delay.is_zero() || state.wait(self.rt, delay)
+    }
+
+    /// Notes whether the client logged in, if its command with this response was a LOGIN.
+    fn note_login(&self, logs_in: bool, response: &Result<Reply, PortFault>) {
+        if !logs_in {
+            return;
+        }
+        match response {
+            Ok(Reply::Done { .. }) => {
+                self.client.state.log_in(self.rt);
+                self.context
+                    .clients
+                    .remove_stranger(self.rt, self.client.number);
+            }
+            Ok(
+                Reply::Refused {
+                    why: Refusal::LoginFailed,
+                    ..
+                },
+            ) => {
+                self.client.state.refuse(self.rt);
+                self.context.clients.note_refusal(self.rt);
+            }
+            _ => {}
+        }
+    }
+
     /// Whether a pass has the session of this port, and has seen at least as much of the journal.
     fn knows(&self, pass: &Pass<L>) -> bool
         ensures session { IsTrue result → self.now.at.session ≡ pass.now.session }
@@ -291,6 +371,9 @@ impl<'a, L: Ledger, R: Wait + Clock, G: Gate> Port for SessionPort<'a, L, R, G> 
     ghost closes = { λ s t. Unit {0} };
 
     fn open(&mut self, alloc: Global) -> Result<Login, PortFault> {
+        if self.client.state.cause(self.rt).is_some() {
+            return Err(PortFault::ServerEnded);
+        }
         let mut pass = self.pass.lock(self.rt);
         if pass.seen() < self.at.seen {
             return Err(PortFault::Torn);
@@ -300,11 +383,18 @@ impl<'a, L: Ledger, R: Wait + Clock, G: Gate> Port for SessionPort<'a, L, R, G> 
             session: pass.session(),
             seen: pass.seen(),
         };
+        self.count_opened(response.is_ok());
         response
     }
 
     fn command(&mut self, alloc: Global, tagged: Tagged) -> Result<Reply, PortFault> {
         pass_gate(self.gate, &mut self.commands, 1);
+        if !self.await_judgement(&tagged.command) {
+            drop(tagged);
+            return Err(PortFault::ServerEnded);
+        }
+        self.count(1, octets_of(&tagged.command));
+        let logs_in = is_login(&tagged.command);
         let mut pass = self.pass.lock(self.rt);
         if !self.knows(&pass) {
             drop(tagged);
@@ -312,6 +402,7 @@ impl<'a, L: Ledger, R: Wait + Clock, G: Gate> Port for SessionPort<'a, L, R, G> 
         }
         let response = self.command_in(alloc, &mut pass, tagged);
         self.at.seen = pass.seen();
+        self.note_login(logs_in, &response);
         response
     }
 
@@ -322,6 +413,11 @@ impl<'a, L: Ledger, R: Wait + Clock, G: Gate> Port for SessionPort<'a, L, R, G> 
         replies: &mut Vec<Reply>,
     ) -> Result<(), PortFault> {
         pass_gate(self.gate, &mut self.commands, commands.len());
+        if self.client.state.cause(self.rt).is_some() {
+            drop(commands);
+            return Err(PortFault::ServerEnded);
+        }
+        self.count(commands.len(), 0);
         let mut pass = self.pass.lock(self.rt);
         if !self.knows(&pass) {
             drop(commands);
@@ -343,8 +439,21 @@ impl<'a, L: Ledger, R: Wait + Clock, G: Gate> Port for SessionPort<'a, L, R, G> 
     }
 
     fn close(&mut self, alloc: Global) {
+        self.give_counts();
         let mut pass = self.pass.lock(self.rt);
         let _ = self.close_in(alloc, &mut pass);
+    }
+}
+
+fn is_login(command: &Command) -> bool {
+    matches!(command, Command::Login { .. })
+}
+
+/// The octets of the message that a command appends; 0 if it appends none.
+fn octets_of(command: &Command) -> u64 {
+    match command {
+        Command::Append(append) => append.text.as_bytes().len() as u64,
+        _ => 0,
     }
 }
 

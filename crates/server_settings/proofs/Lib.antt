@@ -3,3 +3,4 @@ pub mod PlaceLemmas
 pub mod WordLemmas
 pub mod TextLemmas
 pub mod NumberLemmas
+pub mod OptionLemmas

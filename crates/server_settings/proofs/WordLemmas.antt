@@ -8,9 +8,11 @@ use Rattle.clap.specs.declared.parser.matches.Found.{Found}
 use Rattle.clap.specs.Simple.{is_simple}
 use Rattle.clap.proofs.OnLiterals.{clap_on_literals}
 use Rattle.clap_laws.proofs.MatchesLemmas.{first_value_of_rows, one_text_of_rows}
-use Rattle.server_settings.specs.Options.{NamesAccess, NamesJournalBound, NamesStore, server_words}
-use Rattle.server_settings.specs.Settings.{IsJournalBound, access_of}
+use Rattle.server_settings.specs.Options.{NamesAccess, NamesGivenAccess, NamesJournalBound, NamesStore, server_words}
+use Rattle.server_settings.specs.Settings.{IsJournalBound, access_of, given_access_of}
 use Rattle.server_settings.specs.declared.settings.Access.{Access}
+use Rattle.server_settings.specs.declared.settings.GivenAccess.{GivenAccess}
+use Rattle.server_settings.specs.declared.settings.GivenAccess.TheVariants.{Whole}
 
 -- ---- the access
 
@@ -34,14 +36,35 @@ module _ (rows : List Row) where
   rows_name_access false None pass access e none on off u p = let k : ◌≡◌ {A = Option Access} None (Some access) = e in cc
   rows_name_access false (Some user) None access e none on off u p = let k : ◌≡◌ {A = Option Access} None (Some access) = e in cc
 
-pub access_is_named : (found : Found) (is_preauth : Bool) (user pass : Option (Bor (List ℕ))) (r : Option Access) → r ≡ access_of is_preauth user pass
+  whole_names_access : (is_preauth : Bool) (user pass : Option (Bor (List ℕ))) (known : Option Access) (access : GivenAccess) → access_of is_preauth user pass ≡ known → option_map Whole known ≡ Some access
+      → ((one_of (codes "preauth") rows ≡ None) → is_preauth ≡ false) → ((one_of (codes "preauth") rows ≡ Some (codes "true")) → is_preauth ≡ true)
+      → ((one_of (codes "preauth") rows ≡ Some (codes "false")) → is_preauth ≡ false)
+      → option_map (λ s. s.now) user ≡ first_of (codes "user") rows → option_map (λ s. s.now) pass ≡ first_of (codes "pass") rows → None ≡ first_of (codes "pass-file") rows → NamesGivenAccess rows access
+  whole_names_access is_preauth user pass None access is e none on off u p f = let k : ◌≡◌ {A = Option GivenAccess} None (Some access) = e in absurd cc
+  whole_names_access is_preauth user pass (Some known) access is e none on off u p f =
+      subst (NamesGivenAccess rows) (some_is e) (rows_name_access is_preauth user pass known is none on off u p, sym f)
+
+  rows_name_given : (is_preauth : Bool) (user pass file : Option (Bor (List ℕ))) (access : GivenAccess) → given_access_of is_preauth user pass file ≡ Some access
+      → ((one_of (codes "preauth") rows ≡ None) → is_preauth ≡ false) → ((one_of (codes "preauth") rows ≡ Some (codes "true")) → is_preauth ≡ true)
+      → ((one_of (codes "preauth") rows ≡ Some (codes "false")) → is_preauth ≡ false)
+      → option_map (λ s. s.now) user ≡ first_of (codes "user") rows → option_map (λ s. s.now) pass ≡ first_of (codes "pass") rows
+      → option_map (λ s. s.now) file ≡ first_of (codes "pass-file") rows → NamesGivenAccess rows access
+  rows_name_given is_preauth user pass None access e none on off u p f = whole_names_access is_preauth user pass (access_of is_preauth user pass) access refl e none on off u p f
+  rows_name_given false (Some user) None (Some path) access e none on off u p f = subst (NamesGivenAccess rows) (some_is e) ((λ h. false≢true (on h)), sym u, sym p, sym f)
+  rows_name_given true user pass (Some path) access e none on off u p f = let k : ◌≡◌ {A = Option GivenAccess} None (Some access) = e in absurd cc
+  rows_name_given false None pass (Some path) access e none on off u p f = let k : ◌≡◌ {A = Option GivenAccess} None (Some access) = e in absurd cc
+  rows_name_given false (Some user) (Some pass) (Some path) access e none on off u p f = let k : ◌≡◌ {A = Option GivenAccess} None (Some access) = e in absurd cc
+
+pub access_is_named : (found : Found) (is_preauth : Bool) (user pass file : Option (Bor (List ℕ))) (r : Option GivenAccess) → r ≡ given_access_of is_preauth user pass file
     → ((one_text found (codes "preauth") ≡ None) → is_preauth ≡ false) → ((one_text found (codes "preauth") ≡ Some (codes "true")) → is_preauth ≡ true)
     → ((one_text found (codes "preauth") ≡ Some (codes "false")) → is_preauth ≡ false)
-    → option_map (λ s. s.now) user ≡ first_value found (codes "user") → option_map (λ s. s.now) pass ≡ first_value found (codes "pass") → IfSome r (NamesAccess (rows_of found))
-access_is_named found is_preauth user pass None e none on off u p = tt
-access_is_named found is_preauth user pass (Some access) e none on off u p =
+    → option_map (λ s. s.now) user ≡ first_value found (codes "user") → option_map (λ s. s.now) pass ≡ first_value found (codes "pass")
+    → option_map (λ s. s.now) file ≡ first_value found (codes "pass-file") → IfSome r (NamesGivenAccess (rows_of found))
+access_is_named found is_preauth user pass file None e none on off u p f = tt
+access_is_named found is_preauth user pass file (Some access) e none on off u p f =
     let one = one_text_of_rows found (codes "preauth") in
-    rows_name_access (rows_of found) is_preauth user pass access (sym e) (λ h. none (one ∙ h)) (λ h. on (one ∙ h)) (λ h. off (one ∙ h)) (u ∙ first_value_of_rows found (codes "user")) (p ∙ first_value_of_rows found (codes "pass"))
+    rows_name_given (rows_of found) is_preauth user pass file access (sym e) (λ h. none (one ∙ h)) (λ h. on (one ∙ h)) (λ h. off (one ∙ h))
+    (u ∙ first_value_of_rows found (codes "user")) (p ∙ first_value_of_rows found (codes "pass")) (f ∙ first_value_of_rows found (codes "pass-file"))
 
 -- ---- the bound of each journal
 

@@ -1,5 +1,5 @@
--- The words of the server's command line, in the terms of `clap`, and the access, the bound of
--- journals and the store that they name.
+-- The words of the server's command line, in the terms of `clap`, and the access, the limits, the
+-- bound of journals and the store that they name.
 
 use Rattle.std.specs.Prelude.{◌≡◌, ℕ, true, List, Option, None, Some, codes}
 use Rattle.std.specs.Borrow.{Bor}
@@ -8,9 +8,12 @@ use Rattle.clap.specs.Lexer.{usize_max}
 use Rattle.clap.specs.Words.{App, Row, Rule, first_of, new_app, new_rule, one_of, with_rule}
 use Rattle.clap.specs.declared.builder.action.ArgAction.TheVariants.{Append, Set, SetTrue}
 use Rattle.clap.specs.declared.builder.value_parser.ValueParser.TheVariants.{Unsigned}
-use Rattle.server_settings.specs.Settings.{IsJournalBound}
+use Rattle.server_settings.specs.Settings.{IsJournalBound, IsNumberOption}
 use Rattle.server_settings.specs.declared.settings.Access.{Access}
 use Rattle.server_settings.specs.declared.settings.Access.TheVariants.{Password, Preauth}
+use Rattle.server_settings.specs.declared.settings.ClientLimits.{ClientLimits}
+use Rattle.server_settings.specs.declared.settings.GivenAccess.{GivenAccess}
+use Rattle.server_settings.specs.declared.settings.GivenAccess.TheVariants.{PassFile, Whole}
 
 -- ---- the words that the program knows
 
@@ -21,6 +24,10 @@ preauth_word =
 -- A word with a value.
 abbrev pub word_with_value : List ℕ → Rule
 word_with_value name = record (new_rule name) { long = Some name; action = Some Set }
+
+-- A word whose value is a number from 1 to `most`.
+abbrev pub number_word : List ℕ → ℕ → Rule
+number_word name most = record (word_with_value name) { parser = Some (Unsigned 1 most) }
 
 abbrev pub stop_word : Rule
 stop_word = record (word_with_value (codes "stop-after")) { parser = Some (Unsigned 0 4294967295) }
@@ -39,8 +46,16 @@ replica_word =
 -- The words for users.
 abbrev pub with_access_words : App → App
 with_access_words app =
-    with_rule (with_rule (with_rule app preauth_word) (word_with_value (codes "user")))
-    (word_with_value (codes "pass"))
+    with_rule (with_rule (with_rule (with_rule app preauth_word) (word_with_value (codes "user")))
+    (word_with_value (codes "pass"))) (word_with_value (codes "pass-file"))
+
+-- The words for limits: seconds to log in, seconds of silence, seconds for an answer that isn't
+-- taken, and octets of a command's literals.
+abbrev pub with_limit_words : App → App
+with_limit_words app =
+    with_rule (with_rule (with_rule (with_rule app (number_word (codes "login-time") 4294967295))
+    (number_word (codes "idle-time") 4294967295)) (number_word (codes "write-time") 4294967295))
+    (number_word (codes "literal-limit") 20971520)
 
 -- The words for the end of the server, for journals, for the store, for replicas that join, and
 -- for replicas.
@@ -49,9 +64,14 @@ with_replica_words app =
     with_rule (with_rule (with_rule (with_rule (with_rule app stop_word)
     (word_with_value (codes "journal"))) (word_with_value (codes "store"))) join_word) replica_word
 
--- All words that the program knows.
+-- The program has a version, so clap adds its own word for it, `--version`.
+abbrev pub with_version : App → App
+with_version app = record app { top = record app.top { has_version = true } }
+
+-- All words that the program knows; clap also adds `--help`.
 abbrev pub server_words : App
-server_words = with_replica_words (with_access_words (new_app (codes "imap_server")))
+server_words = with_replica_words
+    (with_limit_words (with_access_words (with_version (new_app (codes "imap_server")))))
 
 -- ---- who may use the server
 
@@ -70,6 +90,29 @@ NamesAccess rows (Password user pass) =
     ((one_of (codes "preauth") rows ≡ Some (codes "true")) → ⊥)
     × (first_of (codes "user") rows ≡ Some user.now)
     × (first_of (codes "pass") rows ≡ Some pass.now)
+
+-- The access that was named, all of it in words and no `--pass-file`; or the user and the file,
+-- and neither `--preauth` nor `--pass`.
+abbrev pub NamesGivenAccess : List Row → GivenAccess → Type 0
+NamesGivenAccess rows (Whole access) =
+    NamesAccess rows access × (first_of (codes "pass-file") rows ≡ None)
+NamesGivenAccess rows (PassFile user path) =
+    ((one_of (codes "preauth") rows ≡ Some (codes "true")) → ⊥)
+    × (first_of (codes "user") rows ≡ Some user.now)
+    × (first_of (codes "pass") rows ≡ None)
+    × (first_of (codes "pass-file") rows ≡ Some path.now)
+
+-- ---- the limits on clients
+
+-- Each limit is the number of its word's value, from 1 on; without the word, 60 seconds to log in,
+-- 30 minutes of silence, 60 seconds for an answer that isn't taken, and 1 MiB of literals, of at
+-- most 20.
+pub record NamesLimits (rows : List Row) (limits : ClientLimits) : Type 0 where
+  pub login_time : IsNumberOption (one_of (codes "login-time") rows) 60 4294967295 limits.login_time
+  pub idle_time : IsNumberOption (one_of (codes "idle-time") rows) 1800 4294967295 limits.idle_time
+  pub write_time : IsNumberOption (one_of (codes "write-time") rows) 60 4294967295 limits.write_time
+  pub literals : IsNumberOption (one_of (codes "literal-limit") rows) 1048576 20971520
+      limits.literals
 
 -- ---- the bound of each journal
 

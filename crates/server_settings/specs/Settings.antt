@@ -1,14 +1,16 @@
--- The replicas that a command line names, the form of the words that name them, and the bound of
--- their journals.
+-- The replicas that a command line names, the form of the words that name them, the limits on
+-- clients, and the bound of the journals.
 
-use Rattle.std.specs.Prelude.{◌≡◌, ◌≢◌, ◌<◌, ◌==◌, ◌*◌, ◌^◌, ◌⊎◌, ℕ, Bool, false, true, List, []}
-use Rattle.std.specs.Prelude.{◌∷◌, ◌++◌, Option, None, Some, codes, map}
+use Rattle.std.specs.Prelude.{◌≡◌, ◌≢◌, ◌<◌, ◌≤◌, ◌==◌, ◌*◌, ◌^◌, ◌⊎◌, ℕ, Bool, false, true, List, []}
+use Rattle.std.specs.Prelude.{◌∷◌, ◌++◌, Option, None, Some, codes, map, option_map}
 use Rattle.std.specs.Borrow.{Bor}
 use Rattle.std.specs.Fmt.{decimal}
 use Rattle.std.specs.List.{list_any}
 use Rattle.std.specs.Str.Parse.{IsNumeral, digits_value, without_leading_plus}
 use Rattle.server_settings.specs.declared.settings.Access.{Access}
 use Rattle.server_settings.specs.declared.settings.Access.TheVariants.{Password, Preauth}
+use Rattle.server_settings.specs.declared.settings.GivenAccess.{GivenAccess}
+use Rattle.server_settings.specs.declared.settings.GivenAccess.TheVariants.{PassFile, Whole}
 use Rattle.server_settings.specs.declared.settings.Join.{Join}
 use Rattle.server_settings.specs.declared.settings.Place.{Place}
 
@@ -72,6 +74,13 @@ IsNumberText text number =
     IsNumeral 10 (without_leading_plus text)
     × (number ≡ digits_value 10 (without_leading_plus text))
 
+-- The number of an option, by its value: `otherwise` if it isn't given, and else the number from 1
+-- to `most` that the value is.
+abbrev pub IsNumberOption : Option (List ℕ) → ℕ → ℕ → ℕ → Type 0
+IsNumberOption None otherwise most number = number ≡ otherwise
+IsNumberOption (Some text) otherwise most number =
+    IsNumberText text number × (0 < number) × (number ≤ most)
+
 -- The text is a unit of this many octets: no text is a single octet, and `K`, `M` and `G` are
 -- powers of 1,024.
 abbrev pub IsUnit : List ℕ → ℕ → Type 0
@@ -105,3 +114,15 @@ abbrev pub access_of : Bool → Option (Bor (List ℕ)) → Option (Bor (List �
 access_of true None None = Some Preauth
 access_of false (Some user) (Some pass) = Some (Password user pass)
 access_of _ _ _ = None
+
+-- The same where the password may be that of a file: the file takes the place of the password.
+abbrev pub given_access_of : Bool → Option (Bor (List ℕ)) → Option (Bor (List ℕ))
+    → Option (Bor (List ℕ)) → Option GivenAccess
+given_access_of preauth user pass None = option_map Whole (access_of preauth user pass)
+given_access_of false (Some user) None (Some path) = Some (PassFile user path)
+given_access_of _ _ _ (Some path) = None
+
+-- The access, with this password if it is one of a file.
+abbrev pub access_with_pass : GivenAccess → Bor (List ℕ) → Access
+access_with_pass (Whole access) pass = access
+access_with_pass (PassFile user path) pass = Password user pass

@@ -2,19 +2,22 @@
 
 ghost use Rattle.std.specs.Prelude.{List, ℕ, ◌≡◌, ◌++◌, ◌∷◌, ◌<◌, ◌≤◌, [], false, true, IfNone};
 ghost use Rattle.std.specs.Prelude.{IfOk, IfSome, OnOk, Some, map, option_map, slice_get};
-ghost use Rattle.clap.specs.Words.{IsUnsignedIn, app_of, found_of, matches_of, rows_of};
+ghost use Rattle.clap.specs.Words.{IsUnsignedIn, app_of, found_of, matches_of, one_of, rows_of};
 ghost use Rattle.clap_laws.specs.Words.{AddWords, IsWord};
-ghost use Rattle.server_settings.specs.Options.{NamesAccess, NamesJournalBound, NamesStore};
-ghost use Rattle.server_settings.specs.Options.{join_word};
+ghost use Rattle.server_settings.specs.Options.{NamesGivenAccess, NamesJournalBound, NamesLimits};
+ghost use Rattle.server_settings.specs.Options.{NamesStore, join_word, number_word};
 ghost use Rattle.server_settings.specs.Options.{preauth_word, replica_word, server_words};
-ghost use Rattle.server_settings.specs.Options.{stop_word, with_access_words, with_replica_words};
-ghost use Rattle.server_settings.specs.Options.{word_with_value};
+ghost use Rattle.server_settings.specs.Options.{stop_word, with_access_words, with_limit_words};
+ghost use Rattle.server_settings.specs.Options.{with_replica_words, word_with_value};
 ghost use Rattle.server_settings.specs.Settings.{AreNames, HavePeers, IsJoinText, IsJournalBound};
-ghost use Rattle.server_settings.specs.Settings.{IsNameText, IsNumberText, IsPlaceText, IsUnit};
-ghost use Rattle.server_settings.specs.Settings.{access_of, is_named, join_names_of, names_of};
+ghost use Rattle.server_settings.specs.Settings.{IsNameText, IsNumberOption, IsNumberText};
+ghost use Rattle.server_settings.specs.Settings.{IsPlaceText, IsUnit};
+ghost use Rattle.server_settings.specs.Settings.{access_of, access_with_pass, given_access_of};
+ghost use Rattle.server_settings.specs.Settings.{is_named, join_names_of, names_of};
 ghost use Rattle.server_settings.specs.declared.settings.Join.{Join};
 ghost use Rattle.server_settings.specs.declared.settings.Place.{Place};
 
+use crate::VERSION;
 use clap::builder::ValueParser;
 use clap::error::ErrorKind;
 use clap::{Arg, ArgAction, ArgMatches, Command, Error};
@@ -33,6 +36,56 @@ pub enum Access<'a> {
         /// The password.
         pass: &'a str,
     },
+}
+
+/// Who may use the server, as a command line names it.
+#[derive(Clone, Copy, Debug, PartialEq, Eq)]
+pub enum GivenAccess<'a> {
+    /// The words have all of it.
+    Whole(Access<'a>),
+    /// A client that gives this user and the password of a file.
+    PassFile {
+        /// The user.
+        user: &'a str,
+        /// The file's path, as it was given.
+        path: &'a str,
+    },
+}
+
+impl<'a> GivenAccess<'a> {
+    /// The access, with this password if it is one of a file.
+    pub fn with_pass(self, pass: &'a str) -> Access<'a>
+        ensures { result ≡ access_with_pass self.entry pass.entry }
+    {
+        match self {
+            GivenAccess::Whole(access) => access,
+            GivenAccess::PassFile { user, path: _ } => Access::Password { user, pass },
+        }
+    }
+}
+
+/// How long the server waits for a client, and how large the literals of its commands may be.
+#[derive(Clone, Copy, Debug, PartialEq, Eq)]
+pub struct ClientLimits {
+    /// How long a client may take to log in, in seconds, from 1 on.
+    pub login_time: u32,
+    /// How long a client that is logged in may be silent, in seconds, from 1 on.
+    pub idle_time: u32,
+    /// How long a client may leave an answer untaken, in seconds, from 1 on.
+    pub write_time: u32,
+    /// The most octets in the literals of a command, from 1 to 20,971,520.
+    pub literals: u32,
+}
+
+impl ClientLimits {
+    /// The limits unless the command line names others: 60 seconds, 30 minutes, 60 seconds, and
+    /// 1,048,576 octets.
+    pub const STANDARD: ClientLimits = ClientLimits {
+        login_time: 60,
+        idle_time: 1_800,
+        write_time: 60,
+        literals: 1_048_576,
+    };
 }
 
 /// A replica, and the address at which it listens.
@@ -57,7 +110,9 @@ pub struct Join<'a> {
 #[derive(Drop)]
 pub struct CommandLine<'a> {
     /// Who may use the server.
-    pub access: Access<'a>,
+    pub access: GivenAccess<'a>,
+    /// How long it waits for clients, and how large their literals may be.
+    pub limits: ClientLimits,
     /// The number of connections after which the server stops, if it does.
     pub stop_after: Option<u32>,
     /// The most octets that each replica's journal may take; `None` if there is no bound.
@@ -119,7 +174,7 @@ fn place_among_joins(joins: &[Join<'_>], name: u16) -> Option<usize>
 /// Why the command line gives no settings.
 #[derive(Drop)]
 pub enum SettingsFault<'a> {
-    /// Its words are wrong, or ask for help, or memory ran out for them.
+    /// Its words are wrong, or ask for help or the version, or memory ran out for them.
     Words(Error),
     /// The value of a word can't be used.
     Usage(UsageFault<'a>),
@@ -131,6 +186,9 @@ pub enum UsageFault<'a> {
     /// The words name no access, or two.
     #[error("usage: give --preauth, or --user and --pass")]
     Access,
+    /// A limit's value is no number in its range. clap refuses such a value before.
+    #[error("usage: bad limit")]
+    BadLimit,
     /// This word names no replica.
     #[error("usage: bad replica {0}")]
     BadReplica(&'a str),
@@ -148,15 +206,18 @@ pub enum UsageFault<'a> {
 /// Reads the words of a command line; the first is the program's name. Errors are found in this
 /// order: in the words, in the access, in the journals' bound, in the replicas in their order, and
 /// in those that are to join in theirs. The access is the one that clap finds in the words: only
-/// `--preauth`, or `--user` and `--pass` without it. The journals' bound is that of the value of
-/// `--journal`, and 64M without it, and the store the value of `--store`. The replicas' names are
-/// distinct, from 1 to 65,535; each that joins takes the operations of one that exists before it.
+/// `--preauth`, or without it `--user` and either `--pass` or `--pass-file`. Each limit is the
+/// number that its word's value spells. The journals' bound is that of the value of `--journal`,
+/// and 64M without it, and the store the value of `--store`. The replicas' names are distinct, from
+/// 1 to 65,535; each that joins takes the operations of one that exists before it.
 pub fn read_settings<'a>(
     alloc: Global,
     words: &'a [String],
 ) -> Result<CommandLine<'a>, SettingsFault<'a>>
-    ensures access { IfOk result (λ settings. NamesAccess
+    ensures access { IfOk result (λ settings. NamesGivenAccess
         (matches_of server_words (map ⟦<String as AsStr>⟧.text words.entry.now)) settings.access) }
+    ensures limits { IfOk result (λ settings. NamesLimits
+        (matches_of server_words (map ⟦<String as AsStr>⟧.text words.entry.now)) settings.limits) }
     ensures journal { IfOk result (λ settings. NamesJournalBound
         (matches_of server_words (map ⟦<String as AsStr>⟧.text words.entry.now)) settings.journal) }
     ensures store { IfOk result (λ settings. NamesStore
@@ -172,6 +233,9 @@ pub fn read_settings<'a>(
     };
     let Some(access) = access_in(&matches) else {
         return Err(SettingsFault::Usage(UsageFault::Access));
+    };
+    let Some(limits) = limits_in(&matches) else {
+        return Err(SettingsFault::Usage(UsageFault::BadLimit));
     };
     let stop_after = matches.get_one::<u32>("stop-after");
     let journal = match journal_bound(alloc, matches.get_str("journal")) {
@@ -194,6 +258,7 @@ pub fn read_settings<'a>(
     };
     Ok(CommandLine {
         access,
+        limits,
         stop_after,
         journal,
         store,
@@ -203,13 +268,49 @@ pub fn read_settings<'a>(
 }
 
 /// The access that the words name; `None` if they name none, or two.
-fn access_in<'a>(matches: &ArgMatches<'a>) -> Option<Access<'a>>
-    ensures { IfSome result (λ access. NamesAccess (rows_of (found_of matches.now)) access) }
+fn access_in<'a>(matches: &ArgMatches<'a>) -> Option<GivenAccess<'a>>
+    ensures { IfSome result (λ access. NamesGivenAccess (rows_of (found_of matches.now)) access) }
 {
     let is_preauth = matches.get_flag("preauth");
     let user = matches.get_str("user");
     let pass = matches.get_str("pass");
-    access_of(is_preauth, user, pass)
+    let pass_file = matches.get_str("pass-file");
+    given_access_of(is_preauth, user, pass, pass_file)
+}
+
+/// The limits that the words name; `None` if a value is no number in its range.
+fn limits_in(matches: &ArgMatches<'_>) -> Option<ClientLimits>
+    ensures { IfSome result (λ limits. NamesLimits (rows_of (found_of matches.now)) limits) }
+{
+    let standard = ClientLimits::STANDARD;
+    let login_time = number_in(matches, "login-time", standard.login_time, u32::MAX)?;
+    let idle_time = number_in(matches, "idle-time", standard.idle_time, u32::MAX)?;
+    let write_time = number_in(matches, "write-time", standard.write_time, u32::MAX)?;
+    let literals = number_in(matches, "literal-limit", standard.literals, MOST_LITERALS)?;
+    Some(ClientLimits {
+        login_time,
+        idle_time,
+        write_time,
+        literals,
+    })
+}
+
+/// The number from 1 to `most` that the value of a word spells, or `otherwise` without a value.
+/// `None` if it spells no such number.
+fn number_in(matches: &ArgMatches<'_>, word: &str, otherwise: u32, most: u32) -> Option<u32>
+    ensures { IfSome result (λ number. IsNumberOption
+        (one_of word.now (rows_of (found_of matches.now))) otherwise most number) }
+{
+    match matches.try_get_one::<u32>(word) {
+        Ok(None) => Some(otherwise),
+        Ok(Some(number)) => {
+            if number == 0 || number > most {
+                return None;
+            }
+            Some(number)
+        }
+        Err(_) => None,
+    }
 }
 
 fn find_words<'a>(alloc: Global, words: &'a [String]) -> Result<ArgMatches<'a>, Error>
@@ -225,17 +326,20 @@ fn command_words<'a>(alloc: Global) -> Result<Command<'a>, AllocError>
     ensures { IfOk result (λ command. app_of command ≡ server_words) }
 {
     let words = known_words(alloc)?;
-    Command::new(alloc, "imap_server").about(ABOUT).args(words)
+    Command::new(alloc, "imap_server")
+        .version(VERSION)
+        .about(ABOUT)
+        .args(words)
 }
 
 const ABOUT: &str =
     "Serves the mail of one user over IMAP, at several replicas that take changes from each other. Mail lives as long as the program runs, or in the folder that --store names.";
 
-/// The arguments for users, followed by those for the end of the server, for journals, for the
-/// store, for replicas that join, and for replicas.
+/// The arguments for users, followed by those for limits, for the end of the server, for journals,
+/// for the store, for replicas that join, and for replicas.
 fn known_words<'a>(alloc: Global) -> Result<Vec<Arg<'a>>, AllocError>
-    ensures { IfOk result
-        (λ words. AddWords words.items (λ app. with_replica_words (with_access_words app))) }
+    ensures { IfOk result (λ words. AddWords words.items
+        (λ app. with_replica_words (with_limit_words (with_access_words app)))) }
 {
     let words = vec![in alloc;
         preauth(alloc),
@@ -244,6 +348,35 @@ fn known_words<'a>(alloc: Global) -> Result<Vec<Arg<'a>>, AllocError>
             alloc,
             "pass",
             "This is the password with which the user logs in.",
+        ),
+        word_with_value(
+            alloc,
+            "pass-file",
+            "The first line of this file is the password, in place of --pass, which other users of the machine can read.",
+        ),
+        number_word(
+            alloc,
+            "login-time",
+            4_294_967_295,
+            "A client has this many seconds to log in. Otherwise it has 60.",
+        ),
+        number_word(
+            alloc,
+            "idle-time",
+            4_294_967_295,
+            "A client that is logged in may be silent for this many seconds. Otherwise for 1800; RFC 9051 wants no fewer.",
+        ),
+        number_word(
+            alloc,
+            "write-time",
+            4_294_967_295,
+            "A client may leave an answer untaken for this many seconds. Otherwise for 60.",
+        ),
+        number_word(
+            alloc,
+            "literal-limit",
+            20_971_520,
+            "The literals of a command, as a message, have at most this many octets, up to 20971520. Otherwise 1048576.",
         ),
         stop_after(alloc),
         word_with_value(
@@ -281,6 +414,13 @@ fn word_with_value<'a>(alloc: Global, name: &'a str, help: &'a str) -> Arg<'a>
         .help(help)
 }
 
+/// An argument whose value is a number from 1 to `most`.
+fn number_word<'a>(alloc: Global, name: &'a str, most: u64, help: &'a str) -> Arg<'a>
+    ensures { IsWord result (number_word name.entry.now most) }
+{
+    word_with_value(alloc, name, help).value_parser(ValueParser::unsigned(1, most))
+}
+
 fn stop_after<'a>(alloc: Global) -> Arg<'a>
     ensures { IsWord result stop_word }
 {
@@ -314,6 +454,9 @@ fn replica<'a>(alloc: Global) -> Arg<'a>
             "Each replica has a number from 1 to 65535 and an address at which it listens, as in 1=127.0.0.1:1431.",
         )
 }
+
+/// The most octets that the literals of a command may ever have: 20 MiB.
+const MOST_LITERALS: u32 = 20 << 20;
 
 /// The bound of a journal unless the command line names one: 64M.
 const JOURNAL_BOUND: u64 = 64 << 20;
@@ -387,6 +530,28 @@ pub fn access_of<'a>(
     match (preauth, user, pass) {
         (true, None, None) => Some(Access::Preauth),
         (false, Some(user), Some(pass)) => Some(Access::Password { user, pass }),
+        _ => None,
+    }
+}
+
+/// The access that these options name: that of [`access_of`] without a password's file, or only a
+/// user and the file. `None` if they name none, or two.
+pub fn given_access_of<'a>(
+    preauth: bool,
+    user: Option<&'a str>,
+    pass: Option<&'a str>,
+    pass_file: Option<&'a str>,
+) -> Option<GivenAccess<'a>>
+    ensures { result ≡ given_access_of preauth user.entry pass.entry pass_file.entry }
+{
+    let Some(path) = pass_file else {
+        return match access_of(preauth, user, pass) {
+            Some(access) => Some(GivenAccess::Whole(access)),
+            None => None,
+        };
+    };
+    match (preauth, user, pass) {
+        (false, Some(user), None) => Some(GivenAccess::PassFile { user, path }),
         _ => None,
     }
 }

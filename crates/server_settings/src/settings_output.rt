@@ -2,8 +2,8 @@
 
 ghost use Rattle.std.specs.Prelude.{◌++◌, IfOk, map};
 ghost use Rattle.clap.specs.Words.{matches_of};
-ghost use Rattle.server_settings.specs.Options.{NamesAccess, NamesJournalBound, NamesStore};
-ghost use Rattle.server_settings.specs.Options.{server_words};
+ghost use Rattle.server_settings.specs.Options.{NamesGivenAccess, NamesJournalBound, NamesLimits};
+ghost use Rattle.server_settings.specs.Options.{NamesStore, server_words};
 ghost use Rattle.server_settings.specs.Settings.{AreNames, HavePeers, names_of, join_names_of};
 
 use crate::settings::{CommandLine, SettingsFault, UsageFault, is_out_of_memory, read_settings};
@@ -11,14 +11,16 @@ use clap::Error;
 use std::convert::AsStr;
 
 /// Reads the words of a command line as `read_settings` does. If they give no settings, prints the
-/// reason, or the help that they ask for, and returns the program's status: 0 after help, 2 if the
-/// words are wrong, 1 if memory ran out or nothing could be printed.
+/// reason, or the help or the version that they ask for, and returns the program's status: 0 after
+/// help or the version, 2 if the words are wrong, 1 if memory ran out or nothing could be printed.
 pub fn settings_or_status<'a, R: Print + AllocGlobal>(
     rt: &R,
     words: &'a [String],
 ) -> Result<CommandLine<'a>, u8>
-    ensures access { IfOk result (λ settings. NamesAccess
+    ensures access { IfOk result (λ settings. NamesGivenAccess
         (matches_of server_words (map ⟦<String as AsStr>⟧.text words.entry.now)) settings.access) }
+    ensures limits { IfOk result (λ settings. NamesLimits
+        (matches_of server_words (map ⟦<String as AsStr>⟧.text words.entry.now)) settings.limits) }
     ensures journal { IfOk result (λ settings. NamesJournalBound
         (matches_of server_words (map ⟦<String as AsStr>⟧.text words.entry.now)) settings.journal) }
     ensures store { IfOk result (λ settings. NamesStore
@@ -34,8 +36,8 @@ pub fn settings_or_status<'a, R: Print + AllocGlobal>(
     }
 }
 
-/// Prints what is wrong with the command line, or the help that it asks for, and returns the
-/// status.
+/// Prints what is wrong with the command line, or the help or the version that it asks for, and
+/// returns the status.
 fn explain<R: Print>(rt: &R, why: SettingsFault<'_>) -> u8 {
     match why {
         SettingsFault::Words(error) => explain_words(rt, error),

@@ -25,7 +25,7 @@ fn scenario_passes<
         + Files<File = File>
         + Net<Listener = TcpListener, Stream = TcpStream>,
 >(rt: &R, alloc: Global, settings: &CommandLine<'_>, scenario: Scenario) -> Option<bool> {
-    let (server, parts) = open_all(rt, alloc, settings).ok()?;
+    let (server, parts) = open_all(rt, alloc, settings, settings.access.with_pass("")).ok()?;
     let (scenario_passes, whole) = thread::join(
         rt,
         || scenario.play(rt, alloc, &server),

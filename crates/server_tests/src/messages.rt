@@ -5,7 +5,7 @@ use crossbeam_channel::{Receiver, unbounded};
 use merge_laws::Caused;
 use replica_links::{LinkMsg, PeerLinks, PeerMsg};
 use server_runtime::{
-    Access, JoiningReplicas, PeerSender, ReplicaHandle, ServerState, StopCounter,
+    Access, ClientLimits, JoiningReplicas, PeerSender, ReplicaHandle, ServerState, StopCounter,
 };
 use std::alloc::Global;
 use std::net::{IpAddr, Ipv4Addr, SocketAddr};
@@ -142,6 +142,7 @@ fn sent<R: Wait>(rt: &R, alloc: Global) -> Option<[Parcel; 6]> {
     } = three_handles(alloc)?;
     let server = ServerState {
         access: Access::Preauth,
+        limits: ClientLimits::STANDARD,
         replicas: handles,
         joining: JoiningReplicas::new(Vec::new(alloc)),
         journal: None,

@@ -8,7 +8,8 @@ use imap_node::{Auth, MAX_SESSIONS, Node};
 use log::Log;
 use replica_lock::{Book, BookEvent, Pass, Shared};
 use server_runtime::{
-    Access, JoiningReplicas, ReplicaContext, ServerState, StopCounter, serve_over,
+    Access, ClientLimits, JoiningReplicas, ReplicaClients, ReplicaContext, ServerState,
+    StopCounter, serve_over,
 };
 use std::alloc::{AllocError, Global};
 use std::marker::Brand;
@@ -340,11 +341,16 @@ fn serve_first<L: Ledger + Send + Sync, M: Ledger, R: Threads + Wait + Clock + L
     pass: &mut Pass<L>,
     side: Side,
 ) -> Served<L> {
+    let Some(clients) = clients_of(alloc, 1) else {
+        drop(side);
+        return Err(AllocError);
+    };
     let context = ReplicaContext {
         server: setup.server,
         own: 0,
         shared: setup.one,
         store: None,
+        clients: &clients,
     };
     serve_side(rt, alloc, &context, pass, setup.signs, side)
 }
@@ -357,13 +363,23 @@ fn serve_second<L: Ledger, M: Ledger + Send + Sync, R: Threads + Wait + Clock + 
     pass: &mut Pass<M>,
     side: Side,
 ) -> Served<M> {
+    let Some(clients) = clients_of(alloc, 2) else {
+        drop(side);
+        return Err(AllocError);
+    };
     let context = ReplicaContext {
         server: setup.server,
         own: 0,
         shared: setup.two,
         store: None,
+        clients: &clients,
     };
     serve_side(rt, alloc, &context, pass, setup.signs, side)
+}
+
+/// The clients of the replica with this number.
+fn clients_of(alloc: Global, number: u32) -> Option<ReplicaClients> {
+    Some(ReplicaClients::new(alloc, ReplicaId::new(number)?))
 }
 
 /// Serves both replicas' connections, each in a thread.
@@ -508,6 +524,7 @@ fn played<L: Ledger + Send + Sync, M: Ledger + Send + Sync, R: Threads + Wait + 
     let (two, mut far) = Shared::<M>::new(blanks.1, books.1);
     let state = ServerState {
         access: Access::Preauth,
+        limits: ClientLimits::STANDARD,
         replicas: Vec::new(alloc),
         joining: JoiningReplicas::new(Vec::new(alloc)),
         journal: None,

@@ -1,6 +1,9 @@
 //! The server's command lines.
 
-use server_settings::{Access, CommandLine, SettingsFault, UsageFault, access_of, read_settings};
+use server_settings::{
+    Access, ClientLimits, CommandLine, GivenAccess, SettingsFault, UsageFault, access_of,
+    read_settings,
+};
 use std::alloc::{AllocError, Global};
 use std::test::*;
 
@@ -19,6 +22,19 @@ const ACCESSES: &[(&str, &str)] = &[
         "usage: give --preauth, or --user and --pass",
     ),
     ("imap_server --user u --pass p 1=a", "password 1 false"),
+    ("imap_server --user u --pass-file f 1=a", "file 1 false"),
+    (
+        "imap_server --user u --pass p --pass-file f 1=a",
+        "usage: give --preauth, or --user and --pass",
+    ),
+    (
+        "imap_server --preauth --pass-file f 1=a",
+        "usage: give --preauth, or --user and --pass",
+    ),
+    (
+        "imap_server --pass-file f 1=a",
+        "usage: give --preauth, or --user and --pass",
+    ),
     ("imap_server --preauth 1=a 2=b", "preauth 2 false"),
 ];
 
@@ -82,6 +98,27 @@ const JOURNALS: &[(&str, Option<Option<u64>>)] = &[
     ("All", None),
     ("x", None),
     ("-1", None),
+];
+
+/// Words with limits, and the seconds and octets that they name; `None` if clap refuses them.
+const LIMITS: &[(&str, Option<(u32, u32, u32, u32)>)] = &[
+    ("--preauth", Some((60, 1_800, 60, 1_048_576))),
+    (
+        "--preauth --login-time 1 --idle-time 2 --write-time 3 --literal-limit 4",
+        Some((1, 2, 3, 4)),
+    ),
+    (
+        "--preauth --login-time 4294967295 --literal-limit 20971520",
+        Some((4_294_967_295, 1_800, 60, 20_971_520)),
+    ),
+    ("--preauth --login-time 0", None),
+    ("--preauth --idle-time 0", None),
+    ("--preauth --write-time 0", None),
+    ("--preauth --literal-limit 0", None),
+    ("--preauth --login-time 4294967296", None),
+    ("--preauth --literal-limit 20971521", None),
+    ("--preauth --idle-time 30m", None),
+    ("--preauth --write-time -1", None),
 ];
 
 /// Command lines with a word that names no replica that can join replicas 1 and 2.
@@ -188,8 +225,9 @@ fn words_of(alloc: Global, line: &str) -> Result<Vec<String>, AllocError> {
 /// connections.
 fn settings_text(alloc: Global, settings: &CommandLine<'_>) -> Result<String, AllocError> {
     let access = match settings.access {
-        Access::Preauth => "preauth",
-        Access::Password { .. } => "password",
+        GivenAccess::Whole(Access::Preauth) => "preauth",
+        GivenAccess::Whole(Access::Password { .. }) => "password",
+        GivenAccess::PassFile { .. } => "file",
     };
     format!(in alloc;
         "{access} {} {}",
@@ -266,6 +304,61 @@ fn journals_have_bounds(rt: HostRuntime) -> Result<(), Fail> {
     assert_eq!(rt; first_other_bound(alloc, JOURNALS), None);
     let words = words_of(alloc, "imap_server --preauth 1=a")?;
     assert_eq!(rt; bound_of_words(alloc, &words), Some(Some(67_108_864)));
+    Ok(())
+}
+
+/// The limits of these words; `None` if they are refused.
+fn limits_of_words(alloc: Global, words: &[String]) -> Option<ClientLimits> {
+    match read_settings(alloc, words) {
+        Ok(settings) => Some(settings.limits),
+        Err(_) => None,
+    }
+}
+
+/// Whether the words name just these limits.
+fn has_limits(alloc: Global, words: &str, expected: Option<(u32, u32, u32, u32)>) -> bool {
+    let Ok(line) = format!(in alloc; "imap_server {words} 1=a") else {
+        return false;
+    };
+    let Ok(words) = words_of(alloc, line.as_str()) else {
+        return false;
+    };
+    let limits = limits_of_words(alloc, &words).map(|it| (
+        it.login_time,
+        it.idle_time,
+        it.write_time,
+        it.literals,
+    ));
+    limits == expected
+}
+
+#[test]
+fn limits_are_numbers(rt: HostRuntime) {
+    let first = LIMITS
+        .iter()
+        .position(|row| !has_limits(rt.alloc(), row.0, row.1));
+    assert_eq!(rt; first, None);
+}
+
+/// The access that a command line names, with a password if it is one of a file.
+fn access_with_pass<'a>(alloc: Global, words: &'a [String], pass: &'a str) -> Option<Access<'a>> {
+    match read_settings(alloc, words) {
+        Ok(settings) => Some(settings.access.with_pass(pass)),
+        Err(_) => None,
+    }
+}
+
+#[test]
+fn a_file_takes_the_place_of_a_password(rt: HostRuntime) -> Result<(), Fail> {
+    let alloc = rt.alloc();
+    let of_file = Access::Password {
+        user: "u",
+        pass: "of file",
+    };
+    let words = words_of(alloc, "imap_server --user u --pass-file f 1=a")?;
+    assert!(rt; access_with_pass(alloc, &words, "of file") == Some(of_file));
+    let words = words_of(alloc, "imap_server --preauth 1=a")?;
+    assert!(rt; access_with_pass(alloc, &words, "of file") == Some(Access::Preauth));
     Ok(())
 }
 

@@ -1,7 +1,7 @@
 //! The server's output and status if a command line gives no settings.
 
 use crate::programs::screen::Screen;
-use server_settings::{print_fault, settings_or_status};
+use server_settings::{VERSION, print_fault, settings_or_status};
 use std::alloc::{AllocError, Global};
 
 /// Command lines with a value that can't be used, and what is printed.
@@ -30,6 +30,14 @@ const BAD_WORDS: &[(&str, &str)] = &[
         "error: invalid value '4294967296' for '--stop-after <stop-after>': 4294967296 is not in 0..=4294967295\n\nFor more information, try '--help'.\n",
     ),
     (
+        "imap_server --preauth --login-time 0 1=a",
+        "error: invalid value '0' for '--login-time <login-time>': 0 is not in 1..=4294967295\n\nFor more information, try '--help'.\n",
+    ),
+    (
+        "imap_server --preauth --literal-limit 20971521 1=a",
+        "error: invalid value '20971521' for '--literal-limit <literal-limit>': 20971521 is not in 1..=20971520\n\nFor more information, try '--help'.\n",
+    ),
+    (
         "imap_server --preauth --journal x 1=a",
         "error: invalid value 'x' for '--journal <journal>': invalid digit found in string\n\nFor more information, try '--help'.\n",
     ),
@@ -46,14 +54,20 @@ const BAD_WORDS: &[(&str, &str)] = &[
 /// Parts of the help: how to use the program, and each word that it knows.
 const HELP_PARTS: &[&str] = &[
     "\n\nUsage: imap_server [OPTIONS] <REPLICA>...\n\nArguments:\n  <REPLICA>...  ",
-    "\n\nOptions:\n      --preauth                  ",
-    "\n      --user <user>              ",
-    "\n      --pass <pass>              ",
-    "\n      --stop-after <stop-after>  ",
-    "\n      --journal <journal>        ",
-    "\n      --store <store>            ",
-    "\n      --join <join>              ",
-    "\n  -h, --help                     Print help\n",
+    "\n\nOptions:\n      --preauth                        ",
+    "\n      --user <user>                    ",
+    "\n      --pass <pass>                    ",
+    "\n      --pass-file <pass-file>          ",
+    "\n      --login-time <login-time>        ",
+    "\n      --idle-time <idle-time>          ",
+    "\n      --write-time <write-time>        ",
+    "\n      --literal-limit <literal-limit>  ",
+    "\n      --stop-after <stop-after>        ",
+    "\n      --journal <journal>              ",
+    "\n      --store <store>                  ",
+    "\n      --join <join>                    ",
+    "\n  -h, --help                           Print help\n",
+    "\n  -V, --version                        Print version\n",
 ];
 
 /// The words of a command line, cut at spaces.
@@ -112,6 +126,27 @@ fn help_ends_with_status_0(rt: HostRuntime) {
     assert!(rt; gives_help(rt.alloc(), "imap_server 1 -h"));
 }
 
+/// Whether just the program's name and its version are printed, and the status is 0.
+fn gives_version(alloc: Global, line: &str) -> bool {
+    let Ok(text) = format!(in alloc; "imap_server {VERSION}\n") else {
+        return false;
+    };
+    let screen = Screen::new(alloc, true);
+    status_of(alloc, &screen, line) == Some(0) && screen.has_shown(&text)
+}
+
+/// Whether a text is three numbers with dots between them.
+fn is_version(text: &str) -> bool {
+    text.split('.').count() == 3 && text.split('.').all(|part| part.parse::<u16>().is_ok())
+}
+
+#[test]
+fn version_ends_with_status_0(rt: HostRuntime) {
+    assert!(rt; gives_version(rt.alloc(), "imap_server --version"));
+    assert!(rt; gives_version(rt.alloc(), "imap_server --preauth 1=a -V"));
+    assert!(rt; is_version(VERSION));
+}
+
 /// Whether the status is 1 if nothing can be printed.
 fn fails_without_a_screen(alloc: Global, line: &str) -> bool {
     let screen = Screen::new(alloc, false);
@@ -129,5 +164,6 @@ fn faults_of_the_run_end_with_status_1(rt: HostRuntime) {
     assert!(rt; fails_without_a_screen(rt.alloc(), "imap_server 1=127.0.0.1:1"));
     assert!(rt; fails_without_a_screen(rt.alloc(), "imap_server"));
     assert!(rt; fails_without_a_screen(rt.alloc(), "imap_server --help"));
+    assert!(rt; fails_without_a_screen(rt.alloc(), "imap_server --version"));
     assert!(rt; prints_a_run_fault(rt.alloc()));
 }

@@ -1,5 +1,4 @@
-use Rattle.std.proofs.Common.{take, ap, refl, rules}
-use Rattle.imap_lex.specs.Framing.{FramerState}
+use Rattle.std.proofs.Common.{take, refl, rules}
 use Rattle.imap_connection.proofs.ConversationsLemmas.{underway_closed, underway_ends, underway_first, underway_next, underway_read_failed, underway_write_failed, underway_wrote}
 use Rattle.imap_connection.proofs.conversations.answer_all.Goals as goal
 
@@ -42,8 +41,8 @@ pub loop-init : goal.loop-init
 loop-init g c = (
   tt,
   tt,
-  underway_first g.P.Port.steps c.args.talk.now.idling c.args.talk.now.framer.state (ap (λ (f : FramerState). f.state) c.requires.framer) c.requires.idling,
-  ap (λ (f : FramerState). f.limits) c.requires.framer,
+  underway_first g.P.Port.steps c.args.talk.now.idling c.args.talk.now.framer.state c.requires.framer c.requires.idling,
+  refl,
   refl,
   refl,
   search rules,

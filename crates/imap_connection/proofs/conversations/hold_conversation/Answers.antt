@@ -1,16 +1,23 @@
-use Rattle.std.proofs.Common.{◌++◌, inl, refl, rules}
+use Rattle.std.proofs.Common.{◌++◌, Ok, ap, inl, refl, rules, subst}
 use Rattle.imap_answers.specs.AnswerText.{text_of_answer}
 use Rattle.imap_answers.specs.declared.answer.Answer.TheVariants.{Greeting}
+use Rattle.imap_lex.specs.Framing.{FramerState, cut_from, start}
+use Rattle.imap_lex.specs.declared.limits.Limits.{Limits}
+use Rattle.imap_connection.specs.Conversations.{EndsOverOctets}
 use Rattle.imap_connection.proofs.ConversationsLemmas.{last_output_append}
 use Rattle.imap_connection.proofs.conversations.hold_conversation.Goals as goal
 
 pub returns-clause-conversation : goal.returns-clause-conversation
 returns-clause-conversation g c =
     let all = c.answer_all-ended.ensures.conversation in
-    let first = text_of_answer (Greeting c.args.login) in (
+    let new = c.answer_all-ended.new in
+    let first = text_of_answer (Greeting c.args.login) in
+    let ends =
+    subst (λ (limits : Limits). EndsOverOctets g.P.Port.steps c.args.port.now (cut_from limits (Ok start) all.0) c.answer_all-ended.result (g.S.Source.is_ended new.source) all.1 new.port)
+    (ap (λ (f : FramerState). f.limits) c.new.ensures) all.3 in (
       all.0,
       first ++ all.1,
       all.2,
-      inl (all.1, refl, all.3),
-      last_output_append c.answer_all-ended.result (g.K.Sink.taken c.args.sink.now) (g.K.Sink.taken c.answer_all-ended.new.sink) c.extend_from_slice.new.self.items first all.1 c.answer_all-ended.new.talk.text.items (search rules) all.4,
+      inl (all.1, refl, ends),
+      last_output_append c.answer_all-ended.result (g.K.Sink.taken c.args.sink.now) (g.K.Sink.taken new.sink) c.extend_from_slice.new.self.items first all.1 new.talk.text.items (search rules) all.4,
     )

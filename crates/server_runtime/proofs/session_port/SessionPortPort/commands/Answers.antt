@@ -1,9 +1,12 @@
 use Rattle.std.proofs.Common.{◌≡◌, ◌≤◌, ℕ, refl, sym, subst, arith, rules}
 use Rattle.imap_connection.specs.Batches.{CarriesCommands}
-use Rattle.imap_connection.specs.declared.fault.PortFault.TheVariants.{Torn}
+use Rattle.imap_connection.specs.declared.fault.PortFault.TheVariants.{ServerEnded, Torn}
 use Rattle.server_runtime.specs.Calls.{StepsByCall, stores}
 use Rattle.server_runtime.proofs.CallLemmas.{carries_by_port, carries_from, refused_by_port}
 use Rattle.server_runtime.proofs.session_port.SessionPortPort.commands.Goals as goal
+
+pub returns-then-is_some : goal.returns-then-is_some
+returns-then-is_some g c = refused_by_port (λ s. stores s.context.now.store) c.args.self.now _ (λ s. s.at) c.args.commands.items c.args.replies.now.items ServerEnded c.requires.some c.requires.none refl
 
 pub returns-then-not-knows : goal.returns-then-not-knows
 returns-then-not-knows g c = refused_by_port (λ s. stores s.context.now.store) c.args.self.now _ (λ s. s.at) c.args.commands.items c.args.replies.now.items Torn c.requires.some c.requires.none refl

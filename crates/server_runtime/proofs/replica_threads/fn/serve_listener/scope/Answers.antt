@@ -1,8 +1,6 @@
 use denote.Param.Send.{sendable}
 use Rattle.std.proofs.alloc.Global.TheSendSync as heap
 use Rattle.replica_lock.proofs.pass.Pass.TheSendSync as pass
-use Rattle.server_runtime.proofs.replica_threads.AcceptedConnection.TheSendSync as accepted
-use Rattle.server_runtime.proofs.replica_threads.OpenGate.TheSendSync as open_gate
 use Rattle.server_runtime.proofs.ThreadLemmas.{served_sync}
 use Rattle.server_runtime.proofs.replica_threads.fn.serve_listener.scope.Goals as goal
 
@@ -12,8 +10,11 @@ spawn-requires-send-F g c κs within = search (served_sync, pass.the_send, heap.
 pub spawn-requires-in-Some-copy_pass-send-F : goal.spawn-requires-in-Some-copy_pass-send-F
 spawn-requires-in-Some-copy_pass-send-F g c κs within = search (served_sync, pass.the_send, heap.the_send, heap.the_field_send, sendable) depth 60 fits 20000
 
-pub spawn-requires-in-loop-stream-send-F : goal.spawn-requires-in-loop-stream-send-F
-spawn-requires-in-loop-stream-send-F g c κs within = search (served_sync, accepted.the_send, accepted.the_field_send, open_gate.the_send, open_gate.the_field_send, heap.the_send, heap.the_field_send, sendable) depth 60 fits 20000
-
 pub spawn-requires-then-is_some-send-F : goal.spawn-requires-then-is_some-send-F
 spawn-requires-then-is_some-send-F g c κs within = search (served_sync, heap.the_send, sendable) depth 60 fits 20000
+
+pub spawn-requires-2-send-F : goal.spawn-requires-2-send-F
+spawn-requires-2-send-F g c κs within = search (served_sync, heap.the_send, sendable) depth 60 fits 20000
+
+pub spawn-requires-in-loop-stream-send-F : goal.spawn-requires-in-loop-stream-send-F
+spawn-requires-in-loop-stream-send-F g c κs within = search (served_sync, heap.the_send, sendable) depth 60 fits 20000

@@ -3,7 +3,7 @@ use Rattle.imap_connection.specs.EndReasons.{bye_text_of, failed_writes}
 use Rattle.imap_connection.specs.Conversations.{IsWritten}
 use Rattle.imap_connection.specs.declared.end_reason.Ended.{Ended}
 use Rattle.imap_connection.proofs.ConversationsLemmas.{all_written, port_writes}
-use Rattle.imap_connection.proofs.conversations.converse.Goals as goal
+use Rattle.imap_connection.proofs.conversations.converse_within.Goals as goal
 
 pub returns-in-Err-clause-conversation : goal.returns-in-Err-clause-conversation
 returns-in-Err-clause-conversation g c =
