@@ -40,6 +40,7 @@ mod write;
 
 pub use dump_lines::{push_messages, push_name_line};
 pub use fault::OpFault;
+pub use fields::read_clock;
 pub use ids::Ids;
 pub use kind::{Kind, MAX_OLD_IDS};
 pub use laws::{one_set_means_one, present_tags_are_listed};
