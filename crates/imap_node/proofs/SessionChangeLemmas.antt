@@ -202,6 +202,23 @@ each_after_notes changes places old new k e l done rest start before after is no
     none_at (x ∷ ks) zero l = absurd (omega arith)
     none_at (x ∷ ks) (suc k) l = none_at ks k (omega arith)
 
+-- without change notes, each feed as it was still names all changes
+pub all_still_noted : (changes : List MailboxNotes) (places : Places) (feeds : List FeedState) → changes ≡ []
+    → (start : Counters) (before after : List Op) → AreChangeNotes start before after changes → AreAllNoted start before places feeds → AreAllNoted start after places feeds
+all_still_noted changes places feeds none start before after are noted n view at =
+    elim (noted n view at) [
+      | inl missed ↦ inl missed
+      | inr named ↦ inr (λ uid.
+          let unchanged : NoteAllChanges [] (rows_for start after view) (entries_of (rows_for start before view)) = subst (λ (all : List MailboxNotes). NoteAllChanges (notes_in all view.name) (rows_for start after view) (entries_of (rows_for start before view))) none (are view.name view.uidvalidity) in
+          elim (unchanged uid) [
+            | inl same ↦ elim (named uid) [
+              | inl shown ↦ inl (shown ∙ same)
+              | inr told ↦ inr told
+            ]
+            | inr never ↦ absurd (false≢true never)
+          ])
+    ]
+
 -- one further feed with its change notes added
 module _ (changes : List MailboxNotes) (places : Places) (old cur : List FeedState) (k : ℕ) (was feed : FeedState) (within : k < length cur) (value : was ≡ slice_index_or cur k was) (one : IsFeedAfterNotes changes (slice_index_or places k None) was.pending feed.pending) where
   pub after_notes_set : ((n : ℕ) → n < k → IsFeedAfterNotes changes (slice_index_or places n None) (slice_index_or old n missing_feed).pending (slice_index_or cur n missing_feed).pending) → ((n : ℕ) → k ≤ n → slice_index_or cur n missing_feed ≡ slice_index_or old n missing_feed)

@@ -99,7 +99,9 @@ impl Feeds {
             → AreAllNoted start before sessions.now self.old
             → AreAllNoted start after sessions.now self.new }
     {
-        note_in(&sessions.places, change_notes, &mut self.feeds);
+        if !change_notes.is_empty() {
+            note_in(&sessions.places, change_notes, &mut self.feeds);
+        }
     }
 
     /// Drops all feeds, so that each session's next sync compares its whole view.
