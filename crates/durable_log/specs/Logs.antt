@@ -60,13 +60,6 @@ IsLastCommitCertain entries certain =
     (front : List Entry) (octets : ℕ) → entries ≡ front ++ Commit octets ∷ []
     → min octets (length (lines_of entries)) ≤ certain
 
--- The place up to which an entry at the end of a log's lines, which have so many octets, says that
--- they had been synced.
-abbrev pub synced_place : Entry → ℕ → ℕ
-synced_place (Begin replica) octets = 0
-synced_place (Apply op) octets = 0
-synced_place (Commit synced) octets = min synced octets
-
 -- A log of a replica works, on a device whose contents are known: these entries were written, of
 -- which the first were synced. Whole batches were, and zeros follow the last, at least as many as
 -- the log has room. The next sync syncs all lines.

@@ -1,6 +1,7 @@
 //! `LogDevice`: where a log is stored.
 
-ghost use Rattle.std.specs.Prelude.{◌≡◌, ◌≤◌, ◌+◌, length, take, true, IfOk, OnErr, OnOk};
+ghost use Rattle.std.specs.Prelude.{◌≡◌, ◌≤◌, ◌+◌, drop, length, take, true, IfOk, OnErr};
+ghost use Rattle.std.specs.Prelude.{OnOk};
 ghost use Rattle.op_log.specs.Crashes.{IsPrefixOf};
 ghost use Rattle.durable_log.specs.Devices.{DeviceState, with_octets_at};
 
@@ -35,10 +36,10 @@ pub trait LogDevice {
     /// sync writes. Octets that are written again are certain.
     ghost state: { Self → DeviceState };
 
-    /// All octets.
-    fn read(&mut self, alloc: Global) -> Result<Vec<u8>, DeviceFault>
-        ensures read { (state self.old).is_known ≡ true
-            → IfOk result (λ octets. octets.items ≡ (state self.old).contents) }
+    /// The octets from a place on, at most `count`; fewer only if the device has no more there.
+    fn read(&mut self, alloc: Global, place: usize, count: usize) -> Result<Vec<u8>, DeviceFault>
+        ensures read { (state self.old).is_known ≡ true → IfOk result
+            (λ octets. octets.items ≡ take count (drop place (state self.old).contents)) }
         ensures unchanged { state self.new ≡ state self.old };
 
     /// Writes octets at a place, over those that are there. After an `Err` some may be written, and

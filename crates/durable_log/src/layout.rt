@@ -1,18 +1,23 @@
 //! `LogLayout`: where the lines of a log end, and what follows them.
 
-ghost use Rattle.std.specs.Prelude.{◌≡◌, ◌≤◌, ◌+◌, ℕ, IfErr, IfOk, if◌then◌else◌, length, min};
-ghost use Rattle.std.specs.Prelude.{take};
-ghost use Rattle.op_log.specs.Entries.{lines_of};
+ghost use Rattle.std.specs.Prelude.{◌≡◌, ◌⊎◌, ◌≤◌, ◌-◌, ℕ, List, IfErr, IfOk, None, Some, drop};
+ghost use Rattle.std.specs.Prelude.{if◌then◌else◌, length, min, take, true};
+ghost use Rattle.std.specs.Option.{option_map};
+ghost use Rattle.crdt_ops.specs.Reading.{parts_at};
+ghost use Rattle.op_log.specs.Damage.{has_commit_beyond};
+ghost use Rattle.op_log.specs.Readers.{AreContents};
+ghost use Rattle.op_log.specs.declared.entry.Entry.{Entry};
 ghost use Rattle.durable_log.specs.Devices.{are_zeros};
-ghost use Rattle.durable_log.specs.Logs.{IsLastCommitCertain, IsLayout, IsStoreFault};
-ghost use Rattle.durable_log.specs.Logs.{synced_place};
+ghost use Rattle.durable_log.specs.Logs.{IsLayout, IsStoreFault};
+ghost use Rattle.durable_log.specs.declared.fault.StoreFault.TheVariants.{Damaged, Failed};
+ghost use Rattle.durable_log.specs.declared.fault.StoreFault.TheVariants.{NoMemory, OtherReplica};
 
+use crate::device::LogDevice;
 use crate::fault::StoreFault;
-use crate::recovery::recover_log;
+use crate::recovery::read_octets;
 use crc32c::Crc32c;
-use op_log::Entry;
+use op_log::{LogContents, is_damaged, octets_from};
 use std::alloc::Global;
-use tags_clocks::ReplicaId;
 
 /// Where the committed lines of a log end, and what follows them.
 #[derive(Drop)]
@@ -29,31 +34,105 @@ pub struct LogLayout {
     pub(crate) unsynced: Vec<u8>,
 }
 
-/// The layout of a replica's log, and its committed entries.
-pub fn read_layout(
+/// The layout of a log of which this was read, unless it is damaged or another replica's.
+pub fn read_layout<D: LogDevice>(
     alloc: Global,
+    device: &mut D,
     checksums: &Crc32c,
-    replica: ReplicaId,
-    log: &[u8],
-) -> Result<(LogLayout, Vec<Entry>), StoreFault>
-    ensures found { IfOk result (λ found. IsLayout replica log.now found.1.items found.0) }
-    ensures fault { IfErr result (IsStoreFault replica log.now) }
+    found: &LogContents,
+) -> Result<LogLayout, StoreFault>
+    ensures unchanged { D.state device.new ≡ D.state device.old }
+    ensures layout { (replica : ℕ) (entries : List Entry)
+        → (D.state device.old).is_known ≡ true
+        → AreContents replica (D.state device.old).contents entries found.now
+        → IfOk result (IsLayout replica (D.state device.old).contents entries) }
+    ensures fault { (replica : ℕ) (entries : List Entry)
+        → (D.state device.old).is_known ≡ true
+        → AreContents replica (D.state device.old).contents entries found.now
+        → IfErr result (IsStoreFault replica (D.state device.old).contents) }
 {
-    let (entries, octets) = recover_log(alloc, checksums, replica, log)?;
-    let place = unsynced_place(&entries, octets);
-    let Ok(unsynced) = log[place..octets].to_vec(alloc) else {
-        return Err(StoreFault::NoMemory);
+    let octets = found.octets;
+    let Some(rest) = octets_from(&found.kept, found.start, octets) else {
+        return Err(StoreFault::Failed);
     };
-    let is_padded = are_zeros(&log[octets..]);
-    let room = room_after(log, octets, is_padded);
-    let layout = LogLayout {
+    if let Some(fault) = contents_fault(checksums, found, rest) {
+        return Err(fault);
+    }
+    let place = lesser(found.synced, octets);
+    let unsynced = match unsynced_octets(alloc, device, found, place) {
+        Ok(unsynced) => unsynced,
+        Err(fault) => return Err(fault),
+    };
+    let is_padded = are_zeros(rest);
+    let room = room_after(rest, is_padded);
+    Ok(LogLayout {
         octets,
         is_padded,
         room,
         place,
         unsynced,
-    };
-    Ok((layout, entries))
+    })
+}
+
+/// How many zeros follow the committed lines once all else is cut off, if `rest` follows them.
+fn room_after(rest: &[u8], is_padded: bool) -> usize
+    ensures { result ≡ (if is_padded then length rest.now else 0) }
+{
+    if is_padded { rest.len() } else { 0 }
+}
+
+/// The fault, if any, of a log of which this was read, and whose committed lines `rest` follows.
+fn contents_fault(checksums: &Crc32c, found: &LogContents, rest: &[u8]) -> Option<StoreFault>
+    ensures { result ≡ (if has_commit_beyond found.now.octets (parts_at 10 rest.now)
+        then Some (Damaged found.now.octets) else (if found.now.begins
+        then option_map OtherReplica found.now.other else Some (Damaged 0))) }
+{
+    let octets = found.octets;
+    if is_damaged(checksums, octets as u64, rest) {
+        return Some(StoreFault::Damaged { octets });
+    }
+    if !found.begins {
+        return Some(StoreFault::Damaged { octets: 0 });
+    }
+    match found.other {
+        Some(replica) => Some(StoreFault::OtherReplica { replica }),
+        None => None,
+    }
+}
+
+/// The octets of the committed lines from a place on. They are read again only if an earlier commit
+/// said that they had been synced: others may be on the device no more.
+fn unsynced_octets<D: LogDevice>(
+    alloc: Global,
+    device: &mut D,
+    found: &LogContents,
+    place: usize,
+) -> Result<Vec<u8>, StoreFault>
+    requires { place ≤ found.now.octets }
+    ensures unchanged { D.state device.new ≡ D.state device.old }
+    ensures octets { (replica : ℕ) (entries : List Entry)
+        → (D.state device.old).is_known ≡ true
+        → AreContents replica (D.state device.old).contents entries found.now
+        → IfOk result (λ unsynced. unsynced.items
+        ≡ take (found.now.octets - place) (drop place (D.state device.old).contents)) }
+    ensures fault { IfErr result (λ fault. (fault ≡ NoMemory) ⊎ (fault ≡ Failed)) }
+{
+    let count = found.octets - place;
+    match octets_from(&found.kept, found.start, place) {
+        Some(octets) => copy_first(alloc, octets, count),
+        None => read_octets(alloc, device, place, count),
+    }
+}
+
+/// A copy of the first octets, at most `count`.
+fn copy_first(alloc: Global, octets: &[u8], count: usize) -> Result<Vec<u8>, StoreFault>
+    ensures octets { IfOk result (λ first. first.items ≡ take count octets.now) }
+    ensures fault { IfErr result (λ fault. fault ≡ NoMemory) }
+{
+    match octets[..lesser(count as u64, octets.len())].to_vec(alloc) {
+        Ok(first) => Ok(first),
+        Err(_) => Err(StoreFault::NoMemory),
+    }
 }
 
 /// Whether all octets are zero.
@@ -61,45 +140,6 @@ fn are_zeros(octets: &[u8]) -> bool
     ensures { result ≡ are_zeros octets.now }
 {
     octets.iter().all(|octet| *octet == 0)
-}
-
-/// How many zeros follow the first `octets` octets of a log once all that isn't a zero is cut off
-/// there.
-fn room_after(log: &[u8], octets: usize, is_padded: bool) -> usize
-    requires { octets ≤ length log.now }
-    ensures { octets + result
-        ≤ length (if is_padded then log.now else take octets log.now) }
-{
-    if is_padded {
-        return log.len() - octets;
-    }
-    0
-}
-
-/// The place from which what was written may not have reached the device, by the last commit; at
-/// most `octets`, which is the number of octets of the entries' lines.
-fn unsynced_place(entries: &[Entry], octets: usize) -> usize
-    requires { octets ≡ length (lines_of entries.now) }
-    ensures within { result ≤ octets }
-    ensures certain { (certain : ℕ) → IsLastCommitCertain entries.now certain
-        → result ≤ certain }
-{
-    let Some(last) = entries.last() else {
-        return 0;
-    };
-    synced_place(last, octets)
-}
-
-/// The place up to which the last entry says that a log's lines, of so many octets, had been
-/// synced.
-fn synced_place(last: &Entry, octets: usize) -> usize
-    ensures place { result ≡ synced_place last.now octets }
-    ensures within { result ≤ octets }
-{
-    match last {
-        Entry::Commit { synced } => lesser(*synced, octets),
-        _ => 0,
-    }
 }
 
 fn lesser(synced: u64, octets: usize) -> usize

@@ -2,15 +2,16 @@
 //! after a crash.
 //!
 //! A [`LogDevice`] contains octets, of which the first were synced. [`RecoveredLog::read`] reads a
-//! log's operations and says by name why it can't be used, before anything is written;
-//! [`DurableLog::open`] then makes the device agree with what was read. [`DurableLog::append`]
-//! writes a batch, and after [`DurableLog::sync`] each crash leaves it. [`DurableLog::grow`] writes
-//! zeros ahead, so that a full disk is met before a batch is. The contracts say so for every device
-//! that satisfies the contracts of `LogDevice` and whose contents are known: a log that works has
-//! these lines, of which the first are synced (`HasEntries`); a crash of it leaves a log (the law
-//! [`crashes_leave_what_was_synced`]) of which `read` returns all that was synced, then whole
-//! batches of what was written, and no fault but `NoMemory` and `Failed`. Of a file, whose contents
-//! no contract knows, they say how many operations the log counts, and which faults it gives.
+//! log's operations, a mebibyte of octets at a time, and says by name why it can't be used, before
+//! anything is written; [`DurableLog::open`] then makes the device agree with what was read.
+//! [`DurableLog::append`] writes a batch, and after [`DurableLog::sync`] each crash leaves it.
+//! [`DurableLog::grow`] writes zeros ahead, so that a full disk is met before a batch is. The
+//! contracts say so for every device that satisfies the contracts of `LogDevice` and whose contents
+//! are known: a log that works has these lines, of which the first are synced (`HasEntries`); a
+//! crash of it leaves a log (the law [`crashes_leave_what_was_synced`]) of which `read` returns all
+//! that was synced, then whole batches of what was written, and no fault but `NoMemory` and
+//! `Failed`. Of a file, whose contents no contract knows, they say how many operations the log
+//! counts, and which faults it gives.
 //!
 //! # Decided
 //!
@@ -23,7 +24,9 @@
 //!   says that the log was synced: after a sync that failed, the system may have forgotten what it
 //!   didn't write. So a device has a number of octets that are `certain`, a sync syncs no others,
 //!   and the law [`last_commits_after_crashes_are_certain`] says that `open` begins low enough. It
-//!   writes the octets that are there already, so a crash meanwhile leaves them.
+//!   writes the octets that are there already, so a crash meanwhile leaves them. These are the ones
+//!   that `read` read, not others that a second read may return; it reads only those again of which
+//!   an earlier commit says that they had been synced, if the last one says so of fewer.
 //! - After a write or a sync that failed nothing is asked of the device again: a second sync could
 //!   succeed though the first one lost octets. Only zeros that didn't fit are cut off again: no
 //!   line is among them.

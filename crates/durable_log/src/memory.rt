@@ -1,6 +1,7 @@
 //! `MemoryDevice`: a device in memory, for tests. It shows that the contracts of `LogDevice` agree.
 
-ghost use Rattle.std.specs.Prelude.{◌≡◌, ◌≤◌, ◌++◌, ℕ, List, OnOk, min, take, true, vec_len};
+ghost use Rattle.std.specs.Prelude.{◌≡◌, ◌≤◌, ◌++◌, ℕ, List, OnOk, drop, min, take, true};
+ghost use Rattle.std.specs.Prelude.{vec_len};
 ghost use Rattle.durable_log.specs.Devices.{with_octets_at};
 
 use crate::device::{DeviceFault, LogDevice};
@@ -41,8 +42,8 @@ impl LogDevice for MemoryDevice {
       certain = m.certain;
     } };
 
-    fn read(&mut self, alloc: Global) -> Result<Vec<u8>, DeviceFault> {
-        match self.octets.to_vec(alloc) {
+    fn read(&mut self, alloc: Global, place: usize, count: usize) -> Result<Vec<u8>, DeviceFault> {
+        match octets_at(&self.octets, place, count).to_vec(alloc) {
             Ok(octets) => Ok(octets),
             Err(_) => Err(DeviceFault::NoMemory),
         }
@@ -75,6 +76,14 @@ impl LogDevice for MemoryDevice {
         self.octets.truncate(octets);
         Ok(())
     }
+}
+
+/// The octets from a place on, at most `count`.
+fn octets_at(octets: &[u8], place: usize, count: usize) -> &[u8]
+    ensures { result.now ≡ take count (drop place octets.now) }
+{
+    let rest = &octets[lesser(place, octets.len())..];
+    &rest[..lesser(count, rest.len())]
 }
 
 fn lesser(one: usize, other: usize) -> usize

@@ -1,7 +1,7 @@
 //! `RecoveredLog`: a log that was read and tested, before anything is written.
 
-ghost use Rattle.std.specs.Prelude.{◌≡◌, ◌⊎◌, ◌++◌, ◌∷◌, ℕ, List, [], IfErr, IfOk, MatchResult};
-ghost use Rattle.std.specs.Prelude.{OnOk, length, take, true};
+ghost use Rattle.std.specs.Prelude.{◌≡◌, ◌⊎◌, ◌++◌, ℕ, List, IfErr, IfOk, MatchResult, length};
+ghost use Rattle.std.specs.Prelude.{take, true};
 ghost use Rattle.crdt_ops.specs.Ops.{clock_of, id_of};
 ghost use Rattle.merge_laws.specs.Orders.{IsCausal};
 ghost use Rattle.op_log.specs.Entries.{committed_entries, ops_of};
@@ -9,13 +9,14 @@ ghost use Rattle.op_log.specs.declared.entry.Entry.{Entry};
 ghost use Rattle.durable_log.specs.Logs.{HasOps, IsCrashedLog, IsRecoveredLog, IsStoreFault};
 ghost use Rattle.durable_log.specs.declared.fault.StoreFault.TheVariants.{Failed, NoMemory};
 
-use crate::device::{DeviceFault, LogDevice};
+use crate::device::LogDevice;
 use crate::fault::StoreFault;
 use crate::layout::{LogLayout, read_layout};
+use crate::recovery::read_contents;
 use crc32c::Crc32c;
 use crdt_ops::SoundOp;
-use op_log::Entry;
-use std::alloc::{AllocError, Global};
+use op_log::LogContents;
+use std::alloc::Global;
 use tags_clocks::ReplicaId;
 
 /// A log on a device that was read and tested, and to which nothing was written since.
@@ -78,42 +79,43 @@ fn read_log<D: LogDevice + Drop>(
         → IfErr result (IsStoreFault replica (D.state device).contents) }
 {
     let mut device = device;
-    let log = match device.read(alloc) {
-        Ok(log) => log,
-        Err(DeviceFault::NoMemory) => return Err(StoreFault::NoMemory),
-        Err(_) => return Err(StoreFault::Failed),
-    };
     let checksums = Crc32c::new();
-    match read_layout(alloc, &checksums, replica, &log) {
-        Ok((layout, entries)) => {
-            drop(log);
-            with_ops(alloc, device, checksums, layout, entries)
+    let found = match read_contents(alloc, &mut device, &checksums, replica) {
+        Ok(found) => found,
+        Err(fault) => return Err(fault),
+    };
+    match read_layout(alloc, &mut device, &checksums, &found) {
+        Ok(layout) => Ok(with_ops(device, checksums, layout, found)),
+        Err(fault) => {
+            drop(found);
+            Err(fault)
         }
-        Err(fault) => Err(fault),
     }
 }
 
-/// The recovered log with this layout, and the operations of its entries, in the same memory. `Err`
-/// if memory runs out for their list.
+/// The recovered log with this layout, of which this was read, and its operations.
 fn with_ops<D: LogDevice + Drop>(
-    alloc: Global,
     device: D,
     checksums: Crc32c,
     layout: LogLayout,
-    entries: Vec<Entry>,
-) -> Result<(RecoveredLog<D>, Vec<SoundOp>), StoreFault>
-    ensures device { IfOk result (λ found. found.0.device ≡ device) }
-    ensures layout { IfOk result (λ found. found.0.layout ≡ layout) }
-    ensures op_count { IfOk result (λ found. found.0.op_count ≡ length (ops_of entries.items)) }
-    ensures counted { IfOk result (λ found. found.0.op_count ≡ length found.1.items) }
-    ensures ops { IfOk result (λ found. found.1.items ≡ ops_of entries.items) }
-    ensures fault { IfErr result (λ fault. fault ≡ NoMemory) }
+    found: LogContents,
+) -> (RecoveredLog<D>, Vec<SoundOp>)
+    ensures device { result.0.device ≡ device }
+    ensures layout { result.0.layout ≡ layout }
+    ensures op_count { result.0.op_count ≡ length result.1.items }
+    ensures ops { result.1.items ≡ found.ops.items }
 {
-    let Ok(ops) = ops_of(alloc, entries) else {
-        return Err(StoreFault::NoMemory);
-    };
+    let LogContents {
+        ops,
+        octets: _,
+        begins: _,
+        other: _,
+        synced: _,
+        kept: _,
+        start: _,
+    } = found;
     let op_count = ops.len() as u64;
-    Ok((
+    (
         RecoveredLog {
             device,
             checksums,
@@ -121,30 +123,5 @@ fn with_ops<D: LogDevice + Drop>(
             op_count,
         },
         ops,
-    ))
-}
-
-/// The operations of entries, in the same memory. `Err` if memory runs out for their list.
-fn ops_of(alloc: Global, entries: Vec<Entry>) -> Result<Vec<SoundOp>, AllocError>
-    ensures { IfOk result (λ ops. ops.items ≡ ops_of entries.items) }
-{
-    let mut ops = Vec::new(alloc);
-    for entry in entries {
-        push_op_of(entry, &mut ops)?;
-    }
-    Ok(ops)
-}
-
-/// Appends the operation of an entry, if it has one.
-fn push_op_of(entry: Entry, ops: &mut Vec<SoundOp>) -> Result<(), AllocError>
-    ensures { OnOk result (ops.new.items ≡ ops.old.items ++ ops_of (entry ∷ [])) }
-{
-    match entry {
-        Entry::Begin { replica: _ } => Ok(()),
-        Entry::Apply { op } => {
-            ops.push(op)?;
-            Ok(())
-        }
-        Entry::Commit { synced: _ } => Ok(()),
-    }
+    )
 }

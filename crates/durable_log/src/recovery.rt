@@ -1,97 +1,112 @@
-//! The octets of a log, read and tested.
+//! The octets of a log, read in pieces.
 
-ghost use Rattle.std.specs.Prelude.{◌≡◌, ◌≤◌, ◌∷◌, [], IfErr, IfOk, length};
-ghost use Rattle.durable_log.specs.Logs.{IsSoundLog, IsStoreFault, entries_fault};
-ghost use Rattle.durable_log.specs.Replicas.{has_first_line, other_replica};
+ghost use Rattle.std.specs.Prelude.{◌≡◌, ◌⊎◌, ◌<◌, ℕ, List, IfErr, IfOk, IfSome, MatchOption};
+ghost use Rattle.std.specs.Prelude.{drop, take, true};
+ghost use Rattle.op_log.specs.Readers.{AreContents, HasRead};
+ghost use Rattle.op_log.specs.Recovery.{IsLogFault};
+ghost use Rattle.op_log.specs.declared.entry.Entry.{Entry};
+ghost use Rattle.durable_log.specs.Logs.{IsStoreFault};
+ghost use Rattle.durable_log.specs.declared.fault.StoreFault.TheVariants.{Failed, NoMemory};
 
+use crate::device::{DeviceFault, LogDevice};
 use crate::fault::StoreFault;
 use crc32c::Crc32c;
-use op_log::{Entry, LogFault, Recovered, is_damaged, recover};
+use op_log::{LogContents, LogFault, LogReader};
 use std::alloc::Global;
 use tags_clocks::ReplicaId;
 
-/// The committed entries of a replica's log, and the number of octets of their lines.
-pub fn recover_log(
+/// The number of octets that are read at once.
+const PIECE_OCTETS: usize = 0x10_0000;
+
+/// What is read of a replica's log.
+pub fn read_contents<D: LogDevice>(
     alloc: Global,
+    device: &mut D,
     checksums: &Crc32c,
     replica: ReplicaId,
-    log: &[u8],
-) -> Result<(Vec<Entry>, usize), StoreFault>
-    ensures sound { IfOk result (λ found. IsSoundLog replica log.now found.0.items found.1) }
-    ensures within { IfOk result (λ found. found.1 ≤ length log.now) }
-    ensures fault { IfErr result (IsStoreFault replica log.now) }
+) -> Result<LogContents, StoreFault>
+    ensures read { (D.state device.old).is_known ≡ true → IfOk result
+        (λ found. (entries : List Entry)
+        × AreContents replica (D.state device.old).contents entries found) }
+    ensures unchanged { D.state device.new ≡ D.state device.old }
+    ensures fault { (D.state device.old).is_known ≡ true
+        → IfErr result (IsStoreFault replica (D.state device.old).contents) }
 {
-    let found = match recover(alloc, checksums, log) {
-        Ok(found) => found,
-        Err(LogFault::Unsound { octets }) => return Err(StoreFault::Unsound { octets }),
-        Err(LogFault::LaterFormat) => return Err(StoreFault::LaterFormat),
-        Err(LogFault::NoMemory) => return Err(StoreFault::NoMemory),
+    let mut reader = LogReader::new(alloc, replica);
+    let mut place = 0;
+    loop {
+        let next = match feed_piece(alloc, device, checksums, place, &mut reader) {
+            Ok(next) => next,
+            Err(fault) => return Err(fault),
+        };
+        match next {
+            Some(end) => place = end,
+            None => return Ok(reader.finish()),
+        }
+    }
+}
+
+/// Feeds a reader the octets at a place. The place after them, or `None` if they are the last.
+fn feed_piece<D: LogDevice>(
+    alloc: Global,
+    device: &mut D,
+    checksums: &Crc32c,
+    place: usize,
+    reader: &mut LogReader,
+) -> Result<Option<usize>, StoreFault>
+    ensures unchanged { D.state device.new ≡ D.state device.old }
+    ensures later { IfOk result (λ next. IfSome next (λ end. place < end)) }
+    ensures read { (replica : ℕ) → (D.state device.old).is_known ≡ true
+        → HasRead replica (take place (D.state device.old).contents) reader.old
+        → IfOk result (λ next. MatchOption next
+        (HasRead replica (D.state device.old).contents reader.new)
+        (λ end. HasRead replica (take end (D.state device.old).contents) reader.new)) }
+    ensures fault { (replica : ℕ) → (D.state device.old).is_known ≡ true
+        → HasRead replica (take place (D.state device.old).contents) reader.old
+        → IfErr result (IsStoreFault replica (D.state device.old).contents) }
+{
+    let piece = match read_octets(alloc, device, place, PIECE_OCTETS) {
+        Ok(piece) => piece,
+        Err(fault) => return Err(fault),
     };
-    let Recovered { entries, octets } = found;
-    if octets > log.len() {
-        drop(entries);
-        return Err(StoreFault::Failed);
+    if let Err(fault) = reader.feed(alloc, checksums, &piece) {
+        return Err(store_fault_of(fault));
     }
-    match entries_fault(checksums, replica, &entries, octets, &log[octets..]) {
-        Some(fault) => {
-            drop(entries);
-            Err(fault)
-        }
-        None => Ok((entries, octets)),
+    if piece.len() < PIECE_OCTETS {
+        return Ok(None);
+    }
+    match place.checked_add(piece.len()) {
+        Some(end) => Ok(Some(end)),
+        None => Err(StoreFault::Failed),
     }
 }
 
-/// The fault, if any, of a log whose committed entries have `octets` octets, and which `rest`
-/// follows.
-fn entries_fault(
-    checksums: &Crc32c,
-    replica: ReplicaId,
-    entries: &[Entry],
-    octets: usize,
-    rest: &[u8],
-) -> Option<StoreFault>
-    ensures { result ≡ entries_fault replica entries.now octets rest.now }
+/// The octets of a device from a place on, at most `count`.
+pub fn read_octets<D: LogDevice>(
+    alloc: Global,
+    device: &mut D,
+    place: usize,
+    count: usize,
+) -> Result<Vec<u8>, StoreFault>
+    ensures read { (D.state device.old).is_known ≡ true → IfOk result
+        (λ octets. octets.items ≡ take count (drop place (D.state device.old).contents)) }
+    ensures unchanged { D.state device.new ≡ D.state device.old }
+    ensures fault { IfErr result (λ fault. (fault ≡ NoMemory) ⊎ (fault ≡ Failed)) }
 {
-    if is_damaged(checksums, octets as u64, rest) {
-        return Some(StoreFault::Damaged { octets });
-    }
-    if !has_first_line(entries) {
-        return Some(StoreFault::Damaged { octets: 0 });
-    }
-    match other_replica(replica, entries) {
-        Some(replica) => Some(StoreFault::OtherReplica { replica }),
-        None => None,
+    match device.read(alloc, place, count) {
+        Ok(octets) => Ok(octets),
+        Err(DeviceFault::NoMemory) => Err(StoreFault::NoMemory),
+        Err(_) => Err(StoreFault::Failed),
     }
 }
 
-/// Whether the first line names a replica.
-fn has_first_line(entries: &[Entry]) -> bool
-    ensures { result ≡ has_first_line entries.now }
+fn store_fault_of(fault: LogFault) -> StoreFault
+    ensures { (replica : ℕ) (log : List ℕ) → IsLogFault log fault
+        → IsStoreFault replica log result }
 {
-    match entries {
-        [Entry::Begin { .. }, ..] => true,
-        _ => false,
-    }
-}
-
-/// The first replica other than this one that a line names.
-fn other_replica(replica: ReplicaId, entries: &[Entry]) -> Option<ReplicaId>
-    ensures { result ≡ other_replica replica entries.now }
-{
-    for entry in entries {
-        if let Some(name) = other_name(replica, entry) {
-            return Some(name);
-        }
-    }
-    None
-}
-
-/// The replica that a line names, if it is another than this one.
-fn other_name(replica: ReplicaId, entry: &Entry) -> Option<ReplicaId>
-    ensures { result ≡ other_replica replica (entry.now ∷ []) }
-{
-    match entry {
-        Entry::Begin { replica: name } => { if *name == replica { None } else { Some(*name) } }
-        _ => None,
+    match fault {
+        LogFault::Unsound { octets } => StoreFault::Unsound { octets },
+        LogFault::LaterFormat => StoreFault::LaterFormat,
+        LogFault::NoMemory => StoreFault::NoMemory,
     }
 }

@@ -31,15 +31,16 @@ impl LogDevice for FileDevice {
       certain = 0;
     } };
 
-    fn read(&mut self, alloc: Global) -> Result<Vec<u8>, DeviceFault> {
+    fn read(&mut self, alloc: Global, place: usize, count: usize) -> Result<Vec<u8>, DeviceFault> {
         let Ok(metadata) = self.file.metadata() else {
             return Err(DeviceFault::Failed);
         };
+        let rest = (metadata.len() as usize).saturating_sub(place);
         let mut octets = Vec::new(alloc);
-        let Ok(()) = octets.resize(metadata.len() as usize, 0) else {
+        let Ok(()) = octets.resize(rest.min(count), 0) else {
             return Err(DeviceFault::NoMemory);
         };
-        match self.file.read_exact_at(octets.as_mut_slice(), 0) {
+        match self.file.read_exact_at(octets.as_mut_slice(), place as u64) {
             Ok(()) => Ok(octets),
             Err(_) => Err(DeviceFault::Failed),
         }

@@ -60,11 +60,14 @@ impl LogDevice for FullDevice {
       certain = 0;
     } };
 
-    fn read(&mut self, alloc: Global) -> Result<Vec<u8>, DeviceFault> {
-        match self.octets.to_vec(alloc) {
-            Ok(octets) => Ok(octets),
-            Err(_) => Err(DeviceFault::NoMemory),
+    fn read(&mut self, alloc: Global, place: usize, count: usize) -> Result<Vec<u8>, DeviceFault> {
+        let mut octets = Vec::new(alloc);
+        for octet in self.octets.iter().skip(place).take(count) {
+            let Ok(()) = octets.push(*octet) else {
+                return Err(DeviceFault::NoMemory);
+            };
         }
+        Ok(octets)
     }
 
     fn write(&mut self, place: usize, octets: &[u8]) -> Result<(), DeviceFault> {

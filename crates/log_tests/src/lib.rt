@@ -3,7 +3,8 @@
 //! Checksums are those that other programs compute. A log in memory is written, synced, cut short
 //! and read again; one over a device that is full, or fails, goes on or does nothing any more. Logs
 //! in files are written, read again after a torn end, refused by name if they are damaged, and a
-//! folder is locked once. Each law and each call that takes memory is called once.
+//! folder is locked once. A log that is fed to a reader in pieces says what `recover` finds in the
+//! whole. Each law and each call that takes memory is called once.
 #![tactic(auto)]
 
 #[cfg(test)]
@@ -22,3 +23,5 @@ mod full_logs;
 mod laws;
 #[cfg(test)]
 mod memory_logs;
+#[cfg(test)]
+mod pieces;

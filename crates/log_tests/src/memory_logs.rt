@@ -14,12 +14,14 @@ fn new_log(alloc: Global) -> Result<DurableLog<MemoryDevice>, Trouble> {
 /// What the device of a log contains.
 fn octets_of(alloc: Global, log: DurableLog<MemoryDevice>) -> Result<Vec<u8>, Trouble> {
     let mut device = log.into_device();
-    device.read(alloc).map_err(|_| Trouble::NoMemory)
+    device
+        .read(alloc, 0, usize::MAX)
+        .map_err(|_| Trouble::NoMemory)
 }
 
 /// The octets of a log of replica 1 with these operations in one batch, a commit without operations
 /// after it, and zeros.
-fn octets_with(alloc: Global, lines: &[&str], zeros: usize) -> Result<Vec<u8>, Trouble> {
+pub fn octets_with(alloc: Global, lines: &[&str], zeros: usize) -> Result<Vec<u8>, Trouble> {
     let ops = operations(alloc, lines)?;
     let mut log = new_log(alloc)?;
     log.append(alloc, &ops)?;

@@ -3,6 +3,7 @@ pub mod CrashLemmas
 pub mod OpLemmas
 pub mod EntryLemmas
 pub mod RecoveryLemmas
+pub mod ReaderLemmas
 pub mod DamageLemmas
 pub mod FormatLemmas
 pub mod UndamagedLemmas

@@ -114,7 +114,7 @@ unfolding recovered_texts
 recovered_damaged log line after h k = ap texts_of_parts (parts_of_cut 10 log line after h) ∙ texts_of_damaged line (parts_at 10 after) k
 
 -- the octets before the first separator lack it
-cut_lacks : (separator : ℕ) (text : List ℕ) (parts : List ℕ × List ℕ) → cut_at separator text ≡ Some parts → lacks separator parts.0 ≡ true
+pub cut_lacks : (separator : ℕ) (text : List ℕ) (parts : List ℕ × List ℕ) → cut_at separator text ≡ Some parts → lacks separator parts.0 ≡ true
 cut_lacks separator [] parts h = absurd cc
 cut_lacks separator (octet ∷ octets) parts h =
     elim (chosen (eqb octet separator) (Some ([], octets)) (before_first_part (octet ∷ []) (cut_at separator octets)) (Some parts) h) [

@@ -82,7 +82,7 @@ committed_after_other old new entry count octets kept push f =
     }
 
 -- the lines of the committed entries, and the octets after them
-split_at_commit : (log rest : List ℕ) (all entries : List Entry) → IsReadSoFar log rest all → entries ≡ committed_entries all → (after : List ℕ) × (log ≡ log_of (map entry_text entries) ++ after)
+pub split_at_commit : (log rest : List ℕ) (all entries : List Entry) → IsReadSoFar log rest all → entries ≡ committed_entries all → (after : List ℕ) × (log ≡ log_of (map entry_text entries) ++ after)
 split_at_commit log rest all entries way is =
     let c = committed_front all in
     let parts : map entry_text all ≡ map entry_text entries ++ map entry_text c.0 =

@@ -2,6 +2,8 @@ pub mod Lines
 pub mod Entries
 pub mod Formats
 pub mod Crashes
+pub mod Replicas
 pub mod Recovery
+pub mod Readers
 pub mod Damage
 pub mod LineBounds

@@ -12,8 +12,9 @@
 //! there, in order, `recover` returns all that was synced, then whole batches of what was written,
 //! and no fault but want of memory. [`is_damaged`] says whether a commit after these lines shows
 //! that more had been synced; the law [`crash_states_are_undamaged`] says that no crash leaves such
-//! a log. [`line_bound`] says how many octets an operation's line has at most, without a pass over
-//! its text, so that room can be set aside before the operation exists
+//! a log. [`LogReader`] finds the same in a log that it is fed in pieces, and has only the operations
+//! and the last octets in memory. [`line_bound`] says how many octets an operation's line has at
+//! most, without a pass over its text, so that room can be set aside before the operation exists
 //! ([`lines_are_within_bounds`]).
 //!
 //! # Decided
@@ -26,6 +27,10 @@
 //!   [`cuts_leave_written_lines`]). For octets of any other kind the premise is that a checksum of
 //!   32 bits shows damage.
 //! - Damage to the last batch looks like a write cut short, and that batch is left out.
+//! - A reader has the octets of committed lines too, from the place up to which the last commit says
+//!   that the log had been synced: who opens the log writes these again, and the system may return
+//!   other octets to a second read of them. It moves them only if it can drop as many, so that it
+//!   takes time in proportion to a log's octets, whatever its commits say.
 //! - A line that has the checksum of its text but is no entry isn't taken as the end of the log: no
 //!   crash leaves it.
 #![tactic(auto)]
@@ -36,7 +41,9 @@ mod format;
 mod laws;
 mod line;
 mod line_bounds;
+mod lines_read;
 mod op_forms;
+mod reader;
 mod recovery;
 
 pub use damage::is_damaged;
@@ -47,5 +54,7 @@ pub use laws::{
 };
 pub use line::{first_text, push_line};
 pub use line_bounds::{line_bound, lines_bound};
+pub use lines_read::octets_from;
 pub use op_forms::op_has_text;
+pub use reader::{LogContents, LogReader};
 pub use recovery::{LogFault, Recovered, recover};

@@ -1,6 +1,8 @@
 //! Lines: a checksum in eight hexadecimal digits, a space, a text, and a line end.
 
-ghost use Rattle.std.specs.Prelude.{◌≡◌, ◌++◌, ◌<◌, ℕ, List, [], MatchOption, OnErr, OnOk};
+ghost use Rattle.std.specs.Prelude.{◌≡◌, ◌++◌, ◌<◌, ℕ, List, [], MatchOption, None, OnErr, OnOk};
+ghost use Rattle.std.specs.Prelude.{Some, false, true};
+ghost use Rattle.crdt_ops.specs.Reading.{cut_at};
 ghost use Rattle.std.specs.Option.{option_map};
 ghost use Rattle.std.specs.Str.{bytes_eq};
 ghost use Rattle.op_log.specs.Lines.{IsText, checksum_field, hex_digit, line_of, line_text};
@@ -48,6 +50,15 @@ pub fn first_text<'a>(checksums: &Crc32c, log: &'a [u8]) -> Option<(&'a [u8], &'
     let (line, after) = split(b'\n', log)?;
     let text = line_text(checksums, line)?;
     Some((text, after))
+}
+
+/// Whether there is a line end among these octets.
+pub fn has_line_end(octets: &[u8]) -> bool
+    ensures some { result ≡ true → (parts : List ℕ × List ℕ)
+        × (cut_at 10 octets.now ≡ Some parts) }
+    ensures none { result ≡ false → cut_at 10 octets.now ≡ None }
+{
+    split(b'\n', octets).is_some()
 }
 
 /// The text of a line without its end; `None` if the checksum before it isn't that of the text.

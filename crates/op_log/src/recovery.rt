@@ -111,7 +111,7 @@ fn read_entries(alloc: Global, checksums: &Crc32c, log: &[u8]) -> Result<Recover
 }
 
 /// The fault of a line after so many octets, whose text is that of no entry.
-fn line_fault(octets: usize, text: &[u8]) -> LogFault
+pub(crate) fn line_fault(octets: usize, text: &[u8]) -> LogFault
     ensures { result ≡ line_fault octets text.now }
 {
     let is_first = octets == 0;
@@ -122,7 +122,7 @@ fn line_fault(octets: usize, text: &[u8]) -> LogFault
     }
 }
 
-fn is_commit(entry: &Entry) -> bool
+pub(crate) fn is_commit(entry: &Entry) -> bool
     ensures { result ≡ is_commit entry.now }
 {
     matches!(entry, Entry::Commit { .. })

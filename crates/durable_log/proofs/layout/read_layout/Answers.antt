@@ -1,17 +1,18 @@
-use Rattle.std.proofs.Common.{List, ◌∙◌, ap, refl, subst, sym}
-use Rattle.std.proofs.lemmas.List.{take_rest}
-use Rattle.op_log.specs.declared.entry.Entry.{Entry}
-use Rattle.durable_log.specs.Devices.{are_zeros}
-use Rattle.durable_log.specs.Logs.{IsLastCommitCertain}
-use Rattle.durable_log.proofs.LayoutLemmas.{layout_of}
+use Rattle.std.proofs.Common.{◌∙◌, refl}
+use Rattle.durable_log.proofs.LayoutLemmas.{contents_fault_is, kept_from, layout_found}
 use Rattle.durable_log.proofs.layout.read_layout.Goals as goal
 
-pub returns-clause-found : goal.returns-clause-found
-returns-clause-found c =
-    let log = c.args.log.now in
-    let octets = c.in_ok-entries.octets in
-    let place = c.unsynced_place-place.result in
-    let rest = take_rest log octets in
-    layout_of c.args.replica log c.in_ok-entries.entries.items _ octets place c.in_ok-entries.ensures.sound c.in_ok-entries.ensures.within c.unsynced_place-place.ensures.within
-    (λ certain h. c.unsynced_place-place.ensures.certain certain (subst (λ (entries : List Entry). IsLastCommitCertain entries certain) (sym c.deref.ensures.value) h))
-    refl refl (c.are_zeros-is_padded.ensures ∙ ap are_zeros rest) c.room_after-room.ensures (c.in-Ok.ensures.items_if_clones_equal (λ x y h. h))
+pub returns-in-Some-contents_fault-clause-fault : goal.returns-in-Some-contents_fault-clause-fault
+returns-in-Some-contents_fault-clause-fault g c = λ replica entries known h.
+    let log = (g.D.LogDevice.state c.args.device.now).contents in
+    let found = c.args.found.now in
+    let rest = kept_from log c.deref.result.now c.in-Some.rest.now found.start found.octets (c.deref.ensures.value ∙ h.kept) c.in-Some.ensures in
+    contents_fault_is replica log c.in-Some.rest.now entries found c.in-Some-contents_fault.fault h rest c.in-Some-contents_fault.ensures
+
+pub returns-clause-layout : goal.returns-clause-layout
+returns-clause-layout g c = λ replica entries known h.
+    let log = (g.D.LogDevice.state c.args.device.now).contents in
+    let found = c.args.found.now in
+    let rest = kept_from log c.deref.result.now c.in-Some.rest.now found.start found.octets (c.deref.ensures.value ∙ h.kept) c.in-Some.ensures in
+    layout_found replica log c.in-Some.rest.now entries found c.lesser-place.result _ h rest c.in_default-contents_fault.ensures c.lesser-place.ensures refl refl c.are_zeros-is_padded.ensures
+    c.room_after-room.ensures (c.in-Ok.ensures.octets replica entries known h)
