@@ -4,7 +4,7 @@ use Rattle.std.specs.List.{list_any}
 use Rattle.mail_fields.specs.HeaderValues.{after_word, is_semicolon, sections_of, skip_blanks, with_element, word_of}
 use Rattle.mail_fields.specs.ElementReading.{is_blank_first, more_sections, word_octet}
 use Rattle.mail_fields.specs.declared.elements.Element.{Element}
-use Rattle.mail_fields.specs.declared.elements.Element.TheVariants.{Blank, Octet, Quoted}
+use Rattle.mail_fields.specs.declared.elements.Element.TheVariants.{Blank, Comment, Octet, Quoted}
 
 -- the first section ends before the first semicolon
 pub section_cut : (elements : List Element) (n : ℕ) (d : Element) → n < length elements → list_any is_semicolon (take n elements) ≡ false → is_semicolon (get_or elements n d) ≡ true
@@ -34,12 +34,14 @@ section_passed (e ∷ elements) (suc n) d l h f =
 pub blank_stays : (elements : List Element) → is_blank_first elements ≡ false → elements ≡ skip_blanks elements
 blank_stays [] h = refl
 blank_stays (Blank ∷ elements) h = absurd (let k : true ≡ false = h in cc)
+blank_stays (Comment t ∷ elements) h = absurd (let k : true ≡ false = h in cc)
 blank_stays (Octet o ∷ elements) h = refl
 blank_stays (Quoted t ∷ elements) h = refl
 
 pub blank_passed : (elements : List Element) → is_blank_first elements ≡ true → skip_blanks (drop 1 elements) ≡ skip_blanks elements
 blank_passed [] h = refl
 blank_passed (Blank ∷ elements) h = refl
+blank_passed (Comment t ∷ elements) h = refl
 blank_passed (Octet o ∷ elements) h = absurd (let k : false ≡ true = h in cc)
 blank_passed (Quoted t ∷ elements) h = absurd (let k : false ≡ true = h in cc)
 
@@ -50,6 +52,7 @@ blank_some (e ∷ elements) h = omega arith
 -- words
 pub word_goes_on : (stops : List ℕ) (e : Element) (elements : List Element) (o : ℕ) → word_octet stops e ≡ Some o → word_of stops (e ∷ elements) ≡ o ∷ word_of stops elements
 word_goes_on stops Blank elements o h = absurd (let k : ◌≡◌ {A = Option ℕ} None (Some o) = h in cc)
+word_goes_on stops (Comment t) elements o h = absurd (let k : ◌≡◌ {A = Option ℕ} None (Some o) = h in cc)
 word_goes_on stops (Octet x) elements o h =
     elim (cases_Bool (list_any (λ stop. stop == x) stops)) [
       | inl t ↦ absurd (let k : ◌≡◌ {A = Option ℕ} None (Some o) = rw t at h in cc)
@@ -59,6 +62,7 @@ word_goes_on stops (Quoted t) elements o h = absurd (let k : ◌≡◌ {A = Opti
 
 pub word_stops : (stops : List ℕ) (e : Element) (elements : List Element) → word_octet stops e ≡ None → word_of stops (e ∷ elements) ≡ []
 word_stops stops Blank elements h = refl
+word_stops stops (Comment t) elements h = refl
 word_stops stops (Octet x) elements h =
     elim (cases_Bool (list_any (λ stop. stop == x) stops)) [
       | inl t ↦ rw t refl
@@ -69,6 +73,7 @@ word_stops stops (Quoted t) elements h = refl
 pub after_word-drop : (stops : List ℕ) (elements : List Element) → drop (length (word_of stops elements)) elements ≡ after_word stops elements
 after_word-drop stops [] = refl
 after_word-drop stops (Blank ∷ elements) = refl
+after_word-drop stops (Comment t ∷ elements) = refl
 after_word-drop stops (Octet x ∷ elements) =
     elim (cases_Bool (list_any (λ stop. stop == x) stops)) [
       | inl t ↦ rw t refl
@@ -79,6 +84,7 @@ after_word-drop stops (Quoted t ∷ elements) = refl
 pub word_fits : (stops : List ℕ) (elements : List Element) → length (word_of stops elements) ≤ length elements
 word_fits stops [] = omega arith
 word_fits stops (Blank ∷ elements) = omega arith
+word_fits stops (Comment t ∷ elements) = omega arith
 word_fits stops (Octet x ∷ elements) =
     elim (cases_Bool (list_any (λ stop. stop == x) stops)) [
       | inl t ↦ rw t (omega arith)

@@ -1,2 +1,4 @@
+pub mod AddressLemmas
+pub mod AddressReadingLemmas
 pub mod ElementLemmas
 pub mod WrittenLemmas

@@ -37,7 +37,7 @@ token_elements (x ∷ xs) rest h =
     rw (other x 34 p.0 refl, other x 40 p.0 refl, other x 32 p.0 refl, other x 9 p.0 refl, other x 13 p.0 refl, other x 10 p.0 refl) (ap (λ es. Octet x ∷ es) (token_elements xs rest p.1))
 
 -- the element of a quoted string
-quoted_element : (v text rest : List ℕ) → list_any is_line_end v ≡ false → elements_within QuotedString text (escaped v ++ 34 ∷ rest) ≡ Quoted (text ++ v) ∷ elements_within Value [] rest
+pub quoted_element : (v text rest : List ℕ) → list_any is_line_end v ≡ false → elements_within QuotedString text (escaped v ++ 34 ∷ rest) ≡ Quoted (text ++ v) ∷ elements_within Value [] rest
 quoted_element [] text rest h = ap (λ t. Quoted t ∷ elements_within Value [] rest) (sym (append-nil text))
 quoted_element (o ∷ v) text rest h =
     let l = or_parts (is_line_end o) (list_any is_line_end v) h in

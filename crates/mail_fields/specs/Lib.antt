@@ -1,4 +1,10 @@
+pub mod AddressReading
+pub mod AddressWords
+pub mod Addresses
 pub mod ElementReading
+pub mod FieldValues
 pub mod HeaderValues
 pub mod Parameters
+pub mod WordLists
 pub mod Written
+pub mod WrittenAddresses

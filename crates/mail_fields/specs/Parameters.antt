@@ -5,7 +5,7 @@ use Rattle.std.specs.Prelude.{Option, Some, None, if◌then◌else◌}
 use Rattle.mail_fields.specs.HeaderValues.{after_octet, after_word, elements_of, sections_of}
 use Rattle.mail_fields.specs.HeaderValues.{skip_blanks, token_stops, value_stops, word_of}
 use Rattle.mail_fields.specs.declared.elements.Element.{Element}
-use Rattle.mail_fields.specs.declared.elements.Element.TheVariants.{Blank, Octet, Quoted}
+use Rattle.mail_fields.specs.declared.elements.Element.TheVariants.{Blank, Comment, Octet, Quoted}
 use Rattle.mail_fields.specs.declared.parameters.Parameter.{Parameter}
 
 -- The first token.
@@ -31,6 +31,7 @@ type_names_of section = type_names_from (token_of section) (after_token_and 47 s
 abbrev pub value_of : List Element → List ℕ
 value_of [] = []
 value_of (Blank ∷ elements) = []
+value_of (Comment text ∷ elements) = []
 value_of (Octet octet ∷ elements) = word_of value_stops (Octet octet ∷ elements)
 value_of (Quoted text ∷ elements) = text
 

@@ -57,6 +57,7 @@ fn word_octet(stops: &[u8], element: &Element) -> Option<u8>
             }
         }
         Element::Blank => None,
+        Element::Comment(_) => None,
         Element::Quoted(_) => None,
     }
 }
@@ -69,7 +70,7 @@ pub fn word_end(elements: &[Element], size: usize) -> &[Element]
     elements.split_at(size).1
 }
 
-/// The elements after the blanks at the beginning.
+/// The elements after the blanks and comments at the beginning.
 pub fn skip_blanks(elements: &[Element]) -> &[Element]
     ensures { result.now ≡ skip_blanks elements.now }
 {
@@ -83,7 +84,7 @@ pub fn skip_blanks(elements: &[Element]) -> &[Element]
     rest
 }
 
-/// Whether the first element is a blank.
+/// Whether the first element is a blank or a comment.
 fn is_blank_first(elements: &[Element]) -> bool
     ensures { result ≡ is_blank_first elements.now }
 {
@@ -92,6 +93,7 @@ fn is_blank_first(elements: &[Element]) -> bool
     }
     match &elements[0] {
         Element::Blank => true,
+        Element::Comment(_) => true,
         Element::Octet(_) => false,
         Element::Quoted(_) => false,
     }
@@ -109,7 +111,7 @@ pub fn after_octet(octet: u8, elements: &[Element]) -> Option<&[Element]>
 }
 
 /// Whether the first element is this octet.
-fn is_octet_first(sought: u8, elements: &[Element]) -> bool
+pub fn is_octet_first(sought: u8, elements: &[Element]) -> bool
     ensures { result ≡ is_octet_first sought elements.now }
 {
     if elements.is_empty() {
@@ -118,6 +120,7 @@ fn is_octet_first(sought: u8, elements: &[Element]) -> bool
     match &elements[0] {
         Element::Octet(octet) => *octet == sought,
         Element::Blank => false,
+        Element::Comment(_) => false,
         Element::Quoted(_) => false,
     }
 }

@@ -2,11 +2,11 @@
 
 ghost use Rattle.std.specs.Prelude.{◌≡◌, ◌+◌, ◌^◌, ◌<◌, ◌≤◌, ◌∷◌, ◌++◌, [], ℕ, List};
 ghost use Rattle.std.specs.Prelude.{IfOk, OnOk};
-ghost use Rattle.mail_fields.specs.HeaderValues.{elements_of, elements_within, is_line_end};
-ghost use Rattle.mail_fields.specs.HeaderValues.{is_space};
+ghost use Rattle.mail_fields.specs.HeaderValues.{depth_after, elements_of, elements_within};
+ghost use Rattle.mail_fields.specs.HeaderValues.{is_line_end, is_space};
 ghost use Rattle.mail_fields.specs.ElementReading.{depth_of};
 ghost use Rattle.mail_fields.specs.declared.elements.Within.TheVariants.{Value, QuotedString};
-ghost use Rattle.mail_fields.specs.declared.elements.Within.TheVariants.{Comment};
+ghost use Rattle.mail_fields.specs.declared.elements.Within.TheVariants.{Comments};
 
 use imap_types::Octets;
 use std::alloc::{AllocError, Global};
@@ -14,8 +14,10 @@ use std::alloc::{AllocError, Global};
 /// An element of a header field's value.
 #[derive(Drop)]
 pub enum Element {
-    /// A blank, a line's end, or a comment.
+    /// A blank, or an octet of a line's end.
     Blank,
+    /// A comment: what is between its parentheses.
+    Comment(Octets),
     /// An octet outside quoted strings and comments.
     Octet(u8),
     /// A quoted string: what it stands for.
@@ -32,7 +34,7 @@ pub enum Within {
     /// A quoted string, after a backslash.
     QuotedPair,
     /// This number of comments, one within another.
-    Comment(usize),
+    Comments(usize),
     /// This number of comments, after a backslash.
     CommentPair(usize),
 }
@@ -47,7 +49,7 @@ pub fn elements_of(alloc: Global, value: &[u8]) -> Result<Vec<Element>, AllocErr
     for octet in value {
         within = read_octet(alloc, within, *octet, &mut text, &mut elements)?;
     }
-    end_value(alloc, within, text, &mut elements)?;
+    end_value(within, text, &mut elements)?;
     Ok(elements)
 }
 
@@ -72,8 +74,11 @@ fn read_octet(
             text.push(octet)?;
             Ok(Within::QuotedString)
         }
-        Within::Comment(depth) => read_comment(depth, octet, elements),
-        Within::CommentPair(depth) => Ok(Within::Comment(depth)),
+        Within::Comments(depth) => read_comment(alloc, depth, octet, text, elements),
+        Within::CommentPair(depth) => {
+            text.push(octet)?;
+            Ok(Within::Comments(depth))
+        }
     }
 }
 
@@ -93,7 +98,8 @@ fn read_outside(
         return Ok(Within::QuotedString);
     }
     if octet == b'(' {
-        return Ok(Within::Comment(1));
+        text.clear();
+        return Ok(Within::Comments(1));
     }
     if is_space(octet) {
         elements.push(Element::Blank)?;
@@ -144,32 +150,50 @@ fn is_line_end(octet: u8) -> bool
 }
 
 /// Reads an octet of this number of comments.
-fn read_comment(depth: usize, octet: u8, elements: &mut Vec<Element>) -> Result<Within, AllocError>
+fn read_comment(
+    alloc: Global,
+    depth: usize,
+    octet: u8,
+    text: &mut Vec<u8>,
+    elements: &mut Vec<Element>,
+) -> Result<Within, AllocError>
     requires { depth + 1 < 2 ^ 64 }
-    ensures elements { IfOk result (λ next. (text : List ℕ) (rest : List ℕ) →
-        elements.new.items ++ elements_within next text rest
-        ≡ elements.old.items ++ elements_within (Comment depth) text (octet ∷ rest)) }
+    ensures elements { IfOk result (λ next. (rest : List ℕ) →
+        elements.new.items ++ elements_within next text.new.items rest
+        ≡ elements.old.items ++ elements_within (Comments depth) text.old.items (octet ∷ rest)) }
     ensures depth { IfOk result (λ next. depth_of next ≤ depth + 1) }
 {
     if octet == b'\\' {
         return Ok(Within::CommentPair(depth));
     }
+    if octet == b')' && depth == 1 {
+        elements.push(Element::Comment(Octets::from_slice(alloc, text)?))?;
+        return Ok(Within::Value);
+    }
+    if is_line_end(octet) {
+        return Ok(Within::Comments(depth));
+    }
+    text.push(octet)?;
+    Ok(Within::Comments(depth_after(depth, octet)))
+}
+
+/// The number of comments that the next place is within, if it is within comments.
+fn depth_after(depth: usize, octet: u8) -> usize
+    requires { depth + 1 < 2 ^ 64 }
+    ensures after { result ≡ depth_after depth octet }
+    ensures bound { result ≤ depth + 1 }
+{
     if octet == b'(' {
-        return Ok(Within::Comment(depth + 1));
+        return depth + 1;
     }
-    if octet != b')' {
-        return Ok(Within::Comment(depth));
+    if octet == b')' {
+        return depth.saturating_sub(1);
     }
-    if depth != 1 {
-        return Ok(Within::Comment(depth.saturating_sub(1)));
-    }
-    elements.push(Element::Blank)?;
-    Ok(Within::Value)
+    depth
 }
 
 /// The value's end.
 fn end_value(
-    alloc: Global,
     within: Within,
     mut text: Vec<u8>,
     elements: &mut Vec<Element>,
@@ -179,16 +203,15 @@ fn end_value(
 {
     match within {
         Within::Value => Ok(()),
-        Within::QuotedString => {
-            elements.push(Element::Quoted(Octets::new(text)))?;
-            Ok(())
-        }
+        Within::QuotedString => Ok(elements.push(Element::Quoted(Octets::new(text)))?),
         Within::QuotedPair => {
             text.push(b'\\')?;
-            elements.push(Element::Quoted(Octets::new(text)))?;
-            Ok(())
+            Ok(elements.push(Element::Quoted(Octets::new(text)))?)
         }
-        Within::Comment(_) => Ok(elements.push(Element::Blank)?),
-        Within::CommentPair(_) => Ok(elements.push(Element::Blank)?),
+        Within::Comments(_) => Ok(elements.push(Element::Comment(Octets::new(text)))?),
+        Within::CommentPair(_) => {
+            text.push(b'\\')?;
+            Ok(elements.push(Element::Comment(Octets::new(text)))?)
+        }
     }
 }

@@ -170,6 +170,7 @@ fn value_of(alloc: Global, elements: &[Element]) -> Result<Vec<u8>, AllocError>
     match &elements[0] {
         Element::Quoted(text) => text.as_bytes().to_vec(alloc),
         Element::Blank => Ok(Vec::new(alloc)),
+        Element::Comment(_) => Ok(Vec::new(alloc)),
         Element::Octet(_) => unquoted_value(alloc, elements),
     }
 }

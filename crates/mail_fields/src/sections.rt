@@ -21,12 +21,13 @@ pub fn section_size(elements: &[Element]) -> usize
 }
 
 /// Whether an element is a semicolon.
-fn is_semicolon(element: &Element) -> bool
+pub fn is_semicolon(element: &Element) -> bool
     ensures { result ≡ is_semicolon element.now }
 {
     match element {
         Element::Octet(octet) => *octet == b';',
         Element::Blank => false,
+        Element::Comment(_) => false,
         Element::Quoted(_) => false,
     }
 }
