@@ -1,0 +1,13 @@
+pub mod CutLemmas
+pub mod HeaderLemmas
+pub mod TagLemmas
+pub mod FrameStepLemmas
+pub mod FrameReadLemmas
+pub mod FrameRunLemmas
+pub mod LineEndLemmas
+pub mod LineReadingLemmas
+pub mod PayloadLemmas
+pub mod HelloLemmas
+pub mod SecretLemmas
+pub mod LineCutLemmas
+pub mod FrameWritingLemmas

@@ -1,0 +1,19 @@
+-- How the frames of a stream are written one after another.
+
+use Rattle.std.specs.Prelude.{◌≡◌, ◌+◌, ℕ, List, ◌++◌}
+use Rattle.link_wire.specs.declared.limits.Limits.{Limits}
+use Rattle.link_wire.specs.Digests.{frame_digest}
+use Rattle.link_wire.specs.Frames.{IsFrame, frame_text}
+
+-- A writer between two frames: the number of frames that it wrote under its key.
+pub record WriterState : Type 0 where
+  pub limits : Limits
+  pub key : List ℕ
+  pub count : ℕ
+
+-- The next frame, which has this payload and is within the limits, was appended to the text.
+pub record IsFrameWritten (old : WriterState) (payload before : List ℕ) (new : WriterState)
+    (after : List ℕ) : Type 0 where
+  pub frame : IsFrame old.limits (frame_digest old.key) (old.count + 1) payload
+  pub counted : new ≡ record old { count = old.count + 1 }
+  pub text_is : after ≡ before ++ frame_text (frame_digest old.key) (old.count + 1) payload

@@ -1,0 +1,11 @@
+pub mod Digests
+pub mod LineFaults
+pub mod MessageForm
+pub mod FrameWriting
+pub mod Frames
+pub mod Framing
+pub mod Hello
+pub mod LineCuts
+pub mod LineReading
+pub mod Secrets
+pub mod MessageTexts
