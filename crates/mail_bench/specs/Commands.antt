@@ -25,13 +25,11 @@ plain_text plain_commands.Logout = codes "LOGOUT"
 
 -- A command on a message: the texts before its number and after it.
 abbrev pub verb_text : MessageCommand → List ℕ
-verb_text messages.FetchFlags = codes "FETCH "
 verb_text messages.FetchBody = codes "FETCH "
 verb_text messages.Flag = codes "STORE "
 verb_text messages.Unflag = codes "STORE "
 
 abbrev pub asked_text : MessageCommand → List ℕ
-asked_text messages.FetchFlags = codes " (FLAGS)"
 asked_text messages.FetchBody = codes " (BODY.PEEK[])"
 asked_text messages.Flag = codes " +FLAGS (\\Flagged)"
 asked_text messages.Unflag = codes " -FLAGS (\\Flagged)"

@@ -37,8 +37,6 @@ pub enum PlainCommand {
 /// A command on one message, by its number in the selected mailbox.
 #[derive(Clone, Copy)]
 pub enum MessageCommand {
-    /// FETCH of the message's flags.
-    FetchFlags,
     /// FETCH of the message's whole text.
     FetchBody,
     /// STORE that sets `\Flagged`.
@@ -148,7 +146,7 @@ fn verb(ask: MessageCommand) -> &'static [u8]
     ensures { result.now ≡ verb_text ask }
 {
     match ask {
-        MessageCommand::FetchFlags | MessageCommand::FetchBody => b"FETCH ",
+        MessageCommand::FetchBody => b"FETCH ",
         MessageCommand::Flag | MessageCommand::Unflag => b"STORE ",
     }
 }
@@ -158,7 +156,6 @@ fn message_verb_end(ask: MessageCommand) -> &'static [u8]
     ensures { result.now ≡ asked_text ask }
 {
     match ask {
-        MessageCommand::FetchFlags => b" (FLAGS)",
         MessageCommand::FetchBody => b" (BODY.PEEK[])",
         MessageCommand::Flag => b" +FLAGS (\\Flagged)",
         MessageCommand::Unflag => b" -FLAGS (\\Flagged)",

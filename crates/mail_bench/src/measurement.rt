@@ -6,6 +6,7 @@ use crate::preparation::connect_and_select;
 use crate::report::{Report, Tally};
 use crate::settings::Settings;
 use crate::work::{LoginWork, MailboxWork, Work, WorkPlan, commands_of, now, since, work_for};
+use rand_pcg::Pcg32;
 use std::alloc::Global;
 use std::rt::Clock;
 use std::thread;
@@ -27,6 +28,7 @@ fn mailbox_works<'a, R: Dial>(
             client,
             plan,
             first,
+            chance: Pcg32::new(u64::from(place), 0),
         })?;
     }
     Ok(mailbox_works)

@@ -193,11 +193,11 @@ line of the output names the workload, and then connections, messages, commands,
 a second, and of the times the least, the median, the 90th and 99th of a hundred, and the greatest.";
 
 const WORKLOADS: &str =
-    "What is measured: noop sends one NOOP after another, and noop-pipelined 64 of them in one write, \
-whose time is that of all 64. append-1k and append-64k append messages. fetch-flags fetches the \
+    "What is measured: noop sends one NOOP after another, and noop-pipelined 32 of them in one write, \
+whose time is that of all 32. append-1k and append-64k append messages. fetch-flags fetches the \
 flags of all messages, fetch-body the text of one, and store sets and clears a flag of one. \
-search-unseen and search-subject search all. mixed goes round through one message's flags, one \
-body, a store, a NOOP, a search for the unseen and an APPEND of 1 KiB. login connects, logs in, \
+search-unseen and search-subject search all. mixed draws at random, of 100 commands, 10 noop, 5 \
+fetch-flags, 40 fetch-body, 25 store, 5 search-unseen and 15 append-1k. login connects, logs in, \
 logs out and closes. idle-fan-out has 32 connections idle and takes the time from an APPEND's last \
 octet until each has received it. noop-beside-idle measures NOOPs of one connection alone, and \
 then beside 400 that idle.";

@@ -9,12 +9,14 @@ use crate::preparation::{LARGE, SMALL, connect_and_login};
 use crate::report::Tally;
 use crate::settings::Settings;
 use crate::workload::Workload;
+use rand::RngExt;
+use rand_pcg::Pcg32;
 use std::alloc::Global;
 use std::rt::Clock;
 use std::time::{Duration, Instant};
 
 /// The number of NOOPs that are sent in one write.
-const PIPELINED: u64 = 64;
+const PIPELINED: u64 = 32;
 
 /// The plan that the connections of a run share.
 #[derive(Drop)]
@@ -124,6 +126,8 @@ pub struct MailboxWork<'a> {
     pub plan: &'a WorkPlan<'a>,
     /// The place among all messages at which the connection begins.
     pub first: u32,
+    /// Draws the commands of a mix, and their messages.
+    pub chance: Pcg32,
 }
 
 impl Work for MailboxWork<'_> {
@@ -165,15 +169,16 @@ impl MailboxWork<'_> {
         self.client.run(Command::Plain(ask))
     }
 
-    /// The next command of the fixed cycle.
+    /// A command drawn at random: of 100, in the mean, 10 are NOOP, 5 FETCH all flags, 40 fetch a
+    /// body, 25 are STORE, 5 SEARCH UNSEEN and 15 APPEND.
     fn mixed(&mut self, number: u64) -> Result<(), BenchFault> {
-        let round = number / 6;
-        match number % 6 {
-            0 => self.ask(MessageCommand::FetchFlags, round),
-            1 => self.ask(MessageCommand::FetchBody, round),
-            2 => self.ask(store_command(round), round / 2),
-            3 => self.one(Workload::Noop, number),
-            4 => self.one(Workload::SearchUnseen, number),
+        let message = u64::from(self.chance.random_range(0..self.plan.messages));
+        match self.chance.random_range(0..100u32) {
+            0..=9 => self.one(Workload::Noop, number),
+            10..=14 => self.one(Workload::FetchFlags, number),
+            15..=54 => self.ask(MessageCommand::FetchBody, message),
+            55..=79 => self.ask(store_command(number), message),
+            80..=84 => self.one(Workload::SearchUnseen, number),
             _ => self.one(Workload::AppendSmall, number),
         }
     }

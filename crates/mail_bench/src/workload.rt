@@ -10,7 +10,7 @@ use std::fmt;
 pub enum Workload {
     /// NOOP, one in flight.
     Noop,
-    /// 64 NOOPs in one write, and their 64 answers.
+    /// 32 NOOPs in one write, and their 32 answers.
     NoopPipelined,
     /// APPEND of 1 KiB.
     AppendSmall,
@@ -26,8 +26,8 @@ pub enum Workload {
     SearchUnseen,
     /// SEARCH for a subject that no message of the program has.
     SearchSubject,
-    /// FETCH of one message's flags and one body, a STORE, NOOP, SEARCH UNSEEN and APPEND of 1 KiB,
-    /// in this order.
+    /// At random, of 100 commands 10 NOOP, 5 FETCH of all flags, 40 of a body, 25 STORE, 5 SEARCH
+    /// UNSEEN and 15 APPEND of 1 KiB.
     Mixed,
     /// A connection, its greeting, LOGIN and LOGOUT.
     Login,
