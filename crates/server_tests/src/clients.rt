@@ -75,6 +75,30 @@ impl Client {
         self.has_succeeded && has_arrived
     }
 
+    /// Waits until the connection ends. After a failed wait it does nothing.
+    pub fn await_end(&mut self) {
+        for _ in 0..100_000u32 {
+            if !self.has_succeeded {
+                return;
+            }
+            match self.read() {
+                Ok(true) => {}
+                Ok(false) => return,
+                Err(_) => self.has_succeeded = false,
+            }
+        }
+        self.has_succeeded = false;
+    }
+
+    /// Sends commands until the connection takes no more, and at most 64 MiB.
+    pub fn send_all(&mut self, input: &[u8]) {
+        for _ in 0..1_000_000u32 {
+            if self.send(input).is_err() {
+                return;
+            }
+        }
+    }
+
     /// Drops all that it has received.
     pub fn clear_output(&mut self) {
         self.output.clear();

@@ -7,8 +7,8 @@
 //! one continues while another waits, while a replica's lock is held, and with clients that send
 //! what no client should. Messages reach the replicas that have joined, and the lines printed about
 //! joining replicas are compared. Replicas join in their order, even when the last connection ends;
-//! the end of each connection is logged; and a program that can't run reports it and ends with its
-//! status.
+//! the end of each connection is logged; clients that keep a server waiting, guess passwords or come
+//! in crowds are ended; and a program that can't run reports it and ends with its status.
 //!
 //! # Decided
 //!
@@ -28,6 +28,8 @@ mod gates;
 mod hostile;
 #[cfg(test)]
 mod joins;
+#[cfg(test)]
+mod limits;
 #[cfg(test)]
 mod loopback;
 #[cfg(test)]

@@ -1,6 +1,7 @@
 //! Scenarios of clients that connect to a server, and the answers that they wait for.
 
 use crate::clients::Client;
+use crate::limits::{play_crowd, play_guessing, play_large, play_slow, play_talker, play_wary};
 use imap_types::Moment;
 use mail_text::civil;
 use server_runtime::ServerState;
@@ -36,6 +37,18 @@ pub enum Scenario {
     Keep,
     /// A client of the next start.
     Kept,
+    /// Clients that keep the server waiting.
+    Slow,
+    /// A client that guesses passwords, all in one piece.
+    Guessing,
+    /// More clients than may wait for their login.
+    Crowd,
+    /// A client that logs in after other clients' logins were refused.
+    Wary,
+    /// A client that sends much before its login.
+    Talker,
+    /// A client that appends a large message.
+    Large,
 }
 
 /// The length of the message for which a late reader asks, in octets.
@@ -67,6 +80,12 @@ impl Scenario {
             Scenario::Ends => play_ends(rt, alloc, server),
             Scenario::Keep => play_keep(rt, alloc, server),
             Scenario::Kept => play_kept(rt, alloc, server),
+            Scenario::Slow => play_slow(rt, alloc, server),
+            Scenario::Guessing => play_guessing(rt, alloc, server),
+            Scenario::Crowd => play_crowd(rt, alloc, server),
+            Scenario::Wary => play_wary(rt, alloc, server),
+            Scenario::Talker => play_talker(rt, alloc, server),
+            Scenario::Large => play_large(rt, alloc, server),
         }
     }
 }
@@ -89,7 +108,7 @@ fn address_at<R: Wait + Clock>(
 }
 
 /// A client of the replica at a place, once it listens.
-fn client_at<R: Wait + Clock + Net<Listener = TcpListener, Stream = TcpStream>>(
+pub fn client_at<R: Wait + Clock + Net<Listener = TcpListener, Stream = TcpStream>>(
     rt: &R,
     alloc: Global,
     server: &ServerState<'_>,
@@ -108,7 +127,7 @@ fn is_awaited<R: Wait>(rt: &R, server: &ServerState<'_>, place: usize) -> bool {
 }
 
 /// Logs out.
-fn leave(client: &mut Client) {
+pub fn leave(client: &mut Client) {
     client.exchange(b"z LOGOUT\r\n", b"z OK LOGOUT completed\r\n")
 }
 
