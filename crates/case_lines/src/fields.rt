@@ -6,18 +6,6 @@ use imap_types::{Escape, Name, Octets, read_escaped};
 use std::alloc::{AllocError, Global};
 use tags_clocks::ReplicaId;
 
-/// The part of a line before its last ` =>`; the whole line if it has none or is a comment, which
-/// begins with `#`.
-pub fn question(line: &str) -> &str {
-    if line.starts_with('#') {
-        return line;
-    }
-    match line.rsplit_once(" =>") {
-        Some((question, _)) => question,
-        None => line,
-    }
-}
-
 /// The first field, and the text after the space that follows it.
 pub fn cut(text: &str) -> Result<(&str, &str), Trouble> {
     text.split_once(' ').ok_or(Trouble::NotACase)

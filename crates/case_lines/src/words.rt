@@ -178,6 +178,13 @@ impl Words {
         self.note_result(done);
     }
 
+    /// Appends an answer below its question: a first line, which is given with one space before it,
+    /// and lines that are given with an LF and two spaces before them.
+    pub fn put_answer(&mut self, answer: &[u8]) {
+        self.put_if(answer.starts_with(b" "), "\n ");
+        self.put_octets(answer);
+    }
+
     /// Appends octets, or marks the text as incomplete if memory ran out for them.
     pub fn put_result(&mut self, made: Result<Vec<u8>, AllocError>) {
         match made {

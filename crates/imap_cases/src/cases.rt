@@ -44,10 +44,13 @@ fn played(alloc: Global, subject: Subject, text: &str) -> Result<Vec<u8>, AllocE
     page.finish()
 }
 
-/// Puts the line with its LF. In a case, `KIND INPUT => ANSWER`, the answer is replaced by the one
-/// that the code gives now. Comments, which begin with `#`, empty lines and lines that set a
-/// query's subject are put unchanged.
+/// Puts the line with its LF, and below a case, `KIND INPUT`, the answer that the code gives now.
+/// Comments, which begin with `#`, empty lines and lines that set a query's subject are put
+/// unchanged; lines that begin with two spaces are old answers and are left out.
 fn put_line(alloc: Global, page: &mut Words, setup: &mut Setup, subject: Subject, line: &str) {
+    if line.starts_with("  ") {
+        return;
+    }
     if line.is_empty() || line.starts_with('#') {
         page.put(line);
     } else {
@@ -61,7 +64,7 @@ fn put_outcome(alloc: Global, page: &mut Words, setup: &mut Setup, subject: Subj
     if matches!(subject, Subject::Queries) && is_setting(kind) {
         page.put(line);
         if let Err(trouble) = setup.set(alloc, kind, rest) {
-            page.put_trouble(" => ", trouble);
+            page.put_trouble("\n  ", trouble);
         }
     } else {
         put_case(alloc, page, setup, subject, line);
@@ -69,12 +72,29 @@ fn put_outcome(alloc: Global, page: &mut Words, setup: &mut Setup, subject: Subj
 }
 
 fn put_case(alloc: Global, page: &mut Words, setup: &Setup, subject: Subject, line: &str) {
-    let (case, _) = parts_around(line, " => ");
-    page.put_after(case, b" => ");
-    let (kind, input) = parts_around(case, " ");
-    match subject {
-        Subject::Texts => page.put_result(answer_to(alloc, kind, input)),
-        Subject::Queries => put_query(alloc, page, setup, kind, input),
-        Subject::Views => put_view(alloc, page, kind, input),
+    page.put(line);
+    match answer(alloc, setup, subject, line) {
+        Ok(answer) => {
+            page.put_if(!answer.is_empty(), "\n  ");
+            page.put_octets(&answer);
+        }
+        Err(AllocError) => page.give_up(),
     }
+}
+
+/// The code's answer to a case. `Err` if memory runs out.
+fn answer(
+    alloc: Global,
+    setup: &Setup,
+    subject: Subject,
+    line: &str,
+) -> Result<Vec<u8>, AllocError> {
+    let (kind, input) = parts_around(line, " ");
+    let mut words = Words::new(alloc);
+    match subject {
+        Subject::Texts => words.put_result(answer_to(alloc, kind, input)),
+        Subject::Queries => put_query(alloc, &mut words, setup, kind, input),
+        Subject::Views => put_view(alloc, &mut words, kind, input),
+    }
+    words.finish()
 }

@@ -1,10 +1,10 @@
 //! Plays cases of three kinds: IMAP texts (commands, answers, framing), queries of a mailbox, and
-//! views. The program `node_cases` plays them, and must print its stored output.
+//! views. The program `node_cases` plays them, and compares them with the expected ones.
 //!
-//! A case is a line, `KIND INPUT => ANSWER`. It is printed again with the answer that the code
-//! gives now, so a text is printed unchanged exactly when every answer is right. Comments and empty
-//! lines are printed as they are. The head of the cases in `crates/node_cases/stdin` lists the
-//! kinds and says how inputs and answers are written.
+//! A case is a line, `KIND INPUT`, and below it the answer after two spaces. It is printed again
+//! with the answer that the code gives now, so a text is printed unchanged exactly when every
+//! answer is right. Comments and empty lines are printed as they are. docs/cases.md lists the kinds
+//! and says how inputs and answers are written.
 //!
 //! Nothing is proved of the answers beyond the contracts of the called crates: this crate compares
 //! what no contract says, such as worked rows, and it damages short texts at each octet and cuts

@@ -1,54 +1,106 @@
-//! Plays cases, and prints what the code answers to them now. The output must equal the stored file
-//! `stdout`, so a change of any answer is noticed.
+//! Plays the cases of the folder `data`, and prints each whose answer isn't the expected one.
 //!
-//! On the standard input, a line `=== KIND` precedes the cases of each kind. The program prints
-//! that line, and then the result of the cases. The head of this crate's file `stdin` lists the
-//! kinds, and docs/formats.md says what their cases are.
+//! `node_cases [--every N] [PATH ..]`: a PATH is a file of cases or a folder that has such files.
+//! Without one, the folders in `data` are taken, or in the current folder if it has no folder
+//! `data`; each of them is a subject. For each it prints the differences, and whether all is as
+//! expected. Of the octets of all scripts, and of their output, each Nth is damaged, or each 128th.
+//! docs/cases.md says what cases are.
 //!
 //! The cases themselves are played by the libraries `imap_cases`, `replica_cases` and
 //! `world_cases`, and by two modules of this program: `mail_rows` for scripts, inputs of the audit
 //! and logs, and `node_costs` for the time that a node's calls take.
 #![tactic(auto)]
 
+mod case_files;
+mod case_parts;
 mod mail_rows;
 mod node_costs;
 
-use std::alloc::{AllocError, Global};
-use std::io::{self, Write};
+use crate::case_files::{files_of, is_folder, names_in, path_in};
+use crate::case_parts::check_file;
+use crate::mail_rows::DamageCount;
+use case_lines::Words;
+use std::alloc::AllocError;
+use std::io::Write;
+use std::{env, io};
+
+/// Each place of scripts and transcripts whose number this divides is damaged, if no other number
+/// is given.
+const EVERY: u64 = 128;
+
+/// The fewest scripts that must be damaged in all subjects, and the fewest transcripts.
+const LEAST_DAMAGED: u64 = 2_000;
 
 fn main(rt: HostRuntime) -> io::Result<()> {
-    let text = io::read_to_string(rt.alloc(), rt.reader())?;
-    for part in text.as_str().split("\n=== ").skip(1) {
-        print_part(&rt, part)?;
+    let words: Vec<String> = env::args(&rt)?.collect(rt.alloc())?;
+    let (every, paths) = request(&words);
+    let mut tried = DamageCount::near_edges(every.unwrap_or(EVERY));
+    if paths.is_empty() {
+        let folder = if is_folder(&rt, "data") { "data" } else { "." };
+        let subjects = names_in(&rt, folder)?;
+        check_all(&rt, folder, &subjects, &mut tried)?;
+    } else {
+        check_all(&rt, ".", paths, &mut tried)?;
+    }
+    print_damage(&rt, every, &tried)
+}
+
+/// The number after `--every`, if there is one, and the paths.
+fn request(words: &[String]) -> (Option<u64>, &[String]) {
+    let paths = words.get(1..).unwrap_or(&[]);
+    match (paths.first(), paths.get(1)) {
+        (Some(option), Some(number)) if option.as_str() == "--every" => {
+            (number.parse::<u64>().ok(), paths.get(2..).unwrap_or(&[]))
+        }
+        _ => (None, paths),
+    }
+}
+
+/// Plays the cases of each of these files or folders in a folder.
+fn check_all(
+    rt: &HostRuntime,
+    folder: &str,
+    names: &[String],
+    tried: &mut DamageCount,
+) -> io::Result<()> {
+    for name in names {
+        check(rt, folder, name, tried)?;
     }
     Ok(())
 }
 
-/// Prints the line of a kind, and the result of its cases.
-fn print_part(rt: &HostRuntime, part: &str) -> io::Result<()> {
-    let (kind, cases) = part.split_once('\n').unwrap_or((part, ""));
-    if kind == "costs" {
-        println!(*rt; "=== costs")?;
-        return node_costs::play(rt, cases);
+/// Plays the cases of a file or folder, and prints the differences, and whether there are none.
+fn check(rt: &HostRuntime, folder: &str, name: &str, tried: &mut DamageCount) -> io::Result<()> {
+    let path = path_in(rt, folder, name)?;
+    let report = report_of(rt, &path, tried)?;
+    if report.is_empty() {
+        println!(*rt; "{name}: as expected")
+    } else {
+        io::writer(rt).write_all(&report)?;
+        println!(*rt; "{name}: not as expected")
     }
-    let output = output(rt.alloc(), kind, cases)?;
-    println!(*rt; "=== {kind}")?;
-    io::writer(rt).write_all(&output)
 }
 
-/// The result of the cases of a kind. `Err` if memory runs out.
-fn output(alloc: Global, kind: &str, cases: &str) -> Result<Vec<u8>, AllocError> {
-    match kind {
-        "texts" => imap_cases::play(alloc, cases),
-        "operations" => replica_cases::play(alloc, cases),
-        "uids" => replica_cases::play_uids(alloc, cases),
-        "views" => imap_cases::play_views(alloc, cases),
-        "queries" => imap_cases::play_queries(alloc, cases),
-        "idle" => world_cases::play_idle(alloc),
-        "worlds" => world_cases::play(alloc, cases),
-        "audits" => mail_rows::play_audits(alloc, cases),
-        "logs" => mail_rows::play_logs(alloc, cases),
-        "rows" => mail_rows::play(alloc, cases),
-        _ => b"no such kind\n".to_vec(alloc),
+/// The differences in the cases of a file or folder.
+fn report_of(rt: &HostRuntime, path: &str, tried: &mut DamageCount) -> io::Result<Vec<u8>> {
+    let mut report = Words::new(rt.alloc());
+    let files = files_of(rt, path)?;
+    for file in &files {
+        check_file(rt, file, tried, &mut report)?;
+    }
+    match report.finish() {
+        Ok(report) => Ok(report),
+        Err(AllocError) => Err(io::Error::from(AllocError)),
+    }
+}
+
+/// Prints whether enough scripts and transcripts were damaged; if a number was given after
+/// `--every`, how many.
+fn print_damage(rt: &HostRuntime, every: Option<u64>, tried: &DamageCount) -> io::Result<()> {
+    let (replayed, audited) = tried.counts();
+    if every.is_none() && replayed >= LEAST_DAMAGED && audited >= LEAST_DAMAGED {
+        println!(*rt; "damaged: at least {LEAST_DAMAGED} scripts and as many transcripts")
+    } else {
+        println!(*rt; "damaged: {replayed} scripts and {audited} transcripts")
     }
 }

@@ -1,11 +1,10 @@
 //! Plays two kinds of cases: operations, clocks and inboxes; and UIDs, UIDVALIDITY and
-//! mod-sequences. The program `node_cases` plays them, and its stored output is what must be
-//! printed.
+//! mod-sequences. The program `node_cases` plays them, and compares them with the expected ones.
 //!
-//! A case is a line, a question. It is printed again with the answer that the code gives now, so a
-//! text is printed unchanged exactly when every answer is right. docs/formats.md lists the
-//! questions of the first kind, the head of the cases in `crates/node_cases/stdin` those of the
-//! second.
+//! A case is a line, a question. It is printed again with the answer that the code gives now below
+//! it, so a text is printed unchanged exactly when every answer is right. docs/cases.md lists the
+//! questions. `uids::lists` generates lists of operations, and compares what the code says after
+//! them with a recount that is written from the definitions.
 //!
 //! What no contract says is tested here: that a text, even a damaged one, is written as it was
 //! read, and that sets of operations have the same effect in every order of delivery. The contracts

@@ -116,7 +116,7 @@ impl Plays for Setup {
             Some(Word::First) => take_first(&mut self.given, fields, answer),
             Some(Word::Any) => take_any(&mut self.given, fields, answer),
             Some(Word::Asks(asks)) => answer_asked(self, asks, fields, answer),
-            None => answer.put_trouble(" => ", Trouble::NotACase),
+            None => answer.put_trouble(" ", Trouble::NotACase),
         }
     }
 }
@@ -142,7 +142,6 @@ fn take_any(given: &mut Given, fields: &str, answer: &mut Words) {
 }
 
 fn answer_asked(setup: &mut Setup, asks: Asks, fields: &str, answer: &mut Words) {
-    answer.put(" =>");
     match asks {
         Asks::Text(word) => answer_text(word, fields, answer),
         Asks::Clock(word) => answer_clock(word, fields, answer),

@@ -1,6 +1,6 @@
 //! Random commands.
 
-use crate::chance::Chance;
+use case_lines::Chance;
 use std::alloc::{AllocError, Global};
 
 /// The effect of a command on its session's mailbox.

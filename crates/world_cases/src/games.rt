@@ -2,12 +2,11 @@
 
 ghost use Rattle.std.specs.Prelude.{◌≡◌, IfOk};
 
-use crate::chance::Chance;
 use crate::event_lines::cut;
 use crate::random_events::{Note, random_event};
 use crate::session_clients::SessionClients;
 use crate::tally::Tally;
-use case_lines::{Trouble, Words, long_number};
+use case_lines::{Chance, Trouble, Words, long_number};
 use imap_connection::write_dump;
 use imap_node::Node;
 use std::alloc::{AllocError, Global};
@@ -53,7 +52,7 @@ pub fn play_random(
         play(alloc, world, &mut tally)?;
     }
     page.put(asked);
-    page.put(" =>\n");
+    page.put("\n");
     tally.put_tally(page);
     Ok(())
 }

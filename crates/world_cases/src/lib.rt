@@ -1,7 +1,7 @@
 //! Plays worlds of replicas: worked ones, whose events a text lists line by line, and random ones,
 //! by their numbers. It also plays generated runs in which a session idles. The program
-//! `node_cases` plays them, and its stored output is what must be printed; docs/formats.md says
-//! what a case is.
+//! `node_cases` plays them, and compares them with the expected ones; docs/cases.md says what a
+//! case is.
 //!
 //! The text of a worked world is printed again with the outcomes that its events have now, so it is
 //! printed unchanged exactly when every outcome is right. After each run of a random world each
@@ -12,7 +12,6 @@
 //! with 1 or more; the rest is compared.
 #![tactic(auto)]
 
-mod chance;
 mod client;
 mod commands;
 mod event_lines;

@@ -11,10 +11,19 @@ use merge_laws::Caused;
 use std::alloc::{AllocError, Global};
 use world_core::{JoinRefusal, Outcome};
 
-/// Puts the line of an event, and its outcome.
+/// Puts the line of an event, and its outcome below it.
 pub fn put_outcome(alloc: Global, line: &str, outcome: &Outcome, page: &mut Words) {
     page.put(line);
-    page.put(" =>");
+    let mut text = Words::new(alloc);
+    put_outcome_text(alloc, line, outcome, &mut text);
+    match text.finish() {
+        Ok(text) => page.put_answer(&text),
+        Err(AllocError) => page.give_up(),
+    }
+    page.put("\n");
+}
+
+fn put_outcome_text(alloc: Global, line: &str, outcome: &Outcome, page: &mut Words) {
     match outcome {
         Outcome::Opened { session } => page.put_number(" Opened ", session.get() as u64),
         Outcome::NotOpened { fault } => page.put(open_fault_text(*fault)),
@@ -29,7 +38,6 @@ pub fn put_outcome(alloc: Global, line: &str, outcome: &Outcome, page: &mut Word
         Outcome::Restarted => page.put(" Restarted"),
         Outcome::NotRestarted { fault } => put_refusal(" NotRestarted", *fault, page),
     }
-    page.put("\n");
 }
 
 fn put_refusal(outcome: &str, fault: JoinRefusal, page: &mut Words) {

@@ -2,10 +2,9 @@
 
 ghost use Rattle.std.specs.Prelude.{◌<◌};
 
-use crate::chance::Chance;
 use crate::commands::{MailboxEffect, command};
 use crate::event_lines::tagged_command;
-use case_lines::Trouble;
+use case_lines::{Chance, Trouble};
 use imap_commands::Credentials;
 use imap_grammar::IdleLine;
 use imap_node::{Auth, Node, Session, SessionNo, State};

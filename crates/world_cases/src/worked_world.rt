@@ -75,10 +75,9 @@ fn take_line<'a>(alloc: Global, line: &'a str, worked: &mut WorkedWorld<'a>, pag
         page.put("\n");
         return;
     }
-    let (asked, _) = line.split_once(" =>").unwrap_or((line, ""));
-    if let Err(trouble) = take_asked(alloc, asked, worked, page) {
-        page.put(asked);
-        page.put_trouble(" => ", trouble);
+    if let Err(trouble) = take_asked(alloc, line, worked, page) {
+        page.put(line);
+        page.put_trouble("\n  ", trouble);
         page.put("\n");
     }
 }
@@ -121,7 +120,7 @@ fn put_line(line: &str, page: &mut Words) {
 
 fn put_answer(asked: &str, answer: &str, page: &mut Words) {
     page.put(asked);
-    page.put(" => ");
+    page.put("\n  ");
     page.put(answer);
     page.put("\n");
 }
@@ -205,7 +204,7 @@ fn put_no_world(asked: &str, fault: WorldFault, page: &mut Words) {
 
 fn put_two_alike(asked: &str, id: ReplicaId, page: &mut Words) {
     page.put(asked);
-    page.put_number(" => TwoAlike ", u64::from(id.get()));
+    page.put_number("\n  TwoAlike ", u64::from(id.get()));
     page.put("\n");
 }
 
@@ -213,7 +212,7 @@ fn put_outcomes(alloc: Global, lines: &[&str], outcomes: &Outcomes, page: &mut W
     for (line, outcome) in lines.iter().zip(outcomes.list.iter()) {
         put_outcome(alloc, line, outcome, page);
     }
-    page.put_number("run => ", outcomes.list.len() as u64);
+    page.put_number("run\n  ", outcomes.list.len() as u64);
     page.put(" outcomes, ");
     page.put(if outcomes.whole { "whole" } else { "not whole" });
     page.put("\n");

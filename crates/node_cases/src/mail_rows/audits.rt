@@ -1,34 +1,33 @@
 //! Plays inputs of the audit, case by case.
 
+use super::block::{block_of, titled_cases};
+use case_lines::Words;
 use imap_types::{Escape, read_escaped};
 use mail_audit::audit;
 use std::alloc::{AllocError, Global};
 
-/// The results of the cases of a text, each after a line `== TITLE`. Anything before the first such
-/// line is left out. `Err` if memory runs out.
-pub fn play_audits(alloc: Global, text: &str) -> Result<Vec<u8>, AllocError> {
-    let mut output = Vec::new(alloc);
-    for case in text.split("\n== ").skip(1) {
-        put_case(alloc, case, &mut output)?;
+/// Plays the cases of a text, each after a line `== TITLE`, and puts those whose answer isn't the
+/// expected one. `Err` if memory runs out.
+pub fn check_audits(
+    alloc: Global,
+    file: &str,
+    text: &str,
+    report: &mut Words,
+) -> Result<(), AllocError> {
+    for case in titled_cases(file, text, report).split("\n== ") {
+        check_case(alloc, file, case, report)?;
     }
-    Ok(output)
-}
-
-/// Puts a case's title, and after it the audit's answer to its input.
-fn put_case(alloc: Global, case: &str, output: &mut Vec<u8>) -> Result<(), AllocError> {
-    let (title, lines) = case.split_once('\n').unwrap_or((case, ""));
-    put_title(title, output)?;
-    let input = input_of(alloc, lines)?;
-    let mut reader = input.as_slice();
-    let _end = audit(alloc, &mut reader, output);
     Ok(())
 }
 
-/// Puts the line of a title.
-pub(super) fn put_title(title: &str, output: &mut Vec<u8>) -> Result<(), AllocError> {
-    output.extend_from_slice(b"== ")?;
-    output.extend_from_slice(title.as_bytes())?;
-    output.push(b'\n')?;
+/// Compares the audit's answer to the input of a case with the expected one.
+fn check_case(alloc: Global, file: &str, case: &str, report: &mut Words) -> Result<(), AllocError> {
+    let block = block_of(alloc, case)?;
+    let input = input_of(alloc, &block.input)?;
+    let mut reader = input.as_slice();
+    let mut output = Vec::new(alloc);
+    let _end = audit(alloc, &mut reader, &mut output);
+    block.put_difference(file, &output, report);
     Ok(())
 }
 

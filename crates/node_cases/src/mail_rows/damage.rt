@@ -91,17 +91,9 @@ impl DamageCount {
         self.audited = self.audited.saturating_add(6);
     }
 
-    /// Puts whether at least `least` damaged texts were replayed and as many audited; otherwise how
-    /// many.
-    pub fn put_report(&self, least: u64, page: &mut Words) {
-        if self.replayed >= least && self.audited >= least {
-            page.put_number("-- at least ", least);
-            page.put(" replayed and audited\n");
-        } else {
-            page.put_number("-- ", self.replayed);
-            page.put_number(" replayed, ", self.audited);
-            page.put(" audited\n");
-        }
+    /// How many damaged scripts were replayed, and how many damaged transcripts audited.
+    pub fn counts(&self) -> (u64, u64) {
+        (self.replayed, self.audited)
     }
 }
 

@@ -19,9 +19,6 @@ pub enum Way<'a> {
     /// It is replayed with octets, given in the escape, sent to a session in all ways of cutting
     /// them.
     Pieces { session: &'a str, text: &'a str },
-    /// Nothing is replayed: the row puts whether at least this number of damaged scripts were
-    /// replayed so far, and as many damaged transcripts audited.
-    Tried(u64),
     /// It is replayed with each of the following lines at its end, and again with this line after
     /// that one.
     Each(&'a str),
@@ -35,7 +32,6 @@ pub fn way_of<'a>(word: &str, rest: &'a str) -> Option<Way<'a>> {
         "damage" => Some(Way::Damage),
         "pieces" => Some(pieces_of(rest)),
         "each" => Some(Way::Each(rest)),
-        "tried" => tried_of(rest),
         _ => None,
     }
 }
@@ -43,13 +39,6 @@ pub fn way_of<'a>(word: &str, rest: &'a str) -> Option<Way<'a>> {
 fn last_of<'a>(number: &'a str) -> Option<Way<'a>> {
     match number.parse::<usize>() {
         Ok(last) => Some(Way::Last(last)),
-        Err(_) => None,
-    }
-}
-
-fn tried_of<'a>(number: &'a str) -> Option<Way<'a>> {
-    match number.parse::<u64>() {
-        Ok(least) => Some(Way::Tried(least)),
         Err(_) => None,
     }
 }

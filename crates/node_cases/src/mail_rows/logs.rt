@@ -1,33 +1,40 @@
 //! Plays logs, case by case.
 
-use super::audits::{input_of, put_title};
+use super::audits::input_of;
+use super::block::{block_of, titled_cases};
+use case_lines::Words;
 use log_dump::{LogDumpEnd, dump_log};
 use mail_audit::audit;
 use std::alloc::{AllocError, Global};
 
-/// The results of the cases of a text, each after a line `== TITLE`. Anything before the first such
-/// line is left out. `Err` if memory runs out.
-pub fn play_logs(alloc: Global, text: &str) -> Result<Vec<u8>, AllocError> {
-    let mut output = Vec::new(alloc);
-    for case in text.split("\n== ").skip(1) {
-        put_log(alloc, case, &mut output)?;
+/// Plays the cases of a text, each after a line `== TITLE`, and puts those whose output isn't the
+/// expected one. `Err` if memory runs out.
+pub fn check_logs(
+    alloc: Global,
+    file: &str,
+    text: &str,
+    report: &mut Words,
+) -> Result<(), AllocError> {
+    for case in titled_cases(file, text, report).split("\n== ") {
+        let block = block_of(alloc, case)?;
+        let output = output_of(alloc, &block.input)?;
+        block.put_difference(file, &output, report);
     }
-    Ok(output)
+    Ok(())
 }
 
-/// Puts a case's title, what is printed of its log, and the audit's answer to a dump.
-fn put_log(alloc: Global, case: &str, output: &mut Vec<u8>) -> Result<(), AllocError> {
-    let (title, lines) = case.split_once('\n').unwrap_or((case, ""));
-    put_title(title, output)?;
+/// What is printed of a log, and the audit's answer to a dump.
+fn output_of(alloc: Global, lines: &str) -> Result<Vec<u8>, AllocError> {
     let log = input_of(alloc, lines)?;
+    let mut output = Vec::new(alloc);
     let mut reader = log.as_slice();
     let mut printed = Vec::new(alloc);
     let end = dump_log(alloc, &mut reader, &mut printed);
     output.extend_from_slice(&printed)?;
     if end == LogDumpEnd::Done {
-        put_audit(alloc, &printed, output)?;
+        put_audit(alloc, &printed, &mut output)?;
     }
-    Ok(())
+    Ok(output)
 }
 
 /// Puts the audit's answer to a dump.

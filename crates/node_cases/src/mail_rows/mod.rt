@@ -1,8 +1,10 @@
-//! Plays rows, which are scripts with a title each, and puts what the replay of each prints and how
-//! it ends. Also plays inputs of the audit, each with a title, and puts the audit's answer; and
-//! logs, and puts what is printed of each. docs/formats.md says what a row and a case are.
+//! Plays rows, which are scripts with a title each, and compares what the replay of each prints and
+//! how it ends with what is expected. Also plays inputs of the audit, each with a title, and
+//! compares the audit's answer; and logs, and compares what is printed of each. docs/cases.md says
+//! what a row and a case are.
 
 mod audits;
+mod block;
 mod cases;
 mod cuts;
 mod damage;
@@ -11,6 +13,7 @@ mod logs;
 mod replays;
 mod rows;
 
-pub use audits::play_audits;
-pub use logs::play_logs;
-pub use rows::play;
+pub use audits::check_audits;
+pub use damage::DamageCount;
+pub use logs::check_logs;
+pub use rows::check_rows;

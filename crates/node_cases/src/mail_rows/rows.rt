@@ -1,5 +1,6 @@
 //! Plays rows, line by line.
 
+use crate::mail_rows::block::{block_of, titled_cases};
 use crate::mail_rows::cases::{damage_case, try_case};
 use crate::mail_rows::cuts::{put_pieces, with_send};
 use crate::mail_rows::damage::{DamageCount, put_damage, put_first_wrong, put_first_wrong_after};
@@ -8,27 +9,23 @@ use crate::mail_rows::replays::play_script;
 use case_lines::Words;
 use std::alloc::{AllocError, Global};
 
-/// Plays the rows of a text, each after a line `== TITLE`, and returns the results. Anything before
-/// the first such line is left out. `Err` if memory runs out.
-pub fn play(alloc: Global, text: &str) -> Result<Vec<u8>, AllocError> {
-    let mut page = Words::new(alloc);
-    let mut tried = DamageCount::near_edges(every_of(text));
-    for row in text.split("\n== ").skip(1) {
-        play_row(alloc, row, &mut tried, &mut page);
+/// Plays the rows of a text, each after a line `== TITLE`, and puts those whose output isn't the
+/// expected one. Places of scripts and transcripts are damaged as `tried` says. `Err` if memory
+/// runs out.
+pub fn check_rows(
+    alloc: Global,
+    file: &str,
+    text: &str,
+    tried: &mut DamageCount,
+    report: &mut Words,
+) -> Result<(), AllocError> {
+    for row in titled_cases(file, text, report).split("\n== ") {
+        let block = block_of(alloc, row)?;
+        let mut page = Words::new(alloc);
+        play_row(alloc, &block.input, tried, &mut page);
+        block.put_difference(file, &page.finish()?, report);
     }
-    page.finish()
-}
-
-/// The number after `% every ` before the first row: each place whose number it divides is damaged,
-/// counted over all scripts and transcripts. 0, for no place, if there is no such line.
-fn every_of(text: &str) -> u64 {
-    let (head, _) = text.split_once("\n== ").unwrap_or((text, ""));
-    for line in head.lines() {
-        if let Some(number) = line.strip_prefix("% every ") {
-            return number.parse::<u64>().unwrap_or(0);
-        }
-    }
-    0
+    Ok(())
 }
 
 /// A row as far as it was read.
@@ -39,11 +36,7 @@ struct Row<'a> {
     tried: DamageCount,
 }
 
-fn play_row(alloc: Global, text: &str, tried: &mut DamageCount, page: &mut Words) {
-    let (title, lines) = cut(text, '\n');
-    page.put("== ");
-    page.put(title);
-    page.put("\n");
+fn play_row(alloc: Global, lines: &str, tried: &mut DamageCount, page: &mut Words) {
     let mut row = Row {
         script: Words::new(alloc),
         way: Way::Whole,
@@ -57,13 +50,8 @@ fn play_row(alloc: Global, text: &str, tried: &mut DamageCount, page: &mut Words
     damage_row(alloc, row.script.so_far(), row.way, tried, page);
 }
 
-/// Damages a row's script and transcript, and the line that sends its pieces; or puts how many
-/// texts were damaged, if the row asks for that.
+/// Damages a row's script and transcript, and the line that sends its pieces.
 fn damage_row(alloc: Global, script: &[u8], way: Way, tried: &mut DamageCount, page: &mut Words) {
-    if let Way::Tried(least) = way {
-        tried.put_report(least, page);
-        return;
-    }
     put_first_wrong(alloc, script, tried, page);
     if let Way::Pieces { session, text } = way {
         let whole = with_send(alloc, script, session, text);
@@ -131,6 +119,6 @@ fn end_row(alloc: Global, script: &[u8], way: Way, page: &mut Words) {
         Way::Count(line) => play_script(alloc, script).put_count(line, page),
         Way::Damage => put_damage(alloc, script, page),
         Way::Pieces { session, text } => put_pieces(alloc, script, session, text, page),
-        Way::Each(_) | Way::Tried(_) => {}
+        Way::Each(_) => {}
     }
 }

@@ -1,6 +1,6 @@
-//! Cases of UIDs, UIDVALIDITY and mod-sequences. The head of these cases in
-//! `crates/node_cases/stdin` says what a case is.
+//! Cases of UIDs, UIDVALIDITY and mod-sequences; docs/cases.md says what a case is.
 
+mod lists;
 mod requests;
 mod setup;
 mod tables;

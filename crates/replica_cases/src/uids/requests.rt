@@ -4,6 +4,7 @@ ghost use Rattle.std.specs.Prelude.{◌≤◌, IfOk};
 
 use crate::fields::add_op;
 use crate::lines::{Plays, play_text};
+use crate::uids::lists::put_lists;
 use crate::uids::setup::{Node, Setup, deliver, make_ready};
 use crate::uids::tables::{Question, put_asked};
 use case_lines::{Trouble, Words, meaning, operation, pair, parts_around, replica};
@@ -26,6 +27,8 @@ enum Word {
     Next,
     /// `ready`: whether each of the operations that come next has the numbers that it needs.
     Ready,
+    /// `lists FIRST LAST`: compares the answers after generated lists with a recount.
+    Lists,
     /// A question about a folder.
     Of(Question),
 }
@@ -38,6 +41,7 @@ const WORDS: &[(&str, Word)] = &[
     ("apply", Word::Apply),
     ("next", Word::Next),
     ("ready", Word::Ready),
+    ("lists", Word::Lists),
     ("folder", Word::Of(Question::Folder)),
     ("after", Word::Of(Question::After)),
     ("row", Word::Of(Question::Row)),
@@ -71,8 +75,9 @@ impl Plays for Setup {
             Some(Word::Apply) => apply(&mut self.inbox, fields, answer),
             Some(Word::Next) => take_next(self, fields, answer),
             Some(Word::Ready) => put_ready(self, answer),
+            Some(Word::Lists) => put_lists(fields, answer),
             Some(Word::Of(question)) => put_asked(self, question, fields, answer),
-            None => answer.put_trouble(" => ", Trouble::NotACase),
+            None => answer.put_trouble(" ", Trouble::NotACase),
         }
     }
 }
@@ -114,7 +119,8 @@ fn apply(inbox: &mut Node, line: &str, answer: &mut Words) {
     }
 }
 
-fn put_delivery(inbox: &mut Node, op: SoundOp, answer: &mut Words) {
+/// Delivers an operation; puts an answer unless this applies exactly that operation.
+pub fn put_delivery(inbox: &mut Node, op: SoundOp, answer: &mut Words) {
     match deliver(answer.alloc(), inbox, op) {
         Ok(delivered) => put_arrival(delivered, answer),
         Err(fault) => put_fault(fault, answer),
@@ -124,16 +130,16 @@ fn put_delivery(inbox: &mut Node, op: SoundOp, answer: &mut Words) {
 fn put_arrival(delivered: Delivered, answer: &mut Words) {
     match delivered.arrival {
         Arrival::Applied(1) => {}
-        Arrival::Applied(count) => answer.put_number(" => Applied ", count as u64),
-        Arrival::Held => answer.put(" => Held"),
-        Arrival::Repeat => answer.put(" => Repeat"),
+        Arrival::Applied(count) => answer.put_number(" Applied ", count as u64),
+        Arrival::Held => answer.put(" Held"),
+        Arrival::Repeat => answer.put(" Repeat"),
     }
 }
 
 fn put_fault(fault: DeliverFault, answer: &mut Words) {
     match fault {
-        DeliverFault::Conflict { .. } => answer.put(" => Conflict"),
-        other => answer.put_name(" => ", &other),
+        DeliverFault::Conflict { .. } => answer.put(" Conflict"),
+        other => answer.put_name(" ", &other),
     }
 }
 
@@ -145,9 +151,9 @@ fn take_next(setup: &mut Setup, line: &str, answer: &mut Words) {
 }
 
 /// `ready`: puts whether each of the operations that come next has the numbers that it needs.
-fn put_ready(setup: &mut Setup, answer: &mut Words) {
+pub fn put_ready(setup: &mut Setup, answer: &mut Words) {
     match make_ready(answer.alloc(), &mut setup.inbox, &setup.next) {
-        Ok(()) => answer.put(" => yes"),
-        Err(fault) => answer.put_name(" => ", &fault),
+        Ok(()) => answer.put(" yes"),
+        Err(fault) => answer.put_name(" ", &fault),
     }
 }

@@ -22,7 +22,6 @@ pub enum Question {
 
 /// Puts the answer about the folder that the line names.
 pub fn put_asked(setup: &Setup, question: Question, fields: &str, answer: &mut Words) {
-    answer.put(" =>");
     let (folder, number) = match question {
         Question::Folder | Question::After => (fields, ""),
         Question::Row | Question::Changed => parts_around(fields, " "),
@@ -42,12 +41,14 @@ fn put_asked_of(setup: &Setup, question: Question, name: &Name, number: &str, an
     }
 }
 
-fn put_folder(inbox: &Node, name: &Name, answer: &mut Words) {
+/// Puts the folder's UIDVALIDITY, UIDNEXT and HIGHESTMODSEQ, and its messages.
+pub fn put_folder(inbox: &Node, name: &Name, answer: &mut Words) {
     put_numbers_now(inbox, name, answer);
     put_listing(listing(answer.alloc(), inbox, name), answer);
 }
 
-fn put_after_ready(setup: &Setup, name: &Name, answer: &mut Words) {
+/// Puts what `put_folder` does, as the operations that come next would leave it.
+pub fn put_after_ready(setup: &Setup, name: &Name, answer: &mut Words) {
     put_numbers_after(setup, name, answer);
     put_listing_after(setup, name, answer);
 }
@@ -103,7 +104,8 @@ fn put_listing_after(setup: &Setup, name: &Name, answer: &mut Words) {
     put_listing(listing, answer);
 }
 
-fn put_row_with(inbox: &Node, name: &Name, uid: u32, answer: &mut Words) {
+/// Puts the message with the UID and when it was received, or `none`.
+pub fn put_row_with(inbox: &Node, name: &Name, uid: u32, answer: &mut Words) {
     match charts(inbox).row_by_uid(folders(inbox), name, uid) {
         Some(row) => put_dated_row(&row, answer),
         None => answer.put(" none"),
@@ -116,7 +118,8 @@ fn put_dated_row(row: &Row<'_>, answer: &mut Words) {
     put_row(row, answer);
 }
 
-fn put_changes(inbox: &Node, name: &Name, modseq: u64, answer: &mut Words) {
+/// Puts the messages with mod-sequences above this one.
+pub fn put_changes(inbox: &Node, name: &Name, modseq: u64, answer: &mut Words) {
     let charts = charts(inbox);
     let changed = changed_since(charts, answer.alloc(), folders(inbox), name, modseq);
     put_listing(changed, answer);

@@ -1,8 +1,7 @@
 //! What sessions do while another one idles.
 
-use crate::chance::Chance;
 use crate::idle::scene::{client_after_select, give_text};
-use case_lines::Trouble;
+use case_lines::{Chance, Trouble};
 use imap_node::{Node, SessionNo};
 use std::alloc::{AllocError, Global};
 

@@ -1,13 +1,12 @@
 //! One run, and its result.
 
-use crate::chance::Chance;
 use crate::client::Client;
 use crate::idle::clients::IdleClients;
 use crate::idle::random_commands::{append, random_command};
 use crate::idle::scene::{
     Scene, client_after_select, command, done, give, give_text, poll, session,
 };
-use case_lines::Trouble;
+use case_lines::{Chance, Trouble};
 use crdt_ops::SoundOp;
 use imap_node::{Answers, Node, SessionNo};
 use std::alloc::Global;

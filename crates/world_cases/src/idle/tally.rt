@@ -1,11 +1,8 @@
 //! The results of a hundred runs, as text.
 
 use crate::idle::runs::{RunResult, play_run};
-use case_lines::Trouble;
+use case_lines::{Trouble, Words, long_number};
 use std::alloc::{AllocError, Global};
-
-/// How many hundreds of runs are played.
-const HUNDREDS: u64 = 5;
 
 /// The results of a hundred runs.
 #[derive(Drop)]
@@ -23,20 +20,41 @@ struct Tally {
     has_stayed: bool,
 }
 
-/// Plays all runs, and returns the results of each hundred. `Err` if memory runs out.
-pub fn play(alloc: Global) -> Result<Vec<u8>, AllocError> {
-    let mut page = Vec::new(alloc);
-    for number in 0..HUNDREDS {
-        let results = hundred(alloc, number)?;
-        page.extend_from_slice(results.as_bytes())?;
+/// Plays the hundred runs of each line `runs FIRST`, and returns the lines with the results below
+/// them; other lines as they are, but for those that begin with two spaces. `Err` if memory runs
+/// out.
+pub fn play(alloc: Global, text: &str) -> Result<Vec<u8>, AllocError> {
+    let mut page = Words::new(alloc);
+    for line in text.split_terminator('\n') {
+        if !line.starts_with("  ") {
+            page.put_after(line, b"\n");
+            put_results(alloc, line, &mut page);
+        }
     }
-    Ok(page)
+    page.finish()
 }
 
-/// Plays the runs of this hundred, counted from 0, and returns their results. `Err` if memory runs
-/// out.
-fn hundred(alloc: Global, hundred: u64) -> Result<String, AllocError> {
-    let first = hundred.saturating_mul(100).saturating_add(1);
+fn put_results(alloc: Global, line: &str, page: &mut Words) {
+    if let Some(first) = line.strip_prefix("runs ") {
+        match long_number(first) {
+            Ok(first) => put_hundred(alloc, first, page),
+            Err(trouble) => {
+                page.put_trouble("  ", trouble);
+                page.put("\n");
+            }
+        }
+    }
+}
+
+fn put_hundred(alloc: Global, first: u64, page: &mut Words) {
+    match hundred(alloc, first) {
+        Ok(tally) => tally.put_lines(page),
+        Err(AllocError) => page.give_up(),
+    }
+}
+
+/// Plays the hundred runs from this number on. `Err` if memory runs out.
+fn hundred(alloc: Global, first: u64) -> Result<Tally, AllocError> {
     let mut tally = Tally {
         first_wrong: None,
         needs_expunge: false,
@@ -48,7 +66,7 @@ fn hundred(alloc: Global, hundred: u64) -> Result<String, AllocError> {
     for run in first..first.saturating_add(100) {
         count(alloc, &mut tally, run)?;
     }
-    results(alloc, first, &tally)
+    Ok(tally)
 }
 
 fn count(alloc: Global, tally: &mut Tally, run: u64) -> Result<(), AllocError> {
@@ -82,33 +100,27 @@ impl Tally {
             self.first_wrong = Some(run);
         }
     }
-}
 
-fn results(alloc: Global, first: u64, tally: &Tally) -> Result<String, AllocError> {
-    let how = verdict_text(alloc, tally)?;
-    let results = line(alloc, first, tally, how.as_str());
-    drop(how);
-    results
-}
-
-fn verdict_text(alloc: Global, tally: &Tally) -> Result<String, AllocError> {
-    match tally.first_wrong {
-        None => format!(in alloc; "all end as they should"),
-        Some(run) => format!(in alloc; "run {run} does not"),
+    /// Puts the results, in two lines.
+    fn put_lines(&self, page: &mut Words) {
+        match self.first_wrong {
+            None => page.put("  all end as they should"),
+            Some(run) => {
+                page.put_number("  run ", run);
+                page.put(" does not");
+            }
+        }
+        put_some("\n  without EXPUNGE ", self.needs_expunge, page);
+        put_some(" would not, without EXISTS ", self.needs_exists, page);
+        put_some(", without FETCH ", self.needs_fetch, page);
+        let both = self.has_ended && self.has_stayed;
+        put_some("; mailboxes that ended: ", both, page);
+        page.put("\n");
     }
 }
 
-fn line(alloc: Global, first: u64, tally: &Tally, how: &str) -> Result<String, AllocError> {
-    let last = first.saturating_add(99);
-    let expunge = some_or_none(tally.needs_expunge);
-    let exists = some_or_none(tally.needs_exists);
-    let fetch = some_or_none(tally.needs_fetch);
-    let ended = some_or_none(tally.has_ended && tally.has_stayed);
-    format!(in alloc;
-        "runs {first} to {last}: {how}\n  without EXPUNGE {expunge} would not, without EXISTS {exists}, without FETCH {fetch}; mailboxes that ended: {ended}\n"
-    )
-}
-
-fn some_or_none(some: bool) -> &'static str {
-    if some { "some" } else { "none" }
+/// Puts a word, and whether there were some.
+fn put_some(word: &str, some: bool, page: &mut Words) {
+    page.put(word);
+    page.put(if some { "some" } else { "none" });
 }

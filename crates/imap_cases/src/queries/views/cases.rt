@@ -159,7 +159,7 @@ fn put_after(
 fn outcome_text(alloc: Global, answers: &[Answer], after: &View) -> Result<Vec<u8>, AllocError> {
     let mut words = Words::new(alloc);
     put_answers(&mut words, answers);
-    words.put(" => ");
+    words.put("\n  ");
     put_entries(&mut words, after.entries());
     words.finish()
 }
@@ -225,7 +225,7 @@ fn put_if_other(words: &mut Words, expected: &[u8], outcome: Result<Vec<u8>, All
     match outcome {
         Ok(outcome) => {
             if outcome.as_slice() != expected {
-                words.put_after("\nby notes => ", &outcome);
+                words.put_after("\n  by notes\n  ", &outcome);
             }
             drop(outcome);
         }
@@ -242,7 +242,7 @@ fn put_replayed(
 ) {
     match replay_reply(alloc, rows, view.entries(), &[], answers) {
         Ok(replayed) => {
-            words.put(" => ");
+            words.put("\n  ");
             put_entries(words, &replayed);
             drop(replayed);
         }
