@@ -3,7 +3,8 @@
 //! Those of frames hold for whatever computes a frame's digest from its number, its length and its
 //! payload.
 
-ghost use Rattle.std.specs.Prelude.{◌≡◌, ◌∷◌, ◌++◌, ◌<◌, ◌^◌, ℕ, List, Result, Ok, Err, length};
+ghost use Rattle.std.specs.Prelude.{◌≡◌, ◌∷◌, ◌++◌, ◌<◌, ◌^◌, ℕ, List, [], Result, Ok, Err};
+ghost use Rattle.std.specs.Prelude.{length};
 ghost use Rattle.crdt_ops.specs.Form.{Each};
 ghost use Rattle.link_wire.specs.declared.fault.FrameFault.{FrameFault};
 ghost use Rattle.link_wire.specs.declared.hello.Hello.{Hello};
@@ -12,6 +13,7 @@ ghost use Rattle.link_wire.specs.declared.wire_message.WireMessage.{WireMessage}
 ghost use Rattle.link_wire.specs.Digests.{Digest, HasTags, frame_digest};
 ghost use Rattle.link_wire.specs.MessageForm.{AreSpelled, IsSpelled};
 ghost use Rattle.link_wire.specs.Frames.{AreEachFrames, AreFrames, FailsAt, frames_text};
+ghost use Rattle.link_wire.specs.FrameWriting.{AreFramesWritten, WriterState, first_writer};
 ghost use Rattle.link_wire.specs.Framing.{FrameProgress, concat_pieces, cut_of_pieces};
 ghost use Rattle.link_wire.specs.Framing.{cut_of_stream, octets_so_far};
 ghost use Rattle.link_wire.specs.Hello.{IsHelloSpelled, IsProofSpelled};
@@ -68,6 +70,16 @@ pub fn read_payloads_are_authentic()
         → limits.payload < 2 ^ 64 → cut_of_stream limits digest stream ≡ (payloads, state)
         → AreEachFrames limits digest 0 payloads
         × ((after : List ℕ) × (stream ≡ frames_text digest 0 payloads ++ after)) }
+{}
+
+/// What a writer appended since its first frame is the frames of these payloads, and their number
+/// is its count.
+pub fn written_frames_are_frames()
+    ensures { (limits : Limits) (key : List ℕ) (payloads : List (List ℕ)) (new : WriterState)
+        (text : List ℕ)
+        → AreFramesWritten (first_writer limits key) payloads [] new text
+        → AreFrames limits (frame_digest key) text payloads []
+        × (new ≡ record { limits = limits; key = key; count = length payloads }) }
 {}
 
 /// Each digest under a key can be in a header.

@@ -58,7 +58,7 @@ pub use hello_writer::{write_hello, write_proof};
 pub use laws::{
     cuts_change_nothing, cuts_change_nothing_after_lines, digests_are_tags, faults_come_first,
     frames_are_read, lines_are_read, lines_are_the_stream, one_hello, one_message, one_payload,
-    one_proof, read_payloads_are_authentic, read_payloads_are_frames,
+    one_proof, read_payloads_are_authentic, read_payloads_are_frames, written_frames_are_frames,
 };
 pub use limits::Limits;
 pub use line_cutter::{CutFault, LineCutter};

@@ -1,0 +1,4 @@
+pub mod BoundLemmas
+pub mod NodeLemmas
+pub mod ReadBackLemmas
+pub mod TextLemmas

@@ -1,0 +1,5 @@
+mod MessageLemmas
+mod PieceLemmas
+mod SourceLemmas
+mod ReceivedOpsLemmas
+mod SendLemmas
