@@ -14,11 +14,13 @@ use Rattle.imap_connection.specs.PortCalls.{PortCall}
 use Rattle.imap_connection.specs.PortCalls as asked
 use Rattle.imap_connection.specs.Batches.{AreAsked, CarriesCommands, EndsInBatch, EndsInReply, answers_by, are_brief, is_brief, tags_of}
 use Rattle.imap_connection.specs.Conversation.{IsPrefixOf}
-use Rattle.imap_connection.specs.Conversations.{EndsAtItem, Converses, HasTaken, EndsOverItems, LacksAnswers}
+use Rattle.imap_connection.specs.Conversations.{EndsAtItem, Converses, HasTaken, EndsOverItems, LacksAnswers, TakesItem}
 use Rattle.imap_connection.specs.EndReasons.{end_reason_of}
 use Rattle.imap_connection.specs.RequestSteps.{IsRequest}
 use Rattle.imap_connection.specs.Replies.{answers_of}
-use Rattle.imap_connection.specs.Requests.{AnswersItem, StopsAt, is_done, is_logout, texts}
+use Rattle.imap_connection.specs.Requests.{AnswersItem, StopsAt, TakesRequest, is_done, is_logout, texts}
+use Rattle.imap_connection.specs.declared.answer_writer.UnprintedReply.{UnprintedReply}
+use Rattle.imap_connection.specs.declared.request.Request.{Request}
 use Rattle.imap_connection.specs.declared.end_reason.Ended.{Ended}
 use Rattle.imap_connection.specs.declared.end_reason.Ended.TheVariants.{NoMemory}
 use Rattle.imap_connection.specs.declared.fault.PortFault.{PortFault}
@@ -351,3 +353,24 @@ module _ {S : Type 0} (steps : S → PortCall → Result Reply PortFault → S �
         → Converses steps old idling items output new between → StopsAt steps new between item ended given next → EndsOverItems steps old idling (items ++ item ∷ []) ended (output ++ texts given) next
     taken_stops items output new between item ended given next c s =
         inr (inl (record { front = items; item = item; back = []; before = output; mid = new; between = between; given = given; items_are = refl; answered = c; stops = s; output_is = refl }))
+
+  -- a request was handled after a batch, and its reply may not be printed yet
+  pub taken_request : (old : S) (idling : Option (List ℕ)) (items : List Item) (output all : List ℕ) (mid : S) (between : Option (List ℕ)) (item : Item) (request : Request) (unprinted : Option UnprintedReply) (text held longer : List ℕ) (new : S) (after : Option (List ℕ))
+      → Converses steps old idling items (output ++ all) mid between → IsRequest between item request → held ≡ text ++ all → TakesRequest steps mid between request unprinted held new after longer
+      → TakesItem steps old idling (items ++ item ∷ []) output unprinted text new after [] longer
+  taken_request old idling items output all mid between item request None text held longer new after c is e r =
+      let has_taken = taken_item items (output ++ all) mid between item r.0 new after c (request, is, r.1) in (
+        all ++ texts r.0,
+        subst (λ (x : List ℕ). HasTaken steps old idling (items ++ item ∷ []) x new after []) (append_assoc output all (texts r.0)) has_taken,
+        r.2 ∙ ap (λ (x : List ℕ). x ++ texts r.0) e ∙ append_assoc text all (texts r.0),
+      )
+  taken_request old idling items output all mid between item request (Some unprinted) text held longer new after c is e r =
+      let given = answers_of unprinted.tag unprinted.reply in
+      let has_taken = taken_item items (output ++ all) mid between item given new after c (request, is, r.0) in (
+        all,
+        subst (λ (x : List ℕ). HasTaken steps old idling (items ++ item ∷ []) x new after []) (append_assoc output all (texts given)) has_taken,
+        r.1 ∙ e,
+        λ front first.
+            subst (λ (x : List ℕ). EndsOverItems steps old idling (items ++ item ∷ []) NoMemory x new) (append_assoc output all (texts front))
+            (taken_stops items (output ++ all) mid between item NoMemory front new c (inr (request, is, inr (inl (refl, (given, after, false, r.0, first)))))),
+      )

@@ -1,7 +1,7 @@
 -- The whole conversation of `converse` with a mail client: the calls of the port, the octets read,
 -- the text of the answers, and how it ends.
 
-use Rattle.std.specs.Prelude.{◌≡◌, ◌⊎◌, ℕ, Bool, true, false, Option, None, List, [], ◌∷◌, ◌++◌}
+use Rattle.std.specs.Prelude.{◌≡◌, ◌⊎◌, ℕ, Bool, true, false, Option, None, Some, List, [], ◌∷◌, ◌++◌}
 use Rattle.std.specs.Prelude.{Result, Ok, Err, IsOk}
 use Rattle.imap_answers.specs.AnswerText.{text_of_answer}
 use Rattle.imap_answers.specs.declared.answer.Answer.{Answer}
@@ -24,6 +24,7 @@ use Rattle.imap_connection.specs.Replies.{answers_of}
 use Rattle.imap_connection.specs.Devices.{GivesOctets, TakesOctets, TakesAllOrPart}
 use Rattle.imap_connection.specs.EndReasons.{bye_text_of, end_reason_of}
 use Rattle.imap_connection.specs.Requests.{AnswersItem, StopsAt, texts}
+use Rattle.imap_connection.specs.declared.answer_writer.UnprintedReply.{UnprintedReply}
 use Rattle.imap_connection.specs.declared.end_reason.Ended.{Ended}
 use Rattle.imap_connection.specs.declared.end_reason.Ended.TheVariants.{PeerClosed}
 use Rattle.imap_connection.specs.declared.end_reason.Ended.TheVariants.{Framing}
@@ -129,6 +130,23 @@ module _ {S : Type 0} (steps : S → PortCall → Result Reply PortFault → S �
       ((ended ≡ WriteFailed) × HasAnsweredSome old idling items output new)
       ⊎ (EndsAtItem old idling items ended output new
       ⊎ ((ended ≡ NoMemory) × LacksAnswers old idling items output new))
+
+  -- An item was taken after others, and the text of the answers was added to the first text; or the
+  -- reply to it isn't printed yet, and only the text of the answers before it was added. Then the
+  -- conversation may end with some of the first answers of this reply, if memory runs out for it.
+  abbrev pub TakesItem : S → Option (List ℕ) → List Item → List ℕ → Option UnprintedReply → List ℕ
+      → S → Option (List ℕ) → List Tagged → List ℕ → Type 0
+  TakesItem old idling items output None text new between waiting longer =
+      (more : List ℕ)
+      × HasTaken old idling items (output ++ more) new between waiting
+      × (longer ≡ text ++ more)
+  TakesItem old idling items output (Some unprinted) text new between waiting longer =
+      (more : List ℕ)
+      × HasTaken old idling items
+      (output ++ (more ++ texts (answers_of unprinted.tag unprinted.reply))) new between waiting
+      × (longer ≡ text ++ more)
+      × ((front : List Answer) → IsPrefixOf front (answers_of unprinted.tag unprinted.reply)
+      → EndsOverItems old idling items NoMemory (output ++ (more ++ texts front)) new)
 
   -- The conversation over the items that octets give ends: the octets can't be cut any further; or
   -- it ends over the items.

@@ -2,7 +2,7 @@
 -- item ends the conversation.
 
 use Rattle.std.specs.Prelude.{◌≡◌, ◌⊎◌, ℕ, Bool, true, false, ◌&&◌, Option, Some, None, List, []}
-use Rattle.std.specs.Prelude.{◌∷◌, Result, Ok, Err, if◌then◌else◌}
+use Rattle.std.specs.Prelude.{◌∷◌, ◌++◌, Result, Ok, Err, if◌then◌else◌}
 use Rattle.std.specs.List.{flat_map}
 use Rattle.imap_answers.specs.AnswerText.{text_of_answer}
 use Rattle.imap_answers.specs.declared.answer.Answer.{Answer}
@@ -27,6 +27,9 @@ use Rattle.imap_connection.specs.PortCalls as asked
 use Rattle.imap_connection.specs.EndReasons.{end_reason_of}
 use Rattle.imap_connection.specs.declared.end_reason.Ended.{Ended}
 use Rattle.imap_connection.specs.declared.end_reason.Ended.TheVariants.{Logout, NoMemory}
+use Rattle.imap_connection.specs.declared.end_reason.Ended.TheVariants.{WriteFailed}
+use Rattle.imap_connection.specs.declared.answer_writer.UnprintedReply.{UnprintedReply}
+use Rattle.imap_connection.specs.Devices.{IsOutput, TakesAllOrPart}
 use Rattle.imap_connection.specs.declared.fault.PortFault.{PortFault}
 
 -- The text of answers, one after another; and whether a command is LOGOUT.
@@ -36,6 +39,15 @@ texts answers = flat_map text_of_answer answers
 abbrev pub is_logout : Command → Bool
 is_logout commands.Logout = true
 is_logout _ = false
+
+-- The output of these answers breaks off: a write failed, and a sink took an initial part of the
+-- buffered octets and of their text; or memory ran out for one of them, after those before it.
+abbrev pub BreaksOutput : Ended → Option (List ℕ) → List ℕ → List Answer → Option (List ℕ)
+    → List ℕ → Type 0
+BreaksOutput ended old held answers new left =
+    ((ended ≡ WriteFailed) × TakesAllOrPart false old (held ++ texts answers) new)
+    ⊎ ((ended ≡ NoMemory)
+    × ((front : List Answer) × IsPrefixOf front answers × IsOutput old held (texts front) new left))
 
 -- The tag of the IDLE that a command and its reply begin.
 abbrev pub idling_after_reply : Tagged → Reply → Option (List ℕ)
@@ -84,6 +96,18 @@ module _ {S : Type 0} (steps : S → PortCall → Result Reply PortFault → S �
       × (given ≡ answers_of tag reply)
       × (after ≡ None)
       × (out ≡ false)
+
+  -- A request is handled, and the text of its answers is added to the first text, or its reply isn't
+  -- printed yet.
+  abbrev pub TakesRequest : S → Option (List ℕ) → Request → Option UnprintedReply → List ℕ → S
+      → Option (List ℕ) → List ℕ → Type 0
+  TakesRequest old idling request None text new after longer =
+      (given : List Answer)
+      × HandlesRequest old idling request given new after false
+      × (longer ≡ text ++ texts given)
+  TakesRequest old idling request (Some unprinted) text new after longer =
+      HandlesRequest old idling request (answers_of unprinted.tag unprinted.reply) new after false
+      × (longer ≡ text)
 
   -- The port gives no reply, and nothing is answered.
   abbrev pub IsRefused : S → Request → Ended → List Answer → S → Type 0

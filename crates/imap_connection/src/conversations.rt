@@ -15,7 +15,7 @@ ghost use Rattle.imap_connection.specs.Conversations.{EndsOverItems, IsConversat
 ghost use Rattle.imap_connection.specs.declared.end_reason.Ended.TheVariants.{ReadFailed};
 ghost use Rattle.imap_connection.specs.declared.end_reason.Ended.TheVariants.{WriteFailed};
 
-use crate::answer_writer::{write_if_full, write_pending};
+use crate::answer_writer::{write_if_full, write_pending, write_reply};
 use crate::batch::Batch;
 use crate::end_reason::{Ended, bye_text_of, end_reason_of};
 use crate::io_traits::{Port, Sink, Source};
@@ -63,8 +63,8 @@ pub fn converse<R: Wait, S: Source, K: Sink, P: Port>(
 
 /// Holds a conversation with a mail client: opens a session, greets, answers what the client sends,
 /// in order, until the conversation ends, and closes the session. The answers to the octets of one
-/// read are written together, after the last of them. Commands have at most as many octets as these
-/// limits say.
+/// read are written after the last of them, and before it each time that 64 KiB of them are
+/// buffered. Commands have at most as many octets as these limits say.
 ///
 /// It ends in `ReadFailed` or `WriteFailed` only if the device failed in this call, in `PeerClosed`
 /// only if the source reported its end, in `Logout` only after a LOGOUT that was answered OK, and
@@ -292,12 +292,20 @@ fn take_all<K: Sink, P: Port>(
 {
     let mut batch = Batch::new(alloc);
     for item in items {
-        match take_item(alloc, port, idling, &mut batch, item, text) {
-            Ok(()) => {}
+        let unprinted = match take_item(alloc, port, idling, &mut batch, item, text) {
+            Ok(unprinted) => unprinted,
             Err(ended) => return Err(ended),
-        }
-        if !write_if_full(sink, text) {
-            return Err(Ended::WriteFailed);
+        };
+        match unprinted {
+            Some(unprinted) => match write_reply(alloc, sink, text, unprinted) {
+                Ok(()) => {}
+                Err(ended) => return Err(ended),
+            },
+            None => {
+                if !write_if_full(sink, text) {
+                    return Err(Ended::WriteFailed);
+                }
+            }
         }
     }
     match batch.carry_out(alloc, port, text) {

@@ -1,20 +1,20 @@
 //! What `converse` does with one item of the framer: the calls of the port, and the answers.
 
 ghost use Rattle.std.specs.Prelude.{◌≡◌, ◌++◌, ◌∷◌, [], true, false, Some, None, List, ℕ, Option};
-ghost use Rattle.std.specs.Prelude.{OnOk, IfErr, if◌then◌else◌};
+ghost use Rattle.std.specs.Prelude.{OnOk, IfOk, IfErr, if◌then◌else◌};
 ghost use Rattle.imap_answers.specs.declared.answer.Answer.{Answer};
 ghost use Rattle.imap_node.specs.Commands.{is_idle};
 ghost use Rattle.imap_connection.specs.EndReasons.{failed_reads, failed_writes};
 ghost use Rattle.imap_lex.specs.declared.item.Item.{Item};
-ghost use Rattle.imap_connection.specs.Conversations.{HasTaken, EndsOverItems};
+ghost use Rattle.imap_connection.specs.Conversations.{HasTaken, EndsOverItems, TakesItem};
 ghost use Rattle.imap_connection.specs.Requests.{FailsRequest, HandlesRequest, IsAskingOf, is_done};
-ghost use Rattle.imap_connection.specs.Requests.{is_logout};
+ghost use Rattle.imap_connection.specs.Requests.{TakesRequest, is_logout};
 ghost use Rattle.imap_connection.specs.Requests.{texts};
 ghost use Rattle.imap_connection.specs.declared.end_reason.Ended.TheVariants.{Logout};
 ghost use Rattle.imap_connection.specs.declared.end_reason.Ended.TheVariants.{NoMemory};
 ghost use Rattle.imap_connection.specs.declared.request.Request.TheVariants as requests;
 
-use crate::answer_writer::print_reply;
+use crate::answer_writer::{UnprintedReply, print_reply};
 use crate::batch::{Batch, is_brief};
 use crate::end_reason::{Ended, end_reason_of};
 use crate::io_traits::Port;
@@ -30,7 +30,8 @@ use std::alloc::Global;
 
 /// Takes an item of a session that idles with this tag, or doesn't idle. A brief command joins the
 /// batch. For anything else the batch is given to the port first, then the request, and the answers
-/// are added. `Err` if the conversation ends.
+/// are added, except those of a reply that may be long, which is returned. `Err` if the conversation
+/// ends.
 pub fn take_item<P: Port>(
     alloc: Global,
     port: &mut P,
@@ -38,12 +39,11 @@ pub fn take_item<P: Port>(
     batch: &mut Batch,
     item: &Item,
     text: &mut Vec<u8>,
-) -> Result<(), Ended>
+) -> Result<Option<UnprintedReply>, Ended>
     ensures ok { (first : P) (from : Option (List ℕ)) (items : List Item) (output : List ℕ)
         → HasTaken P.steps first from items output port.old idling.old batch.old
-        → OnOk result ((more : List ℕ)
-        × HasTaken P.steps first from (items ++ item.now ∷ []) (output ++ more) port.new idling.new
-        batch.new × (text.new.items ≡ text.old.items ++ more)) }
+        → IfOk result (λ unprinted. TakesItem P.steps first from (items ++ item.now ∷ []) output
+        unprinted text.old.items port.new idling.new batch.new text.new.items) }
     ensures err { (first : P) (from : Option (List ℕ)) (items : List Item) (output : List ℕ)
         → HasTaken P.steps first from items output port.old idling.old batch.old
         → IfErr result (λ ended. (more : List ℕ)
@@ -56,7 +56,7 @@ pub fn take_item<P: Port>(
     };
     match asking_of(request) {
         Asking::Later(tagged) => match batch.push(alloc, tagged) {
-            Ok(()) => Ok(()),
+            Ok(()) => Ok(None),
             Err(_) => Err(Ended::NoMemory),
         },
         Asking::Now(request) => {
@@ -64,10 +64,7 @@ pub fn take_item<P: Port>(
                 Ok(()) => {}
                 Err(ended) => return Err(ended),
             }
-            match take_request(alloc, port, idling, request, text) {
-                Ok(()) => Ok(()),
-                Err(ended) => Err(ended),
-            }
+            take_request(alloc, port, idling, request, text)
         }
     }
 }
@@ -101,19 +98,24 @@ fn take_request<P: Port>(
     idling: &mut Option<Octets>,
     request: Request,
     text: &mut Vec<u8>,
-) -> Result<(), Ended>
-    ensures ok { OnOk result ((given : List Answer)
-        × HandlesRequest P.steps port.old idling.old request given port.new idling.new false
-        × (text.new.items ≡ text.old.items ++ texts given)) }
+) -> Result<Option<UnprintedReply>, Ended>
+    ensures ok { IfOk result (λ unprinted. TakesRequest P.steps port.old idling.old request unprinted
+        text.old.items port.new idling.new text.new.items) }
     ensures err { IfErr result (λ ended. (given : List Answer)
         × FailsRequest P.steps port.old idling.old request ended given port.new
         × (text.new.items ≡ text.old.items ++ texts given)) }
     ensures devices { IfErr result (λ ended. (failed_reads ended ≡ 0) × (failed_writes ended ≡ 0)) }
 {
     match request {
-        Request::Immediate(answer) => print_answer(answer, text),
+        Request::Immediate(answer) => match print_answer(answer, text) {
+            Ok(()) => Ok(None),
+            Err(ended) => Err(ended),
+        },
         Request::Command(tagged) => take_command(alloc, port, idling, tagged, text),
-        Request::Line { tag, line } => take_line(alloc, port, idling, tag, line, text),
+        Request::Line { tag, line } => match take_line(alloc, port, idling, tag, line, text) {
+            Ok(()) => Ok(None),
+            Err(ended) => Err(ended),
+        },
     }
 }
 
@@ -130,17 +132,17 @@ fn print_answer(answer: Answer, text: &mut Vec<u8>) -> Result<(), Ended>
     }
 }
 
-/// Gives the session a command, and adds the answers.
+/// Gives the session a command, and returns the reply; adds its answers if the command is IDLE or
+/// LOGOUT.
 fn take_command<P: Port>(
     alloc: Global,
     port: &mut P,
     idling: &mut Option<Octets>,
     tagged: Tagged,
     text: &mut Vec<u8>,
-) -> Result<(), Ended>
-    ensures ok { OnOk result ((given : List Answer)
-        × HandlesRequest P.steps port.old idling.old (requests.Command tagged) given port.new
-        idling.new false × (text.new.items ≡ text.old.items ++ texts given)) }
+) -> Result<Option<UnprintedReply>, Ended>
+    ensures ok { IfOk result (λ unprinted. TakesRequest P.steps port.old idling.old
+        (requests.Command tagged) unprinted text.old.items port.new idling.new text.new.items) }
     ensures err { IfErr result (λ ended. (given : List Answer)
         × FailsRequest P.steps port.old idling.old (requests.Command tagged) ended given port.new
         × (text.new.items ≡ text.old.items ++ texts given)) }
@@ -160,6 +162,10 @@ fn take_command<P: Port>(
             return Err(end_reason_of(fault));
         }
     };
+    if !idles && !leaves {
+        drop(idling.take());
+        return Ok(Some(UnprintedReply { tag, reply }));
+    }
     let Ok(()) = print_reply(alloc, text, &tag, &reply) else {
         drop(reply);
         drop(tag);
@@ -167,7 +173,10 @@ fn take_command<P: Port>(
     };
     let done = is_done(&reply);
     drop(reply);
-    set_idling(idles && done, leaves && done, tag, idling)
+    match set_idling(idles && done, leaves && done, tag, idling) {
+        Ok(()) => Ok(None),
+        Err(ended) => Err(ended),
+    }
 }
 
 fn is_idle(command: &Command) -> bool
