@@ -17,7 +17,7 @@ pub fn check_file(
     let text = fs::read_to_string(rt, file)?;
     if !is_case_file(file, &text) {
         report.put(file);
-        report.put(": no cases: its name must end in .case, its first line be a comment\n");
+        report.put(": no cases: its name must end in .case, its first line name its source\n");
     }
     for part in text.as_str().split("\n=== ").skip(1) {
         check_part(rt, file, part, tried, report)?;
@@ -27,7 +27,31 @@ pub fn check_file(
 
 /// Whether the file has a name and a first line as files of cases do, and a part.
 fn is_case_file(file: &str, text: &str) -> bool {
-    file.ends_with(".case") && text.starts_with("# ") && text.contains("\n=== ")
+    file.ends_with(".case") && names_source(file, text) && text.contains("\n=== ")
+}
+
+/// Whether the first line names the source that the file's name begins with: `# RFC 9051, section
+/// 6.3.1: ` for `9051-6.3.1-word.case`, `# docs/protocol.md: ` for `protocol-word.case`.
+fn names_source(file: &str, text: &str) -> bool {
+    let name = match file.rsplit_once('/') {
+        Some((_, name)) => name,
+        None => file,
+    };
+    let Some((source, rest)) = name.split_once('-') else {
+        return false;
+    };
+    let (section, _) = rest.split_once('-').unwrap_or((rest, ""));
+    after(text, &["# RFC ", source, ", section ", section, ": "]).is_some()
+        || after(text, &["# docs/", source, ".md: "]).is_some()
+}
+
+/// What follows these words, with which a text begins; `None` if it doesn't.
+fn after<'a>(text: &'a str, words: &[&str]) -> Option<&'a str> {
+    let mut rest = text;
+    for word in words {
+        rest = rest.strip_prefix(*word)?;
+    }
+    Some(rest)
 }
 
 fn check_part(
