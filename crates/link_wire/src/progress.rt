@@ -87,7 +87,7 @@ impl FrameProgress {
         }
     }
 
-    /// IsReading the payload if it is whole and its digest is the header's.
+    /// Gives the payload if it is whole and its digest is the header's.
     fn end_payload(
         &mut self,
         alloc: Global,
