@@ -1,10 +1,12 @@
-//! How a replica accepts connections: each gets a pass and waits for its thread, or is turned away.
+//! How a replica accepts connections: one thread takes them from the system, in the order of their
+//! arrival; then each gets a pass and waits for its thread, or is turned away.
 
 use crate::client_state::ClientConnection;
 use crate::connection_threads::{ReplicaContext, converse_and_close, refuse_connection};
 use crate::replica_clients::ReplicaClients;
 use crate::replica_threads::{AcceptedConnection, OpenGate, ServedReplica};
-use log::{Log, warn};
+use crossbeam_channel::Sender;
+use log::{Log, error, warn};
 use replica_links::Gate;
 use replica_lock::Pass;
 use server_settings::Access;
@@ -20,6 +22,10 @@ use std::time::{Duration, Instant};
 /// How long a replica waits before it accepts again after the system refused it a connection, in
 /// milliseconds.
 const ACCEPT_PAUSE: u64 = 100;
+
+/// The most connections of a replica that were taken from the system and wait to be served or
+/// turned away.
+pub const MOST_ARRIVED: usize = 512;
 
 /// Adds a pass to those that can be used again, without what it still stores of its last calls. If
 /// memory runs out, the pass is lost.
@@ -39,6 +45,43 @@ fn next_pass<L: Ledger, R: Wait>(
         Some(pass) => Some(pass),
         None => first.cut(),
     }
+}
+
+/// The end of the queue of connections that arrived at which they are added.
+#[derive(Drop)]
+pub struct Arrivals {
+    /// Sends them to the thread that serves them.
+    pub sender: Sender<TcpStream>,
+}
+
+/// Takes connections from the system until the server stops, and hands them on in the order of
+/// their arrival. It does nothing else for them: a client that finds the system's own queue full
+/// waits for a second.
+pub fn accept_all<L: Ledger, R: Wait + Clock + Log>(
+    rt: &R,
+    served: &ServedReplica<'_, L>,
+    arrivals: Arrivals,
+) {
+    let mut logged = None;
+    for stream in served.inputs.listener.incoming() {
+        if served.context.server.stop.is_over(rt) {
+            break;
+        }
+        match stream {
+            Ok(stream) => {
+                if arrivals.sender.send(rt, stream).is_err() {
+                    break;
+                }
+            }
+            Err(_) => pause_accepting(rt, served.context.clients, &mut logged),
+        }
+    }
+}
+
+/// Says in the log that no thread could be made that takes connections from the system.
+pub fn log_without_accepting<R: Log>(rt: &R, clients: &ReplicaClients) {
+    let replica = clients.replica.get();
+    error!(rt; "replica {replica} has no thread to accept connections");
 }
 
 /// The connection of a client that has just arrived. `None` if memory runs out; then the client is

@@ -127,6 +127,10 @@
 //!   each command.
 //! - A LOGIN waits in its connection's thread, before the pass's lock is taken, on a condition that
 //!   the end of the connection signals (`ClientState::wait`).
+//! - A thread of the replica takes connections from the system and does nothing else with them
+//!   (`accept_all`): std's queue of the system has 128 places, and a client that finds it full
+//!   tries again after a second. 512 more wait in a channel until the replica's own thread has
+//!   begun to serve those before them.
 //! - A connection that was accepted waits in a list for its thread (`ServedReplica::accepted`): if
 //!   no thread can be made, its pass isn't lost with the thread's closure.
 //! - `serve_over` takes connections and gates as two lists, and cuts the passes itself: a

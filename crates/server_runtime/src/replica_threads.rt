@@ -5,8 +5,8 @@ ghost use Rattle.server_laws.specs.BookWorlds.{KeepTheHeadline};
 ghost use Rattle.server_runtime.specs.ReplicaEnds.{AreEndsOf, IsEndOf, books_of};
 
 use crate::accepting::{
-    accept, connect, pause_accepting, refuse_accepted, return_pass, serve_accepted,
-    serve_connection,
+    Arrivals, MOST_ARRIVED, accept, accept_all, connect, log_without_accepting, refuse_accepted,
+    return_pass, serve_accepted, serve_connection,
 };
 use crate::client_counts::ClientCounts;
 use crate::client_state::ClientConnection;
@@ -20,7 +20,7 @@ use crate::replica_store::ReplicaStore;
 use crate::server_state::ServerState;
 use crate::store_taker::StoreTaker;
 use crate::totals::{Totals, totals_of};
-use crossbeam_channel::Receiver;
+use crossbeam_channel::{Receiver, bounded};
 use durable_log::DurableLog;
 use imap_node::Node;
 use log::{Log, info};
@@ -123,8 +123,15 @@ pub struct ServedReplica<'a, L: Ledger> {
     pub inputs: &'a ReplicaInputs,
     /// The passes of connections that ended.
     pub returned: &'a Mutex<Vec<Pass<L>>>,
-    /// The connections that no thread serves yet.
+    /// The connections that wait for their thread.
     pub accepted: &'a Mutex<Vec<AcceptedConnection<L, OpenGate>>>,
+}
+
+/// The two ends of the queue of connections that arrived, but aren't served yet.
+#[derive(Drop)]
+struct ArrivalQueue {
+    arrivals: Arrivals,
+    receiver: Receiver<TcpStream>,
 }
 
 /// A connection that is to be served.
@@ -423,6 +430,12 @@ fn run_replica<
 ) -> ReplicaEnd
     requires { (blank.name ≡ L.name) × (blank.parts ≡ L.parts) × (L.parts ≡ 4294967295) }
 {
+    let Ok((sender, receiver)) = bounded(alloc, MOST_ARRIVED) else {
+        drop(inputs);
+        drop(store);
+        drop(book);
+        return ReplicaEnd::Lost;
+    };
     let room = store.as_ref().map(|store| store.room(rt));
     let clients = ReplicaClients::new(alloc, book.node().replica().id());
     let (shared, first) = Shared::<L>::with_store(blank, book, server.journal, room);
@@ -440,6 +453,10 @@ fn run_replica<
         rt,
         alloc,
         first,
+        ArrivalQueue {
+            arrivals: Arrivals { sender },
+            receiver,
+        },
         &ServedReplica {
             context: &context,
             inputs: &inputs,
@@ -547,12 +564,19 @@ fn accepted_connections<L: Ledger, R: Wait + Clock + Log, G: Gate + Drop>(
 }
 
 /// Serves the connections of a listener, each in a thread of its own, until the server stops.
-/// Further threads serve the link and the requests for copies, and look after the log, if there is
-/// one.
+/// Further threads accept them, serve the link and the requests for copies, and look after the log,
+/// if there is one.
 fn serve_listener<
     L: Ledger + Send + Sync,
     R: Threads + Wait + Clock + Log + Sync + Net<Listener = TcpListener, Stream = TcpStream>,
->(rt: &R, alloc: Global, first: Pass<L>, served: &ServedReplica<'_, L>) -> Pass<L> {
+>(
+    rt: &R,
+    alloc: Global,
+    first: Pass<L>,
+    queue: ArrivalQueue,
+    served: &ServedReplica<'_, L>,
+) -> Pass<L> {
+    let ArrivalQueue { arrivals, receiver } = queue;
     let mut first = first;
     let link_pass = first.cut();
     let copy_pass = first.cut();
@@ -579,15 +603,16 @@ fn serve_listener<
             let _ = scope.spawn(move || keep_store(rt, alloc, served));
         }
         let _ = scope.spawn(move || report(rt, served));
-        let mut logged = None;
-        for stream in served.inputs.listener.incoming() {
+        if scope
+            .spawn(move || accept_all(rt, served, arrivals))
+            .is_err()
+        {
+            log_without_accepting(rt, served.context.clients);
+        }
+        for stream in receiver.iter(rt) {
             if served.context.server.stop.is_over(rt) {
-                break;
-            }
-            let Ok(stream) = stream else {
-                pause_accepting(rt, served.context.clients, &mut logged);
                 continue;
-            };
+            }
             if !accept(rt, alloc, served, &mut first, stream) {
                 end_one(rt, served.context.server);
                 continue;
