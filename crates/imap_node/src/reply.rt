@@ -57,6 +57,12 @@ impl Answers {
             answers: self.answers.copy()?,
         })
     }
+
+    /// Drops at most so many of the last answers, if no copy shares their memory. False if none is
+    /// left.
+    pub fn drop_some(&mut self, most: usize) -> bool {
+        self.answers.drop_some(most)
+    }
 }
 
 /// Flags that a session set silently, in their order (RFC 9051, section 6.4.6). Copies share one
@@ -180,6 +186,15 @@ pub enum Reply {
 }
 
 impl Reply {
+    /// Drops at most so many of its answers, for a caller that needs it no more. False if none is
+    /// left.
+    pub fn drop_some(&mut self, most: usize) -> bool {
+        match self {
+            Reply::Done { answers, .. } => answers.drop_some(most),
+            Reply::Refused { .. } => false,
+        }
+    }
+
     /// The same reply, in the same memory. `Err` if more copies share it than can be counted, which
     /// never happens to a refusal.
     pub fn copy(&self) -> Result<Reply, AllocError>

@@ -1,26 +1,28 @@
 //! Lists whose copies share one memory.
 
-ghost use Rattle.std.specs.Prelude.{◌≡◌, IfOk};
+ghost use Rattle.std.specs.Prelude.{◌≡◌, IfOk, ℕ, take};
 
 use std::alloc::{AllocError, Global};
 use std::marker::Model;
-use std::sync::ArcSlice;
+use std::sync::Arc;
 
 /// A list that doesn't change. Its copies share one memory, which is freed with the last of them;
 /// an empty list takes none.
 #[derive(Drop)]
 pub struct SharedList<T> {
-    items: Option<ArcSlice<T>>,
+    items: Option<Arc<Vec<T>>>,
 }
 
 impl<T> Model for SharedList<T> {
     ghost use Rattle.std.specs.Prelude.{List, []};
-    ghost use Rattle.std.specs.Arc.{arc_slice_items};
+    ghost use Rattle.std.specs.Arc.{arc_value};
+    ghost use Rattle.std.specs.Global.{Vec};
     ghost use Rattle.std.specs.Option.{option_map, unwrap_or};
 
     ghost Value = { List T };
 
-    ghost view = { λ s. unwrap_or (option_map (λ items. arc_slice_items items) s.items) [] };
+    ghost view = { λ s. unwrap_or
+        (option_map (λ items. (arc_value {X = Vec T} items).items) s.items) [] };
 }
 
 impl<T: Drop> SharedList<T> {
@@ -35,7 +37,7 @@ impl<T: Drop> SharedList<T> {
         let mut items = items;
         items.shrink_to_fit();
         Ok(SharedList {
-            items: Some(ArcSlice::from_vec(items)?),
+            items: Some(Arc::new(*items.allocator(), items)?),
         })
     }
 
@@ -56,10 +58,31 @@ impl<T: Drop> SharedList<T> {
         match &self.items {
             Some(items) => {
                 Ok(SharedList {
-                    items: Some(items.clone()?),
+                    items: Some(Arc::try_clone(items)?),
                 })
             }
             None => Ok(SharedList { items: None }),
         }
+    }
+
+    /// Drops at most so many of the last items, if no copy shares the memory; otherwise gives the
+    /// memory up. False if nothing is left.
+    pub fn drop_some(&mut self, most: usize) -> bool
+        ensures { (n : ℕ) × (self.new ≡ take n self.old) }
+    {
+        let is_left = match &mut self.items {
+            Some(items) => match Arc::get_mut(items) {
+                Some(items) => {
+                    items.truncate(items.len().saturating_sub(most));
+                    !items.is_empty()
+                }
+                None => false,
+            },
+            None => false,
+        };
+        if !is_left {
+            self.items = None;
+        }
+        is_left
     }
 }

@@ -108,6 +108,15 @@ pub enum EntryRef<'a> {
 }
 
 impl CompactEntry {
+    /// Drops at most so many of the answers of its reply. False if none is left that takes memory.
+    pub(crate) fn drop_some(&mut self, most: usize) -> bool {
+        match &mut self.form {
+            CompactForm::Whole { entry } => entry.outcome.drop_some(most),
+            CompactForm::Exchange { exchange } => exchange.shown.drop_some(most),
+            _ => false,
+        }
+    }
+
     /// The entry of a NOOP with this tag whose reply is only its tagged OK.
     pub(crate) fn of_noop(session: SessionNo, moment: Moment, tag: Octets) -> CompactEntry
         ensures { result ≡ noop_entry session moment tag }

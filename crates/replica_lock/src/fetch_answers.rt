@@ -37,6 +37,17 @@ impl Drop for FetchAnswers {
 }
 
 impl FetchAnswers {
+    /// Drops at most so many of the last answers. False if none is left, or only one.
+    pub(crate) fn drop_some(&mut self, most: usize) -> bool {
+        match self {
+            FetchAnswers::Lines { lines } => {
+                lines.truncate(lines.len().saturating_sub(most));
+                !lines.is_empty()
+            }
+            FetchAnswers::Parts { .. } => false,
+        }
+    }
+
     /// These answers in compact form; `None` if they have none, or if memory runs out.
     pub(crate) fn from_answers(alloc: Global, answers: &[Answer]) -> Option<FetchAnswers>
         ensures { IfSome result (λ shown. answers_of shown ≡ answers.now) }

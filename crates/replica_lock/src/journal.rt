@@ -66,6 +66,28 @@ impl ForgottenEntries {
         self.octets
     }
 
+    /// Drops at most so many answers, or one entry. False if nothing is left.
+    pub(crate) fn drop_some(&mut self, most: usize) -> bool {
+        if let Some(entry) = self.entries.last_mut() {
+            if entry.drop_some(most) {
+                return true;
+            }
+            drop(self.entries.pop());
+            return true;
+        }
+        let Some(mut block) = self.blocks.pop() else {
+            return false;
+        };
+        let last = block.entries.len();
+        if last > 0 {
+            drop(self.entries.push(block.entries.remove(last - 1)));
+            if last > 1 {
+                drop(self.blocks.push(block));
+            }
+        }
+        true
+    }
+
     /// Adds all entries of a block; if memory runs out, they are dropped at once.
     fn push_block(&mut self, block: Block) {
         self.octets = self.octets.saturating_add(block.octets);

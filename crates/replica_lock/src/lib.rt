@@ -40,10 +40,11 @@
 //!   `Book::entry` looks at each block before the entry's own.
 //! - Forgotten entries are dropped by the caller (`ForgottenEntries`): a pass stores those of its
 //!   calls, and the outcome of an earlier one, until `Pass::take_spent`. A connection's thread
-//!   calls that after the answer was written and without the lock. It drops little itself
-//!   (`SpentMemory::is_small`) and lets another thread drop the rest: the answers of a FETCH of
-//!   20,000 messages take some milliseconds to free, for which the client's next command would
-//!   wait.
+//!   calls that after the answer was written and without the lock. It frees what is small at once
+//!   (`SpentMemory::is_small`) and the rest in pieces (`SpentMemory::free_some`), until the client
+//!   sends more: the answers of a FETCH of 20,000 messages take some milliseconds to free, for
+//!   which the client's next command would wait. If another thread freed them, the next command's
+//!   thread would join their blocks of memory in the C library's arena, which takes as long.
 //! - The forgotten entries are in no value that contracts see. The invariant says that some
 //!   entries, as many, precede the journal (`IsPast`), so no ghost data is needed. All facts about
 //!   the whole history, also the number of sessions that were opened, are stated of one such list

@@ -4,8 +4,8 @@ use crate::journal::ForgottenEntries;
 use crate::outcome::Outcome;
 use imap_node::Reply;
 
-/// The most answers of an outcome that are freed in a few microseconds.
-const FEW_ANSWERS: usize = 64;
+/// The most answers that are freed in a few microseconds.
+const FEW_ANSWERS: usize = 16;
 
 /// The most octets, by their own estimates, of entries that are freed in a few microseconds.
 const FEW_OCTETS: u64 = 16_384;
@@ -35,6 +35,23 @@ impl SpentMemory {
             None => 0,
         };
         octets <= FEW_OCTETS && answer_count(self.outcome.as_ref()) <= FEW_ANSWERS
+    }
+
+    /// Frees what takes a few microseconds. False if nothing is left.
+    pub fn free_some(&mut self) -> bool {
+        if let Some(outcome) = &mut self.outcome {
+            if outcome.drop_some(FEW_ANSWERS) {
+                return true;
+            }
+        }
+        self.outcome = None;
+        if let Some(forgotten) = &mut self.forgotten {
+            if forgotten.drop_some(FEW_ANSWERS) {
+                return true;
+            }
+        }
+        self.forgotten = None;
+        false
     }
 }
 
