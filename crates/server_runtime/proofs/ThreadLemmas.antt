@@ -20,6 +20,7 @@ use Rattle.server_runtime.proofs.replica_threads.ThreadSetup.TheSendSync as setu
 use Rattle.server_runtime.proofs.shared_phase.SharedPhase.TheSendSync as phase
 use Rattle.server_runtime.proofs.client_state.ClientConnection.TheSendSync as client
 use Rattle.server_runtime.proofs.replica_clients.ReplicaClients.TheSendSync as clients
+use Rattle.server_runtime.proofs.connection_demand.ConnectionDemand.TheSendSync as demand
 use Rattle.server_runtime.proofs.replica_threads.AcceptedConnection.TheSendSync as accepted
 use Rattle.server_runtime.proofs.replica_threads.OpenGate.TheSendSync as open_gate
 use Rattle.server_runtime.proofs.replica_threads.ReplicaInputs.TheSendSync as ends
@@ -53,7 +54,7 @@ module _ (a : NamedLft) (L : RattleType) (g : ledger.Ghosts L.Denot) where
 
   pub served_sync : IsSend L → IsSync L → IsSync (served.the_row a L g)
   served_sync ledger shares = recorded_sync (served.the_field a L g).row _ _ (served.the_type a L g).to_one
-      (struct_sync (shape (served.the_type a L g)) (search (context_sync, sendable), (search (ends.the_sync, sendable), (search (returned_shared, sendable), (search (accepted_shared, sendable), tt)))))
+      (struct_sync (shape (served.the_type a L g)) (search (context_sync, sendable), (search (ends.the_sync, sendable), (search (returned_shared, sendable), (search (accepted_shared, sendable), (search (demand.the_sync, sendable), tt))))))
 
 module _ (a : NamedLft) where
   pub slot_sync : IsSync (slot.the_row a)

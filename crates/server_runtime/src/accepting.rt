@@ -1,12 +1,10 @@
-//! How a replica accepts connections: one thread takes them from the system, in the order of their
-//! arrival; then each gets a pass and waits for its thread, or is turned away.
+//! How a replica accepts connections: each gets a pass and waits for its thread, or is turned away.
 
 use crate::client_state::ClientConnection;
 use crate::connection_threads::{ReplicaContext, converse_and_close, refuse_connection};
 use crate::replica_clients::ReplicaClients;
 use crate::replica_threads::{AcceptedConnection, OpenGate, ServedReplica};
-use crossbeam_channel::Sender;
-use log::{Log, error, warn};
+use log::{Log, warn};
 use replica_links::Gate;
 use replica_lock::Pass;
 use server_settings::Access;
@@ -22,10 +20,6 @@ use std::time::{Duration, Instant};
 /// How long a replica waits before it accepts again after the system refused it a connection, in
 /// milliseconds.
 const ACCEPT_PAUSE: u64 = 100;
-
-/// The most connections of a replica that were taken from the system and wait to be served or
-/// turned away.
-pub const MOST_ARRIVED: usize = 512;
 
 /// Adds a pass to those that can be used again, without what it still stores of its last calls. If
 /// memory runs out, the pass is lost.
@@ -47,43 +41,6 @@ fn next_pass<L: Ledger, R: Wait>(
     }
 }
 
-/// The end of the queue of connections that arrived at which they are added.
-#[derive(Drop)]
-pub struct Arrivals {
-    /// Sends them to the thread that serves them.
-    pub sender: Sender<TcpStream>,
-}
-
-/// Takes connections from the system until the server stops, and hands them on in the order of
-/// their arrival. It does nothing else for them: a client that finds the system's own queue full
-/// waits for a second.
-pub fn accept_all<L: Ledger, R: Wait + Clock + Log>(
-    rt: &R,
-    served: &ServedReplica<'_, L>,
-    arrivals: Arrivals,
-) {
-    let mut logged = None;
-    for stream in served.inputs.listener.incoming() {
-        if served.context.server.stop.is_over(rt) {
-            break;
-        }
-        match stream {
-            Ok(stream) => {
-                if arrivals.sender.send(rt, stream).is_err() {
-                    break;
-                }
-            }
-            Err(_) => pause_accepting(rt, served.context.clients, &mut logged),
-        }
-    }
-}
-
-/// Says in the log that no thread could be made that takes connections from the system.
-pub fn log_without_accepting<R: Log>(rt: &R, clients: &ReplicaClients) {
-    let replica = clients.replica.get();
-    error!(rt; "replica {replica} has no thread to accept connections");
-}
-
 /// The connection of a client that has just arrived. `None` if memory runs out; then the client is
 /// turned away.
 pub fn connect<L: Ledger, R: Wait + Clock + Log>(
@@ -102,7 +59,11 @@ pub fn connect<L: Ledger, R: Wait + Clock + Log>(
             return None;
         }
     };
-    if is_known || clients.add_stranger(rt, &client) {
+    if is_known {
+        return Some(client);
+    }
+    clients.await_place(rt);
+    if clients.add_stranger(rt, &client) {
         return Some(client);
     }
     refuse_connection(rt, clients, &client.stream);
@@ -168,13 +129,25 @@ pub fn serve_connection<
     converse_and_close(rt, alloc, &mut gate, context, &client, pass)
 }
 
-/// Serves one of the connections that wait for a thread, and returns its pass.
+/// The connection that has waited longest for a thread. `None` if none waits.
+fn next_accepted<L: Ledger, R: Wait>(
+    rt: &R,
+    served: &ServedReplica<'_, L>,
+) -> Option<AcceptedConnection<L, OpenGate>> {
+    let mut accepted = served.accepted.lock(rt);
+    if accepted.is_empty() {
+        return None;
+    }
+    Some(accepted.remove(0))
+}
+
+/// Serves the connection that has waited longest for a thread, and returns its pass.
 pub fn serve_accepted<L: Ledger + Send + Sync, R: Threads + Wait + Clock + Log + Sync>(
     rt: &R,
     alloc: Global,
     served: &ServedReplica<'_, L>,
 ) {
-    let accepted = served.accepted.lock(rt).pop();
+    let accepted = next_accepted(rt, served);
     if let Some(accepted) = accepted {
         let pass = serve_connection(rt, alloc, served.context, accepted);
         return_pass(rt, served.returned, pass);
@@ -183,12 +156,16 @@ pub fn serve_accepted<L: Ledger + Send + Sync, R: Threads + Wait + Clock + Log +
 }
 
 /// Turns away one of the connections that wait for a thread, since none can be made, and returns
-/// its pass.
-pub fn refuse_accepted<L: Ledger, R: Wait + Log>(rt: &R, served: &ServedReplica<'_, L>) {
+/// its pass. False if threads that were there have taken all of them.
+pub fn refuse_accepted<L: Ledger, R: Wait + Log>(rt: &R, served: &ServedReplica<'_, L>) -> bool {
+    if !served.demand.take_unserved(rt) {
+        return false;
+    }
     let accepted = served.accepted.lock(rt).pop();
     if let Some(accepted) = accepted {
         refuse(rt, served, accepted);
     }
+    true
 }
 
 /// Turns away the client of a connection, and returns its pass.

@@ -104,6 +104,11 @@ impl ClientState {
         }
     }
 
+    /// How long ago the client connected; `None` if the clock can't be read.
+    pub fn time_since_start<R: Clock>(&self, rt: &R) -> Option<Duration> {
+        self.began?.elapsed(rt).ok()
+    }
+
     /// Counts commands of the client, and the octets of the messages in them. Once there are many,
     /// they are returned for the replica's counts.
     pub fn count<R: Wait>(&self, rt: &R, commands: u64, octets: u64) -> Option<ClientCounts> {

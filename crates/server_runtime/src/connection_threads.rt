@@ -178,7 +178,7 @@ fn without_feeder<R: Wait + Clock>(rt: &R, client: &ClientConnection) -> Convers
     }
 }
 
-fn converse_on_stream<L: Ledger, R: Threads + Wait + Clock, G: Gate>(
+fn converse_on_stream<L: Ledger, R: Wait + Clock, G: Gate>(
     rt: &R,
     alloc: Global,
     gate: &mut G,
@@ -193,7 +193,7 @@ fn converse_on_stream<L: Ledger, R: Threads + Wait + Clock, G: Gate>(
         gate,
     );
     let device = SocketReader::new(rt, connection.client);
-    let mut source = SessionReader::new(rt, connection.shared_phase, connection.pass, device);
+    let mut source = SessionReader::new(rt, alloc, connection, device);
     let writer = Wire::new(SocketWriter::new(rt, connection.client));
     let mut sink = SyncedSink::new(rt, alloc, connection.context, connection.pass, writer);
     let limits = limits_of(connection.context.server.limits);

@@ -9,7 +9,7 @@ use crossbeam_channel::{Receiver, Sender, unbounded};
 use durable_log::DurableLog;
 use log_files::FileDevice;
 use replica_lock::{Book, Pass};
-use server_settings::{Join, Place};
+use server_settings::{Join, Place, bind_listener};
 use std::alloc::Global;
 use std::fmt;
 use std::net::{Net, TcpListener, TcpStream};
@@ -104,7 +104,7 @@ impl JoiningReplica<'_> {
     ) -> Option<JoinedReplica> {
         let handle = server.replicas.get(own)?;
         let peers = others(alloc, server.replicas.len(), own).ok()?;
-        let Ok(listener) = TcpListener::bind(rt, self.join.place.address) else {
+        let Ok(listener) = bind_listener(rt, self.join.place.address) else {
             drop(peers);
             return None;
         };

@@ -31,10 +31,10 @@
 //!   that size from memory that it owns, and returns the end of an arena to the system only if 2
 //!   MiB of it are unused. Both grow with the largest block that is freed. A block of 33 MB left
 //!   twice as much unused memory in the arenas after looks at large mailboxes.
-//! - What a session's pass no longer needs is freed before its connection reads, in a thread of its
-//!   own unless it is small (`SessionReader::free_spent`). A thread of the replica that did this
-//!   for all connections would need a channel in the state that they share, and the proof that this
-//!   state may be shared would have to look through all that a reply and a journal can hold.
+//! - What a session's pass no longer needs is freed before its connection reads: if it isn't small,
+//!   a piece at a time until the client's next octets arrive (`PendingMemory::free`). If
+//!   another thread freed it, the C library would join its blocks at a later command, which takes
+//!   milliseconds: they are in the arena of the connection's thread.
 //! - Each replica's ledger is named in a call of its own, by `Brand`: a function can't call itself
 //!   with another ledger, so a program with a list of replicas starts a thread for each, and that
 //!   thread's function names the ledger.
@@ -127,12 +127,13 @@
 //!   each command.
 //! - A LOGIN waits in its connection's thread, before the pass's lock is taken, on a condition that
 //!   the end of the connection signals (`ClientState::wait`).
-//! - A thread of the replica takes connections from the system and does nothing else with them
-//!   (`accept_all`): std's queue of the system has 128 places, and a client that finds it full
-//!   tries again after a second. 512 more wait in a channel until the replica's own thread has
-//!   begun to serve those before them.
+//! - While as many clients aren't logged in as may be, the replica takes the next connection only
+//!   once the oldest of them has had time for a LOGIN (`ReplicaClients::await_place`): a flood of
+//!   clients would end each other, and the owner's, within a few milliseconds. Further ones wait in
+//!   the system's queue.
 //! - A connection that was accepted waits in a list for its thread (`ServedReplica::accepted`): if
-//!   no thread can be made, its pass isn't lost with the thread's closure.
+//!   no thread can be made, its pass isn't lost with the thread's closure. A thread whose
+//!   connection ended waits a second for another one (`ConnectionDemand`).
 //! - `serve_over` takes connections and gates as two lists, and cuts the passes itself: a
 //!   connection for which no pass can be cut is turned away. Connections are `TcpStream`s, since
 //!   two threads share one and either may shut it down.
@@ -141,6 +142,7 @@
 mod accepting;
 mod client_counts;
 mod client_state;
+mod connection_demand;
 mod connection_threads;
 mod feeder;
 mod joining_replica;

@@ -8,6 +8,7 @@ use std::alloc::{AllocFailed, Global};
 use std::net::TcpStream;
 use std::rt::Clock;
 use std::sync::{Arc, Mutex, Wait};
+use std::thread;
 use std::time::{Duration, Instant};
 use tags_clocks::ReplicaId;
 
@@ -16,6 +17,10 @@ const MOST_STRANGERS: usize = 128;
 
 /// The most connections that a replica serves at once, those that were ended included.
 const MOST_SERVED: usize = MAX_SESSIONS + MOST_STRANGERS;
+
+/// How long a client that isn't logged in is let stay before another one takes its place, in
+/// milliseconds: long enough for one LOGIN.
+const LEAST_STAY: u64 = 50;
 
 /// How many LOGINs a replica may refuse within a minute until each waits before it is judged.
 const MOST_REFUSALS_A_MINUTE: usize = 10;
@@ -102,6 +107,25 @@ impl ReplicaClients {
         let number = *next_number;
         *next_number = number.wrapping_add(1);
         number
+    }
+
+    /// Waits until one more client may take a place of those that aren't logged in: one is free, or
+    /// the oldest client has had its own for `LEAST_STAY`.
+    pub fn await_place<R: Wait + Clock>(&self, rt: &R) {
+        let stayed = self.stay_of_oldest(rt);
+        if let Some(stayed) = stayed {
+            thread::sleep(rt, Duration::from_millis(LEAST_STAY).saturating_sub(stayed));
+        }
+    }
+
+    /// How long ago the oldest of the clients that aren't logged in connected. `None` if a place is
+    /// free, or if the clock can't be read.
+    fn stay_of_oldest<R: Wait + Clock>(&self, rt: &R) -> Option<Duration> {
+        let strangers = self.strangers.lock(rt);
+        if strangers.len() < MOST_STRANGERS {
+            return None;
+        }
+        strangers.first()?.state.time_since_start(rt)
     }
 
     /// Adds a connection whose client isn't logged in, or is taking leave. If there are as many as

@@ -5,11 +5,12 @@ ghost use Rattle.server_laws.specs.BookWorlds.{KeepTheHeadline};
 ghost use Rattle.server_runtime.specs.ReplicaEnds.{AreEndsOf, IsEndOf, books_of};
 
 use crate::accepting::{
-    Arrivals, MOST_ARRIVED, accept, accept_all, connect, log_without_accepting, refuse_accepted,
-    return_pass, serve_accepted, serve_connection,
+    accept, connect, pause_accepting, refuse_accepted, return_pass, serve_accepted,
+    serve_connection,
 };
 use crate::client_counts::ClientCounts;
 use crate::client_state::ClientConnection;
+use crate::connection_demand::ConnectionDemand;
 use crate::connection_threads::{ReplicaContext, refuse_connection};
 use crate::joining_replica::{JoinedReplica, JoiningReplica, send_copies};
 use crate::link_peers::LinkPeers;
@@ -20,7 +21,7 @@ use crate::replica_store::ReplicaStore;
 use crate::server_state::ServerState;
 use crate::store_taker::StoreTaker;
 use crate::totals::{Totals, totals_of};
-use crossbeam_channel::{Receiver, bounded};
+use crossbeam_channel::Receiver;
 use durable_log::DurableLog;
 use imap_node::Node;
 use log::{Log, info};
@@ -123,15 +124,10 @@ pub struct ServedReplica<'a, L: Ledger> {
     pub inputs: &'a ReplicaInputs,
     /// The passes of connections that ended.
     pub returned: &'a Mutex<Vec<Pass<L>>>,
-    /// The connections that wait for their thread.
+    /// The connections that wait for a thread; the oldest first.
     pub accepted: &'a Mutex<Vec<AcceptedConnection<L, OpenGate>>>,
-}
-
-/// The two ends of the queue of connections that arrived, but aren't served yet.
-#[derive(Drop)]
-struct ArrivalQueue {
-    arrivals: Arrivals,
-    receiver: Receiver<TcpStream>,
+    /// How many of these no thread has taken yet, and how many threads wait.
+    pub demand: &'a ConnectionDemand,
 }
 
 /// A connection that is to be served.
@@ -430,12 +426,6 @@ fn run_replica<
 ) -> ReplicaEnd
     requires { (blank.name ≡ L.name) × (blank.parts ≡ L.parts) × (L.parts ≡ 4294967295) }
 {
-    let Ok((sender, receiver)) = bounded(alloc, MOST_ARRIVED) else {
-        drop(inputs);
-        drop(store);
-        drop(book);
-        return ReplicaEnd::Lost;
-    };
     let room = store.as_ref().map(|store| store.room(rt));
     let clients = ReplicaClients::new(alloc, book.node().replica().id());
     let (shared, first) = Shared::<L>::with_store(blank, book, server.journal, room);
@@ -449,19 +439,17 @@ fn run_replica<
     };
     let accepted = Mutex::new(Vec::new(alloc));
     let returned = Mutex::new(Vec::new(alloc));
+    let demand = ConnectionDemand::new();
     let first = serve_listener(
         rt,
         alloc,
         first,
-        ArrivalQueue {
-            arrivals: Arrivals { sender },
-            receiver,
-        },
         &ServedReplica {
             context: &context,
             inputs: &inputs,
             returned: &returned,
             accepted: &accepted,
+            demand: &demand,
         },
     );
     log_counts(rt, &context);
@@ -563,20 +551,14 @@ fn accepted_connections<L: Ledger, R: Wait + Clock + Log, G: Gate + Drop>(
     Ok(pending)
 }
 
-/// Serves the connections of a listener, each in a thread of its own, until the server stops.
-/// Further threads accept them, serve the link and the requests for copies, and look after the log,
-/// if there is one.
+/// Serves the connections of a listener, each in a thread that has no other, until the server
+/// stops.
+/// Further threads serve the link and the requests for copies, and look after the log, if there is
+/// one.
 fn serve_listener<
     L: Ledger + Send + Sync,
     R: Threads + Wait + Clock + Log + Sync + Net<Listener = TcpListener, Stream = TcpStream>,
->(
-    rt: &R,
-    alloc: Global,
-    first: Pass<L>,
-    queue: ArrivalQueue,
-    served: &ServedReplica<'_, L>,
-) -> Pass<L> {
-    let ArrivalQueue { arrivals, receiver } = queue;
+>(rt: &R, alloc: Global, first: Pass<L>, served: &ServedReplica<'_, L>) -> Pass<L> {
     let mut first = first;
     let link_pass = first.cut();
     let copy_pass = first.cut();
@@ -603,25 +585,29 @@ fn serve_listener<
             let _ = scope.spawn(move || keep_store(rt, alloc, served));
         }
         let _ = scope.spawn(move || report(rt, served));
-        if scope
-            .spawn(move || accept_all(rt, served, arrivals))
-            .is_err()
-        {
-            log_without_accepting(rt, served.context.clients);
-        }
-        for stream in receiver.iter(rt) {
+        let mut logged = None;
+        for stream in served.inputs.listener.incoming() {
             if served.context.server.stop.is_over(rt) {
-                continue;
+                break;
             }
+            let Ok(stream) = stream else {
+                pause_accepting(rt, served.context.clients, &mut logged);
+                continue;
+            };
             if !accept(rt, alloc, served, &mut first, stream) {
                 end_one(rt, served.context.server);
                 continue;
             }
-            if scope.spawn(move || serve_next(rt, alloc, served)).is_err() {
-                refuse_accepted(rt, served);
+            if !served.demand.add_connection(rt) {
+                continue;
+            }
+            if scope.spawn(move || serve_all(rt, alloc, served)).is_err()
+                && refuse_accepted(rt, served)
+            {
                 end_one(rt, served.context.server);
             }
         }
+        served.demand.stop(rt);
         served.context.clients.counts.stop(rt);
         if let Some(store) = served.context.store {
             store.stop(rt);
@@ -630,13 +616,20 @@ fn serve_listener<
     })
 }
 
-/// Serves one of the connections that wait for a thread, and counts its end.
-fn serve_next<
+/// Serves connections that wait for a thread, one after another, and counts their ends, until none
+/// has come for a second.
+fn serve_all<
     L: Ledger + Send + Sync,
     R: Threads + Wait + Clock + Log + Sync + Net<Listener = TcpListener, Stream = TcpStream>,
 >(rt: &R, alloc: Global, served: &ServedReplica<'_, L>) {
-    serve_accepted(rt, alloc, served);
-    end_one(rt, served.context.server)
+    for _ in rt.forever() {
+        if !served.demand.take_connection(rt) {
+            return;
+        }
+        serve_accepted(rt, alloc, served);
+        end_one(rt, served.context.server);
+        served.demand.add_thread(rt);
+    }
 }
 
 /// Looks after the replica's log, if there is one, until the server stops.

@@ -1,59 +1,51 @@
-//! A client's octets, and the signal that its connection waits for them.
+//! A client's octets, and what its connection does until some arrive.
 
 ghost use Rattle.std.specs.Prelude.{◌≡◌, None};
 
-use crate::shared_phase::SharedPhase;
+use crate::connection_threads::ConnectionContext;
 use imap_connection::{Source, Wire};
-use replica_lock::Pass;
-use std::io::Read;
+use replica_lock::SpentMemory;
+use std::alloc::Global;
+use std::io::{ErrorKind, Read};
+use std::net::TcpStream;
+use std::sync::Wait;
 use std::sync::ledger::Ledger;
-use std::sync::{Mutex, Wait};
-use std::thread;
-use std::thread::Threads;
+
+/// The octets of a block for which the C library joins the small blocks that were freed, at most as
+/// many as one piece has (1,024 suffice); otherwise a later command pays for those of all pieces.
+const JOINING_BLOCK: usize = 2_048;
 
 /// A reader that notes in the connection's phase when it waits for the client. Before it waits, it
-/// frees what the session's pass no longer needs, so that this is done while the client is at work.
+/// frees what the session's pass no longer needs: if that is much, a piece at a time until the
+/// client's next octets arrive, so that no command waits for it.
 #[derive(Drop)]
 pub struct SessionReader<'a, T, L: Ledger, R: Wait> {
     rt: &'a R,
-    shared_phase: &'a SharedPhase,
-    pass: &'a Mutex<Pass<L>>,
+    connection: &'a ConnectionContext<'a, L>,
+    pending: PendingMemory,
     wire: Wire<T>,
 }
 
 impl<'a, T, L: Ledger, R: Wait> SessionReader<'a, T, L, R> {
-    /// A reader of this device, for the session of this pass.
+    /// A reader of this device, for the session of this connection.
     pub fn new(
         rt: &'a R,
-        shared_phase: &'a SharedPhase,
-        pass: &'a Mutex<Pass<L>>,
+        alloc: Global,
+        connection: &'a ConnectionContext<'a, L>,
         device: T,
     ) -> SessionReader<'a, T, L, R>
         ensures { result.wire.failed ≡ 0 }
     {
         SessionReader {
             rt,
-            shared_phase: shared_phase,
-            pass,
+            connection,
+            pending: PendingMemory { alloc, spent: None },
             wire: Wire::new(device),
         }
     }
 }
 
-impl<'a, T, L: Ledger, R: Threads + Wait> SessionReader<'a, T, L, R> {
-    /// Frees what the session's pass no longer needs: in a thread of its own unless it is small or
-    /// no thread can be made, so that the client's next command doesn't wait.
-    fn free_spent(&self) {
-        let spent = self.pass.lock(self.rt).take_spent();
-        if spent.is_small() {
-            drop(spent);
-            return;
-        }
-        let _ = thread::spawn(self.rt, move || drop(spent));
-    }
-}
-
-impl<'a, T: Read, L: Ledger, R: Threads + Wait> Source for SessionReader<'a, T, L, R> {
+impl<'a, T: Read, L: Ledger, R: Wait> Source for SessionReader<'a, T, L, R> {
     ghost left = { λ r. None };
 
     ghost failures = { λ r. r.wire.failed };
@@ -61,10 +53,59 @@ impl<'a, T: Read, L: Ledger, R: Threads + Wait> Source for SessionReader<'a, T, 
     ghost is_ended = { λ r. r.wire.ended };
 
     fn read(&mut self, piece: &mut [u8]) -> Option<usize> {
-        self.free_spent();
-        self.shared_phase.set_reads(self.rt, true);
+        let connection = self.connection;
+        connection.shared_phase.set_reads(self.rt, true);
+        let spent = connection.pass.lock(self.rt).take_spent();
+        self.pending.free(self.rt, &connection.client.stream, spent);
         let count = self.wire.read(piece);
-        self.shared_phase.set_reads(self.rt, false);
+        connection.shared_phase.set_reads(self.rt, false);
         count
+    }
+}
+
+/// Memory that a session's pass no longer needs, until it is freed.
+#[derive(Drop)]
+struct PendingMemory {
+    alloc: Global,
+    spent: Option<SpentMemory>,
+}
+
+impl PendingMemory {
+    /// Frees this too, or as much of all as can be freed before the client's next octets arrive. If
+    /// this is much, what was left before is freed first.
+    fn free<R: Wait>(&mut self, rt: &R, stream: &TcpStream, spent: SpentMemory) {
+        if spent.is_small() {
+            drop(spent);
+        } else {
+            self.spent = Some(spent);
+        }
+        if self.spent.is_some() && stream.set_nonblocking(true).is_ok() {
+            self.free_until_octets(rt, stream);
+            let _ = stream.set_nonblocking(false);
+        }
+    }
+
+    /// Frees what is left, a piece at a time, until octets arrive.
+    fn free_until_octets<R: Wait>(&mut self, rt: &R, stream: &TcpStream) {
+        for _ in rt.forever() {
+            let Some(spent) = &mut self.spent else {
+                return;
+            };
+            if !spent.free_some() {
+                self.spent = None;
+            }
+            drop(Vec::<u8>::with_capacity(self.alloc, JOINING_BLOCK));
+            if has_octets(stream) {
+                return;
+            }
+        }
+    }
+}
+
+/// Whether octets of the client arrived, or its end, or a fault.
+fn has_octets(stream: &TcpStream) -> bool {
+    match stream.peek(&mut [0u8]) {
+        Ok(_) => true,
+        Err(why) => why.kind() != ErrorKind::WouldBlock,
     }
 }

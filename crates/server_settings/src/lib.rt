@@ -21,7 +21,7 @@ mod listener;
 mod settings;
 mod settings_output;
 
-pub use listener::listen_at;
+pub use listener::{bind_listener, listen_at};
 pub use settings::{
     Access, ClientLimits, CommandLine, GivenAccess, Join, Place, SettingsFault, UsageFault,
     access_of, given_access_of, read_settings,

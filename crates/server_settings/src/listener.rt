@@ -3,7 +3,35 @@
 use crate::settings::Place;
 use log::{Log, error};
 use std::io;
-use std::net::{Net, SocketAddr, TcpListener, TcpStream};
+use std::io::ErrorKind;
+use std::net::{Net, SocketAddr, TcpListener, TcpStream, ToSocketAddrs};
+
+/// Listens at the first of an address's socket addresses at which that is possible. The system's
+/// queue of connections that wait to be accepted is as long as the system allows (std's has 128
+/// places): a client that finds it full tries again after a second.
+pub fn bind_listener<R: Net<Listener = TcpListener, Stream = TcpStream>>(
+    rt: &R,
+    address: &str,
+) -> io::Result<TcpListener> {
+    let mut outcome = Err(io::Error::from(ErrorKind::AddrNotAvailable));
+    for address in address.to_socket_addrs(rt)? {
+        outcome = bind_socket(rt, address);
+        if outcome.is_ok() {
+            break;
+        }
+    }
+    outcome
+}
+
+/// Listens at a socket address.
+fn bind_socket<R: Net<Listener = TcpListener, Stream = TcpStream>>(
+    rt: &R,
+    address: SocketAddr,
+) -> io::Result<TcpListener> {
+    let listener = TcpListener::from(mio::net::TcpListener::bind(rt, address)?);
+    listener.set_nonblocking(false)?;
+    Ok(listener)
+}
 
 /// Listens at a replica's address and prints that it does. Returns the listener and the address at
 /// which it listens. `None` if it can't listen there; this is printed, and the log has the reason.
@@ -12,7 +40,7 @@ pub fn listen_at<R: Print + Log + Net<Listener = TcpListener, Stream = TcpStream
     rt: &R,
     place: &Place<'_>,
 ) -> io::Result<Option<(TcpListener, SocketAddr)>> {
-    let listener = match TcpListener::bind(rt, place.address) {
+    let listener = match bind_listener(rt, place.address) {
         Ok(listener) => listener,
         Err(why) => {
             error!(rt; "cannot listen at {}: {why}", place.address);

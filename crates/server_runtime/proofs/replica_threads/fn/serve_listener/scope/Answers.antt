@@ -2,7 +2,6 @@ use denote.Param.Send.{sendable}
 use Rattle.std.proofs.alloc.Global.TheSendSync as heap
 use Rattle.replica_lock.proofs.pass.Pass.TheSendSync as pass
 use Rattle.server_runtime.proofs.ThreadLemmas.{served_sync}
-use Rattle.server_runtime.proofs.accepting.Arrivals.TheSendSync as arrivals
 use Rattle.server_runtime.proofs.replica_threads.fn.serve_listener.scope.Goals as goal
 
 pub spawn-requires-send-F : goal.spawn-requires-send-F
@@ -16,9 +15,6 @@ spawn-requires-then-is_some-send-F g c κs within = search (served_sync, heap.th
 
 pub spawn-requires-2-send-F : goal.spawn-requires-2-send-F
 spawn-requires-2-send-F g c κs within = search (served_sync, heap.the_send, sendable) depth 60 fits 20000
-
-pub spawn-requires-3-send-F : goal.spawn-requires-3-send-F
-spawn-requires-3-send-F g c κs within = search (served_sync, arrivals.the_send, arrivals.the_field_send, sendable) depth 60 fits 20000
 
 pub spawn-requires-in-loop-stream-send-F : goal.spawn-requires-in-loop-stream-send-F
 spawn-requires-in-loop-stream-send-F g c κs within = search (served_sync, heap.the_send, sendable) depth 60 fits 20000
