@@ -1,5 +1,7 @@
 //! How many connections of a replica wait for a thread, and how many threads for a connection.
 
+ghost use Rattle.std.specs.Prelude.{◌≡◌, ◌↔◌, ◌+◌, ◌-◌, ◌<◌, IsTrue, false, min, true};
+
 use std::rt::Clock;
 use std::sync::{Condvar, Mutex, Wait};
 use std::time::Duration;
@@ -42,14 +44,11 @@ impl ConnectionDemand {
 
     /// Adds a connection. True if a thread has to be made for it, which is counted already.
     pub fn add_connection<R: Wait>(&self, rt: &R) -> bool {
-        let mut waiting = self.waiting.lock(rt);
-        waiting.connections = waiting.connections.saturating_add(1);
-        if waiting.connections <= waiting.threads {
+        let lacks_thread = self.waiting.lock(rt).add();
+        if !lacks_thread {
             self.changed.notify_one();
-            return false;
         }
-        waiting.threads = waiting.threads.saturating_add(1);
-        true
+        lacks_thread
     }
 
     /// Adds a thread whose connection has ended.
@@ -84,8 +83,30 @@ impl ConnectionDemand {
 }
 
 impl Waiting {
+    /// Adds a connection, and a thread if there are fewer than connections; true if so.
+    fn add(&mut self) -> bool
+        ensures connections { self.new.connections
+            ≡ min (self.old.connections + 1) 18446744073709551615 }
+        ensures lacking { IsTrue result ↔ (self.old.threads < self.new.connections) }
+        ensures added { result ≡ true → self.new.threads ≡ self.old.threads + 1 }
+        ensures same { result ≡ false → self.new.threads ≡ self.old.threads }
+        ensures stopped { self.new.is_stopped ≡ self.old.is_stopped }
+    {
+        self.connections = self.connections.saturating_add(1);
+        if self.connections <= self.threads {
+            return false;
+        }
+        self.threads += 1;
+        true
+    }
+
     /// Takes out a thread and a connection. False if there is no connection.
-    fn take(&mut self) -> bool {
+    fn take(&mut self) -> bool
+        ensures some { IsTrue result ↔ (0 < self.old.connections) }
+        ensures connections { self.new.connections ≡ self.old.connections - 1 }
+        ensures threads { self.new.threads ≡ self.old.threads - 1 }
+        ensures stopped { self.new.is_stopped ≡ self.old.is_stopped }
+    {
         self.threads = self.threads.saturating_sub(1);
         if self.connections == 0 {
             return false;

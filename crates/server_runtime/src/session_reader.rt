@@ -17,7 +17,7 @@ const JOINING_BLOCK: usize = 2_048;
 
 /// A reader that notes in the connection's phase when it waits for the client. Before it waits, it
 /// frees what the session's pass no longer needs: if that is much, a piece at a time until the
-/// client's next octets arrive, so that no command waits for it.
+/// client's next octets arrive, so that the next command doesn't wait for all of it.
 #[derive(Drop)]
 pub struct SessionReader<'a, T, L: Ledger, R: Wait> {
     rt: &'a R,
