@@ -1,10 +1,16 @@
-use Rattle.std.proofs.Common.{◌≡◌, ◌++◌, ◌+◌, ◌*◌, ◌/◌, ◌%◌, ◌<◌, ◌⊎◌, inl, inr, ℕ, Bool, true, false, not, cond, List, [], ◌∷◌, Option, Some, None, refl, sym, ap, ◌∙◌, subst, arith, eqb-true, Result, Ok, Err, IfOk, append_assoc, length, take, drop, get_or, ◌≤◌, ◌-◌}
+use Rattle.std.proofs.Common.{◌≡◌, ◌&&◌, nat_lt, ◌++◌, ◌+◌, ◌*◌, ◌/◌, ◌%◌, ◌<◌, ◌⊎◌, inl, inr, ℕ, Bool, true, false, not, cond, List, [], ◌∷◌, Option, Some, None, refl, sym, ap, ◌∙◌, subst, arith, eqb-true, Result, Ok, Err, IfOk, IfErr, append_assoc, length, take, drop, get_or, ◌≤◌, ◌-◌}
+use Rattle.std.proofs.Math.Dec.{leb}
+use Rattle.std.proofs.Math.Seq.{take-add}
+use Rattle.std.proofs.lemmas.List.{take-append-drop}
+use Rattle.std.proofs.lemmas.List.Folds.{list_all-append}
+use Rattle.std.specs.List.{list_all}
 use Rattle.std.proofs.lemmas.Bool.{and_parts, and_from, cases_Bool}
 use Rattle.std.proofs.lemmas.Bool.Decides.{nat_tests}
 use Rattle.std.proofs.lemmas.Grind.{common_steps}
-use Rattle.imap_types.specs.Escape.{AreOctets, IsReading, escape_text, escape_octet, hex_digit, hex_octet, hex_value, is_escape, is_hex, is_plain, unescape, with_octets_before}
+use Rattle.imap_types.specs.Escape.{AreOctets, FailsToRead, IsReading, escape_text, escape_octet, hex_digit, hex_octet, hex_value, is_escape, is_hex, is_plain, unescape, with_octets_before}
 use Rattle.imap_types.specs.declared.escape.Escape.{Escape}
 use Rattle.imap_types.specs.declared.escape.EscapeFault.{EscapeFault}
+use Rattle.imap_types.specs.declared.escape.EscapeFault.TheVariants.{NoMemory, NotEscaped}
 use Rattle.imap_types.specs.declared.escape.Escape.TheVariants.{Field, Text}
 
 -- an octet that stands for itself is read as itself
@@ -146,13 +152,61 @@ pub with_octets_before_append : (octets : List ℕ) (octet : ℕ) (r : Option (L
 with_octets_before_append octets octet None = refl
 with_octets_before_append octets octet (Some more) = ap (λ (os : List ℕ). Some os) (append_assoc octets (octet ∷ []) more)
 
-front_whole : (rest : List ℕ) → 1 ≤ length rest → get_or rest 0 0 ∷ take (length rest - 1) (drop 1 rest) ≡ rest
+pub front_whole : (rest : List ℕ) → 1 ≤ length rest → get_or rest 0 0 ∷ take (length rest - 1) (drop 1 rest) ≡ rest
 front_whole [] h = absurd (omega arith)
 front_whole (b ∷ bs) h = grind (arith, common_steps)
 
-pub unescape_append : (e : Escape) (text octets octets' rest after : List ℕ) (octet : ℕ) → 1 ≤ length rest → with_octets_before octets (unescape e rest) ≡ unescape e text → octets' ≡ octets ++ octet ∷ [] → unescape e (get_or rest 0 0 ∷ take (length rest - 1) (drop 1 rest)) ≡ with_octets_before (octet ∷ []) (unescape e after) → with_octets_before octets' (unescape e after) ≡ unescape e text
-unescape_append e text octets octets' rest after octet h inv o f =
+pub octet_added : (e : Escape) (read : Option (List ℕ)) (octets octets' rest after : List ℕ) (octet : ℕ) → 1 ≤ length rest → with_octets_before octets (unescape e rest) ≡ read → octets' ≡ octets ++ octet ∷ [] → unescape e (get_or rest 0 0 ∷ take (length rest - 1) (drop 1 rest)) ≡ with_octets_before (octet ∷ []) (unescape e after) → with_octets_before octets' (unescape e after) ≡ read
+octet_added e read octets octets' rest after octet h before o f =
     ap (λ (os : List ℕ). with_octets_before os (unescape e after)) o
     ∙ with_octets_before_append octets octet (unescape e after)
     ∙ ap (with_octets_before octets) (sym f ∙ ap (unescape e) (front_whole rest h))
-    ∙ inv
+    ∙ before
+
+before_nothing : (r : Option (List ℕ)) → with_octets_before [] r ≡ r
+before_nothing None = refl
+before_nothing (Some octets) = refl
+
+before_before : (a b : List ℕ) (r : Option (List ℕ)) → with_octets_before a (with_octets_before b r) ≡ with_octets_before (a ++ b) r
+before_before a b None = refl
+before_before a b (Some octets) = ap (λ (os : List ℕ). Some os) (sym (append_assoc a b octets))
+
+-- a run of octets that stand for themselves is read as these
+unescaped_run : (e : Escape) (run rest : List ℕ) → list_all (is_plain e) run ≡ true → unescape e (run ++ rest) ≡ with_octets_before run (unescape e rest)
+unescaped_run e [] rest p = sym (before_nothing (unescape e rest))
+unescaped_run e (b ∷ run) rest p =
+    let q = and_parts _ _ p in
+    unescaped_plain e b (run ++ rest) q.0
+    ∙ ap (with_octets_before (b ∷ [])) (unescaped_run e run rest q.1)
+    ∙ before_before (b ∷ []) run (unescape e rest)
+
+pub run_before : (e : Escape) (n : ℕ) (text : List ℕ) → list_all (is_plain e) (take n text) ≡ true → unescape e text ≡ with_octets_before (take n text) (unescape e (drop n text))
+run_before e n text p = ap (unescape e) (sym (take-append-drop n text)) ∙ unescaped_run e (take n text) (drop n text) p
+
+-- octets to which such a run was added
+pub run_added : (e : Escape) (n : ℕ) (text octets octets' : List ℕ) → list_all (is_plain e) (take n text) ≡ true → octets' ≡ octets ++ take n text → with_octets_before octets' (unescape e (drop n text)) ≡ with_octets_before octets (unescape e text)
+run_added e n text octets octets' p o =
+    ap (λ (os : List ℕ). with_octets_before os (unescape e (drop n text))) o
+    ∙ sym (before_before octets (take n text) (unescape e (drop n text)))
+    ∙ ap (with_octets_before octets) (sym (run_before e n text p))
+
+pub fails_on_nothing : {Y : Type 0} (r : Result Y EscapeFault) (read : Option (List ℕ)) → read ≡ None → IfErr r (λ why. FailsToRead why read)
+fails_on_nothing (Ok y) read h = tt
+fails_on_nothing (Err NoMemory) read h = tt
+fails_on_nothing (Err NotEscaped) read h = h
+
+-- the tests of a block are those of its octets
+pub within_by_tests : (lowest octet : ℕ) → (leb lowest octet && nat_lt octet 126) ≡ (not (nat_lt octet lowest) && nat_lt octet 126)
+within_by_tests lowest octet = grind (arith, nat_tests)
+
+-- octets that stand for themselves are their own spelling
+pub escaped_run : (e : Escape) (run : List ℕ) → list_all (is_plain e) run ≡ true → escape_text e run ≡ run
+escaped_run e [] p = refl
+escaped_run e (b ∷ run) p = let q = and_parts _ _ p in λ i. escaped_plain e b q.0 i ++ escaped_run e run q.1 i
+
+-- octets that stand for themselves, and such octets behind them
+pub plain_joined : (e : Escape) (m n : ℕ) (octets : List ℕ) → list_all (is_plain e) (take m octets) ≡ true → list_all (is_plain e) (take n (drop m octets)) ≡ true → list_all (is_plain e) (take (m + n) octets) ≡ true
+plain_joined e m n octets front back =
+    ap (list_all (is_plain e)) (take-add m n octets)
+    ∙ list_all-append (is_plain e) (take m octets) (take n (drop m octets))
+    ∙ and_from _ _ front back

@@ -1,8 +1,10 @@
 //! The escape by which lines of text carry any octets.
 
 ghost use Rattle.std.specs.Prelude.{◌≡◌, ◌++◌, ℕ, true, List, [], ◌∷◌, Option, Some, None, IfOk};
-ghost use Rattle.std.specs.Prelude.{OnErr, OnOk, ◌<◌, ◌≤◌, length, take};
-ghost use Rattle.imap_types.specs.Escape.{AreOctets, IsReading, escape_text, escape_octet};
+ghost use Rattle.std.specs.Prelude.{IfErr, OnErr, OnOk, ◌<◌, ◌≤◌, ◌&&◌, length, nat_lt, not, take};
+ghost use Rattle.std.specs.List.{list_all};
+ghost use Rattle.imap_types.specs.Escape.{AreOctets, FailsToRead, IsReading, escape_text};
+ghost use Rattle.imap_types.specs.Escape.{escape_octet};
 ghost use Rattle.imap_types.specs.Escape.{hex_digit, hex_octet, is_escape, is_hex, is_plain};
 ghost use Rattle.imap_types.specs.Escape.{unescape, with_octets_before, hex_value};
 
@@ -52,6 +54,9 @@ impl<T: Drop> From<AllocFailed<T>> for EscapeFault {
     }
 }
 
+/// How many octets `plain_count` compares at once.
+const BLOCK_OCTETS: usize = 32;
+
 /// Appends the octets in the escape. `Err` if memory runs out; `out` stays as it was.
 pub fn write_escaped(escape: Escape, octets: &[u8], out: &mut Vec<u8>) -> Result<(), AllocError>
     ensures ok { OnOk result (out.new.items ≡ out.old.items ++ escape_text escape octets.now) }
@@ -100,6 +105,29 @@ fn push_run<'a>(escape: Escape, octets: &'a [u8], out: &mut Vec<u8>) -> Result<&
 fn plain_count(escape: Escape, octets: &[u8]) -> usize
     ensures within { result ≤ length octets.now }
     ensures plain { escape_text escape (take result octets.now) ≡ take result octets.now }
+    ensures each { list_all (is_plain escape) (take result octets.now) ≡ true }
+{
+    let count = plain_in_blocks(escape, octets);
+    count + plain_one_by_one(escape, &octets[count..])
+}
+
+/// The octets of the blocks before the first with an octet that doesn't stand for itself.
+fn plain_in_blocks(escape: Escape, octets: &[u8]) -> usize
+    ensures within { result ≤ length octets.now }
+    ensures each { list_all (is_plain escape) (take result octets.now) ≡ true }
+{
+    let mut count = 0usize;
+    while octets.len() - count >= BLOCK_OCTETS
+        && are_plain(escape, &octets[count..count + BLOCK_OCTETS])
+    {
+        count += BLOCK_OCTETS;
+    }
+    count
+}
+
+fn plain_one_by_one(escape: Escape, octets: &[u8]) -> usize
+    ensures within { result ≤ length octets.now }
+    ensures each { list_all (is_plain escape) (take result octets.now) ≡ true }
 {
     let mut count = 0usize;
     for octet in octets {
@@ -109,6 +137,19 @@ fn plain_count(escape: Escape, octets: &[u8]) -> usize
         count += 1;
     }
     count
+}
+
+/// Whether each octet stands for itself. It looks at all of them, so that several are compared at
+/// once.
+fn are_plain(escape: Escape, octets: &[u8]) -> bool
+    ensures { result ≡ list_all (is_plain escape) octets.now }
+{
+    let lowest = lowest_plain(escape);
+    let mut all = true;
+    for octet in octets {
+        all = all & ((*octet >= lowest) & (*octet < b'~'));
+    }
+    all
 }
 
 fn push_octet(escape: Escape, octet: u8, out: &mut Vec<u8>) -> Result<(), AllocError>
@@ -125,9 +166,16 @@ fn push_octet(escape: Escape, octet: u8, out: &mut Vec<u8>) -> Result<(), AllocE
 fn is_plain(escape: Escape, octet: u8) -> bool
     ensures { result ≡ is_plain escape octet }
 {
+    octet >= lowest_plain(escape) && octet < b'~'
+}
+
+/// The least octet that stands for itself.
+fn lowest_plain(escape: Escape) -> u8
+    ensures { (octet : ℕ) → is_plain escape octet ≡ (not (nat_lt octet result) && nat_lt octet 126) }
+{
     match escape {
-        Escape::Field => octet >= 33 && octet < b'~',
-        Escape::Text => octet >= 32 && octet < b'~',
+        Escape::Field => 33,
+        Escape::Text => 32,
     }
 }
 
@@ -158,14 +206,38 @@ pub fn read_escaped(alloc: Global, escape: Escape, text: &[u8]) -> Result<Octets
 fn unescape(alloc: Global, escape: Escape, text: &[u8]) -> Result<Octets, EscapeFault>
     ensures { IsReading (λ octets. octets) result (unescape escape text.now) }
 {
-    let mut octets = Vec::new(alloc);
+    let mut octets = Vec::with_capacity(alloc, text.len())?;
     let mut rest = text;
-    while let [first, tail @ ..] = rest {
-        let (octet, after) = first_octet(escape, *first, tail)?;
-        octets.push(octet)?;
-        rest = after;
+    while !rest.is_empty() {
+        rest = read_run(escape, rest, &mut octets)?;
     }
     Ok(Octets::new(octets))
+}
+
+/// Appends the octets that stand for themselves, up to the first that doesn't, and the one that the
+/// spelling there stands for; returns the text after that. It takes a run of octets at once.
+fn read_run<'a>(
+    escape: Escape,
+    text: &'a [u8],
+    octets: &mut Vec<u8>,
+) -> Result<&'a [u8], EscapeFault>
+    requires { 0 < length text.now }
+    ensures read { IfOk result
+        (λ rest. with_octets_before octets.new.items (unescape escape rest.now)
+        ≡ with_octets_before octets.old.items (unescape escape text.now)) }
+    ensures shorter { IfOk result (λ rest. length rest.now < length text.now) }
+    ensures none { IfErr result (λ why. FailsToRead why (unescape escape text.now)) }
+{
+    let (plain, others) = text.split_at(plain_count(escape, text));
+    octets.extend_from_slice(plain)?;
+    match others {
+        [first, tail @ ..] => {
+            let (octet, after) = first_octet(escape, *first, tail)?;
+            octets.push(octet)?;
+            Ok(after)
+        }
+        [] => Ok(others),
+    }
 }
 
 /// The first octet that the text stands for, and the text after its spelling.

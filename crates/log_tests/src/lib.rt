@@ -4,7 +4,8 @@
 //! and read again; one over a device that is full, or fails, goes on or does nothing any more. Logs
 //! in files are written, read again after a torn end, refused by name if they are damaged, and a
 //! folder is locked once. A log that is fed to a reader in pieces says what `recover` finds in the
-//! whole. Each law and each call that takes memory is called once.
+//! whole. Each law and each call that takes memory is called once. Faster bodies have the results
+//! of plain ones.
 #![tactic(auto)]
 
 #[cfg(test)]
@@ -25,3 +26,5 @@ mod laws;
 mod memory_logs;
 #[cfg(test)]
 mod pieces;
+#[cfg(test)]
+mod plain_bodies;

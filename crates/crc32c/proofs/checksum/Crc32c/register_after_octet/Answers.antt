@@ -7,6 +7,6 @@ pub returns : goal.returns
 returns c =
     let mixed = bit_xor c.args.register c.from.result in
     let low : mixed % 256 < 256 = omega arith in
-    ap (λ (n : ℕ). bit_xor n (mixed / 256)) (c.args.self.now.is_table (mixed % 256) low)
+    ap (λ (n : ℕ). bit_xor n (mixed / 256)) (c.args.self.now.is_octet (mixed % 256) low)
     ∙ table_entry_xor mixed
     ∙ ap (λ (n : ℕ). register_after_bits 8 (bit_xor c.args.register n)) c.from.ensures
