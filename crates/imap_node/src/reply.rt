@@ -1,7 +1,8 @@
 //! A node's reply to an input.
 
-ghost use Rattle.std.specs.Prelude.{◌≡◌, IfOk, IsOk, false};
-ghost use Rattle.imap_node.specs.Replies.{is_done};
+ghost use Rattle.std.specs.Prelude.{◌≡◌, ◌≢◌, ◌↔◌, ◌⊎◌, ◌+◌, ℕ, [], IfOk, IsOk, IsTrue, false};
+ghost use Rattle.std.specs.Prelude.{length, take};
+ghost use Rattle.imap_node.specs.Replies.{is_done, reply_answers};
 
 use crate::shared_list::SharedList;
 use crdt_ops::SoundOp;
@@ -58,9 +59,13 @@ impl Answers {
         })
     }
 
-    /// Drops at most so many of the last answers, if no copy shares their memory. False if none is
-    /// left.
-    pub fn drop_some(&mut self, most: usize) -> bool {
+    /// Drops the last answers, as many as are asked for, if no copy shares their memory; otherwise
+    /// gives the memory up. False if none is left.
+    pub fn drop_some(&mut self, most: usize) -> bool
+        ensures rest { (self.new ≡ [])
+            ⊎ (n : ℕ) × (n + most ≡ length self.old) × (self.new ≡ take n self.old) }
+        ensures left { IsTrue result ↔ (self.new ≢ []) }
+    {
         self.answers.drop_some(most)
     }
 }
@@ -186,9 +191,14 @@ pub enum Reply {
 }
 
 impl Reply {
-    /// Drops at most so many of its answers, for a caller that needs it no more. False if none is
-    /// left.
-    pub fn drop_some(&mut self, most: usize) -> bool {
+    /// Drops the last of its answers, as many as are asked for, or all, for a caller that needs it
+    /// no more. False if none is left.
+    pub fn drop_some(&mut self, most: usize) -> bool
+        ensures rest { (reply_answers self.new ≡ [])
+            ⊎ (n : ℕ) × (n + most ≡ length (reply_answers self.old))
+            × (reply_answers self.new ≡ take n (reply_answers self.old)) }
+        ensures left { IsTrue result ↔ (reply_answers self.new ≢ []) }
+    {
         match self {
             Reply::Done { answers, .. } => answers.drop_some(most),
             Reply::Refused { .. } => false,

@@ -1,6 +1,6 @@
 //! Lists whose copies share one memory.
 
-ghost use Rattle.std.specs.Prelude.{◌≡◌, IfOk, ℕ, take};
+ghost use Rattle.std.specs.Prelude.{◌≡◌, ◌≢◌, ◌↔◌, ◌⊎◌, ◌+◌, ℕ, [], IfOk, IsTrue, length, take};
 
 use std::alloc::{AllocError, Global};
 use std::marker::Model;
@@ -65,10 +65,12 @@ impl<T: Drop> SharedList<T> {
         }
     }
 
-    /// Drops at most so many of the last items, if no copy shares the memory; otherwise gives the
-    /// memory up. False if nothing is left.
+    /// Drops the last items, as many as are asked for, if no copy shares the memory; otherwise gives
+    /// the memory up. False if nothing is left.
     pub fn drop_some(&mut self, most: usize) -> bool
-        ensures { (n : ℕ) × (self.new ≡ take n self.old) }
+        ensures rest { (self.new ≡ [])
+            ⊎ (n : ℕ) × (n + most ≡ length self.old) × (self.new ≡ take n self.old) }
+        ensures left { IsTrue result ↔ (self.new ≢ []) }
     {
         let is_left = match &mut self.items {
             Some(items) => match Arc::get_mut(items) {

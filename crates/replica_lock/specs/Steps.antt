@@ -1,9 +1,10 @@
 -- The events of a replica and their outcomes, as a relation between the node before and after.
 
-use Rattle.std.specs.Prelude.{◌≡◌, ℕ, Bool, false, is_some}
+use Rattle.std.specs.Prelude.{◌≡◌, ℕ, Bool, List, [], false, is_some}
+use Rattle.imap_answers.specs.declared.answer.Answer.{Answer}
 use Rattle.imap_node.specs.Nodes.{NodeState}
 pub use Rattle.imap_node.specs.Nodes.{IsAwaitedInput}
-use Rattle.imap_node.specs.Replies.{is_done}
+use Rattle.imap_node.specs.Replies.{is_done, reply_answers}
 use Rattle.imap_node.specs.Responses.{Responds}
 use Rattle.imap_node.specs.Sessions.{session_at}
 pub use Rattle.imap_node.specs.Steps.{ClosesAt, DeliversAt, DrainsAt, IsNotOpenAt, OpensAt}
@@ -21,6 +22,11 @@ use Rattle.replica_lock.specs.declared.outcome.Outcome.TheVariants.{Opened, Pass
 abbrev pub takes_memory : Outcome → Bool
 takes_memory (Replied reply) = is_done reply
 takes_memory _ = false
+
+-- The answers of an outcome's reply; another outcome has none.
+abbrev pub outcome_answers : Outcome → List Answer
+outcome_answers (Replied reply) = reply_answers reply
+outcome_answers _ = []
 
 -- The event by which a session gets this input.
 abbrev pub event_of : ℕ → Input → BookEvent

@@ -1,7 +1,7 @@
 //! The entries that a book stores.
 
 ghost use Rattle.std.specs.Prelude.{◌≡◌, ℕ, ◌+◌, ◌<◌, ◌≤◌, [], ◌∷◌, ◌++◌, IfOk, IsOk, OnOk, drop};
-ghost use Rattle.std.specs.Prelude.{length, slice_get};
+ghost use Rattle.std.specs.Prelude.{length, slice_get, false};
 ghost use Rattle.std.specs.Option.{option_map};
 
 use crate::compact_entry::CompactEntry;
@@ -66,8 +66,12 @@ impl ForgottenEntries {
         self.octets
     }
 
-    /// Drops at most so many answers, or one entry. False if nothing is left.
-    pub(crate) fn drop_some(&mut self, most: usize) -> bool {
+    /// Drops at most so many answers, or one entry, or takes one out of its block. False if nothing
+    /// is left.
+    pub(crate) fn drop_some(&mut self, most: usize) -> bool
+        ensures left { result ≡ false
+            → (self.new.blocks.items ≡ []) × (self.new.entries.items ≡ []) }
+    {
         if let Some(entry) = self.entries.last_mut() {
             if entry.drop_some(most) {
                 return true;
@@ -78,10 +82,10 @@ impl ForgottenEntries {
         let Some(mut block) = self.blocks.pop() else {
             return false;
         };
-        let last = block.entries.len();
-        if last > 0 {
-            drop(self.entries.push(block.entries.remove(last - 1)));
-            if last > 1 {
+        let count = block.entries.len();
+        if count > 0 {
+            drop(self.entries.push(block.entries.remove(count - 1)));
+            if count > 1 {
                 drop(self.blocks.push(block));
             }
         }

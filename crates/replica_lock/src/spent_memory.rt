@@ -1,5 +1,7 @@
 //! What a pass no longer needs.
 
+ghost use Rattle.std.specs.Prelude.{◌≡◌, None, false};
+
 use crate::journal::ForgottenEntries;
 use crate::outcome::Outcome;
 use imap_node::Reply;
@@ -38,7 +40,10 @@ impl SpentMemory {
     }
 
     /// Frees what takes a few microseconds. False if nothing is left.
-    pub fn free_some(&mut self) -> bool {
+    pub fn free_some(&mut self) -> bool
+        ensures left { result ≡ false
+            → (self.new.outcome ≡ None) × (self.new.forgotten ≡ None) }
+    {
         if let Some(outcome) = &mut self.outcome {
             if outcome.drop_some(FEW_ANSWERS) {
                 return true;
