@@ -467,6 +467,20 @@ impl Node {
         self.replica.ops_since(alloc, clock)
     }
 
+    /// Copies of the first `limit` operations applied that the clock doesn't cover, in their order;
+    /// `Err` if memory runs out.
+    pub fn first_ops_since(
+        &self,
+        alloc: Global,
+        clock: &Clock,
+        limit: usize,
+    ) -> Result<Vec<SoundOp>, AllocError>
+        ensures { IfOk result
+            (λ ops. ops.items ≡ take limit (uncovered_ops id_of clock.now self.now.state.applied)) }
+    {
+        self.replica.first_ops_since(alloc, clock, limit)
+    }
+
     /// The mailbox's listing; `Err` if memory runs out.
     pub fn listing(&self, alloc: Global, name: &Name) -> Result<Rows<'_>, AllocError>
         ensures { IfOk result

@@ -2,7 +2,7 @@
 //! them.
 
 ghost use Rattle.std.specs.Prelude.{◌≡◌, ◌↔◌, ℕ, ◌+◌, ◌≤◌, ◌++◌, ◌∷◌, [], length, IfOk, OnOk};
-ghost use Rattle.std.specs.Prelude.{IsTrue, MatchOption, MatchResult, Ok, Err, OnErr};
+ghost use Rattle.std.specs.Prelude.{IsTrue, MatchOption, MatchResult, Ok, Err, OnErr, take};
 ghost use Rattle.causal_inbox.specs.Delivery.{IsArrival, IsDeliverFault};
 ghost use Rattle.causal_inbox.specs.Inbox.{AreIssued, AreRemainingHeld, IsClockOf, IsLawfulInbox};
 ghost use Rattle.causal_inbox.specs.Inbox.{IsNextReleased, IsStalled, uncovered_ops};
@@ -139,6 +139,20 @@ impl ReplicaState {
         ensures { IfOk result (λ ops. ops.items ≡ uncovered_ops id_of clock.now self.now.applied) }
     {
         self.inbox.ops_since(alloc, clock)
+    }
+
+    /// Copies of the first `limit` operations applied that the clock doesn't cover, in their order;
+    /// `Err` if memory runs out.
+    pub fn first_ops_since(
+        &self,
+        alloc: Global,
+        clock: &Clock,
+        limit: usize,
+    ) -> Result<Vec<SoundOp>, AllocError>
+        ensures { IfOk result
+            (λ ops. ops.items ≡ take limit (uncovered_ops id_of clock.now self.now.applied)) }
+    {
+        self.inbox.first_ops_since(alloc, clock, limit)
     }
 
     /// Makes room to issue these operations, which come next. An error leaves the received

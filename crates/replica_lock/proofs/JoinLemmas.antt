@@ -1,7 +1,8 @@
-use Rattle.std.proofs.Common.{◌≡◌, ◌↔◌, inl, inr, ℕ, zero, suc, ◌+◌, ◌<◌, Bool, true, false, None, Result, Ok, Err, List, [], ◌∷◌, ◌++◌, length, length-append, take, drop, map, append-nil, refl, sym, ap, ◌∙◌, subst, arith, IsTrue}
+use Rattle.std.proofs.Common.{◌≡◌, ◌↔◌, inl, inr, ℕ, zero, suc, ◌+◌, ◌<◌, Bool, true, false, Option, None, Some, Result, Ok, Err, List, [], ◌∷◌, ◌++◌, length, length-append, take, drop, map, append-nil, reverse, refl, sym, ap, ◌∙◌, subst, arith, IsTrue}
 use Rattle.std.proofs.Common.{get_or}
+use Rattle.std.specs.Option.{option_to_list}
 use Rattle.std.specs.Prelude.{IfErr, IfOk, OnOk, IsErrAnd}
-use Rattle.std.proofs.lemmas.List.{take_more}
+use Rattle.std.proofs.lemmas.List.{reverse-append, reverse-reverse, take_more}
 use Rattle.merge_laws.specs.Orders.{HasId, IsCausal, IsIn, IsRipe}
 use Rattle.merge_laws.proofs.Causal.{causal_append_one}
 use Rattle.merge_laws.proofs.Lists.{id_in_parts, id_of_element}
@@ -264,6 +265,20 @@ next_of_rest ops i op rest e =
     let r = next_of_rest_suc ops i op rest e in
     let one : suc i ≡ i + 1 = omega (arith) in
     (r.0, r.1, subst (λ (n : ℕ). drop n ops ≡ rest) one r.2)
+
+-- of a list that is taken from its end, its last operation first, the operation that is taken is the first of those left
+pub next_of_reversed : (ops later rest : List Op) (i : ℕ) (last : Option Op) (op : Op)
+    → drop i ops ≡ reverse later → later ≡ rest ++ option_to_list last → last ≡ Some op → drop i ops ≡ op ∷ reverse rest
+next_of_reversed ops later rest i last op left is some =
+    left ∙ ap reverse (is ∙ ap (λ (l : Option Op). rest ++ option_to_list l) some) ∙ reverse-append rest (op ∷ [])
+
+pub all_reversed : (ops later : List Op) → later ≡ reverse ops → ops ≡ reverse later
+all_reversed ops later is = sym (ap reverse is ∙ reverse-reverse ops)
+
+pub fewer_left : (later rest : List Op) (last : Option Op) (op : Op) → later ≡ rest ++ option_to_list last → last ≡ Some op → length rest < length later
+fewer_left later rest last op is some =
+    let whole = ap length (is ∙ ap (λ (l : Option Op). rest ++ option_to_list l) some) ∙ length-append rest (op ∷ []) in
+    omega (arith, whole)
 
 -- all operations were delivered once none is left
 pub all_taken : (ops : List Op) (i : ℕ) → drop i ops ≡ [] → take i ops ≡ ops

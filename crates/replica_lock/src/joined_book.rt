@@ -1,7 +1,8 @@
 //! The book of a replica that begins with operations: one that joins, with another one's, or one
 //! that is restored, with its own among them.
 
-ghost use Rattle.std.specs.Prelude.{◌≡◌, ◌∷◌, [], IfErr, IfOk, MatchResult, None, OnOk};
+ghost use Rattle.std.specs.Prelude.{◌≡◌, ◌∷◌, ◌++◌, [], IfErr, IfOk, MatchResult, None, OnOk};
+ghost use Rattle.std.specs.Option.{option_to_list};
 ghost use Rattle.merge_laws.specs.Orders.{IsCausal, IsRipe};
 ghost use Rattle.imap_node.specs.Nodes.{first_numbers};
 ghost use Rattle.imap_node.specs.Operations.{clock_of, id_of};
@@ -24,6 +25,9 @@ use merge_laws::Caused;
 use std::alloc::{AllocError, Global};
 use tags_clocks::{OpId, ReplicaId};
 use uid_projection::Counters;
+
+/// The room of so many restored operations is freed at once.
+const FREED_AT_ONCE: usize = 16_384;
 
 impl Book {
     /// The book of a new replica of this name to which these operations were delivered, in their
@@ -61,7 +65,8 @@ impl Book {
     /// `NotCausal` at the first that isn't ripe after those before it. `Exhausted` if one of its
     /// counters has no number left for one. `NoMemory` if memory runs out.
     ///
-    /// It costs as much as the deliveries, and copies no operation for good.
+    /// It costs as much as the deliveries, copies no operation for good, and frees the list's room
+    /// as it goes on.
     pub fn restore(alloc: Global, id: ReplicaId, ops: Vec<SoundOp>) -> Result<Book, JoinFault>
         ensures { MatchResult result
             (λ book. (book ≡ restored_book id ops.items)
@@ -116,10 +121,24 @@ fn restore_all(alloc: Global, book: &mut Book, ops: Vec<SoundOp>) -> Result<(), 
         × IsCausal id_of clock_of ops.items × (¬ Exhausts book.old.node.start [] ops.items)) }
     ensures fault { IfErr result (IsRestoreFault book.old.node.start.replica ops.items) }
 {
-    for op in ops {
+    let mut later = ops;
+    later.reverse();
+    while let Some(op) = take_last(&mut later) {
         restore_op(alloc, book, op)?;
     }
     Ok(())
+}
+
+/// Takes the last operation, if any; now and then it frees the room of those that were taken.
+fn take_last(later: &mut Vec<SoundOp>) -> Option<SoundOp>
+    ensures taken { later.old.items ≡ later.new.items ++ option_to_list result }
+    ensures none { result ≡ None → later.old.items ≡ [] }
+{
+    let last = later.pop();
+    if later.len() % FREED_AT_ONCE == 0 {
+        later.shrink_to_fit();
+    }
+    last
 }
 
 /// Delivers an operation to a replica that holds nothing and whose journal is empty, and forgets

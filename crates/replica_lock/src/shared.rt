@@ -1,7 +1,7 @@
 //! A replica that threads share.
 
 ghost use Rattle.std.specs.Prelude.{◌≡◌, ◌≢◌, OnOk, OnErr, ◌<◌, IfOk, IfErr, IfSome, IsSome, List};
-ghost use Rattle.std.specs.Prelude.{None, drop, false};
+ghost use Rattle.std.specs.Prelude.{None, drop, false, take};
 ghost use Rattle.causal_inbox.specs.Inbox.{IsClockOf, uncovered_ops};
 ghost use Rattle.crdt_ops.specs.declared.op.Op.{Op};
 ghost use Rattle.merge_laws.specs.Orders.{IsCausal};
@@ -443,6 +443,36 @@ impl<L: Ledger> Shared<L> {
         ops_of_book_after(alloc, self.locked.lock(rt).book(), count)
     }
 
+    /// Copies of the first `limit` operations applied that the clock doesn't cover, in their order;
+    /// `Err` if memory runs out. It takes the lock, and makes no entry.
+    pub fn first_ops_since<R: Wait>(
+        &self,
+        rt: &R,
+        alloc: Global,
+        clock: &Clock,
+        limit: usize,
+    ) -> Result<Vec<SoundOp>, AllocError>
+        ensures { IfOk result (λ ops. (applied : List Op) × IsCausal id_of clock_of applied
+            × (ops.items ≡ take limit (uncovered_ops id_of clock.now applied))) }
+    {
+        first_ops_of_book_since(alloc, self.locked.lock(rt).book(), clock, limit)
+    }
+
+    /// Copies of at most `limit` operations that the replica applied after the first `count`, in
+    /// their order; `Err` if memory runs out. It takes the lock, and makes no entry.
+    pub fn first_ops_after<R: Wait>(
+        &self,
+        rt: &R,
+        alloc: Global,
+        count: u64,
+        limit: usize,
+    ) -> Result<Vec<SoundOp>, AllocError>
+        ensures { IfOk result (λ ops. (applied : List Op) × IsCausal id_of clock_of applied
+            × (ops.items ≡ take limit (drop count applied))) }
+    {
+        first_ops_of_book_after(alloc, self.locked.lock(rt).book(), count, limit)
+    }
+
     /// The number of operations that the replica applied. It takes the lock, and makes no entry.
     pub fn op_count<R: Wait>(&self, rt: &R) -> u64 {
         self.locked.lock(rt).book().op_count() as u64
@@ -537,6 +567,40 @@ fn ops_of_book_since(alloc: Global, book: &Book, clock: &Clock) -> Result<Vec<So
 {
     let _ops = book.node().op_list();
     book.node().ops_since(alloc, clock)
+}
+
+/// Copies of the first `limit` operations applied that the clock doesn't cover, in their order.
+fn first_ops_of_book_since(
+    alloc: Global,
+    book: &Book,
+    clock: &Clock,
+    limit: usize,
+) -> Result<Vec<SoundOp>, AllocError>
+    ensures ops { IfOk result
+        (λ ops. ops.items ≡ take limit (uncovered_ops id_of clock.now book.now.node.applied)) }
+    ensures causal { IsCausal id_of clock_of book.now.node.applied }
+{
+    let _ops = book.node().op_list();
+    book.node().first_ops_since(alloc, clock, limit)
+}
+
+/// Copies of at most `limit` operations applied after the first `count`, in their order.
+fn first_ops_of_book_after(
+    alloc: Global,
+    book: &Book,
+    count: u64,
+    limit: usize,
+) -> Result<Vec<SoundOp>, AllocError>
+    ensures ops { IfOk result
+        (λ ops. ops.items ≡ take limit (drop count book.now.node.applied)) }
+    ensures causal { IsCausal id_of clock_of book.now.node.applied }
+{
+    let ops = book.node().op_list();
+    if count > ops.len() as u64 {
+        return Ok(Vec::new(alloc));
+    }
+    let later = &ops[count as usize..];
+    copy_ops(alloc, &later[..limit.min(later.len())])
 }
 
 /// Copies of the operations applied after the first `count`, in their order.
