@@ -29,6 +29,7 @@ use Rattle.server_runtime.specs.contracts.connection_threads.ReplicaContext as c
 use Rattle.server_runtime.specs.contracts.replica_threads.AcceptedConnection as accepted_row
 use Rattle.server_runtime.specs.contracts.replica_threads.OpenGate as gate
 use Rattle.server_runtime.specs.contracts.connection_threads.ConnectionContext as connection
+use Rattle.server_runtime.specs.contracts.linked_replica.LinkedReplica as linked
 use Rattle.server_runtime.specs.contracts.replica_threads.ServedReplica as served
 
 module _ (L : RattleType) (g : ledger.Ghosts L.Denot) where
@@ -55,6 +56,12 @@ module _ (a : NamedLft) (L : RattleType) (g : ledger.Ghosts L.Denot) where
   pub served_sync : IsSend L → IsSync L → IsSync (served.the_row a L g)
   served_sync ledger shares = recorded_sync (served.the_field a L g).row _ _ (served.the_type a L g).to_one
       (struct_sync (shape (served.the_type a L g)) (search (context_sync, sendable), (search (ends.the_sync, sendable), (search (returned_shared, sendable), (search (accepted_shared, sendable), (search (demand.the_sync, sendable), tt))))))
+
+module _ (a : NamedLft) (L R : RattleType) (g : ledger.Ghosts L.Denot) where
+  pub linked_sync : IsSend L → IsSync L → IsSync R → IsSync (linked.the_row a L R g)
+  linked_sync ledger shares runs = recorded_sync (linked.the_field a L R g).row _ _ (linked.the_type a L R g).to_one
+      (struct_sync (shape (linked.the_type a L R g))
+      (search sendable, (search sendable, (search (context_sync, sendable), (search (pass_shared, sendable), tt)))))
 
 module _ (a : NamedLft) where
   pub slot_sync : IsSync (slot.the_row a)

@@ -32,9 +32,9 @@
 //!   MiB of it are unused. Both grow with the largest block that is freed. A block of 33 MB left
 //!   twice as much unused memory in the arenas after looks at large mailboxes.
 //! - What a session's pass no longer needs is freed before its connection reads: if it isn't small,
-//!   a piece at a time until the client's next octets arrive (`PendingMemory::free`). If
-//!   another thread freed it, the C library would join its blocks at a later command, which takes
-//!   milliseconds: they are in the arena of the connection's thread.
+//!   a piece at a time until the client's next octets arrive, and 32 pieces even then
+//!   (`PendingMemory::free`). If another thread freed it, the C library would join its blocks at a
+//!   later command, which takes milliseconds: they are in the arena of the connection's thread.
 //! - Each replica's ledger is named in a call of its own, by `Brand`: a function can't call itself
 //!   with another ledger, so a program with a list of replicas starts a thread for each, and that
 //!   thread's function names the ledger.
@@ -146,7 +146,9 @@ mod connection_demand;
 mod connection_threads;
 mod feeder;
 mod joining_replica;
+mod link_opening;
 mod link_peers;
+mod linked_replica;
 mod pass_file;
 mod peer_sender;
 mod program;
@@ -179,8 +181,8 @@ pub use replica_store::{ReplicaStore, SyncFault};
 pub use replica_threads::{ReplicaSetup, StartMode, serve, serve_over};
 pub use restoring::{RestoreFault, RestoredReplica, UnrestoredReplica};
 pub use server_settings::{
-    Access, ClientLimits, CommandLine, GivenAccess, Join, Place, SettingsFault, UsageFault,
-    access_of, read_settings,
+    Access, ClientLimits, CommandLine, GivenAccess, Join, LinkWords, Place, SettingsFault,
+    UsageFault, access_of, read_settings,
 };
 pub use server_state::{ServerState, StopCounter};
 pub use session_port::{SessionPort, SessionPosition};

@@ -1,6 +1,7 @@
 //! The program: from its command line to its status.
 
 use crate::joining_replica::JoiningReplica;
+use crate::link_opening::{open_links, read_link_secret};
 use crate::pass_file::{pass_of, read_octets};
 use crate::replica_end::ReplicaEnd;
 use crate::replica_handle::{CopyRequest, JoinSignal, JoiningReplicas, ReplicaHandle};
@@ -19,6 +20,7 @@ use server_settings::{
 use std::alloc::{AllocError, AllocFailed, Global};
 use std::fs::File;
 use std::net::{Net, SocketAddr, TcpListener, TcpStream};
+use std::random::RandomSource;
 use std::rt::{Clock, Env, Files};
 use std::sync::{Mutex, Wait};
 use std::thread::Threads;
@@ -81,6 +83,7 @@ pub fn run<
         + Clock
         + Log
         + Sync
+        + RandomSource
         + Files<File = File>
         + Net<Listener = TcpListener, Stream = TcpStream>,
 >(rt: &R) -> u8 {
@@ -103,6 +106,7 @@ fn run_words<
         + Clock
         + Log
         + Sync
+        + RandomSource
         + Files<File = File>
         + Net<Listener = TcpListener, Stream = TcpStream>,
 >(rt: &R, words: &[String]) -> u8 {
@@ -115,7 +119,12 @@ fn run_words<
         Err(status) => return status,
     };
     let pass = pass_of(&file).unwrap_or("");
-    match run_as(rt, rt.alloc(), &settings, settings.access.with_pass(pass)) {
+    let secret = match read_link_secret(rt, rt.alloc(), settings.links.as_ref()) {
+        Ok(secret) => secret,
+        Err(status) => return status,
+    };
+    let access = settings.access.with_pass(pass);
+    match run_as(rt, rt.alloc(), &settings, access, secret) {
         Ok(()) => 0,
         Err(RunFault::CannotListen | RunFault::CannotRestore) => 1,
         Err(why) => {
@@ -153,10 +162,18 @@ fn run_as<
         + Clock
         + Log
         + Sync
+        + RandomSource
         + Files<File = File>
         + Net<Listener = TcpListener, Stream = TcpStream>,
->(rt: &R, alloc: Global, settings: &CommandLine<'_>, access: Access<'_>) -> Result<(), RunFault> {
-    let (server, setups) = open_all(rt, alloc, settings, access)?;
+>(
+    rt: &R,
+    alloc: Global,
+    settings: &CommandLine<'_>,
+    access: Access<'_>,
+    secret: Vec<u8>,
+) -> Result<(), RunFault> {
+    let (mut server, setups) = open_all(rt, alloc, settings, access)?;
+    server.links = open_links(rt, alloc, settings, secret)?;
     raise_memory_thresholds(alloc);
     if settings.stop_after != Some(0) && !are_whole(serve(rt, alloc, &server, setups)) {
         return Err(RunFault::Unfinished);
@@ -231,6 +248,7 @@ pub fn open_all<
         joining: JoiningReplicas::new(signals),
         journal: settings.journal,
         store,
+        links: None,
         stop: StopCounter::after(settings.stop_after),
     };
     Ok((server, parts))

@@ -215,6 +215,9 @@ impl ReplicaStore {
             Err(fault) => Err(fault),
         };
         self.give_back(rt, context, log);
+        if result.is_ok() {
+            context.server.signal_links(rt);
+        }
         result
     }
 

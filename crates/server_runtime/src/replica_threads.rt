@@ -14,6 +14,7 @@ use crate::connection_demand::ConnectionDemand;
 use crate::connection_threads::{ReplicaContext, refuse_connection};
 use crate::joining_replica::{JoinedReplica, JoiningReplica, send_copies};
 use crate::link_peers::LinkPeers;
+use crate::linked_replica::run_process_links;
 use crate::replica_clients::ReplicaClients;
 use crate::replica_end::{ReplicaEnd, end_of, ends_keep_the_headline};
 use crate::replica_handle::{CopyRequest, others};
@@ -414,7 +415,13 @@ fn new_book(alloc: Global, replica: ReplicaId) -> Option<Book> {
 
 fn run_replica<
     L: Ledger + Send + Sync,
-    R: Threads + Wait + Clock + Log + Sync + Net<Listener = TcpListener, Stream = TcpStream>,
+    R: Threads
+        + Wait
+        + Clock
+        + Log
+        + Print
+        + Sync
+        + Net<Listener = TcpListener, Stream = TcpStream>,
 >(
     rt: &R,
     alloc: Global,
@@ -557,11 +564,18 @@ fn accepted_connections<L: Ledger, R: Wait + Clock + Log, G: Gate + Drop>(
 /// one.
 fn serve_listener<
     L: Ledger + Send + Sync,
-    R: Threads + Wait + Clock + Log + Sync + Net<Listener = TcpListener, Stream = TcpStream>,
+    R: Threads
+        + Wait
+        + Clock
+        + Log
+        + Print
+        + Sync
+        + Net<Listener = TcpListener, Stream = TcpStream>,
 >(rt: &R, alloc: Global, first: Pass<L>, served: &ServedReplica<'_, L>) -> Pass<L> {
     let mut first = first;
     let link_pass = first.cut();
     let copy_pass = first.cut();
+    let process_pass = process_link_pass(served, &mut first);
     thread::scope(thread::scope_env(), rt, |scope| {
         if let Some(pass) = link_pass {
             let _ = scope.spawn(move || {
@@ -578,6 +592,12 @@ fn serve_listener<
                     pass,
                     &served.inputs.copy_requests,
                 );
+                return_pass(rt, served.returned, pass)
+            });
+        }
+        if let Some(pass) = process_pass {
+            let _ = scope.spawn(move || {
+                let pass = run_process_links(rt, alloc, served.context, pass);
                 return_pass(rt, served.returned, pass)
             });
         }
@@ -609,11 +629,25 @@ fn serve_listener<
         }
         served.demand.stop(rt);
         served.context.clients.counts.stop(rt);
+        if let Some(links) = &served.context.server.links {
+            links.stop(rt);
+        }
         if let Some(store) = served.context.store {
             store.stop(rt);
         }
         first
     })
+}
+
+/// A pass for the links to other processes, if there are any.
+fn process_link_pass<L: Ledger>(
+    served: &ServedReplica<'_, L>,
+    first: &mut Pass<L>,
+) -> Option<Pass<L>> {
+    if served.context.server.links.is_none() {
+        return None;
+    }
+    first.cut()
 }
 
 /// Serves connections that wait for a thread, one after another, and counts their ends, until none

@@ -7,6 +7,7 @@ use crate::replica_handle::{JoiningReplicas, ReplicaHandle};
 use imap_answers::Login;
 use imap_node::{Auth, Credentials};
 use imap_types::Octets;
+use link_runtime::Links;
 use log_files::StoreFolder;
 use server_settings::{Access, ClientLimits};
 use std::alloc::{AllocError, Global};
@@ -59,8 +60,19 @@ pub struct ServerState<'a> {
     pub journal: Option<u64>,
     /// The folder of the replicas' logs; `None` if the server stores nothing.
     pub store: Option<StoreFolder>,
+    /// The links to other processes, if there are any.
+    pub links: Option<Links<'a>>,
     /// When the server stops.
     pub stop: StopCounter,
+}
+
+impl ServerState<'_> {
+    /// Has the links look for what they can send.
+    pub fn signal_links<R: Wait>(&self, rt: &R) {
+        if let Some(links) = &self.links {
+            links.signal.give(rt);
+        }
+    }
 }
 
 /// The login that a greeting asks for.

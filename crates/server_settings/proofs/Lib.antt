@@ -1,6 +1,7 @@
+pub mod LinkLemmas
 pub mod NameLemmas
-pub mod PlaceLemmas
-pub mod WordLemmas
-pub mod TextLemmas
 pub mod NumberLemmas
 pub mod OptionLemmas
+pub mod PlaceLemmas
+pub mod TextLemmas
+pub mod WordLemmas

@@ -1,9 +1,9 @@
 use Rattle.std.proofs.Common.{◌≡◌, ◌≢◌, inl, inr, Bor, eqb-true, nat_eq, ◌+◌, ◌-◌, ◌^◌, ◌<◌, ◌≤◌, ℕ, zero, suc, true, false, List, [], ◌∷◌, ◌++◌, Option, Some, None, Result, Ok, Err, refl, sym, ap, ◌∙◌, subst, arith, rules, length, get_or, take, drop}
 use Rattle.std.proofs.lemmas.Bool.{and_parts, cases_order, false≢true}
 use Rattle.std.proofs.lemmas.Fmt.{decimal-digits_value, digits_decimal, first_decimal, parse-decimal}
-use Rattle.std.proofs.lemmas.List.{get_or-append-add, get_or-drop, length-append, length-drop, take_at}
+use Rattle.std.proofs.lemmas.List.{get_or-append-add, get_or-drop, length-append, length-drop, take-append-drop, take_at}
 use Rattle.std.proofs.lemmas.Str.{len_utf8_ascii}
-use Rattle.std.proofs.lemmas.Str.Pattern.{IsSplitOnceResult, NoCharPasses-char, split_after}
+use Rattle.std.proofs.lemmas.Str.Pattern.{IsSplitOnceResult, NoCharPasses-char, drop_at_char, split_after}
 use Rattle.std.proofs.lemmas.Str.Parse.{IsNumeralModel, numerals_by_value, parse_digits}
 use Rattle.std.specs.Char.{is_ascii_digit}
 use Rattle.std.specs.Fmt.{decimal}
@@ -13,6 +13,7 @@ use Rattle.std.specs.Option.{MatchOption}
 use Rattle.std.specs.Str.{NoCharPasses}
 use Rattle.std.specs.Str.Parse.{ParsesUnsigned, digits_value}
 use Rattle.std.specs.Str.Pattern.{HasCharAt, RFindsChar}
+use Rattle.server_settings.specs.Links.{IsHostPort}
 use Rattle.server_settings.specs.Settings.{IsJoinText, IsNameText, IsPlaceText}
 use Rattle.server_settings.specs.declared.settings.Join.{Join}
 use Rattle.server_settings.specs.declared.settings.Place.{Place}
@@ -99,3 +100,29 @@ join_split text r join h is = rsplit_after 47 text is.0 is.1 r h (omega arith) i
 pub no_octet : (octets : List ℕ) → true ≡ nat_eq (length octets) 0 → octets ≡ []
 no_octet [] h = refl
 no_octet (o ∷ os) h = absurd (let z : length (o ∷ os) ≡ 0 = eqb-true _ _ (sym h) in omega arith)
+
+-- a text of digits followed by `=` is split in one way
+rest_after : (xs ys xs' ys' : List ℕ) → list_all is_ascii_digit xs ≡ true → list_all is_ascii_digit xs' ≡ true → xs ++ 61 ∷ ys ≡ xs' ++ 61 ∷ ys' → ys ≡ ys'
+rest_after [] ys [] ys' d d' e = ap (drop 1) e
+rest_after [] ys (x ∷ xs') ys' d d' e =
+    let h : 61 ≡ x = ap (λ (l : List ℕ). get_or l 0 0) e in
+    absurd (false≢true (ap is_ascii_digit h ∙ (and_parts (is_ascii_digit x) (list_all is_ascii_digit xs') d').0))
+rest_after (x ∷ xs) ys [] ys' d d' e =
+    let h : x ≡ 61 = ap (λ (l : List ℕ). get_or l 0 0) e in
+    absurd (false≢true (ap is_ascii_digit (sym h) ∙ (and_parts (is_ascii_digit x) (list_all is_ascii_digit xs) d).0))
+rest_after (x ∷ xs) ys (x' ∷ xs') ys' d d' e =
+    rest_after xs ys xs' ys' (and_parts (is_ascii_digit x) (list_all is_ascii_digit xs) d).1 (and_parts (is_ascii_digit x') (list_all is_ascii_digit xs') d').1 (ap (drop 1) e)
+
+-- two replicas that a text names have one address
+pub one_address : (text : List ℕ) (first second : Place) → IsPlaceText text first → IsPlaceText text second → first.address.now ≡ second.address.now
+one_address text first second a b =
+    rest_after a.0 first.address.now b.0 second.address.now (name_digits a.0 first.replica a.1) (name_digits b.0 second.replica b.1) (sym a.3 ∙ b.3)
+
+-- a text that was split at its last `c` is both parts around it
+pub rsplit_is : (c : ℕ) (bs : List ℕ) (x : Bor (List ℕ) × Bor (List ℕ)) → IsRsplitOnceResult c bs (Some x) → c < 128 → bs ≡ x.0.now ++ c ∷ x.1.now
+rsplit_is c bs x h low =
+    sym (take-append-drop h.0 bs) ∙ ap (λ (l : List ℕ). take h.0 bs ++ l) (drop_at_char c bs h.0 h.1 h.2.1 low) ∙ ap (λ (l : List ℕ). l ++ c ∷ drop h.1 bs) (sym h.3) ∙ ap (λ (l : List ℕ). x.0.now ++ c ∷ l) (sym h.4)
+
+-- the split of an address
+pub port_split : (text : List ℕ) (r : Option (Bor (List ℕ) × Bor (List ℕ))) → IsRsplitOnceResult 58 text r → (is : IsHostPort text) → MatchOption r ⊥ (λ x. (x.0.now ≡ is.0) × (x.1.now ≡ is.1))
+port_split text r h is = rsplit_after 58 text is.0 is.1 r h (omega arith) is.5 (digits_lack 58 refl is.1 (name_digits is.1 is.2 is.4))

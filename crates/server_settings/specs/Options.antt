@@ -43,6 +43,9 @@ replica_word =
       range = Some (record { start_inclusive = 1; end_inclusive = usize_max });
     }
 
+abbrev pub peer_word : Rule
+peer_word = record (new_rule (codes "peer")) { long = Some (codes "peer"); action = Some Append }
+
 -- The words for users.
 abbrev pub with_access_words : App → App
 with_access_words app =
@@ -57,12 +60,18 @@ with_limit_words app =
     (number_word (codes "idle-time") 4294967295)) (number_word (codes "write-time") 4294967295))
     (number_word (codes "literal-limit") 20971520)
 
--- The words for the end of the server, for journals, for the store, for replicas that join, and
--- for replicas.
+-- The words for links: where the process listens for them, the processes to which it opens them,
+-- and the file of the secret.
+abbrev pub with_link_words : App → App
+with_link_words app = with_rule (with_rule (with_rule app (word_with_value (codes "link-listen")))
+    peer_word) (word_with_value (codes "secret-file"))
+
+-- The words for the end of the server, for journals, for the store, for replicas that join, for
+-- links, and for replicas.
 abbrev pub with_replica_words : App → App
-with_replica_words app =
-    with_rule (with_rule (with_rule (with_rule (with_rule app stop_word)
-    (word_with_value (codes "journal"))) (word_with_value (codes "store"))) join_word) replica_word
+with_replica_words app = with_rule (with_link_words
+    (with_rule (with_rule (with_rule (with_rule app stop_word) (word_with_value (codes "journal")))
+    (word_with_value (codes "store"))) join_word)) replica_word
 
 -- The program has a version, so clap adds its own word for it, `--version`.
 abbrev pub with_version : App → App

@@ -17,10 +17,12 @@
 //!   if its value is present and isn't the default `false`.
 #![tactic(auto)]
 
+mod link_words;
 mod listener;
 mod settings;
 mod settings_output;
 
+pub use link_words::{LinkWords, peer_of};
 pub use listener::{bind_listener, listen_at};
 pub use settings::{
     Access, ClientLimits, CommandLine, GivenAccess, Join, Place, SettingsFault, UsageFault,

@@ -1,11 +1,14 @@
 //! The program's command line.
 
 ghost use Rattle.std.specs.Prelude.{List, ℕ, ◌≡◌, ◌++◌, ◌∷◌, ◌<◌, ◌≤◌, [], false, true, IfNone};
-ghost use Rattle.std.specs.Prelude.{IfOk, IfSome, OnOk, Some, map, option_map, slice_get};
+ghost use Rattle.std.specs.Prelude.{IfOk, IfSome, IsSome, OnOk, Some, length, map, option_map};
+ghost use Rattle.std.specs.Prelude.{slice_get};
 ghost use Rattle.clap.specs.Words.{IsUnsignedIn, app_of, found_of, matches_of, one_of, rows_of};
 ghost use Rattle.clap_laws.specs.Words.{AddWords, IsWord};
 ghost use Rattle.server_settings.specs.Options.{NamesGivenAccess, NamesJournalBound, NamesLimits};
 ghost use Rattle.server_settings.specs.Options.{NamesStore, join_word, number_word};
+ghost use Rattle.server_settings.specs.Links.{MayBeLinked, NamesLinks};
+ghost use Rattle.server_settings.specs.Options.{peer_word};
 ghost use Rattle.server_settings.specs.Options.{preauth_word, replica_word, server_words};
 ghost use Rattle.server_settings.specs.Options.{stop_word, with_access_words, with_limit_words};
 ghost use Rattle.server_settings.specs.Options.{with_replica_words, word_with_value};
@@ -18,6 +21,7 @@ ghost use Rattle.server_settings.specs.declared.settings.Join.{Join};
 ghost use Rattle.server_settings.specs.declared.settings.Place.{Place};
 
 use crate::VERSION;
+use crate::link_words::{LinkWords, links_of};
 use clap::builder::ValueParser;
 use clap::error::ErrorKind;
 use clap::{Arg, ArgAction, ArgMatches, Command, Error};
@@ -123,6 +127,9 @@ pub struct CommandLine<'a> {
     pub places: Vec<Place<'a>>,
     /// The replicas that are to join, in their order; their names are new.
     pub joins: Vec<Join<'a>>,
+    /// How the process is linked with others; `None` if it isn't. Then it has one replica, a store,
+    /// and none that is to join.
+    pub links: Option<LinkWords<'a>>,
 }
 
 impl CommandLine<'_> {
@@ -198,6 +205,15 @@ pub enum UsageFault<'a> {
     /// Two replicas have this name.
     #[error("usage: replica {0} twice")]
     Twice(u16),
+    /// There is a secret and no link, or a link and no secret.
+    #[error("usage: give --secret-file with --link-listen or --peer, and only there")]
+    Secret,
+    /// A linked process has several replicas, no store, or a replica that is to join.
+    #[error("usage: links want one replica, --store and no --join")]
+    LinkedReplicas,
+    /// This word names no process to which connections are opened.
+    #[error("usage: bad peer {0}")]
+    BadPeer(&'a str),
     /// Memory ran out.
     #[error("run fault")]
     NoMemory,
@@ -205,11 +221,13 @@ pub enum UsageFault<'a> {
 
 /// Reads the words of a command line; the first is the program's name. Errors are found in this
 /// order: in the words, in the access, in the journals' bound, in the replicas in their order, and
-/// in those that are to join in theirs. The access is the one that clap finds in the words: only
-/// `--preauth`, or without it `--user` and either `--pass` or `--pass-file`. Each limit is the
-/// number that its word's value spells. The journals' bound is that of the value of `--journal`,
-/// and 64M without it, and the store the value of `--store`. The replicas' names are distinct, from
-/// 1 to 65,535; each that joins takes the operations of one that exists before it.
+/// in those that are to join in theirs, in the words for links. The access is the one that clap
+/// finds in the words: only `--preauth`, or without it `--user` and either `--pass` or
+/// `--pass-file`. Each limit is the number that its word's value spells. The journals' bound is that
+/// of the value of `--journal`, and 64M without it, and the store the value of `--store`. The
+/// replicas' names are distinct, from 1 to 65,535; each that joins takes the operations of one that
+/// exists before it. There are links if `--secret-file` is given; then each value of `--peer` is a
+/// process, with distinct names that aren't the replica's own.
 pub fn read_settings<'a>(
     alloc: Global,
     words: &'a [String],
@@ -226,6 +244,11 @@ pub fn read_settings<'a>(
         (names_of settings.places.items ++ join_names_of settings.joins.items)) }
     ensures peers { IfOk result
         (λ settings. HavePeers (names_of settings.places.items) settings.joins.items) }
+    ensures links { IfOk result (λ settings. NamesLinks
+        (matches_of server_words (map ⟦<String as AsStr>⟧.text words.entry.now)) settings.links) }
+    ensures linked { IfOk result (λ settings. IfSome settings.links
+        (λ words. MayBeLinked settings.places.items settings.joins.items settings.store
+        words.peers.items)) }
 {
     let matches = match find_words(alloc, words) {
         Ok(matches) => matches,
@@ -256,6 +279,11 @@ pub fn read_settings<'a>(
         Ok(joins) => joins,
         Err(why) => return Err(SettingsFault::Usage(why)),
     };
+    let is_linkable = may_be_linked(&places, &joins, store);
+    let links = match links_of(alloc, &mut names, &matches, is_linkable) {
+        Ok(links) => links,
+        Err(why) => return Err(SettingsFault::Usage(why)),
+    };
     Ok(CommandLine {
         access,
         limits,
@@ -264,7 +292,22 @@ pub fn read_settings<'a>(
         store,
         places,
         joins,
+        links,
     })
+}
+
+/// Whether a process with these replicas may be linked: with one, none that is to join, and a store.
+fn may_be_linked(places: &[Place<'_>], joins: &[Join<'_>], store: Option<&str>) -> bool
+    ensures { result ≡ true
+        → (length places.now ≡ 1) × (length joins.now ≡ 0) × IsSome store.entry }
+{
+    if places.len() != 1 {
+        return false;
+    }
+    if !joins.is_empty() {
+        return false;
+    }
+    store.is_some()
 }
 
 /// The access that the words name; `None` if they name none, or two.
@@ -336,7 +379,7 @@ const ABOUT: &str =
     "Serves the mail of one user over IMAP, at several replicas that take changes from each other. Mail lives as long as the program runs, or in the folder that --store names.";
 
 /// The arguments for users, followed by those for limits, for the end of the server, for journals,
-/// for the store, for replicas that join, and for replicas.
+/// for the store, for replicas that join, for links, and for replicas.
 fn known_words<'a>(alloc: Global) -> Result<Vec<Arg<'a>>, AllocError>
     ensures { IfOk result (λ words. AddWords words.items
         (λ app. with_replica_words (with_limit_words (with_access_words app)))) }
@@ -390,6 +433,17 @@ fn known_words<'a>(alloc: Global) -> Result<Vec<Arg<'a>>, AllocError>
             "Each replica's operations are stored in this folder, and are there again at the next start. Otherwise mail lives as long as the program runs.",
         ),
         join_arg(alloc),
+        word_with_value(
+            alloc,
+            "link-listen",
+            "Other processes open links to this one at this address, as in 0.0.0.0:1499.",
+        ),
+        peer_arg(alloc),
+        word_with_value(
+            alloc,
+            "secret-file",
+            "This file has the secret that all linked processes know, of 32 to 1024 octets.",
+        ),
         replica(alloc),
     ]?;
     Ok(words)
@@ -440,6 +494,17 @@ fn join_arg<'a>(alloc: Global) -> Arg<'a>
         .action(ArgAction::Append)
         .help(
             "A further replica joins when the first connection has ended: its number, its address and, after a slash, the replica whose operations it takes, as in 3=127.0.0.1:1433/1.",
+        )
+}
+
+fn peer_arg<'a>(alloc: Global) -> Arg<'a>
+    ensures { IsWord result peer_word }
+{
+    Arg::new(alloc, "peer")
+        .long("peer")
+        .action(ArgAction::Append)
+        .help(
+            "A process to which this one opens a link: its replica's number and the address at which it listens for links, as in 2=host:1499.",
         )
 }
 
@@ -585,6 +650,8 @@ fn joins_of<'a>(
 ) -> Result<Vec<Join<'a>>, UsageFault<'a>>
     requires { AreNames names.old.items }
     ensures names { IfOk result (λ joins. AreNames (names.old.items ++ join_names_of joins.items)) }
+    ensures more { IfOk result
+        (λ joins. names.new.items ≡ names.old.items ++ join_names_of joins.items) }
     ensures peers { IfOk result (λ joins. HavePeers names.old.items joins.items) }
 {
     let mut joins = Vec::new(alloc);
@@ -655,7 +722,7 @@ fn add_place<'a>(
 }
 
 /// Adds a name unless the list has it; false if it does.
-fn add_name(names: &mut Vec<u16>, name: u16) -> Result<bool, AllocError>
+pub(crate) fn add_name(names: &mut Vec<u16>, name: u16) -> Result<bool, AllocError>
     requires positive { 0 < name }
     requires names { AreNames names.old.items }
     ensures names { IfOk result (λ is_new. is_new ≡ true → AreNames names.new.items) }
@@ -701,7 +768,7 @@ pub fn join_of(text: &str) -> Option<Join<'_>>
 
 /// The name that these digits spell: a number from 1 to 65,535 without leading zeros. `None` for
 /// any other text.
-fn name_of(digits: &str) -> Option<u16>
+pub(crate) fn name_of(digits: &str) -> Option<u16>
     ensures positive { IfSome result (λ name. 0 < name) }
     ensures some { IfSome result (λ name. IsNameText digits.now name) }
     ensures none { IfNone result ((name : ℕ) → IsNameText digits.now name → ⊥) }

@@ -1,7 +1,8 @@
 //! What the program prints if its command line gives no settings.
 
-ghost use Rattle.std.specs.Prelude.{◌++◌, IfOk, map};
+ghost use Rattle.std.specs.Prelude.{◌++◌, IfOk, IfSome, map};
 ghost use Rattle.clap.specs.Words.{matches_of};
+ghost use Rattle.server_settings.specs.Links.{MayBeLinked, NamesLinks};
 ghost use Rattle.server_settings.specs.Options.{NamesGivenAccess, NamesJournalBound, NamesLimits};
 ghost use Rattle.server_settings.specs.Options.{NamesStore, server_words};
 ghost use Rattle.server_settings.specs.Settings.{AreNames, HavePeers, names_of, join_names_of};
@@ -29,6 +30,11 @@ pub fn settings_or_status<'a, R: Print + AllocGlobal>(
         (names_of settings.places.items ++ join_names_of settings.joins.items)) }
     ensures peers { IfOk result
         (λ settings. HavePeers (names_of settings.places.items) settings.joins.items) }
+    ensures links { IfOk result (λ settings. NamesLinks
+        (matches_of server_words (map ⟦<String as AsStr>⟧.text words.entry.now)) settings.links) }
+    ensures linked { IfOk result (λ settings. IfSome settings.links
+        (λ words. MayBeLinked settings.places.items settings.joins.items settings.store
+        words.peers.items)) }
 {
     match read_settings(rt.alloc(), words) {
         Ok(settings) => Ok(settings),

@@ -147,6 +147,7 @@ fn sent<R: Wait>(rt: &R, alloc: Global) -> Option<[Parcel; 6]> {
         joining: JoiningReplicas::new(Vec::new(alloc)),
         journal: None,
         store: None,
+        links: None,
         stop: StopCounter::after(None),
     };
     match send_all(rt, alloc, &server) {

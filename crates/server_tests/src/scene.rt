@@ -509,6 +509,20 @@ fn outcome_of(
     })
 }
 
+/// The state of a server without clients, stores and links of its own.
+fn state_of(alloc: Global) -> ServerState<'static> {
+    ServerState {
+        access: Access::Preauth,
+        limits: ClientLimits::STANDARD,
+        replicas: Vec::new(alloc),
+        joining: JoiningReplicas::new(Vec::new(alloc)),
+        journal: None,
+        store: None,
+        links: None,
+        stop: StopCounter::after(None),
+    }
+}
+
 fn played<L: Ledger + Send + Sync, M: Ledger + Send + Sync, R: Threads + Wait + Clock + Log + Sync>(
     rt: &R,
     alloc: Global,
@@ -522,15 +536,7 @@ fn played<L: Ledger + Send + Sync, M: Ledger + Send + Sync, R: Threads + Wait + 
 {
     let (one, mut near) = Shared::<L>::new(blanks.0, books.0);
     let (two, mut far) = Shared::<M>::new(blanks.1, books.1);
-    let state = ServerState {
-        access: Access::Preauth,
-        limits: ClientLimits::STANDARD,
-        replicas: Vec::new(alloc),
-        joining: JoiningReplicas::new(Vec::new(alloc)),
-        journal: None,
-        store: None,
-        stop: StopCounter::after(None),
-    };
+    let state = state_of(alloc);
     let signs = Signs::new();
     let (received, (served, other_served)) = serve_owned(
         rt,

@@ -10,6 +10,7 @@ use std::fs::{Metadata, OpenOptions};
 use std::io;
 use std::io::ErrorKind;
 use std::net::{Net, SocketAddr};
+use std::random::RandomSource;
 use std::rt::{Clock, Env, Files};
 use std::sync::{Mutex, Wait};
 use std::thread::Threads;
@@ -101,6 +102,12 @@ impl<'a, R: Wait + Net> Net for Terminal<'a, R> {
 
     fn connect(&self, addr: SocketAddr) -> io::Result<R::Stream> {
         self.rt.connect(addr)
+    }
+}
+
+impl<'a, R: Wait + RandomSource> RandomSource for Terminal<'a, R> {
+    fn fill_bytes(&self, buf: &mut [u8]) -> io::Result<()> {
+        self.rt.fill_bytes(buf)
     }
 }
 

@@ -194,6 +194,74 @@ const JOINS: &[(&str, &str)] = &[
     ),
 ];
 
+/// Command lines of linked processes: the settings, or the fault of each.
+const LINKS: &[(&str, &str)] = &[
+    (
+        "imap_server --preauth --store d --link-listen l --secret-file f 1=a",
+        "preauth 1 false",
+    ),
+    (
+        "imap_server --preauth --store d --peer 2=h:1 --peer 3=[::1]:65535 --secret-file f 1=a",
+        "preauth 1 false",
+    ),
+    (
+        "imap_server --preauth --store d --link-listen l 1=a",
+        "usage: give --secret-file with --link-listen or --peer, and only there",
+    ),
+    (
+        "imap_server --preauth --store d --peer x 1=a",
+        "usage: give --secret-file with --link-listen or --peer, and only there",
+    ),
+    (
+        "imap_server --preauth --store d --secret-file f 1=a",
+        "usage: give --secret-file with --link-listen or --peer, and only there",
+    ),
+    (
+        "imap_server --preauth --link-listen l --secret-file f 1=a",
+        "usage: links want one replica, --store and no --join",
+    ),
+    (
+        "imap_server --preauth --store d --link-listen l --secret-file f 1=a 2=b",
+        "usage: links want one replica, --store and no --join",
+    ),
+    (
+        "imap_server --preauth --store d --peer x --secret-file f --join 2=b/1 1=a",
+        "usage: links want one replica, --store and no --join",
+    ),
+    (
+        "imap_server --preauth --store d --peer 2=h --secret-file f 1=a",
+        "usage: bad peer 2=h",
+    ),
+    (
+        "imap_server --preauth --store d --peer 2=h: --secret-file f 1=a",
+        "usage: bad peer 2=h:",
+    ),
+    (
+        "imap_server --preauth --store d --peer 2=:1 --secret-file f 1=a",
+        "usage: bad peer 2=:1",
+    ),
+    (
+        "imap_server --preauth --store d --peer 2=h:0 --secret-file f 1=a",
+        "usage: bad peer 2=h:0",
+    ),
+    (
+        "imap_server --preauth --store d --peer 2=h:65536 --secret-file f 1=a",
+        "usage: bad peer 2=h:65536",
+    ),
+    (
+        "imap_server --preauth --store d --peer 0=h:1 --secret-file f 1=a",
+        "usage: bad peer 0=h:1",
+    ),
+    (
+        "imap_server --preauth --store d --peer 1=h:1 --secret-file f 1=a",
+        "usage: replica 1 twice",
+    ),
+    (
+        "imap_server --preauth --store d --peer 2=h:1 --peer 2=i:2 --secret-file f 1=a",
+        "usage: replica 2 twice",
+    ),
+];
+
 /// Whether everybody is known, the given user and password, and the access that they name.
 const ACCESS_CASES: &[(bool, Option<&str>, Option<&str>, Option<Access<'_>>)] = &[
     (
@@ -386,6 +454,11 @@ fn other_words_are_refused(rt: HostRuntime) {
 fn joins_name_replicas_and_peers(rt: HostRuntime) {
     assert_eq!(rt; first_wrong(rt.alloc(), BAD_JOINS), None);
     assert_eq!(rt; first_wrong(rt.alloc(), JOINS), None);
+}
+
+#[test]
+fn links_have_peers_and_a_secret(rt: HostRuntime) {
+    assert_eq!(rt; first_wrong(rt.alloc(), LINKS), None);
 }
 
 /// The place of the first row that names another access, or none.

@@ -66,6 +66,9 @@ const HELP_PARTS: &[&str] = &[
     "\n      --journal <journal>              ",
     "\n      --store <store>                  ",
     "\n      --join <join>                    ",
+    "\n      --link-listen <link-listen>      ",
+    "\n      --peer <peer>                    ",
+    "\n      --secret-file <secret-file>      ",
     "\n  -h, --help                           Print help\n",
     "\n  -V, --version                        Print version\n",
 ];

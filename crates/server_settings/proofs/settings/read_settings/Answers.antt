@@ -1,4 +1,7 @@
+use Rattle.std.proofs.Common.{◌∙◌, ◌++◌, ℕ, List, ap, rules}
 use Rattle.clap.specs.Words.{found_of}
+use Rattle.server_settings.specs.Settings.{join_names_of}
+use Rattle.server_settings.proofs.LinkLemmas.{linked_is}
 use Rattle.server_settings.proofs.WordLemmas.{journal_is_named, store_is_named}
 use Rattle.server_settings.proofs.settings.read_settings.Goals as goal
 
@@ -8,3 +11,9 @@ returns-clause-journal c =
 
 pub returns-clause-store : goal.returns-clause-store
 returns-clause-store c = store_is_named (found_of c.in-Ok.matches) _ c.get_str-store.result c.in-Ok.ensures c.get_str-store.ensures
+
+pub returns-clause-linked : goal.returns-clause-linked
+returns-clause-linked c =
+    linked_is c.in-Ok-links_of.links c.may_be_linked-is_linkable.result c.in-Ok-places_of.places.items c.in-Ok-joins_of.joins.items c.get_str-store.result _ c.in-Ok-links_of.ensures.linkable
+    (λ yes. let m = c.may_be_linked-is_linkable.ensures yes in (search rules, search rules, m.2))
+    (c.in-Ok-joins_of.ensures.more ∙ ap (λ (xs : List ℕ). xs ++ join_names_of c.in-Ok-joins_of.joins.items) c.in-Ok-places_of.ensures.same) c.in-Ok-links_of.ensures.names

@@ -10,6 +10,9 @@ spawn-requires-send-F g c κs within = search (served_sync, pass.the_send, heap.
 pub spawn-requires-in-Some-copy_pass-send-F : goal.spawn-requires-in-Some-copy_pass-send-F
 spawn-requires-in-Some-copy_pass-send-F g c κs within = search (served_sync, pass.the_send, heap.the_send, heap.the_field_send, sendable) depth 60 fits 20000
 
+pub spawn-requires-in-Some-process_pass-send-F : goal.spawn-requires-in-Some-process_pass-send-F
+spawn-requires-in-Some-process_pass-send-F g c κs within = search (served_sync, pass.the_send, heap.the_send, heap.the_field_send, sendable) depth 60 fits 20000
+
 pub spawn-requires-then-is_some-send-F : goal.spawn-requires-then-is_some-send-F
 spawn-requires-then-is_some-send-F g c κs within = search (served_sync, heap.the_send, sendable) depth 60 fits 20000
 

@@ -1,0 +1,12 @@
+pub mod Batches
+pub mod Endings
+pub mod HandshakeFaults
+pub mod Handshakes
+pub mod Lacking
+pub mod LineInputs
+pub mod LinkTables
+pub mod PeerClocks
+pub mod Receiving
+pub mod SecretFiles
+pub mod Slots
+pub mod Times
