@@ -526,6 +526,7 @@ fn state_of(alloc: Global) -> ServerState<'static> {
 fn played<L: Ledger + Send + Sync, M: Ledger + Send + Sync, R: Threads + Wait + Clock + Log + Sync>(
     rt: &R,
     alloc: Global,
+    server: &ServerState<'_>,
     blanks: (Blank, Blank),
     books: (Book, Book),
     sides: (Side, Side),
@@ -536,13 +537,12 @@ fn played<L: Ledger + Send + Sync, M: Ledger + Send + Sync, R: Threads + Wait + 
 {
     let (one, mut near) = Shared::<L>::new(blanks.0, books.0);
     let (two, mut far) = Shared::<M>::new(blanks.1, books.1);
-    let state = state_of(alloc);
     let signs = Signs::new();
     let (received, (served, other_served)) = serve_owned(
         rt,
         alloc,
         Setup {
-            server: &state,
+            server,
             one: &one,
             two: &two,
             signs: &signs,
@@ -580,9 +580,11 @@ pub fn play<
         return None;
     };
     let whole = 4_294_967_295;
+    let state = state_of(alloc);
     played::<Brand, Brand, R>(
         rt,
         alloc,
+        &state,
         (Blank::new(whole), Blank::new(whole)),
         books,
         sides,
