@@ -204,7 +204,7 @@ pub escaped_run : (e : Escape) (run : List ℕ) → list_all (is_plain e) run �
 escaped_run e [] p = refl
 escaped_run e (b ∷ run) p = let q = and_parts _ _ p in λ i. escaped_plain e b q.0 i ++ escaped_run e run q.1 i
 
--- octets that stand for themselves, and such octets behind them
+-- octets that stand for themselves, and such octets after them
 pub plain_joined : (e : Escape) (m n : ℕ) (octets : List ℕ) → list_all (is_plain e) (take m octets) ≡ true → list_all (is_plain e) (take n (drop m octets)) ≡ true → list_all (is_plain e) (take (m + n) octets) ≡ true
 plain_joined e m n octets front back =
     ap (list_all (is_plain e)) (take-add m n octets)

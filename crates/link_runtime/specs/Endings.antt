@@ -15,7 +15,7 @@ use Rattle.link_wire.specs.declared.wire_message.ByeReason.TheVariants.{Unsound}
 use Rattle.link_runtime.specs.declared.peer_news.LinkEnding.{LinkEnding}
 use Rattle.link_runtime.specs.declared.peer_news.LinkEnding.TheVariants.{Broken, Bye}
 
--- The peer is told what was wrong with its octets; a connection that ended or failed is broken. Of
+-- The peer is sent what was wrong with its octets; a connection that ended or failed is broken. Of
 -- a reader that a message stopped is known how the link ends.
 abbrev pub ending_of : ReceiveEnd → LinkEnding
 ending_of Closed = Broken

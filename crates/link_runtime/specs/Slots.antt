@@ -51,7 +51,7 @@ IsOpen state = state.stopped ≡ false
 abbrev pub without_oldest : {X : Type 0} → List X → List X
 without_oldest unproved = if nat_le 16 (length unproved) then drop 1 unproved else unproved
 
--- A connection was added behind the others, or not; the oldest made place for it.
+-- A connection was added after the others, or not; the oldest made place for it.
 abbrev pub unproved_after : List ℕ → ℕ → Bool → List ℕ
 unproved_after old number added =
     if added then without_oldest old ++ number ∷ [] else without_oldest old

@@ -310,7 +310,7 @@ fn serve_link<R: Threads + Wait + Clock + Log + Print + Sync, P: LinkReplica + S
     ending == LinkEnding::Broken
 }
 
-/// A connection as it stands among the links.
+/// The entry of a connection among the links.
 fn entry_of(number: u64, hello: &Hello, own: ReplicaId, side: Side) -> LinkEntry
     ensures { result ≡ entry_of number hello.now own side }
 {

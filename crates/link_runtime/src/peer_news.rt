@@ -10,7 +10,7 @@ use tags_clocks::{Clock, OpId};
 /// How a link ends at this side.
 #[derive(Clone, Copy, Debug, PartialEq, Eq)]
 pub enum LinkEnding {
-    /// The peer is told this reason.
+    /// The peer is sent this reason.
     Bye(ByeReason),
     /// The peer ended it for this reason.
     ByeOfPeer(ByeReason),
