@@ -98,7 +98,7 @@ pub fn converse_within<R: Wait, S: Source, K: Sink, P: Port>(
 
 /// Writes the buffered text, then the BYE for this end. Returns how the conversation ended:
 /// `WriteFailed` if the device failed.
-fn write_last<K: Sink>(sink: &mut K, text: &mut Vec<u8>, ended: Ended) -> Ended
+pub fn write_last<K: Sink>(sink: &mut K, text: &mut Vec<u8>, ended: Ended) -> Ended
     requires { failed_writes ended ≡ 0 → K.failures sink.old < 18446744073709551615 }
     ensures written { failed_writes ended ≡ 0
         → IsWritten ended (text.old.items ++ bye_text_of ended) result (K.taken sink.old)

@@ -68,9 +68,10 @@ mod turn;
 mod turn_writer;
 mod wire;
 
-pub use conversations::{converse, converse_within};
+pub use answer_writer::{write_if_full, write_pending};
+pub use conversations::{converse, converse_within, write_last};
 pub use dump::write_dump;
-pub use end_reason::{Ended, log_text_of};
+pub use end_reason::{Ended, end_reason_of, log_text_of};
 pub use fault::PortFault;
 pub use imap_node::{
     Answers, Auth, Credentials, MAX_SESSIONS, Node, OpenFault, Reply, ReplyOps, Session, SessionNo,

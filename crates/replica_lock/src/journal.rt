@@ -14,6 +14,9 @@ use std::mem;
 /// A block that has this many entries gets no further one if memory suffices for the next block.
 const BLOCK: usize = 512;
 
+/// The most entries that are dropped, or taken out of their block, in a few microseconds.
+const FEW_ENTRIES: usize = 64;
+
 /// Consecutive entries of a journal.
 pub struct Block {
     entries: ChunkList<CompactEntry>,
@@ -66,30 +69,53 @@ impl ForgottenEntries {
         self.octets
     }
 
-    /// Drops at most so many answers, or one entry, or takes one out of its block. False if nothing
-    /// is left.
-    pub(crate) fn drop_some(&mut self, most: usize) -> bool
+    /// Drops at most `answers` answers of an entry, or a few entries of at most `octets` octets, by
+    /// their own estimates, or takes a few out of their block. False if nothing is left.
+    pub(crate) fn drop_some(&mut self, answers: usize, octets: u64) -> bool
         ensures left { result ≡ false
             → (self.new.blocks.items ≡ []) × (self.new.entries.items ≡ []) }
     {
-        if let Some(entry) = self.entries.last_mut() {
-            if entry.drop_some(most) {
-                return true;
-            }
-            drop(self.entries.pop());
+        if !self.entries.is_empty() {
+            self.drop_entries(answers, octets);
             return true;
         }
-        let Some(mut block) = self.blocks.pop() else {
+        let Some(block) = self.blocks.pop() else {
             return false;
         };
-        let count = block.entries.len();
-        if count > 0 {
-            drop(self.entries.push(block.entries.remove(count - 1)));
-            if count > 1 {
-                drop(self.blocks.push(block));
+        self.take_out_of(block);
+        true
+    }
+
+    /// Drops at most `answers` answers of the last entry, or a few of the last entries of at most
+    /// `octets` octets.
+    fn drop_entries(&mut self, answers: usize, octets: u64) {
+        let mut rest = octets;
+        for _ in 0..FEW_ENTRIES {
+            let Some(entry) = self.entries.last_mut() else {
+                return;
+            };
+            if entry.drop_some(answers) {
+                return;
+            }
+            rest = rest.saturating_sub(entry.octets());
+            drop(self.entries.pop());
+            if rest == 0 {
+                return;
             }
         }
-        true
+    }
+
+    /// Takes a few entries out of a block; if memory runs out, they are dropped at once.
+    fn take_out_of(&mut self, block: Block) {
+        let mut block = block;
+        for _ in 0..FEW_ENTRIES {
+            let count = block.entries.len();
+            if count == 0 {
+                return;
+            }
+            drop(self.entries.push(block.entries.remove(count - 1)));
+        }
+        drop(self.blocks.push(block));
     }
 
     /// Adds all entries of a block; if memory runs out, they are dropped at once.

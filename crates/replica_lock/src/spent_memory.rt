@@ -51,7 +51,7 @@ impl SpentMemory {
         }
         self.outcome = None;
         if let Some(forgotten) = &mut self.forgotten {
-            if forgotten.drop_some(FEW_ANSWERS) {
+            if forgotten.drop_some(FEW_ANSWERS, FEW_OCTETS) {
                 return true;
             }
         }
