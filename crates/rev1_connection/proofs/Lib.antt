@@ -1,0 +1,9 @@
+mod ItemConversationLemmas
+mod ReplyLemmas
+mod HandlingLemmas
+mod FetchLemmas
+mod RequestLemmas
+mod LawLemmas
+mod DayLemmas
+mod AskedLemmas
+mod TaggedLemmas

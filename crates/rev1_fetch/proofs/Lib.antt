@@ -1,0 +1,12 @@
+pub mod ArgumentLemmas
+pub mod AskedLemmas
+pub mod ChildLemmas
+pub mod DividedLemmas
+pub mod HeaderLemmas
+pub mod InsideLemmas
+pub mod ItemLemmas
+pub mod NodeLemmas
+pub mod NumberTexts
+pub mod SectionLemmas
+pub mod ShownLemmas
+pub mod SpanLemmas

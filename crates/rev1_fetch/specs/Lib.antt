@@ -1,0 +1,10 @@
+pub mod FetchArguments
+pub mod FetchPlans
+pub mod FetchWords
+pub mod ItemPlaces
+pub mod NumberedNodes
+pub mod PartNumbers
+pub mod PartPlaces
+pub mod ReadItems
+pub mod ReadSteps
+pub mod ShownItems
