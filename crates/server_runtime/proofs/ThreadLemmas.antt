@@ -17,6 +17,8 @@ use Rattle.replica_lock.specs.contracts.pass.Pass as pass
 use Rattle.server_runtime.proofs.server_state.ServerState.TheSendSync as server
 use Rattle.server_runtime.proofs.replica_store.ReplicaStore.TheSendSync as store
 use Rattle.server_runtime.proofs.replica_threads.ThreadSetup.TheSendSync as setup
+use Rattle.server_runtime.proofs.connection_threads.Protocol.TheSendSync as protocol
+use Rattle.server_runtime.proofs.connection_threads.SessionPasses.TheSendSync as session
 use Rattle.server_runtime.proofs.shared_phase.SharedPhase.TheSendSync as phase
 use Rattle.server_runtime.proofs.client_state.ClientConnection.TheSendSync as client
 use Rattle.server_runtime.proofs.replica_clients.ReplicaClients.TheSendSync as clients
@@ -40,7 +42,7 @@ module _ (L : RattleType) (g : ledger.Ghosts L.Denot) where
   returned_shared = mutex.the_sync _ (Vec-send _ (passes.the_send L g))
 
   pub accepted_shared : IsSync (locked.the_row (list.the_row (accepted_row.the_row L gate.the_row g) heap.the_row ghosts))
-  accepted_shared = mutex.the_sync _ (Vec-send (accepted_row.the_row L gate.the_row g) (search (accepted.the_send, accepted.the_field_send, client.the_send, client.the_sync, open_gate.the_send, open_gate.the_field_send, passes.the_send, sendable) depth 30 fits 20000))
+  accepted_shared = mutex.the_sync _ (Vec-send (accepted_row.the_row L gate.the_row g) (search (accepted.the_send, accepted.the_field_send, client.the_send, client.the_sync, open_gate.the_send, open_gate.the_field_send, session.the_send, session.the_field_send, protocol.the_send, option.the_field_send, passes.the_send, sendable) depth 30 fits 20000))
 
 module _ (a : NamedLft) (L : RattleType) (g : ledger.Ghosts L.Denot) where
   pub context_sync : IsSend L → IsSync L → IsSync (context.the_row a L g)
@@ -51,7 +53,7 @@ module _ (a : NamedLft) (L : RattleType) (g : ledger.Ghosts L.Denot) where
   pub connection_sync : IsSend L → IsSync L → IsSync (connection.the_row a L g)
   connection_sync ledger shares = recorded_sync (connection.the_field a L g).row _ _ (connection.the_type a L g).to_one
       (struct_sync (shape (connection.the_type a L g))
-      (search (context_sync, sendable), (search (client.the_sync, sendable), (search (pass_shared, sendable), (search (phase.the_sync, sendable), tt)))))
+      (search (context_sync, sendable), (search (client.the_sync, sendable), (search (pass_shared, sendable), (search (protocol.the_sync, sendable), (search (mutex.the_sync, option.the_field_send, passes.the_send, sendable) depth 30 fits 20000, (search (phase.the_sync, sendable), tt)))))))
 
   pub served_sync : IsSend L → IsSync L → IsSync (served.the_row a L g)
   served_sync ledger shares = recorded_sync (served.the_field a L g).row _ _ (served.the_type a L g).to_one

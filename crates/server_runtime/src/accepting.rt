@@ -1,7 +1,9 @@
 //! How a replica accepts connections: each gets a pass and waits for its thread, or is turned away.
 
 use crate::client_state::ClientConnection;
-use crate::connection_threads::{ReplicaContext, converse_and_close, refuse_connection};
+use crate::connection_threads::{
+    Protocol, ReplicaContext, SessionPasses, converse_and_close, refuse_connection,
+};
 use crate::replica_clients::ReplicaClients;
 use crate::replica_threads::{AcceptedConnection, OpenGate, ServedReplica};
 use log::{Log, warn};
@@ -28,16 +30,30 @@ pub fn return_pass<L: Ledger, R: Wait>(rt: &R, returned: &Mutex<Vec<Pass<L>>>, m
     let _ = returned.lock(rt).push(pass);
 }
 
-/// A pass without a session: one of a connection that ended, or a new one. `None` if no pass is
-/// left.
+/// A pass without a session: one of a connection that ended, or a new one, cut from the first.
+/// `None` if no pass is left.
 fn next_pass<L: Ledger, R: Wait>(
     rt: &R,
     returned: &Mutex<Vec<Pass<L>>>,
-    first: &mut Pass<L>,
+    first: &Mutex<Pass<L>>,
 ) -> Option<Pass<L>> {
     match returned.lock(rt).pop() {
         Some(pass) => Some(pass),
-        None => first.cut(),
+        None => first.lock(rt).cut(),
+    }
+}
+
+/// The pass of the second session of a client that speaks IMAP4rev1, for RENAME. `None` for other
+/// clients, or if no pass is left.
+fn second_pass<L: Ledger, R: Wait>(
+    rt: &R,
+    served: &ServedReplica<'_, L>,
+    protocol: Protocol,
+    first: &Mutex<Pass<L>>,
+) -> Option<Pass<L>> {
+    match protocol {
+        Protocol::Profile => None,
+        Protocol::Rev1 => next_pass(rt, served.returned, first),
     }
 }
 
@@ -71,14 +87,16 @@ pub fn connect<L: Ledger, R: Wait + Clock + Log>(
     None
 }
 
-/// Accepts a connection: takes a pass for it, and adds it to those that wait for a thread. False if
-/// as many are served as may be, or if no pass or memory is left; then its client was turned away.
+/// Accepts a connection of a client that speaks this: takes a pass for it, and adds it to those
+/// that wait for a thread. False if as many are served as may be, or if no pass or memory is left;
+/// then its client was turned away.
 pub fn accept<L: Ledger, R: Wait + Clock + Log>(
     rt: &R,
     alloc: Global,
     served: &ServedReplica<'_, L>,
-    first: &mut Pass<L>,
+    first: &Mutex<Pass<L>>,
     stream: TcpStream,
+    protocol: Protocol,
 ) -> bool {
     let clients = served.context.clients;
     if !clients.begin(rt) {
@@ -98,7 +116,11 @@ pub fn accept<L: Ledger, R: Wait + Clock + Log>(
     let accepted = AcceptedConnection {
         client,
         gate: OpenGate,
-        pass,
+        passes: SessionPasses {
+            pass,
+            protocol,
+            second: second_pass(rt, served, protocol, first),
+        },
     };
     let waits = served.accepted.lock(rt).push(accepted);
     match waits {
@@ -110,7 +132,7 @@ pub fn accept<L: Ledger, R: Wait + Clock + Log>(
     }
 }
 
-/// Serves a connection to its end, closes it, and returns its pass.
+/// Serves a connection to its end, closes it, and returns its passes.
 pub fn serve_connection<
     L: Ledger + Send + Sync,
     R: Threads + Wait + Clock + Log + Sync,
@@ -120,13 +142,13 @@ pub fn serve_connection<
     alloc: Global,
     context: &ReplicaContext<'_, L>,
     accepted: AcceptedConnection<L, G>,
-) -> Pass<L> {
+) -> SessionPasses<L> {
     let AcceptedConnection {
         client,
         mut gate,
-        pass,
+        passes,
     } = accepted;
-    converse_and_close(rt, alloc, &mut gate, context, &client, pass)
+    converse_and_close(rt, alloc, &mut gate, context, &client, passes)
 }
 
 /// The connection that has waited longest for a thread. `None` if none waits.
@@ -149,8 +171,8 @@ pub fn serve_accepted<L: Ledger + Send + Sync, R: Threads + Wait + Clock + Log +
 ) {
     let accepted = next_accepted(rt, served);
     if let Some(accepted) = accepted {
-        let pass = serve_connection(rt, alloc, served.context, accepted);
-        return_pass(rt, served.returned, pass);
+        let passes = serve_connection(rt, alloc, served.context, accepted);
+        return_passes(rt, served, passes);
         served.context.clients.finish(rt);
     }
 }
@@ -168,18 +190,39 @@ pub fn refuse_accepted<L: Ledger, R: Wait + Log>(rt: &R, served: &ServedReplica<
     true
 }
 
-/// Turns away the client of a connection, and returns its pass.
+/// Returns the passes of a connection.
+fn return_passes<L: Ledger, R: Wait>(
+    rt: &R,
+    served: &ServedReplica<'_, L>,
+    passes: SessionPasses<L>,
+) {
+    let SessionPasses {
+        pass,
+        protocol: _,
+        second,
+    } = passes;
+    return_pass(rt, served.returned, pass);
+    if let Some(second) = second {
+        return_pass(rt, served.returned, second);
+    }
+}
+
+/// Turns away the client of a connection, and returns its passes.
 fn refuse<L: Ledger, R: Wait + Log>(
     rt: &R,
     served: &ServedReplica<'_, L>,
     accepted: AcceptedConnection<L, OpenGate>,
 ) {
-    let AcceptedConnection { client, gate, pass } = accepted;
+    let AcceptedConnection {
+        client,
+        gate,
+        passes,
+    } = accepted;
     drop(gate);
     let clients = served.context.clients;
     refuse_connection(rt, clients, &client.stream);
     clients.remove_stranger(rt, client.number);
-    return_pass(rt, served.returned, pass);
+    return_passes(rt, served, passes);
     clients.finish(rt);
 }
 

@@ -19,6 +19,7 @@ use imap_lex::Limits;
 use log::{Log, info};
 use replica_links::Gate;
 use replica_lock::{Pass, Shared};
+use rev1_connection::converse_rev1;
 use server_settings::ClientLimits;
 use std::alloc::Global;
 use std::io::{Read, Write};
@@ -54,12 +55,36 @@ pub struct ConnectionContext<'a, L: Ledger> {
     pub client: &'a ClientConnection,
     /// The pass of its session.
     pub pass: &'a Mutex<Pass<L>>,
+    /// What the client speaks.
+    pub protocol: Protocol,
+    /// The pass of a second session, for RENAME, if there is one.
+    pub second: &'a Mutex<Option<Pass<L>>>,
     /// The phase of the connection.
     pub shared_phase: &'a SharedPhase,
 }
 
+/// What a client speaks.
+#[derive(Clone, Copy, Debug, PartialEq, Eq)]
+pub enum Protocol {
+    /// The profile of IMAP4rev2.
+    Profile,
+    /// IMAP4rev1.
+    Rev1,
+}
+
+/// The passes of a connection.
+#[derive(Drop)]
+pub struct SessionPasses<L: Ledger> {
+    /// The pass of its session.
+    pub pass: Pass<L>,
+    /// What its client speaks.
+    pub protocol: Protocol,
+    /// The pass of a second session, for RENAME, if there is one.
+    pub second: Option<Pass<L>>,
+}
+
 /// Holds the conversation with the client of a connection, closes the connection in an orderly way,
-/// and returns its pass. The gate is passed before each command, the first time with 1.
+/// and returns its passes. The gate is passed before each command, the first time with 1.
 pub fn converse_and_close<
     L: Ledger + Send + Sync,
     R: Threads + Wait + Clock + Log + Sync,
@@ -70,9 +95,9 @@ pub fn converse_and_close<
     gate: &mut G,
     context: &ReplicaContext<'_, L>,
     client: &Arc<ClientConnection>,
-    pass: Pass<L>,
-) -> Pass<L> {
-    let (ended, pass) = converse_with_pass(rt, alloc, gate, context, client, pass);
+    passes: SessionPasses<L>,
+) -> SessionPasses<L> {
+    let (ended, passes) = converse_with_passes(rt, alloc, gate, context, client, passes);
     let ConversationEnd { ended, unsynced } = ended;
     let cause = client.state.cause(rt);
     let text = text_of_end(ended, cause);
@@ -89,11 +114,11 @@ pub fn converse_and_close<
         take_leave(rt, context.clients, client);
     }
     context.clients.remove_stranger(rt, client.number);
-    pass
+    passes
 }
 
-/// Holds the conversation with the client of a connection. Returns how it ended, and the pass.
-fn converse_with_pass<
+/// Holds the conversation with the client of a connection. Returns how it ended, and the passes.
+fn converse_with_passes<
     L: Ledger + Send + Sync,
     R: Threads + Wait + Clock + Log + Sync,
     G: Gate + Send,
@@ -103,13 +128,19 @@ fn converse_with_pass<
     gate: &mut G,
     context: &ReplicaContext<'_, L>,
     client: &ClientConnection,
-    pass: Pass<L>,
-) -> (ConversationEnd, Pass<L>) {
+    passes: SessionPasses<L>,
+) -> (ConversationEnd, SessionPasses<L>) {
+    let SessionPasses {
+        pass,
+        protocol,
+        second,
+    } = passes;
     let _ = client.stream.set_nodelay(true);
     let _ = client
         .stream
         .set_write_timeout(Some(client.state.write_time()));
     let pass = Mutex::new(pass);
+    let second = Mutex::new(second);
     let shared_phase = SharedPhase::new();
     let ended = converse_and_feed(
         rt,
@@ -119,10 +150,17 @@ fn converse_with_pass<
             context: context,
             client,
             pass: &pass,
+            protocol,
+            second: &second,
             shared_phase: &shared_phase,
         },
     );
-    (ended, pass.into_inner())
+    let passes = SessionPasses {
+        pass: pass.into_inner(),
+        protocol,
+        second: second.into_inner(),
+    };
+    (ended, passes)
 }
 
 /// How a conversation ended.
@@ -189,6 +227,7 @@ fn converse_on_stream<L: Ledger, R: Wait + Clock, G: Gate>(
         connection.context,
         connection.client,
         connection.pass,
+        connection.second,
         connection.shared_phase,
         gate,
     );
@@ -197,7 +236,12 @@ fn converse_on_stream<L: Ledger, R: Wait + Clock, G: Gate>(
     let writer = Wire::new(SocketWriter::new(rt, connection.client));
     let mut sink = SyncedSink::new(rt, alloc, connection.context, connection.pass, writer);
     let limits = limits_of(connection.context.server.limits);
-    let ended = converse_over_within(rt, alloc, limits, &mut source, &mut sink, &mut port);
+    let ended = match connection.protocol {
+        Protocol::Profile => {
+            converse_over_within(rt, alloc, limits, &mut source, &mut sink, &mut port)
+        }
+        Protocol::Rev1 => converse_rev1(rt, alloc, limits, &mut source, &mut sink, &mut port),
+    };
     let unsynced = sink.fault();
     drop(port);
     connection.shared_phase.end(rt);

@@ -161,6 +161,7 @@ mod restoring;
 mod server_state;
 mod session_port;
 mod session_reader;
+mod session_renames;
 mod shared_phase;
 mod socket;
 mod store_taker;
@@ -184,7 +185,7 @@ pub use server_settings::{
     Access, ClientLimits, CommandLine, GivenAccess, Join, LinkWords, Place, SettingsFault,
     UsageFault, access_of, read_settings,
 };
-pub use server_state::{ServerState, StopCounter};
+pub use server_state::{Rev1Listener, ServerState, StopCounter};
 pub use session_port::{SessionPort, SessionPosition};
 pub use shared_phase::SharedPhase;
 pub use totals::{Totals, totals_of};

@@ -7,7 +7,7 @@ use crate::replica_end::ReplicaEnd;
 use crate::replica_handle::{CopyRequest, JoinSignal, JoiningReplicas, ReplicaHandle};
 use crate::replica_threads::{ReplicaSetup, StartMode, serve};
 use crate::restoring::{RestoredReplica, UnrestoredReplica, restore_all};
-use crate::server_state::{ServerState, StopCounter};
+use crate::server_state::{Rev1Listener, ServerState, StopCounter};
 use crossbeam_channel::{Receiver, Sender, unbounded};
 use durable_log::DurableLog;
 use log::{Log, error};
@@ -15,7 +15,8 @@ use log_files::{FileDevice, FolderFault, StoreFolder};
 use replica_links::PeerMsg;
 use replica_lock::Book;
 use server_settings::{
-    Access, CommandLine, GivenAccess, Join, Place, listen_at, print_fault, settings_or_status,
+    Access, CommandLine, GivenAccess, Join, Place, listen_at, listen_for_rev1_at, print_fault,
+    settings_or_status,
 };
 use std::alloc::{AllocError, AllocFailed, Global};
 use std::fs::File;
@@ -173,6 +174,7 @@ fn run_as<
     secret: Vec<u8>,
 ) -> Result<(), RunFault> {
     let (mut server, setups) = open_all(rt, alloc, settings, access)?;
+    server.rev1 = listen_for_rev1(rt, alloc, settings)?;
     server.links = open_links(rt, alloc, settings, secret)?;
     raise_memory_thresholds(alloc);
     if settings.stop_after != Some(0) && !are_whole(serve(rt, alloc, &server, setups)) {
@@ -249,6 +251,7 @@ pub fn open_all<
         journal: settings.journal,
         store,
         links: None,
+        rev1: Vec::new(alloc),
         stop: StopCounter::after(settings.stop_after),
     };
     Ok((server, parts))
@@ -385,6 +388,29 @@ fn open_place<R: Print + Log + Net<Listener = TcpListener, Stream = TcpStream>>(
         Some(address),
         opened,
     )
+}
+
+/// Listens for clients that speak IMAP4rev1 where the command line names, and prints that it does.
+fn listen_for_rev1<R: Print + Log + Net<Listener = TcpListener, Stream = TcpStream>>(
+    rt: &R,
+    alloc: Global,
+    settings: &CommandLine<'_>,
+) -> Result<Vec<Rev1Listener>, RunFault> {
+    let mut listeners = Vec::new(alloc);
+    for place in settings.rev1.iter() {
+        let own = settings
+            .place_of_name(place.replica)
+            .ok_or(RunFault::UnknownReplica)?;
+        let Some((listener, address)) = listen_for_rev1_at(rt, place)? else {
+            return Err(RunFault::CannotListen);
+        };
+        listeners.push(Rev1Listener {
+            own,
+            listener,
+            address,
+        })?;
+    }
+    Ok(listeners)
 }
 
 /// Adds a replica that is to join, with its signals, and its log if the server has a store.

@@ -11,7 +11,7 @@ use crate::accepting::{
 use crate::client_counts::ClientCounts;
 use crate::client_state::ClientConnection;
 use crate::connection_demand::ConnectionDemand;
-use crate::connection_threads::{ReplicaContext, refuse_connection};
+use crate::connection_threads::{Protocol, ReplicaContext, SessionPasses, refuse_connection};
 use crate::joining_replica::{JoinedReplica, JoiningReplica, send_copies};
 use crate::link_peers::LinkPeers;
 use crate::linked_replica::run_process_links;
@@ -138,8 +138,8 @@ pub struct AcceptedConnection<L: Ledger, G> {
     pub client: Arc<ClientConnection>,
     /// The gate that is passed before each command.
     pub gate: G,
-    /// The pass of its session.
-    pub pass: Pass<L>,
+    /// Its passes.
+    pub passes: SessionPasses<L>,
 }
 
 /// A gate that never waits.
@@ -533,7 +533,9 @@ pub fn serve_over<
     thread::map_vec(
         rt,
         pending,
-        &|accepted: AcceptedConnection<L, G>| { serve_connection(rt, alloc, context, accepted) },
+        &|accepted: AcceptedConnection<L, G>| {
+            serve_connection(rt, alloc, context, accepted).pass
+        },
     )
 }
 
@@ -553,15 +555,21 @@ fn accepted_connections<L: Ledger, R: Wait + Clock + Log, G: Gate + Drop>(
             continue;
         };
         let client = connect(rt, alloc, context, stream).ok_or(AllocError)?;
-        pending.push(AcceptedConnection { client, gate, pass })?;
+        pending.push(AcceptedConnection {
+            client,
+            gate,
+            passes: SessionPasses {
+                pass,
+                protocol: Protocol::Profile,
+                second: None,
+            },
+        })?;
     }
     Ok(pending)
 }
 
-/// Serves the connections of a listener, each in a thread that has no other, until the server
-/// stops.
-/// Further threads serve the link and the requests for copies, and look after the log, if there is
-/// one.
+/// Serves the connections of a replica's listeners until the server stops. Further threads serve
+/// the link and the requests for copies, and look after the log, if there is one.
 fn serve_listener<
     L: Ledger + Send + Sync,
     R: Threads
@@ -576,6 +584,8 @@ fn serve_listener<
     let link_pass = first.cut();
     let copy_pass = first.cut();
     let process_pass = process_link_pass(served, &mut first);
+    let first = Mutex::new(first);
+    let passes = &first;
     thread::scope(thread::scope_env(), rt, |scope| {
         if let Some(pass) = link_pass {
             let _ = scope.spawn(move || {
@@ -604,9 +614,45 @@ fn serve_listener<
         if served.context.store.is_some() {
             let _ = scope.spawn(move || keep_store(rt, alloc, served));
         }
+        if has_rev1(served) {
+            let _ = scope.spawn(move || accept_rev1(rt, alloc, served, passes));
+        }
         let _ = scope.spawn(move || report(rt, served));
+        accept_all(
+            rt,
+            alloc,
+            served,
+            &served.inputs.listener,
+            Protocol::Profile,
+            passes,
+        );
+        served.context.clients.counts.stop(rt);
+        if let Some(links) = &served.context.server.links {
+            links.stop(rt);
+        }
+        if let Some(store) = served.context.store {
+            store.stop(rt);
+        }
+    });
+    first.into_inner()
+}
+
+/// Accepts connections at a listener, each of whose clients speaks this, until the server stops,
+/// and serves each in a thread that has no other.
+fn accept_all<
+    L: Ledger + Send + Sync,
+    R: Threads + Wait + Clock + Log + Sync + Net<Listener = TcpListener, Stream = TcpStream>,
+>(
+    rt: &R,
+    alloc: Global,
+    served: &ServedReplica<'_, L>,
+    listener: &TcpListener,
+    protocol: Protocol,
+    first: &Mutex<Pass<L>>,
+) {
+    thread::scope(thread::scope_env(), rt, |scope| {
         let mut logged = None;
-        for stream in served.inputs.listener.incoming() {
+        for stream in listener.incoming() {
             if served.context.server.stop.is_over(rt) {
                 break;
             }
@@ -614,7 +660,7 @@ fn serve_listener<
                 pause_accepting(rt, served.context.clients, &mut logged);
                 continue;
             };
-            if !accept(rt, alloc, served, &mut first, stream) {
+            if !accept(rt, alloc, served, first, stream, protocol) {
                 end_one(rt, served.context.server);
                 continue;
             }
@@ -628,15 +674,24 @@ fn serve_listener<
             }
         }
         served.demand.stop(rt);
-        served.context.clients.counts.stop(rt);
-        if let Some(links) = &served.context.server.links {
-            links.stop(rt);
-        }
-        if let Some(store) = served.context.store {
-            store.stop(rt);
-        }
-        first
     })
+}
+
+/// Whether the replica also listens for clients that speak IMAP4rev1.
+fn has_rev1<L: Ledger>(served: &ServedReplica<'_, L>) -> bool {
+    let server = served.context.server;
+    server.rev1_listener(served.inputs.own).is_some()
+}
+
+/// Accepts connections of clients that speak IMAP4rev1, if the replica listens for them.
+fn accept_rev1<
+    L: Ledger + Send + Sync,
+    R: Threads + Wait + Clock + Log + Sync + Net<Listener = TcpListener, Stream = TcpStream>,
+>(rt: &R, alloc: Global, served: &ServedReplica<'_, L>, first: &Mutex<Pass<L>>) {
+    let server = served.context.server;
+    if let Some(rev1) = server.rev1_listener(served.inputs.own) {
+        accept_all(rt, alloc, served, &rev1.listener, Protocol::Rev1, first);
+    }
 }
 
 /// A pass for the links to other processes, if there are any.
@@ -713,5 +768,8 @@ fn end_one<R: Wait + Net<Listener = TcpListener, Stream = TcpStream>>(
     }
     for (place, handle) in server.replicas.iter().enumerate() {
         handle.wake(rt, place);
+    }
+    for rev1 in &server.rev1 {
+        let _ = TcpStream::connect(rt, rev1.address);
     }
 }

@@ -11,6 +11,7 @@ use link_runtime::Links;
 use log_files::StoreFolder;
 use server_settings::{Access, ClientLimits};
 use std::alloc::{AllocError, Global};
+use std::net::{SocketAddr, TcpListener};
 use std::sync::{Mutex, Wait};
 
 /// The number of connections that must still end before the server stops; `None` if it never stops.
@@ -62,11 +63,34 @@ pub struct ServerState<'a> {
     pub store: Option<StoreFolder>,
     /// The links to other processes, if there are any.
     pub links: Option<Links<'a>>,
+    /// Where replicas listen for clients that speak IMAP4rev1.
+    pub rev1: Vec<Rev1Listener>,
     /// When the server stops.
     pub stop: StopCounter,
 }
 
+/// Where a replica listens for clients that speak IMAP4rev1.
+#[derive(Drop)]
+pub struct Rev1Listener {
+    /// The replica's place among all.
+    pub own: usize,
+    /// The listener.
+    pub listener: TcpListener,
+    /// Its address.
+    pub address: SocketAddr,
+}
+
 impl ServerState<'_> {
+    /// Where the replica at this place listens for clients that speak IMAP4rev1, if it does.
+    pub fn rev1_listener(&self, own: usize) -> Option<&Rev1Listener> {
+        for it in &self.rev1 {
+            if it.own == own {
+                return Some(it);
+            }
+        }
+        None
+    }
+
     /// Has the links look for what they can send.
     pub fn signal_links<R: Wait>(&self, rt: &R) {
         if let Some(links) = &self.links {

@@ -47,13 +47,15 @@ const MAX_TRIES: u32 = 16;
 /// A session whose pass is under a lock of its own, which is taken for one call at a time.
 #[derive(Drop)]
 pub struct SessionPort<'a, L: Ledger, R: Wait + Clock, G: Gate> {
-    rt: &'a R,
-    context: &'a ReplicaContext<'a, L>,
-    client: &'a ClientConnection,
+    pub(crate) rt: &'a R,
+    pub(crate) context: &'a ReplicaContext<'a, L>,
+    pub(crate) client: &'a ClientConnection,
     pass: &'a Mutex<Pass<L>>,
+    /// The pass of the session for RENAME, if there is one.
+    pub(crate) second: &'a Mutex<Option<Pass<L>>>,
     shared_phase: &'a SharedPhase,
-    gate: &'a mut G,
-    commands: u64,
+    pub(crate) gate: &'a mut G,
+    pub(crate) commands: u64,
     /// The position after this port's last call.
     at: SessionPosition,
 }
@@ -73,6 +75,7 @@ impl<'a, L: Ledger, R: Wait + Clock, G: Gate> SessionPort<'a, L, R, G> {
         context: &'a ReplicaContext<'a, L>,
         client: &'a ClientConnection,
         pass: &'a Mutex<Pass<L>>,
+        second: &'a Mutex<Option<Pass<L>>>,
         shared_phase: &'a SharedPhase,
         gate: &'a mut G,
     ) -> SessionPort<'a, L, R, G> {
@@ -81,6 +84,7 @@ impl<'a, L: Ledger, R: Wait + Clock, G: Gate> SessionPort<'a, L, R, G> {
             context,
             client,
             pass,
+            second,
             shared_phase: shared_phase,
             gate,
             commands: 0,
@@ -280,7 +284,7 @@ impl<'a, L: Ledger, R: Wait + Clock, G: Gate> SessionPort<'a, L, R, G> {
     }
 
     /// Counts commands that arrived, and the octets of the messages in them.
-    fn count(&self, commands: usize, octets: u64) {
+    pub(crate) fn count(&self, commands: usize, octets: u64) {
         let counts = self.client.state.count(self.rt, commands as u64, octets);
         if let Some(counts) = counts {
             self.context.clients.counts.add(self.rt, counts);
@@ -459,7 +463,7 @@ fn octets_of(command: &Command) -> u64 {
 
 /// Passes the gate once for each of `count` commands, each time with the number of the command.
 /// `passed` is the number of commands so far.
-fn pass_gate<G: Gate>(gate: &mut G, passed: &mut u64, count: usize) {
+pub fn pass_gate<G: Gate>(gate: &mut G, passed: &mut u64, count: usize) {
     for _ in 0..count {
         *passed = passed.saturating_add(1);
         gate.pass(*passed);
@@ -509,7 +513,7 @@ fn give_command<L: Ledger>(
     }
 }
 
-fn fault_of(fault: CallFault) -> PortFault
+pub fn fault_of(fault: CallFault) -> PortFault
     ensures { (result ≡ NoRoom) ⊎ (result ≡ Torn) }
 {
     match fault {
@@ -542,7 +546,7 @@ fn login_of_outcome(last: Option<&Outcome>, login: Login) -> Result<Login, PortF
 }
 
 /// The reply, in shared memory; `NoMemory` if it has too many copies to be counted.
-fn reply_of_outcome(last: Option<&Outcome>) -> Result<Reply, PortFault>
+pub fn reply_of_outcome(last: Option<&Outcome>) -> Result<Reply, PortFault>
     ensures { IfOk result (λ reply. option_map (λ o. o.now) last.entry ≡ Some (Replied reply)) }
 {
     match last {
@@ -595,7 +599,7 @@ fn may_issue(command: &Command) -> bool {
 }
 
 /// The moment now; the epoch if the clock can't be read.
-fn moment_now<R: Clock>(rt: &R) -> Moment {
+pub fn moment_now<R: Clock>(rt: &R) -> Moment {
     seconds_now(rt)
         .and_then(Moment::new)
         .unwrap_or(Moment::epoch())

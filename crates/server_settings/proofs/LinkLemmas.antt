@@ -6,7 +6,6 @@ use Rattle.clap.specs.Facts.{Entry}
 use Rattle.clap.specs.Matches.{matched_of, raw_values}
 use Rattle.clap.specs.Walk.{Row, all_of, first_of, row_of, rows_of}
 use Rattle.clap.specs.declared.parser.matches.Found.{Found}
-use Rattle.clap.specs.declared.parser.matches.MatchedArg.{MatchedArg}
 use Rattle.server_settings.specs.Links.{ArePeerTexts, IsPeerText, MayBeLinked, NamesLinks, values_of}
 use Rattle.server_settings.specs.Settings.{AreNames, join_names_of, names_of}
 use Rattle.server_settings.specs.declared.link_words.LinkWords.{LinkWords}

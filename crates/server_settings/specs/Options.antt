@@ -46,6 +46,9 @@ replica_word =
 abbrev pub peer_word : Rule
 peer_word = record (new_rule (codes "peer")) { long = Some (codes "peer"); action = Some Append }
 
+abbrev pub rev1_word : Rule
+rev1_word = record (new_rule (codes "rev1")) { long = Some (codes "rev1"); action = Some Append }
+
 -- The words for users.
 abbrev pub with_access_words : App → App
 with_access_words app =
@@ -67,11 +70,11 @@ with_link_words app = with_rule (with_rule (with_rule app (word_with_value (code
     peer_word) (word_with_value (codes "secret-file"))
 
 -- The words for the end of the server, for journals, for the store, for replicas that join, for
--- links, and for replicas.
+-- IMAP4rev1, for links, and for replicas.
 abbrev pub with_replica_words : App → App
-with_replica_words app = with_rule (with_link_words
+with_replica_words app = with_rule (with_link_words (with_rule
     (with_rule (with_rule (with_rule (with_rule app stop_word) (word_with_value (codes "journal")))
-    (word_with_value (codes "store"))) join_word)) replica_word
+    (word_with_value (codes "store"))) join_word) rev1_word)) replica_word
 
 -- The program has a version, so clap adds its own word for it, `--version`.
 abbrev pub with_version : App → App

@@ -2,7 +2,7 @@
 -- clients, and the bound of the journals.
 
 use Rattle.std.specs.Prelude.{◌≡◌, ◌≢◌, ◌<◌, ◌≤◌, ◌==◌, ◌*◌, ◌^◌, ◌⊎◌, ℕ, Bool, false, true, List, []}
-use Rattle.std.specs.Prelude.{◌∷◌, ◌++◌, Option, None, Some, codes, map, option_map}
+use Rattle.std.specs.Prelude.{◌∷◌, ◌++◌, All, Option, None, Some, codes, map, option_map}
 use Rattle.std.specs.Borrow.{Bor}
 use Rattle.std.specs.Fmt.{decimal}
 use Rattle.std.specs.List.{list_any}
@@ -44,6 +44,12 @@ abbrev pub HavePeers : List ℕ → List Join → Type 0
 HavePeers names [] = Unit {0}
 HavePeers names (join ∷ joins) =
     (is_named join.peer names ≡ true) × HavePeers (names ++ join.place.replica ∷ []) joins
+
+-- The replicas that also listen elsewhere are among those with these names, each once.
+abbrev pub AreAmong : List ℕ → List Place → Type 0
+AreAmong names places =
+    AreNames (names_of places)
+    × All (λ (name : ℕ). is_named name names ≡ true) (names_of places)
 
 -- The text is a replica's name: the digits of a number from 1 to 65,535, without leading zeros.
 abbrev pub IsNameText : List ℕ → ℕ → Type 0

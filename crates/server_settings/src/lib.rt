@@ -23,7 +23,7 @@ mod settings;
 mod settings_output;
 
 pub use link_words::{LinkWords, peer_of};
-pub use listener::{bind_listener, listen_at};
+pub use listener::{bind_listener, listen_at, listen_for_rev1_at};
 pub use settings::{
     Access, ClientLimits, CommandLine, GivenAccess, Join, Place, SettingsFault, UsageFault,
     access_of, given_access_of, read_settings,

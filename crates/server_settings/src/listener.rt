@@ -33,6 +33,25 @@ fn bind_socket<R: Net<Listener = TcpListener, Stream = TcpStream>>(
     Ok(listener)
 }
 
+/// Listens at the address at which a replica takes clients that speak IMAP4rev1, and prints that it
+/// does, as `listen_at` does.
+pub fn listen_for_rev1_at<R: Print + Log + Net<Listener = TcpListener, Stream = TcpStream>>(
+    rt: &R,
+    place: &Place<'_>,
+) -> io::Result<Option<(TcpListener, SocketAddr)>> {
+    let listener = match bind_listener(rt, place.address) {
+        Ok(listener) => listener,
+        Err(why) => {
+            error!(rt; "cannot listen at {}: {why}", place.address);
+            println!(rt; "cannot listen rev1 {} {}", place.replica, place.address)?;
+            return Ok(None);
+        }
+    };
+    let address = listener.local_addr()?;
+    println!(rt; "listening rev1 {} {}", place.replica, place.address)?;
+    Ok(Some((listener, address)))
+}
+
 /// Listens at a replica's address and prints that it does. Returns the listener and the address at
 /// which it listens. `None` if it can't listen there; this is printed, and the log has the reason.
 /// `Err` if printing fails, or if the listener doesn't know its address.

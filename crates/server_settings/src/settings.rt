@@ -2,17 +2,19 @@
 
 ghost use Rattle.std.specs.Prelude.{List, ℕ, ◌≡◌, ◌++◌, ◌∷◌, ◌<◌, ◌≤◌, [], false, true, IfNone};
 ghost use Rattle.std.specs.Prelude.{IfOk, IfSome, IsSome, OnOk, Some, length, map, option_map};
-ghost use Rattle.std.specs.Prelude.{slice_get};
+ghost use Rattle.std.specs.Prelude.{All, slice_get};
 ghost use Rattle.clap.specs.Words.{IsUnsignedIn, app_of, found_of, matches_of, one_of, rows_of};
 ghost use Rattle.clap_laws.specs.Words.{AddWords, IsWord};
 ghost use Rattle.server_settings.specs.Options.{NamesGivenAccess, NamesJournalBound, NamesLimits};
 ghost use Rattle.server_settings.specs.Options.{NamesStore, join_word, number_word};
 ghost use Rattle.server_settings.specs.Links.{MayBeLinked, NamesLinks};
 ghost use Rattle.server_settings.specs.Options.{peer_word};
-ghost use Rattle.server_settings.specs.Options.{preauth_word, replica_word, server_words};
+ghost use Rattle.server_settings.specs.Options.{preauth_word, replica_word, rev1_word};
+ghost use Rattle.server_settings.specs.Options.{server_words};
 ghost use Rattle.server_settings.specs.Options.{stop_word, with_access_words, with_limit_words};
 ghost use Rattle.server_settings.specs.Options.{with_replica_words, word_with_value};
-ghost use Rattle.server_settings.specs.Settings.{AreNames, HavePeers, IsJoinText, IsJournalBound};
+ghost use Rattle.server_settings.specs.Settings.{AreAmong, AreNames, HavePeers, IsJoinText};
+ghost use Rattle.server_settings.specs.Settings.{IsJournalBound};
 ghost use Rattle.server_settings.specs.Settings.{IsNameText, IsNumberOption, IsNumberText};
 ghost use Rattle.server_settings.specs.Settings.{IsPlaceText, IsUnit};
 ghost use Rattle.server_settings.specs.Settings.{access_of, access_with_pass, given_access_of};
@@ -127,6 +129,9 @@ pub struct CommandLine<'a> {
     pub places: Vec<Place<'a>>,
     /// The replicas that are to join, in their order; their names are new.
     pub joins: Vec<Join<'a>>,
+    /// Where replicas also listen for clients that speak IMAP4rev1, in their order; each is among the
+    /// others, once.
+    pub rev1: Vec<Place<'a>>,
     /// How the process is linked with others; `None` if it isn't. Then it has one replica, a store,
     /// and none that is to join.
     pub links: Option<LinkWords<'a>>,
@@ -205,6 +210,15 @@ pub enum UsageFault<'a> {
     /// Two replicas have this name.
     #[error("usage: replica {0} twice")]
     Twice(u16),
+    /// This word names no replica with an address for IMAP4rev1.
+    #[error("usage: bad rev1 {0}")]
+    BadRev1(&'a str),
+    /// Two words give this replica an address for IMAP4rev1.
+    #[error("usage: rev1 {0} twice")]
+    Rev1Twice(u16),
+    /// No replica has this name, for which an address for IMAP4rev1 is given.
+    #[error("usage: rev1 {0} is no replica")]
+    UnknownRev1(u16),
     /// There is a secret and no link, or a link and no secret.
     #[error("usage: give --secret-file with --link-listen or --peer, and only there")]
     Secret,
@@ -220,14 +234,15 @@ pub enum UsageFault<'a> {
 }
 
 /// Reads the words of a command line; the first is the program's name. Errors are found in this
-/// order: in the words, in the access, in the journals' bound, in the replicas in their order, and
-/// in those that are to join in theirs, in the words for links. The access is the one that clap
-/// finds in the words: only `--preauth`, or without it `--user` and either `--pass` or
-/// `--pass-file`. Each limit is the number that its word's value spells. The journals' bound is that
-/// of the value of `--journal`, and 64M without it, and the store the value of `--store`. The
-/// replicas' names are distinct, from 1 to 65,535; each that joins takes the operations of one that
-/// exists before it. There are links if `--secret-file` is given; then each value of `--peer` is a
-/// process, with distinct names that aren't the replica's own.
+/// order: in the words, in the access, in the journals' bound, in the replicas in their order, in
+/// those that are to join in theirs, in those for IMAP4rev1 in theirs, and in the words for links.
+/// The access is the one that clap finds in the words: only `--preauth`, or without it `--user` and
+/// either `--pass` or `--pass-file`. Each limit is the number that its word's value spells. The
+/// journals' bound is that of the value of `--journal`, and 64M without it, and the store the value
+/// of `--store`. The replicas' names are distinct, from 1 to 65,535; each that joins takes the
+/// operations of one that exists before it; each that also listens for IMAP4rev1 is one of these,
+/// and is named once for that. There are links if `--secret-file` is given; then each value of
+/// `--peer` is a process, with distinct names that aren't the replica's own.
 pub fn read_settings<'a>(
     alloc: Global,
     words: &'a [String],
@@ -244,6 +259,9 @@ pub fn read_settings<'a>(
         (names_of settings.places.items ++ join_names_of settings.joins.items)) }
     ensures peers { IfOk result
         (λ settings. HavePeers (names_of settings.places.items) settings.joins.items) }
+    ensures rev1 { IfOk result (λ settings. AreAmong
+        (names_of settings.places.items ++ join_names_of settings.joins.items)
+        settings.rev1.items) }
     ensures links { IfOk result (λ settings. NamesLinks
         (matches_of server_words (map ⟦<String as AsStr>⟧.text words.entry.now)) settings.links) }
     ensures linked { IfOk result (λ settings. IfSome settings.links
@@ -279,6 +297,10 @@ pub fn read_settings<'a>(
         Ok(joins) => joins,
         Err(why) => return Err(SettingsFault::Usage(why)),
     };
+    let rev1 = match rev1_of(alloc, &names, matches.get_strs("rev1").unwrap_or(&[])) {
+        Ok(rev1) => rev1,
+        Err(why) => return Err(SettingsFault::Usage(why)),
+    };
     let is_linkable = may_be_linked(&places, &joins, store);
     let links = match links_of(alloc, &mut names, &matches, is_linkable) {
         Ok(links) => links,
@@ -292,6 +314,7 @@ pub fn read_settings<'a>(
         store,
         places,
         joins,
+        rev1,
         links,
     })
 }
@@ -433,6 +456,7 @@ fn known_words<'a>(alloc: Global) -> Result<Vec<Arg<'a>>, AllocError>
             "Each replica's operations are stored in this folder, and are there again at the next start. Otherwise mail lives as long as the program runs.",
         ),
         join_arg(alloc),
+        rev1_arg(alloc),
         word_with_value(
             alloc,
             "link-listen",
@@ -484,6 +508,17 @@ fn stop_after<'a>(alloc: Global) -> Arg<'a>
         "The server stops after this many connections. Otherwise it runs until it is ended.",
     )
     .value_parser(ValueParser::unsigned(0, 4_294_967_295))
+}
+
+fn rev1_arg<'a>(alloc: Global) -> Arg<'a>
+    ensures { IsWord result rev1_word }
+{
+    Arg::new(alloc, "rev1")
+        .long("rev1")
+        .action(ArgAction::Append)
+        .help(
+            "A replica also listens at this address, for mail readers that want IMAP4rev1, as in 1=127.0.0.1:1443.",
+        )
 }
 
 fn join_arg<'a>(alloc: Global) -> Arg<'a>
@@ -662,6 +697,47 @@ fn joins_of<'a>(
         }
     }
     Ok(joins)
+}
+
+/// Where replicas with these names also listen for clients that speak IMAP4rev1 by these words, in
+/// their order.
+fn rev1_of<'a>(
+    alloc: Global,
+    names: &[u16],
+    texts: &[&'a str],
+) -> Result<Vec<Place<'a>>, UsageFault<'a>>
+    ensures { IfOk result (λ places. AreAmong names.now places.items) }
+{
+    let mut own = Vec::new(alloc);
+    let places = match places_of(alloc, &mut own, texts) {
+        Ok(places) => places,
+        Err(why) => return Err(rev1_fault(why)),
+    };
+    match unknown_name(names, &own) {
+        None => Ok(places),
+        Some(name) => Err(UsageFault::UnknownRev1(name)),
+    }
+}
+
+/// The first of these names that isn't among the known ones, if any.
+fn unknown_name(known: &[u16], names: &[u16]) -> Option<u16>
+    ensures { IfNone result (All (λ name. is_named name known.now ≡ true) names.now) }
+{
+    for name in names {
+        if !known.contains(name) {
+            return Some(*name);
+        }
+    }
+    None
+}
+
+/// The fault in words for IMAP4rev1, by the one that the same words for replicas have.
+fn rev1_fault<'a>(why: UsageFault<'a>) -> UsageFault<'a> {
+    match why {
+        UsageFault::BadReplica(text) => UsageFault::BadRev1(text),
+        UsageFault::Twice(name) => UsageFault::Rev1Twice(name),
+        why => why,
+    }
 }
 
 /// Adds the replica that is to join by a word, and its name.

@@ -148,6 +148,7 @@ fn sent<R: Wait>(rt: &R, alloc: Global) -> Option<[Parcel; 6]> {
         journal: None,
         store: None,
         links: None,
+        rev1: Vec::new(alloc),
         stop: StopCounter::after(None),
     };
     match send_all(rt, alloc, &server) {

@@ -519,6 +519,7 @@ fn state_of(alloc: Global) -> ServerState<'static> {
         journal: None,
         store: None,
         links: None,
+        rev1: Vec::new(alloc),
         stop: StopCounter::after(None),
     }
 }

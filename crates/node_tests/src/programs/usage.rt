@@ -13,6 +13,15 @@ const BAD_VALUES: &[(&str, &str)] = &[
     ("imap_server --preauth 1", "usage: bad replica 1\n"),
     ("imap_server --preauth 1=a 1=b", "usage: replica 1 twice\n"),
     ("imap_server --preauth --join 3 1=a", "usage: bad join 3\n"),
+    ("imap_server --preauth --rev1 1 1=a", "usage: bad rev1 1\n"),
+    (
+        "imap_server --preauth --rev1 1=b --rev1 1=c 1=a",
+        "usage: rev1 1 twice\n",
+    ),
+    (
+        "imap_server --preauth --rev1 2=b 1=a",
+        "usage: rev1 2 is no replica\n",
+    ),
 ];
 
 /// Command lines that clap refuses, and its texts.
@@ -66,6 +75,7 @@ const HELP_PARTS: &[&str] = &[
     "\n      --journal <journal>              ",
     "\n      --store <store>                  ",
     "\n      --join <join>                    ",
+    "\n      --rev1 <rev1>                    ",
     "\n      --link-listen <link-listen>      ",
     "\n      --peer <peer>                    ",
     "\n      --secret-file <secret-file>      ",

@@ -1,4 +1,4 @@
-use Rattle.std.proofs.Common.{◌≡◌, ◌∙◌, ℕ, List, codes, map, refl, rules}
+use Rattle.std.proofs.Common.{◌≡◌, ◌∙◌, codes, map, refl, rules}
 use Rattle.clap.specs.Words.{all_of, found_of, rows_of}
 use Rattle.server_settings.specs.Links.{values_of}
 use Rattle.server_settings.proofs.LinkLemmas.{all_values_of_rows, no_links, some_links, words_are_values}

@@ -1,4 +1,4 @@
-use Rattle.std.proofs.Common.{List, ℕ, sym, subst}
+use Rattle.std.proofs.Common.{sym, subst}
 use Rattle.server_settings.specs.Links.{IsHostPort}
 use Rattle.server_settings.proofs.TextLemmas.{one_address}
 use Rattle.server_settings.proofs.link_words.peer_of.Goals as goal

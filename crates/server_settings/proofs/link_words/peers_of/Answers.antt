@@ -1,4 +1,4 @@
-use Rattle.std.proofs.Common.{◌≡◌, ◌∙◌, ◌∷◌, ◌++◌, ◌+◌, [], true, ℕ, List, ap, append_assoc, map, sym, subst, take}
+use Rattle.std.proofs.Common.{◌∙◌, ◌∷◌, ◌++◌, ◌+◌, [], ℕ, List, ap, append_assoc, map, sym, subst, take}
 use Rattle.server_settings.specs.Links.{ArePeerTexts}
 use Rattle.server_settings.specs.Settings.{names_of}
 use Rattle.server_settings.specs.declared.settings.Place.{Place}

@@ -1,7 +1,7 @@
 use denote.Param.Send.{sendable}
 use Rattle.std.proofs.alloc.Global.TheSendSync as heap
 use Rattle.replica_lock.proofs.pass.Pass.TheSendSync as pass
-use Rattle.server_runtime.proofs.ThreadLemmas.{served_sync}
+use Rattle.server_runtime.proofs.ThreadLemmas.{pass_shared, served_sync}
 use Rattle.server_runtime.proofs.replica_threads.fn.serve_listener.scope.Goals as goal
 
 pub spawn-requires-send-F : goal.spawn-requires-send-F
@@ -19,5 +19,5 @@ spawn-requires-then-is_some-send-F g c κs within = search (served_sync, heap.th
 pub spawn-requires-2-send-F : goal.spawn-requires-2-send-F
 spawn-requires-2-send-F g c κs within = search (served_sync, heap.the_send, sendable) depth 60 fits 20000
 
-pub spawn-requires-in-loop-stream-send-F : goal.spawn-requires-in-loop-stream-send-F
-spawn-requires-in-loop-stream-send-F g c κs within = search (served_sync, heap.the_send, sendable) depth 60 fits 20000
+pub spawn-requires-then-has_rev1-send-F : goal.spawn-requires-then-has_rev1-send-F
+spawn-requires-then-has_rev1-send-F g c κs within = search (served_sync, pass_shared, heap.the_send, sendable) depth 60 fits 20000
