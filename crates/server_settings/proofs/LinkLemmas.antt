@@ -6,8 +6,9 @@ use Rattle.clap.specs.Facts.{Entry}
 use Rattle.clap.specs.Matches.{matched_of, raw_values}
 use Rattle.clap.specs.Walk.{Row, all_of, first_of, row_of, rows_of}
 use Rattle.clap.specs.declared.parser.matches.Found.{Found}
-use Rattle.server_settings.specs.Links.{ArePeerTexts, IsPeerText, MayBeLinked, NamesLinks, values_of}
-use Rattle.server_settings.specs.Settings.{AreNames, join_names_of, names_of}
+use Rattle.server_settings.specs.Links.{IsPeerText, MayBeLinked, NamesLinks}
+use Rattle.server_settings.specs.Options.{values_of}
+use Rattle.server_settings.specs.Settings.{AreNames, AreTexts, join_names_of, names_of}
 use Rattle.server_settings.specs.declared.link_words.LinkWords.{LinkWords}
 use Rattle.server_settings.specs.declared.settings.Join.{Join}
 use Rattle.server_settings.specs.declared.settings.Place.{Place}
@@ -36,19 +37,20 @@ pub peer_names_append : (peers : List Place) (peer : Place) → names_of (peers 
 peer_names_append [] peer = refl
 peer_names_append (first ∷ peers) peer = ap (λ (xs : List ℕ). first.replica ∷ xs) (peer_names_append peers peer)
 
-texts_suc : (texts : List (Bor (List ℕ))) (peers : List Place) (i : ℕ) (d : Bor (List ℕ)) (peer : Place) → i < length texts → ArePeerTexts (map (λ t. t.now) (take i texts)) peers
-    → IsPeerText (get_or texts i d).now peer → ArePeerTexts (map (λ t. t.now) (take (suc i) texts)) (peers ++ peer ∷ [])
-texts_suc [] peers i d peer l are is = absurd (omega arith)
-texts_suc (text ∷ texts) [] zero d peer l are is = (is, tt)
-texts_suc (text ∷ texts) (first ∷ peers) zero d peer l are is = absurd are
-texts_suc (text ∷ texts) [] (suc i) d peer l are is = absurd are
-texts_suc (text ∷ texts) (first ∷ peers) (suc i) d peer l are is = (are.0, texts_suc texts peers i d peer (omega arith) are.1 is)
+module _ {A : Type 0} (IsText : List ℕ → A → Type 0) where
+  texts_suc : (texts : List (Bor (List ℕ))) (values : List A) (i : ℕ) (d : Bor (List ℕ)) (value : A) → i < length texts → AreTexts IsText (map (λ t. t.now) (take i texts)) values
+      → IsText (get_or texts i d).now value → AreTexts IsText (map (λ t. t.now) (take (suc i) texts)) (values ++ value ∷ [])
+  texts_suc [] values i d value l are is = absurd (omega arith)
+  texts_suc (text ∷ texts) [] zero d value l are is = (is, tt)
+  texts_suc (text ∷ texts) (first ∷ values) zero d value l are is = absurd are
+  texts_suc (text ∷ texts) [] (suc i) d value l are is = absurd are
+  texts_suc (text ∷ texts) (first ∷ values) (suc i) d value l are is = (are.0, texts_suc texts values i d value (omega arith) are.1 is)
 
-pub texts_more : (texts : List (Bor (List ℕ))) (peers : List Place) (i : ℕ) (d : Bor (List ℕ)) (peer : Place) → i < length texts → ArePeerTexts (map (λ t. t.now) (take i texts)) peers
-    → IsPeerText (get_or texts i d).now peer → ArePeerTexts (map (λ t. t.now) (take (i + 1) texts)) (peers ++ peer ∷ [])
-texts_more texts peers i d peer l are is =
-    let k : suc i ≡ i + 1 = omega arith in
-    subst (λ (m : ℕ). ArePeerTexts (map (λ t. t.now) (take m texts)) (peers ++ peer ∷ [])) k (texts_suc texts peers i d peer l are is)
+  pub texts_more : (texts : List (Bor (List ℕ))) (values : List A) (i : ℕ) (d : Bor (List ℕ)) (value : A) → i < length texts → AreTexts IsText (map (λ t. t.now) (take i texts)) values
+      → IsText (get_or texts i d).now value → AreTexts IsText (map (λ t. t.now) (take (i + 1) texts)) (values ++ value ∷ [])
+  texts_more texts values i d value l are is =
+      let k : suc i ≡ i + 1 = omega arith in
+      subst (λ (m : ℕ). AreTexts IsText (map (λ t. t.now) (take m texts)) (values ++ value ∷ [])) k (texts_suc texts values i d value l are is)
 
 -- ---- the words for links
 
@@ -56,6 +58,10 @@ pub words_are_values : (r : Option (Bor (List (Bor (List ℕ))))) (all : Option 
     → map (λ v. v.now) (unwrap_or r none).now ≡ values_of all
 words_are_values None all none h e = ap (map (λ v. v.now)) e ∙ ap values_of h
 words_are_values (Some s) all none h e = ap values_of h
+
+pub values_are : (found : Found) (id : List ℕ) (r : Option (Bor (List (Bor (List ℕ))))) (none texts : Bor (List (Bor (List ℕ)))) → option_map (λ s. map (λ v. v.now) s.now) r ≡ option_map raw_values (matched_of found id)
+    → none.now ≡ [] → texts ≡ unwrap_or r none → map (λ v. v.now) texts.now ≡ values_of (all_of id (rows_of found))
+values_are found id r none texts h e same = ap (λ (ts : Bor (List (Bor (List ℕ)))). map (λ v. v.now) ts.now) same ∙ words_are_values r _ none (h ∙ all_values_of_rows found id) e
 
 pub no_links : (rows : List Row) (listen secret : Option (Bor (List ℕ))) (texts : List (Bor (List ℕ))) → listen ≡ None → texts ≡ [] → secret ≡ None
     → option_map (λ s. s.now) listen ≡ first_of (codes "link-listen") rows → map (λ s. s.now) texts ≡ values_of (all_of (codes "peer") rows)
@@ -65,15 +71,15 @@ no_links rows listen secret texts l t s first all second =
 
 pub some_links : (rows : List Row) (words : LinkWords) (texts : List (Bor (List ℕ))) → (words.listen ≡ None → texts ≢ [])
     → option_map (λ s. s.now) words.listen ≡ first_of (codes "link-listen") rows → map (λ s. s.now) texts ≡ values_of (all_of (codes "peer") rows)
-    → Some words.secret_file.now ≡ first_of (codes "secret-file") rows → ArePeerTexts (map (λ s. s.now) texts) words.peers.items → NamesLinks rows (Some words)
+    → Some words.secret_file.now ≡ first_of (codes "secret-file") rows → AreTexts IsPeerText (map (λ s. s.now) texts) words.peers.items → NamesLinks rows (Some words)
 some_links rows words texts link first all second are = (
   first,
-  subst (λ (values : List (List ℕ)). ArePeerTexts values words.peers.items) all are,
+  subst (λ (values : List (List ℕ)). AreTexts IsPeerText values words.peers.items) all are,
   sym second,
-  λ none empty. no_texts texts (subst (λ (peers : List Place). ArePeerTexts (map (λ s. s.now) texts) peers) empty are) (link none),
+  λ none empty. no_texts texts (subst (λ (peers : List Place). AreTexts IsPeerText (map (λ s. s.now) texts) peers) empty are) (link none),
 )
   where
-    no_texts : (ts : List (Bor (List ℕ))) → ArePeerTexts (map (λ s. s.now) ts) [] → ts ≢ [] → ⊥
+    no_texts : (ts : List (Bor (List ℕ))) → AreTexts IsPeerText (map (λ s. s.now) ts) [] → ts ≢ [] → ⊥
     no_texts [] h n = n refl
     no_texts (t ∷ ts) h n = h
 

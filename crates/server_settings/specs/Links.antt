@@ -4,7 +4,8 @@ use Rattle.std.specs.Prelude.{◌≡◌, ◌≢◌, ℕ, List, [], ◌∷◌, �
 use Rattle.std.specs.Prelude.{IsSome, option_map}
 use Rattle.std.specs.Borrow.{Bor}
 use Rattle.clap.specs.Words.{Row, all_of, first_of}
-use Rattle.server_settings.specs.Settings.{AreNames, IsNameText, IsPlaceText, names_of}
+use Rattle.server_settings.specs.Options.{values_of}
+use Rattle.server_settings.specs.Settings.{AreNames, AreTexts, IsNameText, IsPlaceText, names_of}
 use Rattle.server_settings.specs.declared.link_words.LinkWords.{LinkWords}
 use Rattle.server_settings.specs.declared.settings.Join.{Join}
 use Rattle.server_settings.specs.declared.settings.Place.{Place}
@@ -24,17 +25,6 @@ IsHostPort text =
 abbrev pub IsPeerText : List ℕ → Place → Type 0
 IsPeerText text peer = IsPlaceText text peer × IsHostPort peer.address.now
 
--- The texts are these processes, in their order.
-abbrev pub ArePeerTexts : List (List ℕ) → List Place → Type 0
-ArePeerTexts [] [] = Unit {0}
-ArePeerTexts (text ∷ texts) (peer ∷ peers) = IsPeerText text peer × ArePeerTexts texts peers
-ArePeerTexts _ _ = ⊥
-
--- The values of a word, none if it wasn't given.
-abbrev pub values_of : Option (List (List ℕ)) → List (List ℕ)
-values_of None = []
-values_of (Some values) = values
-
 -- The links that were named: where the process listens for them is the value of `--link-listen`,
 -- its peers those of `--peer`, and its secret's file that of `--secret-file`; one of the first two
 -- was given. Without links none of the three was.
@@ -46,7 +36,7 @@ NamesLinks rows None =
 NamesLinks rows (Some words) =
     (option_map (λ (address : Bor (List ℕ)). address.now) words.listen
     ≡ first_of (codes "link-listen") rows)
-    × ArePeerTexts (values_of (all_of (codes "peer") rows)) words.peers.items
+    × AreTexts IsPeerText (values_of (all_of (codes "peer") rows)) words.peers.items
     × (first_of (codes "secret-file") rows ≡ Some words.secret_file.now)
     × (words.listen ≡ None → words.peers.items ≢ [])
 

@@ -1,19 +1,23 @@
 -- The words of the server's command line, in the terms of `clap`, and the access, the limits, the
--- bound of journals and the store that they name.
+-- bound of journals, the store and the replicas that they name.
 
-use Rattle.std.specs.Prelude.{◌≡◌, ℕ, true, List, Option, None, Some, codes}
+use Rattle.std.specs.Prelude.{◌≡◌, ℕ, true, List, [], Option, None, Some, codes}
 use Rattle.std.specs.Borrow.{Bor}
 use Rattle.std.specs.Prelude.{option_map}
 use Rattle.clap.specs.Lexer.{usize_max}
-use Rattle.clap.specs.Words.{App, Row, Rule, first_of, new_app, new_rule, one_of, with_rule}
+use Rattle.clap.specs.Words.{App, Row, Rule, all_of, first_of, new_app, new_rule, one_of}
+use Rattle.clap.specs.Words.{with_rule}
 use Rattle.clap.specs.declared.builder.action.ArgAction.TheVariants.{Append, Set, SetTrue}
 use Rattle.clap.specs.declared.builder.value_parser.ValueParser.TheVariants.{Unsigned}
-use Rattle.server_settings.specs.Settings.{IsJournalBound, IsNumberOption}
+use Rattle.server_settings.specs.Settings.{AreTexts, IsJoinText, IsJournalBound, IsNumberOption}
+use Rattle.server_settings.specs.Settings.{IsPlaceText}
 use Rattle.server_settings.specs.declared.settings.Access.{Access}
 use Rattle.server_settings.specs.declared.settings.Access.TheVariants.{Password, Preauth}
 use Rattle.server_settings.specs.declared.settings.ClientLimits.{ClientLimits}
 use Rattle.server_settings.specs.declared.settings.GivenAccess.{GivenAccess}
 use Rattle.server_settings.specs.declared.settings.GivenAccess.TheVariants.{PassFile, Whole}
+use Rattle.server_settings.specs.declared.settings.Join.{Join}
+use Rattle.server_settings.specs.declared.settings.Place.{Place}
 
 -- ---- the words that the program knows
 
@@ -137,3 +141,22 @@ NamesJournalBound rows bound = IsJournalBound (first_of (codes "journal") rows) 
 -- The folder is the value of `--store`; there is none if it wasn't given.
 abbrev pub NamesStore : List Row → Option (Bor (List ℕ)) → Type 0
 NamesStore rows store = option_map (λ path. path.now) store ≡ first_of (codes "store") rows
+
+-- ---- the replicas
+
+-- The values of a word, none if it wasn't given.
+abbrev pub values_of : Option (List (List ℕ)) → List (List ℕ)
+values_of None = []
+values_of (Some values) = values
+
+-- The replicas are the values without a word.
+abbrev pub NamesReplicas : List Row → List Place → Type 0
+NamesReplicas rows places = AreTexts IsPlaceText (values_of (all_of (codes "REPLICA") rows)) places
+
+-- The replicas that are to join are the values of `--join`.
+abbrev pub NamesJoins : List Row → List Join → Type 0
+NamesJoins rows joins = AreTexts IsJoinText (values_of (all_of (codes "join") rows)) joins
+
+-- Where replicas also listen for clients of IMAP4rev1 are the values of `--rev1`.
+abbrev pub NamesRev1 : List Row → List Place → Type 0
+NamesRev1 rows places = AreTexts IsPlaceText (values_of (all_of (codes "rev1") rows)) places

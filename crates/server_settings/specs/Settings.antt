@@ -64,6 +64,13 @@ IsPlaceText text place =
     × (place.address.now ≢ [])
     × (text ≡ name ++ 61 ∷ place.address.now)
 
+-- The texts stand for these, one for each, in their order.
+abbrev pub AreTexts : {A : Type 0} → (List ℕ → A → Type 0) → List (List ℕ) → List A → Type 0
+AreTexts IsText [] [] = Unit {0}
+AreTexts IsText (text ∷ texts) (value ∷ values) =
+    IsText text value × AreTexts IsText texts values
+AreTexts IsText _ _ = ⊥
+
 -- The text is a replica that joins: the replica with its address, `/` (47), and the name of its
 -- peer. No name has a `/`, so this one is the text's last.
 abbrev pub IsJoinText : List ℕ → Join → Type 0

@@ -3,8 +3,8 @@
 ghost use Rattle.std.specs.Prelude.{◌≡◌, ◌≢◌, ◌<◌, ◌++◌, ◌∷◌, [], IfNone, IfOk, IfSome, None};
 ghost use Rattle.std.specs.Prelude.{OnOk, false, map, option_map, true};
 ghost use Rattle.clap.specs.Words.{first_of, found_of, rows_of};
-ghost use Rattle.server_settings.specs.Links.{ArePeerTexts, IsHostPort, IsPeerText, NamesLinks};
-ghost use Rattle.server_settings.specs.Settings.{AreNames, names_of};
+ghost use Rattle.server_settings.specs.Links.{IsHostPort, IsPeerText, NamesLinks};
+ghost use Rattle.server_settings.specs.Settings.{AreNames, AreTexts, names_of};
 ghost use Rattle.server_settings.specs.declared.settings.Place.{Place};
 
 use crate::settings::{Place, UsageFault, add_name, name_of, place_of};
@@ -90,7 +90,7 @@ fn peers_of<'a>(
 ) -> Result<Vec<Place<'a>>, UsageFault<'a>>
     requires { AreNames names.old.items }
     ensures texts { IfOk result
-        (λ peers. ArePeerTexts (map (λ text. text.now) texts.now) peers.items) }
+        (λ peers. AreTexts IsPeerText (map (λ text. text.now) texts.now) peers.items) }
     ensures names { IfOk result (λ peers. AreNames (names.old.items ++ names_of peers.items)) }
 {
     let mut peers = Vec::new(alloc);

@@ -6,14 +6,16 @@ ghost use Rattle.std.specs.Prelude.{All, slice_get};
 ghost use Rattle.clap.specs.Words.{IsUnsignedIn, app_of, found_of, matches_of, one_of, rows_of};
 ghost use Rattle.clap_laws.specs.Words.{AddWords, IsWord};
 ghost use Rattle.server_settings.specs.Options.{NamesGivenAccess, NamesJournalBound, NamesLimits};
-ghost use Rattle.server_settings.specs.Options.{NamesStore, join_word, number_word};
+ghost use Rattle.server_settings.specs.Options.{NamesJoins, NamesReplicas, NamesRev1, NamesStore};
+ghost use Rattle.server_settings.specs.Options.{join_word, number_word};
 ghost use Rattle.server_settings.specs.Links.{MayBeLinked, NamesLinks};
 ghost use Rattle.server_settings.specs.Options.{peer_word};
 ghost use Rattle.server_settings.specs.Options.{preauth_word, replica_word, rev1_word};
 ghost use Rattle.server_settings.specs.Options.{server_words};
 ghost use Rattle.server_settings.specs.Options.{stop_word, with_access_words, with_limit_words};
 ghost use Rattle.server_settings.specs.Options.{with_replica_words, word_with_value};
-ghost use Rattle.server_settings.specs.Settings.{AreAmong, AreNames, HavePeers, IsJoinText};
+ghost use Rattle.server_settings.specs.Settings.{AreAmong, AreNames, AreTexts, HavePeers};
+ghost use Rattle.server_settings.specs.Settings.{IsJoinText};
 ghost use Rattle.server_settings.specs.Settings.{IsJournalBound};
 ghost use Rattle.server_settings.specs.Settings.{IsNameText, IsNumberOption, IsNumberText};
 ghost use Rattle.server_settings.specs.Settings.{IsPlaceText, IsUnit};
@@ -259,7 +261,16 @@ pub fn read_settings<'a>(
         (names_of settings.places.items ++ join_names_of settings.joins.items)) }
     ensures peers { IfOk result
         (λ settings. HavePeers (names_of settings.places.items) settings.joins.items) }
-    ensures rev1 { IfOk result (λ settings. AreAmong
+    ensures replicas { IfOk result (λ settings. NamesReplicas
+        (matches_of server_words (map ⟦<String as AsStr>⟧.text words.entry.now))
+        settings.places.items) }
+    ensures joins { IfOk result (λ settings. NamesJoins
+        (matches_of server_words (map ⟦<String as AsStr>⟧.text words.entry.now))
+        settings.joins.items) }
+    ensures rev1 { IfOk result (λ settings. NamesRev1
+        (matches_of server_words (map ⟦<String as AsStr>⟧.text words.entry.now))
+        settings.rev1.items) }
+    ensures among { IfOk result (λ settings. AreAmong
         (names_of settings.places.items ++ join_names_of settings.joins.items)
         settings.rev1.items) }
     ensures links { IfOk result (λ settings. NamesLinks
@@ -285,19 +296,15 @@ pub fn read_settings<'a>(
     };
     let store = matches.get_str("store");
     let mut names = Vec::new(alloc);
-    let places = match places_of(
-        alloc,
-        &mut names,
-        matches.get_strs("REPLICA").unwrap_or(&[]),
-    ) {
+    let places = match replicas_in(alloc, &mut names, &matches) {
         Ok(places) => places,
         Err(why) => return Err(SettingsFault::Usage(why)),
     };
-    let joins = match joins_of(alloc, &mut names, matches.get_strs("join").unwrap_or(&[])) {
+    let joins = match joins_in(alloc, &mut names, &matches) {
         Ok(joins) => joins,
         Err(why) => return Err(SettingsFault::Usage(why)),
     };
-    let rev1 = match rev1_of(alloc, &names, matches.get_strs("rev1").unwrap_or(&[])) {
+    let rev1 = match rev1_in(alloc, &names, &matches) {
         Ok(rev1) => rev1,
         Err(why) => return Err(SettingsFault::Usage(why)),
     };
@@ -656,7 +663,23 @@ pub fn given_access_of<'a>(
     }
 }
 
-/// The replicas that these words name, in their order, and their names.
+/// The replicas that the words name, in their order, and their names.
+fn replicas_in<'a>(
+    alloc: Global,
+    names: &mut Vec<u16>,
+    matches: &ArgMatches<'a>,
+) -> Result<Vec<Place<'a>>, UsageFault<'a>>
+    requires { names.old.items ≡ [] }
+    ensures names { OnOk result (AreNames names.new.items) }
+    ensures same { IfOk result (λ places. names.new.items ≡ names_of places.items) }
+    ensures words { IfOk result
+        (λ places. NamesReplicas (rows_of (found_of matches.now)) places.items) }
+{
+    let texts = matches.get_strs("REPLICA").unwrap_or(&[]);
+    places_of(alloc, names, texts)
+}
+
+/// The replicas that these texts name, in their order, and their names.
 fn places_of<'a>(
     alloc: Global,
     names: &mut Vec<u16>,
@@ -665,6 +688,8 @@ fn places_of<'a>(
     requires { names.old.items ≡ [] }
     ensures names { OnOk result (AreNames names.new.items) }
     ensures same { IfOk result (λ places. names.new.items ≡ names_of places.items) }
+    ensures texts { IfOk result
+        (λ places. AreTexts IsPlaceText (map (λ text. text.now) texts.now) places.items) }
 {
     let mut places = Vec::new(alloc);
     for text in texts {
@@ -676,7 +701,26 @@ fn places_of<'a>(
     Ok(places)
 }
 
-/// The replicas that are to join by these words, in their order. Their names are added after the
+/// The replicas that are to join by the words, in their order. Their names are added after the
+/// others.
+fn joins_in<'a>(
+    alloc: Global,
+    names: &mut Vec<u16>,
+    matches: &ArgMatches<'a>,
+) -> Result<Vec<Join<'a>>, UsageFault<'a>>
+    requires { AreNames names.old.items }
+    ensures names { IfOk result (λ joins. AreNames (names.old.items ++ join_names_of joins.items)) }
+    ensures more { IfOk result
+        (λ joins. names.new.items ≡ names.old.items ++ join_names_of joins.items) }
+    ensures peers { IfOk result (λ joins. HavePeers names.old.items joins.items) }
+    ensures words { IfOk result
+        (λ joins. NamesJoins (rows_of (found_of matches.now)) joins.items) }
+{
+    let texts = matches.get_strs("join").unwrap_or(&[]);
+    joins_of(alloc, names, texts)
+}
+
+/// The replicas that are to join by these texts, in their order. Their names are added after the
 /// others.
 fn joins_of<'a>(
     alloc: Global,
@@ -688,6 +732,8 @@ fn joins_of<'a>(
     ensures more { IfOk result
         (λ joins. names.new.items ≡ names.old.items ++ join_names_of joins.items) }
     ensures peers { IfOk result (λ joins. HavePeers names.old.items joins.items) }
+    ensures texts { IfOk result
+        (λ joins. AreTexts IsJoinText (map (λ text. text.now) texts.now) joins.items) }
 {
     let mut joins = Vec::new(alloc);
     for text in texts {
@@ -699,15 +745,18 @@ fn joins_of<'a>(
     Ok(joins)
 }
 
-/// Where replicas with these names also listen for clients that speak IMAP4rev1 by these words, in
-/// their order.
-fn rev1_of<'a>(
+/// Where replicas with these names also listen for clients of IMAP4rev1 by the words, in their
+/// order.
+fn rev1_in<'a>(
     alloc: Global,
     names: &[u16],
-    texts: &[&'a str],
+    matches: &ArgMatches<'a>,
 ) -> Result<Vec<Place<'a>>, UsageFault<'a>>
-    ensures { IfOk result (λ places. AreAmong names.now places.items) }
+    ensures among { IfOk result (λ places. AreAmong names.now places.items) }
+    ensures words { IfOk result
+        (λ places. NamesRev1 (rows_of (found_of matches.now)) places.items) }
 {
+    let texts = matches.get_strs("rev1").unwrap_or(&[]);
     let mut own = Vec::new(alloc);
     let places = match places_of(alloc, &mut own, texts) {
         Ok(places) => places,
@@ -751,6 +800,7 @@ fn add_join<'a>(
     ensures more { OnOk result ((join : Join)
         × (names.new.items ≡ names.old.items ++ join.place.replica ∷ [])
         × (is_named join.peer names.old.items ≡ true)
+        × IsJoinText text.entry.now join
         × (joins.new.items ≡ joins.old.items ++ join ∷ [])) }
 {
     let Some(join) = join_of(text) else {
@@ -781,6 +831,9 @@ fn add_place<'a>(
     requires same { names_of places.old.items ≡ names.old.items }
     ensures names { OnOk result (AreNames names.new.items) }
     ensures same { OnOk result (names_of places.new.items ≡ names.new.items) }
+    ensures more { OnOk result ((place : Place)
+        × IsPlaceText text.entry.now place
+        × (places.new.items ≡ places.old.items ++ place ∷ [])) }
 {
     let Some(place) = place_of(text) else {
         return Err(UsageFault::BadReplica(text));

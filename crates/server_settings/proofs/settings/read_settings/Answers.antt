@@ -14,6 +14,6 @@ returns-clause-store c = store_is_named (found_of c.in-Ok.matches) _ c.get_str-s
 
 pub returns-clause-linked : goal.returns-clause-linked
 returns-clause-linked c =
-    linked_is c.in-Ok-links_of.links c.may_be_linked-is_linkable.result c.in-Ok-places_of.places.items c.in-Ok-joins_of.joins.items c.get_str-store.result _ c.in-Ok-links_of.ensures.linkable
+    linked_is c.in-Ok-links_of.links c.may_be_linked-is_linkable.result c.in-Ok-replicas_in.places.items c.in-Ok-joins_in.joins.items c.get_str-store.result _ c.in-Ok-links_of.ensures.linkable
     (λ yes. let m = c.may_be_linked-is_linkable.ensures yes in (search rules, search rules, m.2))
-    (c.in-Ok-joins_of.ensures.more ∙ ap (λ (xs : List ℕ). xs ++ join_names_of c.in-Ok-joins_of.joins.items) c.in-Ok-places_of.ensures.same) c.in-Ok-links_of.ensures.names
+    (c.in-Ok-joins_in.ensures.more ∙ ap (λ (xs : List ℕ). xs ++ join_names_of c.in-Ok-joins_in.joins.items) c.in-Ok-replicas_in.ensures.same) c.in-Ok-links_of.ensures.names
