@@ -3,4 +3,5 @@ pub mod Logins
 pub mod PassFiles
 pub mod Places
 pub mod Totals
+pub mod Renames
 pub mod ReplicaEnds

@@ -546,7 +546,7 @@ fn login_of_outcome(last: Option<&Outcome>, login: Login) -> Result<Login, PortF
 }
 
 /// The reply, in shared memory; `NoMemory` if it has too many copies to be counted.
-pub fn reply_of_outcome(last: Option<&Outcome>) -> Result<Reply, PortFault>
+fn reply_of_outcome(last: Option<&Outcome>) -> Result<Reply, PortFault>
     ensures { IfOk result (λ reply. option_map (λ o. o.now) last.entry ≡ Some (Replied reply)) }
 {
     match last {
