@@ -4,7 +4,10 @@ ghost use Rattle.std.specs.Prelude.{◌≡◌, ◌≤◌, true, false, length, m
 ghost use Rattle.std.specs.List.{filter, slice_get, sum_by};
 ghost use Rattle.std.specs.Option.{option_to_list};
 ghost use Rattle.imap_query.specs.Messages.{is_flagged};
-ghost use Rattle.imap_query.specs.Status.{is_asked, size_of, status_of};
+ghost use Rattle.imap_query.specs.Status.{if_asked, is_asked, size_of, status_of};
+ghost use Rattle.imap_syntax.specs.declared.flags.SystemFlag.TheVariants.{Deleted, Seen};
+ghost use Rattle.imap_syntax.specs.declared.status.StatusItem.TheVariants.{Deleted as DeletedItem};
+ghost use Rattle.imap_syntax.specs.declared.status.StatusItem.TheVariants.{Size, Unseen};
 
 use crate::messages::is_flagged;
 use imap_answers::StatusItems;
@@ -23,8 +26,8 @@ pub struct MailboxCounters {
 }
 
 /// The items that STATUS reports of a mailbox, each requested item once (RFC 9051, section 6.3.11;
-/// RFC 7162, section 3.1.7). The sum of all messages' octets stops at the greatest `u64`. Time is
-/// linear in the listing.
+/// RFC 7162, section 3.1.7). The sum of all messages' octets stops at the greatest `u64`. UNSEEN,
+/// DELETED and SIZE cost a pass over the listing each, the others nothing.
 pub fn status(rows: &Rows<'_>, items: &[StatusItem], counters: MailboxCounters) -> StatusItems
     ensures { result ≡ status_of items.now counters rows.now }
 {
@@ -32,17 +35,46 @@ pub fn status(rows: &Rows<'_>, items: &[StatusItem], counters: MailboxCounters) 
         messages: is_asked(items, StatusItem::Messages).then_some(rows.count()),
         uidnext: is_asked(items, StatusItem::UidNext).then_some(counters.uidnext),
         uidvalidity: is_asked(items, StatusItem::UidValidity).then_some(counters.uidvalidity),
-        unseen: is_asked(items, StatusItem::Unseen).then_some(count(rows, SystemFlag::Seen, false)),
-        deleted: is_asked(items, StatusItem::Deleted).then_some(count(
-            rows,
-            SystemFlag::Deleted,
-            true,
-        )),
-        size: is_asked(items, StatusItem::Size).then_some(size(rows)),
+        unseen: unseen_if_asked(rows, items),
+        deleted: deleted_if_asked(rows, items),
+        size: size_if_asked(rows, items),
         highest_modseq: is_asked(items, StatusItem::HighestModSeq).then_some(
             counters.highest_modseq,
         ),
     }
+}
+
+/// The number of messages without `\Seen`, if it is requested; else no message is looked at.
+fn unseen_if_asked(rows: &Rows<'_>, items: &[StatusItem]) -> Option<u32>
+    ensures { result
+        ≡ if_asked Unseen items.now (length (filter (is_flagged Seen false) rows.now)) }
+{
+    if !is_asked(items, StatusItem::Unseen) {
+        return None;
+    }
+    Some(count(rows, SystemFlag::Seen, false))
+}
+
+/// The number of messages with `\Deleted`, if it is requested; else no message is looked at.
+fn deleted_if_asked(rows: &Rows<'_>, items: &[StatusItem]) -> Option<u32>
+    ensures { result
+        ≡ if_asked DeletedItem items.now (length (filter (is_flagged Deleted true) rows.now)) }
+{
+    if !is_asked(items, StatusItem::Deleted) {
+        return None;
+    }
+    Some(count(rows, SystemFlag::Deleted, true))
+}
+
+/// The sum of all messages' octets, if it is requested; else no message is looked at.
+fn size_if_asked(rows: &Rows<'_>, items: &[StatusItem]) -> Option<u64>
+    ensures { result
+        ≡ if_asked Size items.now (min (sum_by size_of rows.now) 18446744073709551615) }
+{
+    if !is_asked(items, StatusItem::Size) {
+        return None;
+    }
+    Some(size(rows))
 }
 
 /// Whether an item is among those requested.

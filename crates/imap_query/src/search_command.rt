@@ -1,6 +1,7 @@
 //! The results of SEARCH (RFC 9051, section 6.4.4; RFC 7162, section 3.1.5).
 
-ghost use Rattle.std.specs.Prelude.{◌≡◌, ◌==◌, ◌&&◌, ◌++◌, [], length, map, not, Some, IfOk, OnOk};
+ghost use Rattle.std.specs.Prelude.{◌≡◌, ◌==◌, ◌&&◌, ◌++◌, [], length, map, not, None, Some};
+ghost use Rattle.std.specs.Prelude.{IfOk, OnOk};
 ghost use Rattle.std.specs.Prelude.{if◌then◌else◌};
 ghost use Rattle.std.specs.List.{list_any};
 ghost use Rattle.imap_types.specs.Numbers.{AreRisingFrom, greatest};
@@ -178,7 +179,7 @@ fn results(
         max: number_if_asked(asks_option(options, SearchOption::Max), last_hit(hits)),
         all,
         count: asks_option(options, SearchOption::Count).then_some(count_of(hits)),
-        modseq: is_modseq_asked(with_modseq, hits).then_some(modseq_of_result(options, hits)),
+        modseq: modseq_if_reported(is_modseq_asked(with_modseq, hits), options, hits),
     })
 }
 
@@ -210,6 +211,17 @@ fn is_modseq_asked(with_modseq: bool, hits: &[Hit]) -> bool
     ensures { result ≡ (with_modseq && not (length hits.now == 0)) }
 {
     with_modseq && !hits.is_empty()
+}
+
+/// The mod-sequence of the results, if they include it.
+fn modseq_if_reported(is_reported: bool, options: &[SearchOption], hits: &[Hit]) -> Option<u64>
+    ensures { result
+        ≡ (if is_reported then Some (modseq_of_result options.now hits.now) else None) }
+{
+    if !is_reported {
+        return None;
+    }
+    Some(modseq_of_result(options, hits))
 }
 
 fn first_hit(hits: &[Hit]) -> Option<Hit>

@@ -1,7 +1,7 @@
-use Rattle.std.proofs.Common.{◌≡◌, ◌≢◌, slice_index, ℕ, zero, suc, ◌+◌, ◌<◌, true, List, [], ◌∷◌, length, take, drop, ap, sym, ◌∙◌, arith, refl, inl, inr}
+use Rattle.std.proofs.Common.{◌≡◌, ◌≢◌, slice_index, ℕ, zero, suc, ◌+◌, ◌-◌, ◌<◌, ◌==◌, true, List, [], ◌∷◌, length, take, drop, ap, sym, ◌∙◌, arith, refl, inl, inr}
 use Rattle.std.proofs.lemmas.Bool.{cases_Bool, and_from, and_parts, eq-eqb, eqb-true}
 use Rattle.std.specs.List.{concat}
-use Rattle.memchr.specs.Find.{OccursAt, Nowhere}
+use Rattle.memchr.specs.Find.{OccursAt, NoneBefore, Nowhere, Passes, is_byte}
 use Rattle.mail_text.specs.TextLines.{crlf, in_first, is_crlf, lines_of}
 
 -- a place of a word, one octet later
@@ -74,3 +74,21 @@ drop-all (x ∷ xs) = drop-all xs
 
 pub whole : (text line tail : List ℕ) → text ≢ [] → Nowhere (OccursAt text crlf) 0 (length text + 1) → line ≡ take (length text) text → tail ≡ drop (length text) text → lines_of text ≡ line ∷ lines_of tail
 whole text line tail e n f b = rw (f, take-all text, b, drop-all text) (no_cut text e n)
+
+-- the first LF, if it comes after a CR, ends the first CRLF
+read_feed : (text : List ℕ) (feed j : ℕ) → 0 < feed → slice_index text (feed - 1) ≡ 13 → slice_index text feed ≡ 10 → j < 2 → slice_index text (feed - 1 + j) ≡ slice_index crlf j
+read_feed text feed zero s r f l = let e : feed - 1 + 0 ≡ feed - 1 = omega arith in ap (slice_index text) e ∙ r
+read_feed text feed (suc zero) s r f l = let e : feed - 1 + 1 ≡ feed = omega (arith, s) in ap (slice_index text) e ∙ f
+read_feed text feed (suc (suc j)) s r f l = absurd (omega arith)
+
+pub at_first_feed : (text : List ℕ) (feed : ℕ) → feed < length text → Passes (is_byte 10) text feed → Nowhere (Passes (is_byte 10) text) 0 feed → 0 < feed → is_byte 13 (slice_index text (feed - 1)) ≡ true
+    → NoneBefore (OccursAt text crlf) 0 (length text + 1) (feed - 1) × OccursAt text crlf (feed - 1)
+at_first_feed text feed l p n s r =
+    let f : slice_index text feed ≡ 10 = eqb-true (slice_index text feed) 10 p in (
+      record {
+        low = omega arith;
+        high = omega (arith, l);
+        before = λ j m o q. n (j + 1) (omega arith) (omega (arith, o)) (ap (λ x. x == 10) (q.reads 1 (omega arith)));
+      },
+      record { fits = omega (arith, l, s); reads = λ j m. read_feed text feed j s (eqb-true (slice_index text (feed - 1)) 13 r) f m },
+    )

@@ -1,6 +1,6 @@
 //! Words in the header fields of a message.
 
-ghost use Rattle.std.specs.Prelude.{◌≡◌, ◌≤◌, ◌&&◌, [], ◌∷◌, length, IfOk, MatchOption};
+ghost use Rattle.std.specs.Prelude.{◌≡◌, ◌≤◌, ◌&&◌, [], ◌∷◌, false, length, IfOk, MatchOption};
 ghost use Rattle.mail_text.specs.Cuts.{IsAfterContinuation, IsFirstField};
 ghost use Rattle.mail_text.specs.HeaderFields.{field_lines, fields_in, has_requested_name};
 ghost use Rattle.mail_text.specs.TextLines.{lines_of};
@@ -127,9 +127,24 @@ fn after_continuations(text: &[u8]) -> &[u8]
 fn has_field_name(line: &[u8], name: &[u8]) -> bool
     ensures { result ≡ has_requested_name (name.now ∷ []) line.now }
 {
+    if !begins_alike(line, name) {
+        return false;
+    }
     match before_colon(line) {
         None => false,
         Some(front) => name.eq_ignore_ascii_case(trim_end_blanks(front)),
+    }
+}
+
+/// Whether a line's first octet is that of the name, without regard to case, as that of each field
+/// of this name is; also if either is empty. It tells most fields apart without a search for the
+/// colon.
+fn begins_alike(line: &[u8], name: &[u8]) -> bool
+    ensures { result ≡ false → has_requested_name (name.now ∷ []) line.now ≡ false }
+{
+    match (line.first(), name.first()) {
+        (Some(octet), Some(letter)) => letter.eq_ignore_ascii_case(octet),
+        _ => true,
     }
 }
 
