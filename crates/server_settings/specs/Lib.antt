@@ -1,3 +1,4 @@
+pub mod CommandLines
 pub mod Links
 pub mod Options
 pub mod Settings

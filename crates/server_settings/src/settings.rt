@@ -5,6 +5,7 @@ ghost use Rattle.std.specs.Prelude.{IfOk, IfSome, IsSome, OnOk, Some, length, ma
 ghost use Rattle.std.specs.Prelude.{All, slice_get};
 ghost use Rattle.clap.specs.Words.{IsUnsignedIn, app_of, found_of, matches_of, one_of, rows_of};
 ghost use Rattle.clap_laws.specs.Words.{AddWords, IsWord};
+ghost use Rattle.server_settings.specs.CommandLines.{NamesSettings};
 ghost use Rattle.server_settings.specs.Options.{NamesGivenAccess, NamesJournalBound, NamesLimits};
 ghost use Rattle.server_settings.specs.Options.{NamesJoins, NamesReplicas, NamesRev1, NamesStore};
 ghost use Rattle.server_settings.specs.Options.{join_word, number_word};
@@ -249,35 +250,8 @@ pub fn read_settings<'a>(
     alloc: Global,
     words: &'a [String],
 ) -> Result<CommandLine<'a>, SettingsFault<'a>>
-    ensures access { IfOk result (λ settings. NamesGivenAccess
-        (matches_of server_words (map ⟦<String as AsStr>⟧.text words.entry.now)) settings.access) }
-    ensures limits { IfOk result (λ settings. NamesLimits
-        (matches_of server_words (map ⟦<String as AsStr>⟧.text words.entry.now)) settings.limits) }
-    ensures journal { IfOk result (λ settings. NamesJournalBound
-        (matches_of server_words (map ⟦<String as AsStr>⟧.text words.entry.now)) settings.journal) }
-    ensures store { IfOk result (λ settings. NamesStore
-        (matches_of server_words (map ⟦<String as AsStr>⟧.text words.entry.now)) settings.store) }
-    ensures names { IfOk result (λ settings. AreNames
-        (names_of settings.places.items ++ join_names_of settings.joins.items)) }
-    ensures peers { IfOk result
-        (λ settings. HavePeers (names_of settings.places.items) settings.joins.items) }
-    ensures replicas { IfOk result (λ settings. NamesReplicas
-        (matches_of server_words (map ⟦<String as AsStr>⟧.text words.entry.now))
-        settings.places.items) }
-    ensures joins { IfOk result (λ settings. NamesJoins
-        (matches_of server_words (map ⟦<String as AsStr>⟧.text words.entry.now))
-        settings.joins.items) }
-    ensures rev1 { IfOk result (λ settings. NamesRev1
-        (matches_of server_words (map ⟦<String as AsStr>⟧.text words.entry.now))
-        settings.rev1.items) }
-    ensures among { IfOk result (λ settings. AreAmong
-        (names_of settings.places.items ++ join_names_of settings.joins.items)
-        settings.rev1.items) }
-    ensures links { IfOk result (λ settings. NamesLinks
-        (matches_of server_words (map ⟦<String as AsStr>⟧.text words.entry.now)) settings.links) }
-    ensures linked { IfOk result (λ settings. IfSome settings.links
-        (λ words. MayBeLinked settings.places.items settings.joins.items settings.store
-        words.peers.items)) }
+    ensures { IfOk result (NamesSettings
+        (matches_of server_words (map ⟦<String as AsStr>⟧.text words.entry.now))) }
 {
     let matches = match find_words(alloc, words) {
         Ok(matches) => matches,
@@ -408,6 +382,36 @@ fn command_words<'a>(alloc: Global) -> Result<Command<'a>, AllocError>
 const ABOUT: &str =
     "Serves the mail of one user over IMAP, at several replicas that take changes from each other. Mail lives as long as the program runs, or in the folder that --store names.";
 
+const USER_HELP: &str = "This is the name by which the user logs in.";
+
+const PASS_HELP: &str = "This is the password with which the user logs in.";
+
+const PASS_FILE_HELP: &str =
+    "The first line of this file is the password, in place of --pass, which other users of the machine can read.";
+
+const JOURNAL_HELP: &str =
+    "Each replica's journal takes at most this many octets, and forgets its oldest entries: a number, with K, M or G for powers of 1,024, or all for no bound. Otherwise it is 64M.";
+
+const STORE_HELP: &str =
+    "Each replica's operations are stored in this folder, and are there again at the next start. Otherwise mail lives as long as the program runs.";
+
+const LINK_LISTEN_HELP: &str =
+    "Other processes open links to this one at this address, as in 0.0.0.0:1499.";
+
+const SECRET_FILE_HELP: &str =
+    "This file has the secret that all linked processes know, of 32 to 1024 octets.";
+
+const LOGIN_TIME_HELP: &str = "A client has this many seconds to log in. Otherwise it has 60.";
+
+const IDLE_TIME_HELP: &str =
+    "A client that is logged in may be silent for this many seconds. Otherwise for 1800; RFC 9051 wants no fewer.";
+
+const WRITE_TIME_HELP: &str =
+    "A client may leave an answer untaken for this many seconds. Otherwise for 60.";
+
+const LITERAL_LIMIT_HELP: &str =
+    "The literals of a command, as a message, have at most this many octets, up to 20971520. Otherwise 1048576.";
+
 /// The arguments for users, followed by those for limits, for the end of the server, for journals,
 /// for the store, for replicas that join, for links, and for replicas.
 fn known_words<'a>(alloc: Global) -> Result<Vec<Arg<'a>>, AllocError>
@@ -416,65 +420,21 @@ fn known_words<'a>(alloc: Global) -> Result<Vec<Arg<'a>>, AllocError>
 {
     let words = vec![in alloc;
         preauth(alloc),
-        word_with_value(alloc, "user", "This is the name by which the user logs in."),
-        word_with_value(
-            alloc,
-            "pass",
-            "This is the password with which the user logs in.",
-        ),
-        word_with_value(
-            alloc,
-            "pass-file",
-            "The first line of this file is the password, in place of --pass, which other users of the machine can read.",
-        ),
-        number_word(
-            alloc,
-            "login-time",
-            4_294_967_295,
-            "A client has this many seconds to log in. Otherwise it has 60.",
-        ),
-        number_word(
-            alloc,
-            "idle-time",
-            4_294_967_295,
-            "A client that is logged in may be silent for this many seconds. Otherwise for 1800; RFC 9051 wants no fewer.",
-        ),
-        number_word(
-            alloc,
-            "write-time",
-            4_294_967_295,
-            "A client may leave an answer untaken for this many seconds. Otherwise for 60.",
-        ),
-        number_word(
-            alloc,
-            "literal-limit",
-            20_971_520,
-            "The literals of a command, as a message, have at most this many octets, up to 20971520. Otherwise 1048576.",
-        ),
+        word_with_value(alloc, "user", USER_HELP),
+        word_with_value(alloc, "pass", PASS_HELP),
+        word_with_value(alloc, "pass-file", PASS_FILE_HELP),
+        number_word(alloc, "login-time", 4_294_967_295, LOGIN_TIME_HELP),
+        number_word(alloc, "idle-time", 4_294_967_295, IDLE_TIME_HELP),
+        number_word(alloc, "write-time", 4_294_967_295, WRITE_TIME_HELP),
+        number_word(alloc, "literal-limit", 20_971_520, LITERAL_LIMIT_HELP),
         stop_after(alloc),
-        word_with_value(
-            alloc,
-            "journal",
-            "Each replica's journal takes at most this many octets, and forgets its oldest entries: a number, with K, M or G for powers of 1,024, or all for no bound. Otherwise it is 64M.",
-        ),
-        word_with_value(
-            alloc,
-            "store",
-            "Each replica's operations are stored in this folder, and are there again at the next start. Otherwise mail lives as long as the program runs.",
-        ),
+        word_with_value(alloc, "journal", JOURNAL_HELP),
+        word_with_value(alloc, "store", STORE_HELP),
         join_arg(alloc),
         rev1_arg(alloc),
-        word_with_value(
-            alloc,
-            "link-listen",
-            "Other processes open links to this one at this address, as in 0.0.0.0:1499.",
-        ),
+        word_with_value(alloc, "link-listen", LINK_LISTEN_HELP),
         peer_arg(alloc),
-        word_with_value(
-            alloc,
-            "secret-file",
-            "This file has the secret that all linked processes know, of 32 to 1024 octets.",
-        ),
+        word_with_value(alloc, "secret-file", SECRET_FILE_HELP),
         replica(alloc),
     ]?;
     Ok(words)

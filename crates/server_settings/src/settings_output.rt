@@ -1,13 +1,9 @@
 //! What the program prints if its command line gives no settings.
 
-ghost use Rattle.std.specs.Prelude.{◌++◌, IfOk, IfSome, map};
+ghost use Rattle.std.specs.Prelude.{IfOk, map};
 ghost use Rattle.clap.specs.Words.{matches_of};
-ghost use Rattle.server_settings.specs.Links.{MayBeLinked, NamesLinks};
-ghost use Rattle.server_settings.specs.Options.{NamesGivenAccess, NamesJournalBound, NamesLimits};
-ghost use Rattle.server_settings.specs.Options.{NamesJoins, NamesReplicas, NamesRev1, NamesStore};
+ghost use Rattle.server_settings.specs.CommandLines.{NamesSettings};
 ghost use Rattle.server_settings.specs.Options.{server_words};
-ghost use Rattle.server_settings.specs.Settings.{AreAmong, AreNames, HavePeers, join_names_of};
-ghost use Rattle.server_settings.specs.Settings.{names_of};
 
 use crate::settings::{CommandLine, SettingsFault, UsageFault, is_out_of_memory, read_settings};
 use clap::Error;
@@ -20,35 +16,8 @@ pub fn settings_or_status<'a, R: Print + AllocGlobal>(
     rt: &R,
     words: &'a [String],
 ) -> Result<CommandLine<'a>, u8>
-    ensures access { IfOk result (λ settings. NamesGivenAccess
-        (matches_of server_words (map ⟦<String as AsStr>⟧.text words.entry.now)) settings.access) }
-    ensures limits { IfOk result (λ settings. NamesLimits
-        (matches_of server_words (map ⟦<String as AsStr>⟧.text words.entry.now)) settings.limits) }
-    ensures journal { IfOk result (λ settings. NamesJournalBound
-        (matches_of server_words (map ⟦<String as AsStr>⟧.text words.entry.now)) settings.journal) }
-    ensures store { IfOk result (λ settings. NamesStore
-        (matches_of server_words (map ⟦<String as AsStr>⟧.text words.entry.now)) settings.store) }
-    ensures names { IfOk result (λ settings. AreNames
-        (names_of settings.places.items ++ join_names_of settings.joins.items)) }
-    ensures peers { IfOk result
-        (λ settings. HavePeers (names_of settings.places.items) settings.joins.items) }
-    ensures replicas { IfOk result (λ settings. NamesReplicas
-        (matches_of server_words (map ⟦<String as AsStr>⟧.text words.entry.now))
-        settings.places.items) }
-    ensures joins { IfOk result (λ settings. NamesJoins
-        (matches_of server_words (map ⟦<String as AsStr>⟧.text words.entry.now))
-        settings.joins.items) }
-    ensures rev1 { IfOk result (λ settings. NamesRev1
-        (matches_of server_words (map ⟦<String as AsStr>⟧.text words.entry.now))
-        settings.rev1.items) }
-    ensures among { IfOk result (λ settings. AreAmong
-        (names_of settings.places.items ++ join_names_of settings.joins.items)
-        settings.rev1.items) }
-    ensures links { IfOk result (λ settings. NamesLinks
-        (matches_of server_words (map ⟦<String as AsStr>⟧.text words.entry.now)) settings.links) }
-    ensures linked { IfOk result (λ settings. IfSome settings.links
-        (λ words. MayBeLinked settings.places.items settings.joins.items settings.store
-        words.peers.items)) }
+    ensures { IfOk result (NamesSettings
+        (matches_of server_words (map ⟦<String as AsStr>⟧.text words.entry.now))) }
 {
     match read_settings(rt.alloc(), words) {
         Ok(settings) => Ok(settings),
