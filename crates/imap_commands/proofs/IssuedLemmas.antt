@@ -24,7 +24,7 @@ use Rattle.merge_laws.specs.Orders.{IsIn}
 use Rattle.session_view.specs.Sets.{is_in_range, numbers_in_set}
 use Rattle.session_view.specs.Views.{same_flags}
 use Rattle.session_view.specs.declared.view_entry.ViewEntry.{ViewEntry}
-use Rattle.imap_commands.specs.Arguments.{CopyArgs, FetchArgs, OpenMailbox, StoreArgs}
+use Rattle.imap_commands.specs.Arguments.{OpenMailbox}
 use Rattle.imap_commands.specs.FlagChange.{changed_flags}
 use Rattle.imap_commands.proofs.ListedKeywordLemmas.{united}
 use Rattle.imap_commands.specs.CopyCommand.{append_of, appends_of, copy_intent, move_intent, expunge_of_moved, expunges_of_moved}
@@ -35,6 +35,9 @@ use Rattle.imap_commands.specs.Limits.{has_many_keywords, has_many_versions, wit
 use Rattle.imap_commands.specs.StoreCommand.{has_unlawful_keyword, store_of, store_intent, stores_of, taken_messages}
 use Rattle.imap_commands.specs.Report.{entry_at, message_at, row_for}
 use Rattle.imap_commands.proofs.FlagChangeLemmas.{all_filtered}
+use Rattle.imap_syntax.specs.declared.arguments.Fetch.{Fetch}
+use Rattle.imap_syntax.specs.declared.arguments.Store.{Store as StoreRequest}
+use Rattle.imap_syntax.specs.declared.arguments.Transfer.{Transfer}
 
 -- ---- lists of operations
 
@@ -176,7 +179,7 @@ not_false false h = cc
 lawful_given : (flags : Flags) → has_unlawful_keyword flags ≡ false → list_all is_lawful_keyword flags.keywords ≡ true
 lawful_given flags h = not_false (list_all is_lawful_keyword flags.keywords) h
 
-store_candidates : (mailbox : OpenMailbox) (destination : List ℕ) (request : StoreArgs) (numbers : List ℕ) → HaveLawfulKeywords mailbox.rows → has_unlawful_keyword request.flags ≡ false
+store_candidates : (mailbox : OpenMailbox) (destination : List ℕ) (request : StoreRequest) (numbers : List ℕ) → HaveLawfulKeywords mailbox.rows → has_unlawful_keyword request.flags ≡ false
     → (kind : Kind) → IsIn kind (stores_of mailbox request numbers) → IsCandidate mailbox.name destination mailbox.rows kind
 store_candidates mailbox destination request numbers l u =
     let rows = mailbox.rows in
@@ -185,7 +188,7 @@ store_candidates mailbox destination request numbers l u =
     (λ n i. store_candidate mailbox.name destination rows request.action.mode request.flags (message_at rows view n) (λ row e. message_is_in rows (entry_at view n) row e) l (lawful_given request.flags u))
 
 -- STORE issues Stores of listed messages, with lawful flags.
-pub store_intent_issuable : (mailbox : OpenMailbox) (destination : List ℕ) (request : StoreArgs) (kinds : List Kind) → HaveLawfulKeywords mailbox.rows → store_intent mailbox request ≡ Ok kinds
+pub store_intent_issuable : (mailbox : OpenMailbox) (destination : List ℕ) (request : StoreRequest) (kinds : List Kind) → HaveLawfulKeywords mailbox.rows → store_intent mailbox request ≡ Ok kinds
     → AreIssuable mailbox.name destination mailbox.rows kinds
 store_intent_issuable mailbox destination request kinds l h =
     let in_range = unless_refused (not (is_in_range request.by_uid request.messages mailbox.view)) _ _ kinds h in
@@ -243,7 +246,7 @@ seen_candidate folder destination rows items mode (Some row) m l kind i =
     at_most_one (IsCandidate folder destination rows) (is_above_changed_since mode.changed_since row && is_seen_set items mode row) (Store folder (seen_flags row.flags) row.versions row.origin) (refl, l row is_in, (row, is_in, refl, refl)) kind i
 
 -- FETCH issues Stores of listed messages, with lawful flags.
-pub fetch_intent_issuable : (mailbox : OpenMailbox) (destination : List ℕ) (request : FetchArgs) (kinds : List Kind) → HaveLawfulKeywords mailbox.rows → fetch_intent mailbox request ≡ Ok kinds
+pub fetch_intent_issuable : (mailbox : OpenMailbox) (destination : List ℕ) (request : Fetch) (kinds : List Kind) → HaveLawfulKeywords mailbox.rows → fetch_intent mailbox request ≡ Ok kinds
     → AreIssuable mailbox.name destination mailbox.rows kinds
 fetch_intent_issuable mailbox destination request kinds l h =
     let in_range = unless_refused (not (is_in_range request.by_uid request.messages mailbox.view)) _ _ kinds h in
@@ -279,27 +282,27 @@ removal_candidates folder destination rows view numbers =
     (λ n i. removal_candidate folder destination rows (message_at rows view n) (λ row e. message_is_in rows (entry_at view n) row e))
 
 -- COPY issues Appends in the destination, with lawful flags.
-pub copy_intent_issuable : (mailbox : OpenMailbox) (request : CopyArgs) (exists : Bool) (kinds : List Kind) → HaveLawfulKeywords mailbox.rows → copy_intent mailbox request exists ≡ Ok kinds
-    → AreIssuable mailbox.name request.destination mailbox.rows kinds
+pub copy_intent_issuable : (mailbox : OpenMailbox) (request : Transfer) (exists : Bool) (kinds : List Kind) → HaveLawfulKeywords mailbox.rows → copy_intent mailbox request exists ≡ Ok kinds
+    → AreIssuable mailbox.name request.name mailbox.rows kinds
 copy_intent_issuable mailbox request exists kinds l h =
     let in_range = unless_refused (not (is_in_range request.by_uid request.messages mailbox.view)) _ _ kinds h in
     let issued = unless_refused (not exists) _ _ kinds in_range.1 in
     let folder = mailbox.name in
-    let destination = request.destination in
+    let destination = request.name in
     let before = mailbox.rows in
     let view = mailbox.view in
     let numbers = numbers_in_set request.by_uid request.messages view in
     within_issuable folder destination before (appends_of destination before view numbers) kinds issued.1 (append_candidates folder destination before view numbers l)
 
 -- MOVE issues Appends in the destination, with lawful flags, and Expunges of listed messages.
-pub move_intent_issuable : (mailbox : OpenMailbox) (request : CopyArgs) (exists : Bool) (kinds : List Kind) → HaveLawfulKeywords mailbox.rows → move_intent mailbox request exists ≡ Ok kinds
-    → AreIssuable mailbox.name request.destination mailbox.rows kinds
+pub move_intent_issuable : (mailbox : OpenMailbox) (request : Transfer) (exists : Bool) (kinds : List Kind) → HaveLawfulKeywords mailbox.rows → move_intent mailbox request exists ≡ Ok kinds
+    → AreIssuable mailbox.name request.name mailbox.rows kinds
 move_intent_issuable mailbox request exists kinds l h =
     let in_range = unless_refused (not (is_in_range request.by_uid request.messages mailbox.view)) _ _ kinds h in
     let writable = unless_refused mailbox.read_only _ _ kinds in_range.1 in
     let issued = unless_refused (not exists) _ _ kinds writable.1 in
     let folder = mailbox.name in
-    let destination = request.destination in
+    let destination = request.name in
     let before = mailbox.rows in
     let view = mailbox.view in
     let numbers = numbers_in_set request.by_uid request.messages view in

@@ -14,13 +14,13 @@ use Rattle.imap_types.specs.Names.{IsLawfulName, inbox}
 use Rattle.tags_clocks.specs.declared.id.OpId.{OpId}
 use Rattle.imap_commands.specs.declared.session.Credentials.{Credentials}
 use Rattle.imap_commands.specs.AppendCommand.{append_intent, given_date}
-use Rattle.imap_commands.specs.Arguments.{AppendArgs}
 use Rattle.imap_commands.specs.SimpleCommands.{status_intent}
 use Rattle.imap_commands.specs.Login.{are_credentials, login_intent}
 use Rattle.imap_commands.specs.Lawful.{AreLawfulKinds, IsLawfulKind}
 use Rattle.imap_commands.specs.Mailboxes.{create_intent, created_name, delete_intent, is_lawful_name, subscribe_intent, unsubscribe_intent, unsubscribes}
 use Rattle.imap_commands.specs.SelectCommand.{select_intent}
 use Rattle.imap_commands.proofs.NameLemmas.{lawful_from_test}
+use Rattle.imap_syntax.specs.declared.arguments.Append.{Append as Request}
 
 -- the value of an Ok
 ok_kinds : (intended kinds : List Kind) → ◌≡◌ {A = Result (List Kind) Refusal} (Ok intended) (Ok kinds) → intended ≡ kinds
@@ -103,6 +103,6 @@ append_cases_lawful true true false name flags date text kinds n l m e =
 append_cases_lawful true false many name flags date text kinds n l m e = err_is_not_ok KeywordTooLong kinds e
 append_cases_lawful false lawful many name flags date text kinds n l m e = err_is_not_ok NoDestination kinds e
 
-pub append_lawful : (exists : Bool) (stamp : List ℕ) (request : AppendArgs) (kinds : List Kind) → IsLawfulName request.name → append_intent exists stamp request ≡ Ok kinds → AreLawfulKinds kinds
+pub append_lawful : (exists : Bool) (stamp : List ℕ) (request : Request) (kinds : List Kind) → IsLawfulName request.name → append_intent exists stamp request ≡ Ok kinds → AreLawfulKinds kinds
 append_lawful exists stamp request kinds n e =
     append_cases_lawful exists (list_all is_lawful_keyword request.flags.keywords) (nat_lt 32 (length request.flags.keywords)) request.name request.flags (given_date request.date stamp) request.text kinds n refl refl e

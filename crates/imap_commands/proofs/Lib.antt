@@ -21,3 +21,5 @@ pub mod PrintTaggedLemmas
 mod StoreExamples
 pub mod SeenLemmas
 pub mod GoneLemmas
+pub mod RuleLemmas
+pub mod ReportLemmas

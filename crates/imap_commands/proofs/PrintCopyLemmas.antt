@@ -8,7 +8,7 @@ use Rattle.mailbox_rows.specs.RowViews.{rows_after_uid}
 use Rattle.session_view.specs.Sets.{numbers_in_set}
 use Rattle.session_view.specs.declared.view_entry.ViewEntry.{ViewEntry}
 use Rattle.imap_commands.specs.AppendCommand.{append_report}
-use Rattle.imap_commands.specs.Arguments.{CopyArgs, CopyTarget, OpenMailbox}
+use Rattle.imap_commands.specs.Arguments.{CopyTarget, OpenMailbox}
 use Rattle.imap_commands.specs.CopyCommand.{copied_code, copies_in, copy_report, move_report, moved_answers, sources_of}
 use Rattle.imap_commands.specs.MessageNames.{existing_messages}
 use Rattle.imap_commands.specs.Printing.{HasAllCopies, AreShowable, IsNumbered, IsPrintableReport, IsShowable}
@@ -18,6 +18,7 @@ use Rattle.imap_commands.proofs.PrintFetchLemmas.{gone_printable}
 use Rattle.imap_commands.proofs.PrintSearchLemmas.{set_of}
 use Rattle.imap_commands.proofs.PrintSelectLemmas.{each_filtered}
 use Rattle.imap_commands.proofs.PrintViews.{names_small, numbers_nonzero}
+use Rattle.imap_syntax.specs.declared.arguments.Transfer.{Transfer}
 
 -- ---- UIDs of copies
 
@@ -60,7 +61,7 @@ copies_uids uidnext target_rows r = record {
 
 -- ---- COPY, MOVE and APPEND
 
-pub copy_printable : (mailbox : OpenMailbox) (request : CopyArgs) (target : CopyTarget) → IsNumbered mailbox.view → IsNonzero target.uidvalidity → AreShowable target.rows → HasAllCopies mailbox request target
+pub copy_printable : (mailbox : OpenMailbox) (request : Transfer) (target : CopyTarget) → IsNumbered mailbox.view → IsNonzero target.uidvalidity → AreShowable target.rows → HasAllCopies mailbox request target
     → IsPrintableReport (copy_report mailbox request target)
 copy_printable mailbox request target v u r e =
     let numbers = numbers_in_set request.by_uid request.messages mailbox.view in
@@ -71,7 +72,7 @@ copy_printable mailbox request target v u r e =
           (sources_uids mailbox.rows mailbox.view request.by_uid request.messages v) (copies_uids target.uidnext target.rows r) e (gone_printable mailbox.rows mailbox.view numbers);
     }
 
-pub move_printable : (mailbox : OpenMailbox) (request : CopyArgs) (target : CopyTarget) → IsNumbered mailbox.view → IsNonzero target.uidvalidity → AreShowable target.rows → HasAllCopies mailbox request target
+pub move_printable : (mailbox : OpenMailbox) (request : Transfer) (target : CopyTarget) → IsNumbered mailbox.view → IsNonzero target.uidvalidity → AreShowable target.rows → HasAllCopies mailbox request target
     → IsPrintableReport (move_report mailbox request target)
 move_printable mailbox request target v u r e =
     let numbers = numbers_in_set request.by_uid request.messages mailbox.view in

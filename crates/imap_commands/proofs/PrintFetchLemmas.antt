@@ -22,12 +22,13 @@ use Rattle.mail_text.specs.TextLines.{body_lines, header_lines, in_first, is_emp
 use Rattle.mail_text.proofs.LineLemmas.{lines-joined}
 use Rattle.session_view.specs.Sets.{numbers_in_set}
 use Rattle.session_view.specs.declared.view_entry.ViewEntry.{ViewEntry}
-use Rattle.imap_commands.specs.Arguments.{FetchArgs, OpenMailbox}
+use Rattle.imap_commands.specs.Arguments.{OpenMailbox}
 use Rattle.imap_commands.specs.FetchCommand.{fetch_report, mode_of, viewed_message_at, viewed_messages_at}
 use Rattle.imap_commands.specs.Printing.{AreShowable, AreAnswerableItems, IsNumbered, IsPrintableReport, IsShowable, IsAnswerableItem}
 use Rattle.imap_commands.specs.Report.{are_some_gone, entry_at, gone_code}
 use Rattle.imap_commands.proofs.PrintSelectLemmas.{each_append}
 use Rattle.imap_commands.proofs.PrintViews.{numbers_nonzero, row_showable}
+use Rattle.imap_syntax.specs.declared.arguments.Fetch.{Fetch}
 
 -- ---- each item of joined lists
 
@@ -240,7 +241,7 @@ shown_nonzero : (n : ℕ) (e : Option ViewEntry) → IsNonzero n → Each IsNumb
 shown_nonzero n None h = tt
 shown_nonzero n (Some e) h = (h, tt)
 
-pub fetch_printable : (mailbox : OpenMailbox) (after : List ListedMessage) (condstore : Bool) (request : FetchArgs) → AreShowable after → IsNumbered mailbox.view → AreAnswerableItems request.items
+pub fetch_printable : (mailbox : OpenMailbox) (after : List ListedMessage) (condstore : Bool) (request : Fetch) → AreShowable after → IsNumbered mailbox.view → AreAnswerableItems request.items
     → IsPrintableReport (fetch_report mailbox after condstore request)
 fetch_printable mailbox after condstore request r v t =
     let before = mailbox.rows in

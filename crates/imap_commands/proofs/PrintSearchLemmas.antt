@@ -15,7 +15,7 @@ use Rattle.mailbox_rows.specs.ListedMessage.{ListedMessage}
 use Rattle.mailbox_rows.specs.RowViews.{row_of}
 use Rattle.session_view.specs.Views.{AreRising}
 use Rattle.session_view.specs.declared.view_entry.ViewEntry.{ViewEntry}
-use Rattle.imap_commands.specs.Arguments.{OpenMailbox, SearchArgs}
+use Rattle.imap_commands.specs.Arguments.{OpenMailbox}
 use Rattle.imap_commands.specs.Printing.{AreShowable, IsNumbered, IsPrintableReport, IsShowable}
 use Rattle.imap_commands.specs.SearchCommand.{IsSearchReport, viewed_messages_from}
 use Rattle.imap_commands.specs.Report.{CommandReport, report_of_answers}
@@ -23,6 +23,7 @@ use Rattle.imap_commands.proofs.NamedLemmas.{least, least_first, least_lower, le
 use Rattle.imap_commands.proofs.PrintReportLemmas.{only_printable}
 use Rattle.imap_commands.proofs.PrintFetchLemmas.{each_flat, or_right}
 use Rattle.imap_commands.proofs.PrintViews.{AreSmall, greatest_small, row_showable, view_small}
+use Rattle.imap_syntax.specs.declared.arguments.Search.{Search as Request}
 
 -- ---- sets of numbers
 
@@ -215,7 +216,7 @@ results_printable options request matches r h =
       modseq = if_requested_result request options matches h;
     }
 
-pub search_printable : (mailbox : OpenMailbox) (tag : List ℕ) (request : SearchArgs) (printable : CommandReport) → IsTag tag → AreShowable mailbox.rows → IsNumbered mailbox.view → IsSearchReport mailbox tag request printable
+pub search_printable : (mailbox : OpenMailbox) (tag : List ℕ) (request : Request) (printable : CommandReport) → IsTag tag → AreShowable mailbox.rows → IsNumbered mailbox.view → IsSearchReport mailbox tag request printable
     → IsPrintableReport printable
 search_printable mailbox tag request printable t r v s =
     let rows = mailbox.rows in

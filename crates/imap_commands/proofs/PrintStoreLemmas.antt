@@ -10,7 +10,7 @@ use Rattle.imap_types.specs.declared.sequence_set.SequenceRange.{SequenceRange}
 use Rattle.mailbox_rows.specs.ListedMessage.{ListedMessage}
 use Rattle.session_view.specs.Sets.{numbers_in_set}
 use Rattle.session_view.specs.declared.view_entry.ViewEntry.{ViewEntry}
-use Rattle.imap_commands.specs.Arguments.{OpenMailbox, StoreArgs}
+use Rattle.imap_commands.specs.Arguments.{OpenMailbox}
 use Rattle.imap_commands.specs.ExpungeCommand.{uid_expunge_report}
 use Rattle.imap_commands.specs.MessageNames.{names_of}
 use Rattle.imap_commands.specs.Printing.{AreShowable, IsNumbered, IsPrintableReport, IsShowable}
@@ -20,6 +20,7 @@ use Rattle.imap_commands.proofs.NamedLemmas.{names_rising}
 use Rattle.imap_commands.proofs.PrintFetchLemmas.{HasSomeItem, each_flat, gone_printable, has_some_item, present_if_reported}
 use Rattle.imap_commands.proofs.PrintSelectLemmas.{each_filtered}
 use Rattle.imap_commands.proofs.PrintViews.{greatest_small, names_small, numbers_nonzero, row_showable}
+use Rattle.imap_syntax.specs.declared.arguments.Store.{Store}
 
 -- ---- the messages that STORE may change
 
@@ -38,7 +39,7 @@ stored_some by_uid true with_modseq row e = inr (inl refl)
 stored_some by_uid false true row e = inr (inr (inr (inr (inl refl))))
 stored_some by_uid false false row e = absurd (false≢true e)
 
-stored_one : (condstore : Bool) (request : StoreArgs) (n : ℕ) (row : Option ListedMessage) → (not request.action.silent || (is_some request.unchanged_since || condstore)) ≡ true → IsNonzero n → IfPresent IsShowable row
+stored_one : (condstore : Bool) (request : Store) (n : ℕ) (row : Option ListedMessage) → (not request.action.silent || (is_some request.unchanged_since || condstore)) ≡ true → IsNonzero n → IfPresent IsShowable row
     → Each IsPrintable (stored_answer condstore request n row)
 stored_one condstore request n None e k h = tt
 stored_one condstore request n (Some row) e k h =
@@ -56,7 +57,7 @@ stored_one condstore request n (Some row) e k h =
     } in
     ((k, items), tt)
 
-stored_each : (after : List ListedMessage) (view : List ViewEntry) (condstore : Bool) (request : StoreArgs) (taken : List ℕ) → (not request.action.silent || (is_some request.unchanged_since || condstore)) ≡ true → AreShowable after
+stored_each : (after : List ListedMessage) (view : List ViewEntry) (condstore : Bool) (request : Store) (taken : List ℕ) → (not request.action.silent || (is_some request.unchanged_since || condstore)) ≡ true → AreShowable after
     → Each IsNonzero taken → Each IsPrintable (flat_map (λ n. stored_answer condstore request n (message_at after view n)) taken)
 stored_each after view condstore request taken e r k =
     each_flat IsNonzero IsPrintable (λ n. stored_answer condstore request n (message_at after view n)) taken
@@ -68,7 +69,7 @@ reports_each false given condstore e = refl
 reports_each true true condstore e = refl
 reports_each true false condstore e = absurd (false≢true (sym e))
 
-stored_printable : (after : List ListedMessage) (view : List ViewEntry) (condstore : Bool) (request : StoreArgs) (taken : List ℕ) → AreShowable after → Each IsNonzero taken → Each IsPrintable (stored_answers after view condstore request taken)
+stored_printable : (after : List ListedMessage) (view : List ViewEntry) (condstore : Bool) (request : Store) (taken : List ℕ) → AreShowable after → Each IsNonzero taken → Each IsPrintable (stored_answers after view condstore request taken)
 stored_printable after view condstore request taken r k =
     elim (cases_Bool (request.action.silent && not (is_some request.unchanged_since))) [
       | inl t ↦ rw t tt
@@ -81,7 +82,7 @@ modified_printable : (refused : List ℕ) (code : Option Code) → AreRisingFrom
 modified_printable [] code r s h = h
 modified_printable (n ∷ refused) code r s h = record { filled = omega arith; rising = r; small = greatest_small (n ∷ refused) s }
 
-pub store_printable : (mailbox : OpenMailbox) (after : List ListedMessage) (condstore : Bool) (request : StoreArgs) → AreShowable after → IsNumbered mailbox.view → IsPrintableReport (store_report mailbox after condstore request)
+pub store_printable : (mailbox : OpenMailbox) (after : List ListedMessage) (condstore : Bool) (request : Store) → AreShowable after → IsNumbered mailbox.view → IsPrintableReport (store_report mailbox after condstore request)
 store_printable mailbox after condstore request r v =
     let before = mailbox.rows in
     let view = mailbox.view in

@@ -15,11 +15,12 @@ use Rattle.mailbox_rows.specs.ListedMessage.{ListedMessage}
 use Rattle.session_view.specs.Views.{same_flags}
 use Rattle.session_view.specs.declared.view_entry.ViewEntry.{ViewEntry}
 use Rattle.tags_clocks.specs.declared.id.OpId.{OpId}
-use Rattle.imap_commands.specs.Arguments.{OpenMailbox, StoreArgs}
+use Rattle.imap_commands.specs.Arguments.{OpenMailbox}
 use Rattle.imap_commands.specs.FlagChange.{changed_flags}
 use Rattle.imap_commands.specs.CopyCommand.{copy_report}
 use Rattle.imap_commands.specs.ExpungeCommand.{close_intent, expunge_intent, uid_expunge_report}
 use Rattle.imap_commands.specs.StoreCommand.{store_report, store_intent}
+use Rattle.imap_syntax.specs.declared.arguments.Store.{Store}
 
 abbrev bare : Flags
 bare = record { answered = false; flagged = false; deleted = false; seen = false; draft = false; keywords = [] }
@@ -49,7 +50,7 @@ from_to a b = record { first = Number a; last = Number b } ∷ []
 abbrev modseq_alone : ℕ → ℕ → Answer
 modseq_alone n modseq = Fetch n (record { uid = None; flags = None; date = None; size = None; modseq = Some modseq; sections = [] })
 
-abbrev store : Bool → List SequenceRange → Option ℕ → StoreMode → Bool → Flags → StoreArgs
+abbrev store : Bool → List SequenceRange → Option ℕ → StoreMode → Bool → Flags → Store
 store by_uid messages since mode silent flags = record { by_uid = by_uid; messages = messages; unchanged_since = since; action = record { mode = mode; silent = silent }; flags = flags }
 
 module _ (a b c d e : OpId) (folder : List ℕ) where
@@ -96,7 +97,7 @@ module _ (a b c d e : OpId) (folder : List ℕ) where
   gone_is_reported = refl
 
   -- COPY 1:2 into a mailbox whose UIDNEXT was 7, and which then has UIDs 7 and 8.
-  copies_are_reported : copy_report (selected before view false) (record { by_uid = false; messages = from_to 1 2; destination = folder }) (record { uidvalidity = 65537; uidnext = 7; rows = message 5 2 a bare ∷ message 7 3 d bare ∷ message 8 4 e bare ∷ [] }) ≡ record { own = []; silent = []; code = Some (CopyUid 65537 (1 ∷ 2 ∷ []) (7 ∷ 8 ∷ [])) }
+  copies_are_reported : copy_report (selected before view false) (record { by_uid = false; messages = from_to 1 2; name = folder }) (record { uidvalidity = 65537; uidnext = 7; rows = message 5 2 a bare ∷ message 7 3 d bare ∷ message 8 4 e bare ∷ [] }) ≡ record { own = []; silent = []; code = Some (CopyUid 65537 (1 ∷ 2 ∷ []) (7 ∷ 8 ∷ [])) }
   copies_are_reported = refl
 
   -- A message with two versions, shown as one: STORE 1 -FLAGS (\Seen) names both, and so does

@@ -16,10 +16,17 @@ use Rattle.mailbox_rows.specs.ListedMessage.{ListedMessage}
 use Rattle.mailbox_rows.specs.RowViews.{rows_after_uid}
 use Rattle.session_view.specs.Sets.{is_in_range, numbers_in_set}
 use Rattle.session_view.specs.declared.view_entry.ViewEntry.{ViewEntry}
-use Rattle.imap_commands.specs.Arguments.{CopyArgs, CopyTarget, OpenMailbox}
+use Rattle.imap_commands.specs.Arguments.{CopyTarget, OpenMailbox}
 use Rattle.imap_commands.specs.Limits.{within_limits}
 use Rattle.imap_commands.specs.MessageNames.{names_of, existing_messages}
 use Rattle.imap_commands.specs.Report.{CommandReport, gone_code, message_at}
+use Rattle.imap_answers.specs.declared.fixed_words.CompletedWord.TheVariants as words
+use Rattle.imap_syntax.specs.declared.arguments.Transfer.{Transfer}
+use Rattle.imap_commands.specs.CommandRules.{issuing_rule}
+use Rattle.imap_commands.specs.declared.command_rule.CommandRule.{CommandRule}
+use Rattle.imap_commands.specs.MailStates.{MailState, copy_target, open_mailbox}
+use Rattle.imap_commands.specs.SessionStates.{if_selected, report_if_selected}
+use Rattle.imap_commands.specs.declared.session.State.{State}
 
 -- The Append of a message's copy, with its flags, date and text: one version in place of all the
 -- message's versions.
@@ -45,22 +52,22 @@ expunges_of_moved folder before view numbers =
 
 -- The intent of COPY, or the first reason for refusing it (RFC 9051, section 6.4.7). `exists`
 -- says whether the destination exists.
-abbrev pub copy_intent : OpenMailbox → CopyArgs → Bool → Result (List Kind) Refusal
+abbrev pub copy_intent : OpenMailbox → Transfer → Bool → Result (List Kind) Refusal
 copy_intent mailbox request exists =
     if not (is_in_range request.by_uid request.messages mailbox.view) then Err NoSuchMessage
     else (if not exists then Err NoDestination
-    else within_limits (appends_of request.destination mailbox.rows mailbox.view
+    else within_limits (appends_of request.name mailbox.rows mailbox.view
     (numbers_in_set request.by_uid request.messages mailbox.view)))
 
 -- The intent of MOVE, or the first reason for refusing it: all Appends first, and then the Expunges
 -- (RFC 9051, section 6.4.8).
-abbrev pub move_intent : OpenMailbox → CopyArgs → Bool → Result (List Kind) Refusal
+abbrev pub move_intent : OpenMailbox → Transfer → Bool → Result (List Kind) Refusal
 move_intent mailbox request exists =
     if not (is_in_range request.by_uid request.messages mailbox.view) then Err NoSuchMessage
     else (if mailbox.read_only then Err ReadOnly
     else (if not exists then Err NoDestination
     else within_limits (
-    appends_of request.destination mailbox.rows mailbox.view
+    appends_of request.name mailbox.rows mailbox.view
     (numbers_in_set request.by_uid request.messages mailbox.view)
     ++ expunges_of_moved mailbox.name mailbox.rows mailbox.view
     (numbers_in_set request.by_uid request.messages mailbox.view)
@@ -89,7 +96,7 @@ moved_answers uidvalidity (n ∷ sources) copies =
 
 -- The report of COPY, from the mailbox before it and the destination (RFC 9051, sections 6.4.7 and
 -- 7.1).
-abbrev pub copy_report : OpenMailbox → CopyArgs → CopyTarget → CommandReport
+abbrev pub copy_report : OpenMailbox → Transfer → CopyTarget → CommandReport
 copy_report mailbox request target =
     let numbers = numbers_in_set request.by_uid request.messages mailbox.view in
     record {
@@ -101,7 +108,7 @@ copy_report mailbox request target =
     }
 
 -- The report of MOVE, from the mailbox before it and the destination (RFC 9051, section 6.4.8).
-abbrev pub move_report : OpenMailbox → CopyArgs → CopyTarget → CommandReport
+abbrev pub move_report : OpenMailbox → Transfer → CopyTarget → CommandReport
 move_report mailbox request target =
     let numbers = numbers_in_set request.by_uid request.messages mailbox.view in
     record {
@@ -111,3 +118,34 @@ move_report mailbox request target =
       silent = [];
       code = gone_code mailbox.rows mailbox.view numbers;
     }
+
+-- The rules of COPY and MOVE.
+abbrev pub copy_rule : Transfer → CommandRule
+copy_rule request = issuing_rule (if request.by_uid then words.UidCopy else words.Copy)
+
+abbrev pub move_rule : Transfer → CommandRule
+move_rule request = issuing_rule (if request.by_uid then words.UidMove else words.Move)
+
+-- ---- in a session
+
+-- The intents of COPY and MOVE in a session.
+abbrev pub intent_to_copy : MailState → State → Transfer → Result (List Kind) Refusal
+intent_to_copy mail state request =
+    if_selected state (λ view read_only. copy_intent (open_mailbox mail view read_only) request
+    (mail.exists request.name))
+
+abbrev pub intent_to_move : MailState → State → Transfer → Result (List Kind) Refusal
+intent_to_move mail state request =
+    if_selected state (λ view read_only. move_intent (open_mailbox mail view read_only) request
+    (mail.exists request.name))
+
+-- The reports of COPY and MOVE in a session, given the replica before the command and after it.
+abbrev pub report_of_copy : MailState → MailState → State → Transfer → CommandReport
+report_of_copy before after state request =
+    report_if_selected state (λ view read_only. copy_report (open_mailbox before view read_only)
+    request (copy_target before after request.name))
+
+abbrev pub report_of_move : MailState → MailState → State → Transfer → CommandReport
+report_of_move before after state request =
+    report_if_selected state (λ view read_only. move_report (open_mailbox before view read_only)
+    request (copy_target before after request.name))

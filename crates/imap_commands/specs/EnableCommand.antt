@@ -22,6 +22,9 @@ use Rattle.imap_syntax.specs.declared.status.StatusItem.TheVariants.{HighestModS
 use Rattle.imap_query.specs.Hits.{step_names_modseq}
 use Rattle.imap_query.specs.Status.{is_asked}
 use Rattle.imap_commands.specs.Report.{CommandReport, report_of_answers}
+use Rattle.imap_answers.specs.declared.fixed_words.CompletedWord.TheVariants as words
+use Rattle.imap_commands.specs.CommandRules.{brief_rule}
+use Rattle.imap_commands.specs.declared.command_rule.CommandRule.{CommandRule}
 
 -- ---- ENABLE (RFC 9051, section 6.3.1)
 
@@ -92,3 +95,8 @@ fetch_asks_modseq items changed_since = list_any is_modseq_item items || is_some
 -- exactly when its key does.
 abbrev pub search_asks_modseq : List SearchStep → Bool
 search_asks_modseq steps = list_any step_names_modseq steps
+
+-- ENABLE turns mod-sequences on if one of its names is CONDSTORE.
+abbrev pub enable_rule : List (List ℕ) → CommandRule
+enable_rule names =
+    record (brief_rule words.Enable) { enables_condstore = asks_condstore names }

@@ -13,6 +13,12 @@ use Rattle.session_view.specs.declared.view_entry.ViewEntry.{ViewEntry}
 use Rattle.imap_commands.specs.Arguments.{OpenMailbox}
 use Rattle.imap_commands.specs.Limits.{within_limits}
 use Rattle.imap_commands.specs.Report.{CommandReport, gone_code, message_at}
+use Rattle.imap_answers.specs.declared.fixed_words.CompletedWord.TheVariants as words
+use Rattle.imap_commands.specs.CommandRules.{issuing_rule}
+use Rattle.imap_commands.specs.declared.command_rule.CommandRule.{CommandRule}
+use Rattle.imap_commands.specs.MailStates.{MailState, open_mailbox}
+use Rattle.imap_commands.specs.SessionStates.{if_selected, report_if_selected}
+use Rattle.imap_commands.specs.declared.session.State.{State}
 
 -- The Expunge of a message, if one of its versions has `\Deleted`: it removes all of them.
 abbrev pub expunge_of : List ℕ → ListedMessage → List Kind
@@ -61,3 +67,35 @@ uid_expunge_report mailbox uids =
 abbrev pub close_intent : OpenMailbox → Result (List Kind) Refusal
 close_intent mailbox =
     if mailbox.read_only then Ok [] else within_limits (expunges_of mailbox.name mailbox.rows)
+
+-- The rules of EXPUNGE and UID EXPUNGE.
+abbrev pub expunge_rule : CommandRule
+expunge_rule = issuing_rule words.Expunge
+
+abbrev pub uid_expunge_rule : CommandRule
+uid_expunge_rule = issuing_rule words.UidExpunge
+
+-- No sync follows CLOSE (RFC 9051, section 6.4.1).
+abbrev pub close_rule : CommandRule
+close_rule = record (issuing_rule words.Close) { sync = None }
+
+-- ---- in a session
+
+abbrev pub intent_to_close : MailState → State → Result (List Kind) Refusal
+intent_to_close mail state =
+    if_selected state (λ view read_only. close_intent (open_mailbox mail view read_only))
+
+abbrev pub intent_to_expunge : MailState → State → Result (List Kind) Refusal
+intent_to_expunge mail state =
+    if_selected state (λ view read_only. expunge_intent (open_mailbox mail view read_only))
+
+abbrev pub intent_to_uid_expunge : MailState → State → List SequenceRange
+    → Result (List Kind) Refusal
+intent_to_uid_expunge mail state uids =
+    if_selected state (λ view read_only. uid_expunge_intent (open_mailbox mail view read_only) uids)
+
+-- The report of UID EXPUNGE, given the replica before the command.
+abbrev pub report_of_uid_expunge : MailState → State → List SequenceRange → CommandReport
+report_of_uid_expunge before state uids =
+    report_if_selected state
+    (λ view read_only. uid_expunge_report (open_mailbox before view read_only) uids)

@@ -14,12 +14,20 @@ use Rattle.imap_types.specs.declared.flags.Flags.{Flags}
 use Rattle.mailbox_rows.specs.ListedMessage.{ListedMessage}
 use Rattle.session_view.specs.Sets.{is_in_range, numbers_in_set}
 use Rattle.session_view.specs.declared.view_entry.ViewEntry.{ViewEntry}
-use Rattle.imap_commands.specs.Arguments.{FetchArgs, OpenMailbox}
+use Rattle.imap_commands.specs.Arguments.{OpenMailbox}
 use Rattle.imap_commands.specs.Limits.{within_limits}
 use Rattle.imap_commands.specs.Report.{CommandReport, entry_at, gone_code, message_at}
+use Rattle.imap_answers.specs.declared.fixed_words.CompletedWord.TheVariants as words
+use Rattle.imap_syntax.specs.declared.arguments.Fetch.{Fetch}
+use Rattle.imap_commands.specs.EnableCommand.{fetch_asks_modseq}
+use Rattle.imap_commands.specs.CommandRules.{issuing_rule, sync_kind_by}
+use Rattle.imap_commands.specs.declared.command_rule.CommandRule.{CommandRule}
+use Rattle.imap_commands.specs.MailStates.{MailState, open_mailbox, rows_in}
+use Rattle.imap_commands.specs.SessionStates.{if_selected, report_if_selected}
+use Rattle.imap_commands.specs.declared.session.State.{State}
 
 -- The mode of a FETCH, with CONDSTORE on or off.
-abbrev pub mode_of : OpenMailbox → Bool → FetchArgs → FetchMode
+abbrev pub mode_of : OpenMailbox → Bool → Fetch → FetchMode
 mode_of mailbox condstore request =
     record {
       by_uid = request.by_uid;
@@ -43,7 +51,7 @@ seen_store folder items mode (Some row) =
     else []
 
 -- The Stores of `\Seen` for the messages with these numbers.
-abbrev pub seen_stores : OpenMailbox → FetchArgs → List ℕ → List Kind
+abbrev pub seen_stores : OpenMailbox → Fetch → List ℕ → List Kind
 seen_stores mailbox request numbers =
     flat_map
     (λ n. seen_store mailbox.name request.items (mode_of mailbox false request)
@@ -51,7 +59,7 @@ seen_stores mailbox request numbers =
 
 -- The intent of FETCH, or the first reason for refusing it (RFC 9051, section 6.4.5; RFC 7162,
 -- section 3.1.4).
-abbrev pub fetch_intent : OpenMailbox → FetchArgs → Result (List Kind) Refusal
+abbrev pub fetch_intent : OpenMailbox → Fetch → Result (List Kind) Refusal
 fetch_intent mailbox request =
     if not (is_in_range request.by_uid request.messages mailbox.view) then Err NoSuchMessage
     else within_limits
@@ -68,7 +76,7 @@ viewed_messages_at view numbers = flat_map (λ n. viewed_message_at n (entry_at 
 
 -- The report of FETCH, from the mailbox before it, the listing after it and whether CONDSTORE is
 -- on.
-abbrev pub fetch_report : OpenMailbox → List ListedMessage → Bool → FetchArgs → CommandReport
+abbrev pub fetch_report : OpenMailbox → List ListedMessage → Bool → Fetch → CommandReport
 fetch_report mailbox after condstore request =
     let numbers = numbers_in_set request.by_uid request.messages mailbox.view in
     record {
@@ -78,3 +86,25 @@ fetch_report mailbox after condstore request =
       silent = [];
       code = gone_code mailbox.rows mailbox.view numbers;
     }
+
+-- The rule of FETCH, which may store `\Seen`: MODSEQ and CHANGEDSINCE turn mod-sequences on
+-- (RFC 7162, section 3.1).
+abbrev pub fetch_rule : Fetch → CommandRule
+fetch_rule request =
+    record (issuing_rule (if request.by_uid then words.UidFetch else words.Fetch)) {
+      sync = Some (sync_kind_by request.by_uid);
+      enables_condstore = fetch_asks_modseq request.items request.changed_since;
+    }
+
+-- ---- in a session
+
+-- The intent of FETCH in a session.
+abbrev pub intent_to_fetch : MailState → State → Fetch → Result (List Kind) Refusal
+intent_to_fetch mail state request =
+    if_selected state (λ view read_only. fetch_intent (open_mailbox mail view read_only) request)
+
+-- The report of FETCH in a session, given the replica before the command and after it.
+abbrev pub report_of_fetch : MailState → MailState → State → Bool → Fetch → CommandReport
+report_of_fetch before after state modseq request =
+    report_if_selected state (λ view read_only. fetch_report (open_mailbox before view read_only)
+    (rows_in after view) modseq request)

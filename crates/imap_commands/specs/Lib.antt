@@ -1,5 +1,7 @@
 pub mod AppendCommand
 pub mod Arguments
+pub mod CommandRules
+pub mod Commands
 pub mod SimpleCommands
 pub mod FlagChange
 pub mod CopyCommand
@@ -13,9 +15,11 @@ pub mod Issuable
 pub mod Lawful
 pub mod Limits
 pub mod Mailboxes
+pub mod MailStates
 pub mod MessageNames
 pub mod Printing
 pub mod SearchCommand
 pub mod SelectCommand
 pub mod StoreCommand
 pub mod Report
+pub mod SessionStates

@@ -12,6 +12,12 @@ use Rattle.imap_answers.specs.declared.fixed_words.Refusal.TheVariants.{NameNotA
 use Rattle.imap_answers.specs.declared.fixed_words.Refusal.TheVariants.{NoSuchMailbox}
 use Rattle.imap_types.specs.Names.{fold_inbox, has_octets, inbox, is_name_octet, levels_of}
 use Rattle.tags_clocks.specs.declared.id.OpId.{OpId}
+use Rattle.imap_answers.specs.declared.fixed_words.CompletedWord.TheVariants as words
+use Rattle.imap_commands.specs.CommandRules.{issuing_rule}
+use Rattle.imap_commands.specs.declared.command_rule.CommandRule.{CommandRule}
+use Rattle.imap_commands.specs.MailStates.{MailState, is_subscribed_in}
+use Rattle.imap_commands.specs.SessionStates.{if_logged_in}
+use Rattle.imap_commands.specs.declared.session.State.{State}
 
 -- ---- names
 
@@ -69,3 +75,35 @@ unsubscribes (id ∷ ids) name = Unsubscribe name (id ∷ ids) ∷ []
 abbrev pub unsubscribe_intent : List OpId → List ℕ → Result (List Kind) Refusal
 unsubscribe_intent seen name =
     if is_lawful_name name then Ok (unsubscribes seen name) else Err NameNotAllowed
+
+-- ---- rules
+
+abbrev pub create_rule : CommandRule
+create_rule = issuing_rule words.Create
+
+abbrev pub delete_rule : CommandRule
+delete_rule = issuing_rule words.Delete
+
+abbrev pub subscribe_rule : CommandRule
+subscribe_rule = issuing_rule words.Subscribe
+
+abbrev pub unsubscribe_rule : CommandRule
+unsubscribe_rule = issuing_rule words.Unsubscribe
+
+-- ---- intents in a session
+
+abbrev pub intent_to_create : MailState → State → List ℕ → Result (List Kind) Refusal
+intent_to_create mail state name =
+    if_logged_in state (create_intent (mail.exists (created_name name)) name)
+
+abbrev pub intent_to_delete : MailState → State → List ℕ → Result (List Kind) Refusal
+intent_to_delete mail state name =
+    if_logged_in state (delete_intent (mail.exists name) (mail.delete_set name) name)
+
+abbrev pub intent_to_subscribe : MailState → State → List ℕ → Result (List Kind) Refusal
+intent_to_subscribe mail state name =
+    if_logged_in state (subscribe_intent (is_subscribed_in mail name) name)
+
+abbrev pub intent_to_unsubscribe : MailState → State → List ℕ → Result (List Kind) Refusal
+intent_to_unsubscribe mail state name =
+    if_logged_in state (unsubscribe_intent (mail.subscription_tags name) name)

@@ -16,9 +16,10 @@ use Rattle.mailbox_rows.specs.RowViews.{AreRisingRows}
 use Rattle.session_view.specs.Sets.{numbers_in_set}
 use Rattle.session_view.specs.Views.{AreRising}
 use Rattle.session_view.specs.declared.view_entry.ViewEntry.{ViewEntry}
-use Rattle.imap_commands.specs.Arguments.{CopyArgs, CopyTarget, OpenMailbox}
+use Rattle.imap_commands.specs.Arguments.{CopyTarget, OpenMailbox}
 use Rattle.imap_commands.specs.CopyCommand.{copies_in, sources_of}
 use Rattle.imap_commands.specs.Report.{CommandReport}
+use Rattle.imap_syntax.specs.declared.arguments.Transfer.{Transfer}
 
 -- A report can be printed: its own answers can, and so can the code of its tagged line.
 pub record IsPrintableReport (report : CommandReport) : Type 0 where
@@ -69,7 +70,7 @@ pub record AreAnswerableItems (items : List FetchItem) : Type 0 where
   pub each : Each IsAnswerableItem items
 
 -- The destination got as many messages as the command copied (RFC 9051, section 7.1, COPYUID).
-abbrev pub HasAllCopies : OpenMailbox → CopyArgs → CopyTarget → Type 0
+abbrev pub HasAllCopies : OpenMailbox → Transfer → CopyTarget → Type 0
 HasAllCopies mailbox request target =
     length
     (sources_of mailbox.rows mailbox.view

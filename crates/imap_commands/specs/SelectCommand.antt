@@ -12,6 +12,7 @@ use Rattle.imap_answers.specs.declared.codes.Code.TheVariants.{ReadWrite, ReadOn
 use Rattle.imap_answers.specs.declared.codes.Notice.TheVariants.{Closed, UidValidity, UidNext}
 use Rattle.imap_answers.specs.declared.codes.Notice.TheVariants.{PermanentFlags, HighestModSeq}
 use Rattle.imap_answers.specs.declared.mailbox.MailboxState.TheVariants.{Selectable}
+use Rattle.imap_answers.specs.declared.fixed_words.CompletedWord.{CompletedWord}
 use Rattle.imap_answers.specs.declared.fixed_words.Refusal.{Refusal}
 use Rattle.imap_answers.specs.declared.fixed_words.Refusal.TheVariants.{NoSuchMailbox}
 use Rattle.imap_query.specs.declared.mailbox_status.MailboxCounters.{MailboxCounters}
@@ -20,6 +21,14 @@ use Rattle.imap_types.specs.declared.flags.Flags.{Flags}
 use Rattle.imap_types.specs.Keywords.{AreKeywords, to_lower_case}
 use Rattle.mailbox_rows.specs.ListedMessage.{ListedMessage}
 use Rattle.imap_commands.specs.Report.{CommandReport}
+use Rattle.session_view.specs.ViewState.{ViewState}
+use Rattle.imap_answers.specs.declared.fixed_words.CompletedWord.TheVariants as words
+use Rattle.imap_commands.specs.CommandRules.{plain_rule}
+use Rattle.imap_commands.specs.declared.command_rule.CommandRule.{CommandRule}
+use Rattle.imap_commands.specs.MailStates.{MailState, counters_in, validity_in}
+use Rattle.imap_commands.specs.SessionStates.{if_logged_in, is_selected}
+use Rattle.imap_commands.specs.declared.session.State.{State}
+use Rattle.imap_commands.specs.declared.session.State.TheVariants.{Selected}
 
 -- The intent of SELECT and EXAMINE, which issue nothing, if the mailbox exists (RFC 9051,
 -- sections 6.3.2 and 6.3.3).
@@ -96,3 +105,43 @@ pub record IsSelectReport (was_selected read_only : Bool) (name : List ℕ)
   pub keywords : List (List ℕ)
   pub borne : AreListedKeywords rows keywords
   pub only : report ≡ select_report was_selected read_only name counters rows keywords
+
+-- ---- the rules
+
+-- The rule of SELECT and EXAMINE: the mailbox that was selected is left even if they are refused
+-- (RFC 9051, section 6.3.2). No sync follows. CONDSTORE may turn mod-sequences on (RFC 7162,
+-- section 3.1.8).
+abbrev pub selecting_rule : CompletedWord → Bool → CommandRule
+selecting_rule word condstore =
+    record (plain_rule word) { sync = None; enables_condstore = condstore; selects = true }
+
+abbrev pub select_rule : Bool → CommandRule
+select_rule condstore = selecting_rule words.Select condstore
+
+abbrev pub examine_rule : Bool → CommandRule
+examine_rule condstore = selecting_rule words.Examine condstore
+
+-- No sync follows UNSELECT (RFC 9051, section 6.4.2).
+abbrev pub unselect_rule : CommandRule
+unselect_rule = record (plain_rule words.Unselect) { sync = None }
+
+-- ---- in a session
+
+-- The intent of SELECT and EXAMINE in a session.
+abbrev pub intent_to_select : MailState → State → List ℕ → Result (List Kind) Refusal
+intent_to_select mail state name = if_logged_in state (select_intent (mail.exists name))
+
+-- The report of SELECT and of EXAMINE, which selects read-only, in a session.
+abbrev pub IsReportOfSelect : MailState → State → Bool → List ℕ → CommandReport → Type 0
+IsReportOfSelect mail state read_only name report =
+    IsSelectReport (is_selected state) read_only name (counters_in mail name) (mail.listing name)
+    report
+
+-- A newly selected mailbox, which shows no messages yet.
+abbrev pub new_view : MailState → List ℕ → ViewState
+new_view mail name =
+    record { name = name; uidvalidity = validity_in mail name; entries = [] }
+
+-- The state of a session that has just selected a mailbox.
+abbrev pub selected_state : MailState → List ℕ → Bool → State
+selected_state mail name read_only = Selected (new_view mail name) read_only

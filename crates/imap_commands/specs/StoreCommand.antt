@@ -21,11 +21,18 @@ use Rattle.session_view.specs.Sets.{is_in_range, numbers_in_set}
 use Rattle.session_view.specs.Views.{same_flags}
 use Rattle.session_view.specs.declared.view_entry.ViewEntry.{ViewEntry}
 use Rattle.session_view.specs.declared.reply_replay.SilentFlags.{SilentFlags}
-use Rattle.imap_commands.specs.Arguments.{OpenMailbox, StoreArgs}
+use Rattle.imap_commands.specs.Arguments.{OpenMailbox}
 use Rattle.imap_commands.specs.FlagChange.{changed_flags}
 use Rattle.imap_commands.specs.Limits.{within_limits}
 use Rattle.imap_commands.specs.MessageNames.{names_of}
 use Rattle.imap_commands.specs.Report.{CommandReport, entry_at, gone_code, message_at}
+use Rattle.imap_answers.specs.declared.fixed_words.CompletedWord.TheVariants as words
+use Rattle.imap_syntax.specs.declared.arguments.Store.{Store as Request}
+use Rattle.imap_commands.specs.CommandRules.{issuing_rule, sync_kind_by}
+use Rattle.imap_commands.specs.declared.command_rule.CommandRule.{CommandRule}
+use Rattle.imap_commands.specs.MailStates.{MailState, open_mailbox, rows_in}
+use Rattle.imap_commands.specs.SessionStates.{if_selected, report_if_selected}
+use Rattle.imap_commands.specs.declared.session.State.{State}
 
 -- Whether a keyword is one that no message may bear: it is too long, or has octets that no command
 -- spells.
@@ -67,7 +74,7 @@ store_of folder mode given (Some row) =
     else Store folder (changed_flags mode row.flags given) row.versions row.origin ∷ []
 
 -- The Stores of the messages with these numbers.
-abbrev pub stores_of : OpenMailbox → StoreArgs → List ℕ → List Kind
+abbrev pub stores_of : OpenMailbox → Request → List ℕ → List Kind
 stores_of mailbox request numbers =
     flat_map
     (λ n. store_of mailbox.name request.action.mode request.flags
@@ -75,7 +82,7 @@ stores_of mailbox request numbers =
 
 -- The intent of STORE, or the first reason for refusing it (RFC 9051, section 6.4.6; RFC 7162,
 -- section 3.1.3).
-abbrev pub store_intent : OpenMailbox → StoreArgs → Result (List Kind) Refusal
+abbrev pub store_intent : OpenMailbox → Request → Result (List Kind) Refusal
 store_intent mailbox request =
     if not (is_in_range request.by_uid request.messages mailbox.view) then Err NoSuchMessage
     else (if mailbox.read_only then Err ReadOnly
@@ -85,7 +92,7 @@ store_intent mailbox request =
 
 -- The FETCH of a message as it is after the command: with its flags unless STORE is silent, and
 -- with its mod-sequence if UNCHANGEDSINCE is given or CONDSTORE is on.
-abbrev pub stored_answer : Bool → StoreArgs → ℕ → Option ListedMessage → List Answer
+abbrev pub stored_answer : Bool → Request → ℕ → Option ListedMessage → List Answer
 stored_answer condstore request n None = []
 stored_answer condstore request n (Some row) =
     Fetch n (record {
@@ -99,7 +106,7 @@ stored_answer condstore request n (Some row) =
 
 -- The answers of STORE for the messages that it may change; none if it is silent and has no
 -- UNCHANGEDSINCE.
-abbrev pub stored_answers : List ListedMessage → List ViewEntry → Bool → StoreArgs → List ℕ
+abbrev pub stored_answers : List ListedMessage → List ViewEntry → Bool → Request → List ℕ
     → List Answer
 stored_answers after view condstore request taken =
     if request.action.silent && not (is_some request.unchanged_since) then []
@@ -112,7 +119,7 @@ silent_flags_at mode given n (Some e) =
     record { number = n; flags = changed_flags mode e.flags given } ∷ []
 
 -- The flags that the session sets itself if STORE is silent.
-abbrev pub silent_flags_of : List ViewEntry → StoreArgs → List ℕ → List SilentFlags
+abbrev pub silent_flags_of : List ViewEntry → Request → List ℕ → List SilentFlags
 silent_flags_of view request taken =
     if request.action.silent
     then flat_map (λ n. silent_flags_at request.action.mode request.flags n (entry_at view n)) taken
@@ -125,7 +132,7 @@ modified_code (n ∷ refused) code = Some (Modified (n ∷ refused))
 
 -- The report of STORE, from the mailbox before it, the listing after it and whether CONDSTORE is on
 -- (RFC 9051, section 6.4.6; RFC 7162, section 3.1.3).
-abbrev pub store_report : OpenMailbox → List ListedMessage → Bool → StoreArgs → CommandReport
+abbrev pub store_report : OpenMailbox → List ListedMessage → Bool → Request → CommandReport
 store_report mailbox after condstore request =
     let numbers = numbers_in_set request.by_uid request.messages mailbox.view in
     let taken = taken_messages mailbox.rows mailbox.view request.unchanged_since numbers in
@@ -137,3 +144,24 @@ store_report mailbox after condstore request =
           modified_code (names_of request.by_uid mailbox.view refused)
           (gone_code mailbox.rows mailbox.view numbers);
     }
+
+-- The rule of STORE: UNCHANGEDSINCE turns mod-sequences on (RFC 7162, section 3.1).
+abbrev pub store_rule : Request → CommandRule
+store_rule request =
+    record (issuing_rule (if request.by_uid then words.UidStore else words.Store)) {
+      sync = Some (sync_kind_by request.by_uid);
+      enables_condstore = is_some request.unchanged_since;
+    }
+
+-- ---- in a session
+
+-- The intent of STORE in a session.
+abbrev pub intent_to_store : MailState → State → Request → Result (List Kind) Refusal
+intent_to_store mail state request =
+    if_selected state (λ view read_only. store_intent (open_mailbox mail view read_only) request)
+
+-- The report of STORE in a session, given the replica before the command and after it.
+abbrev pub report_of_store : MailState → MailState → State → Bool → Request → CommandReport
+report_of_store before after state modseq request =
+    report_if_selected state (λ view read_only. store_report (open_mailbox before view read_only)
+    (rows_in after view) modseq request)

@@ -1,18 +1,25 @@
 //! APPEND (RFC 9051, section 6.3.12).
 
 ghost use Rattle.std.specs.Prelude.{◌≡◌, ◌∷◌, [], IfOk};
-ghost use Rattle.std.specs.List.{list_all};
 ghost use Rattle.crdt_ops.specs.declared.kind.Kind.TheVariants.{Append as AppendKind};
-ghost use Rattle.imap_commands.specs.AppendCommand.{append_report, append_intent, given_date};
+ghost use Rattle.imap_commands.specs.AppendCommand.{append_intent, append_report, append_rule};
+ghost use Rattle.imap_commands.specs.AppendCommand.{given_date};
 ghost use Rattle.imap_commands.specs.MemoryFaults.{EqualsOrLacksMemory};
-ghost use Rattle.imap_types.specs.Keywords.{is_lawful_keyword};
+ghost use Rattle.imap_commands.specs.AppendCommand.{intent_to_append, report_of_append};
+ghost use Rattle.imap_commands.specs.NamedMessages.{no_messages_named};
 
-use crate::command_args::AppendArgs;
+use crate::command_rule::CommandRule;
+use crate::intent::Intent;
+use crate::limits::are_lawful;
 use crate::mailboxes::one_kind;
+use crate::replica_mail::{ReplicaMail, validity_after};
 use crate::report::CommandReport;
+use crate::session::State;
+use crate::session_states::is_logged_in;
 use crdt_ops::Kind;
-use imap_answers::{Code, Refusal};
-use imap_types::{DateTime, Flags, MAX_KEYWORDS, Name, Octets, Text, is_lawful_keyword};
+use imap_answers::{Code, CompletedWord, Refusal};
+use imap_syntax::Append;
+use imap_types::{DateTime, Flags, MAX_KEYWORDS, Name, Text};
 use std::alloc::{AllocError, Global};
 
 /// The intent of APPEND (RFC 9051, section 6.3.12), or the first reason for refusing it:
@@ -23,7 +30,7 @@ pub fn append_intent(
     alloc: Global,
     exists: bool,
     stamp: &DateTime,
-    request: &AppendArgs<'_>,
+    request: &Append,
 ) -> Result<Vec<Kind>, Refusal>
     ensures { EqualsOrLacksMemory (λ kinds. kinds.items) result
         (append_intent exists stamp.now request.now) }
@@ -37,20 +44,8 @@ pub fn append_intent(
     if request.flags.keywords.len() > MAX_KEYWORDS {
         return Err(Refusal::TooManyKeywords);
     }
-    let date = given_date(request.date, stamp);
-    Ok(append(alloc, request.name, request.flags, date, request.text)?)
-}
-
-/// Whether messages may bear each of these keywords.
-fn are_lawful(keywords: &[Octets]) -> bool
-    ensures { result ≡ list_all is_lawful_keyword keywords.now }
-{
-    for keyword in keywords {
-        if !is_lawful_keyword(keyword.as_bytes()) {
-            return false;
-        }
-    }
-    true
+    let date = given_date(&request.date, stamp);
+    Ok(append(alloc, &request.name, &request.flags, date, &request.text)?)
 }
 
 /// The date-time of the command, or `stamp` if it has none.
@@ -94,4 +89,41 @@ pub fn append_report(alloc: Global, uidvalidity: u32, uid: u32) -> CommandReport
 {
     let code = Code::AppendUid { uidvalidity, uid };
     CommandReport::new(Vec::new(alloc), Vec::new(alloc), Some(code))
+}
+
+pub(crate) fn append_rule() -> CommandRule
+    ensures { result ≡ append_rule }
+{
+    CommandRule::issuing(CompletedWord::Append)
+}
+
+/// The intent of APPEND in a session.
+pub(crate) fn intent_to_append<R: ReplicaMail>(
+    alloc: Global,
+    replica: &R,
+    stamp: &DateTime,
+    state: &State,
+    request: &Append,
+) -> Result<Intent, Refusal>
+    ensures gives { EqualsOrLacksMemory (λ intent. intent.kinds.items) result
+        (intent_to_append (R.before replica.now) stamp.now state.now request.now) }
+    ensures named { IfOk result (λ intent. intent.named ≡ no_messages_named) }
+{
+    if !is_logged_in(state) {
+        return Err(Refusal::NotNow);
+    }
+    let kinds = append_intent(alloc, replica.exists(&request.name), stamp, request)?;
+    Ok(Intent::of_kinds(alloc, kinds))
+}
+
+/// The report of APPEND, from the replica before the command and after it.
+pub(crate) fn report_of_append<R: ReplicaMail>(
+    alloc: Global,
+    replica: &R,
+    name: &Name,
+) -> CommandReport
+    requires { R.is_ready replica.now }
+    ensures { result ≡ report_of_append (R.before replica.now) (R.after replica.now) name.now }
+{
+    append_report(alloc, validity_after(replica, name), replica.uidnext(name))
 }

@@ -1,4 +1,4 @@
-//! The mailbox that a command works on, and each command's arguments.
+//! The mailboxes that a command works on.
 
 ghost use Rattle.std.specs.Prelude.{◌≡◌};
 ghost use Rattle.std.specs.Option.{option_map};
@@ -6,8 +6,7 @@ ghost use Rattle.mailbox_rows.specs.RowViews.{listed_message};
 ghost use Rattle.imap_commands.specs.Report.{message_at};
 
 use crate::report::message_at;
-use imap_syntax::{FetchItem, SearchOption, SearchSteps, StoreAction};
-use imap_types::{DateTime, Flags, Name, SequenceSet, Text};
+use imap_types::Name;
 use mailbox_rows::{Row, Rows};
 use session_view::View;
 use std::marker::Model;
@@ -68,132 +67,5 @@ impl<'a> Model for CopyTarget<'a> {
       uidvalidity = l.uidvalidity;
       uidnext = l.uidnext;
       rows = l.rows;
-    } };
-}
-
-/// The arguments of APPEND (RFC 9051, section 6.3.12).
-#[derive(Drop)]
-pub struct AppendArgs<'a> {
-    /// The mailbox.
-    pub name: &'a Name,
-    /// The message's flags.
-    pub flags: &'a Flags,
-    /// The message's date-time, if one is given.
-    pub date: &'a Option<DateTime>,
-    /// The message's text.
-    pub text: &'a Text,
-}
-
-impl<'a> Model for AppendArgs<'a> {
-    ghost use Rattle.imap_commands.specs.Arguments.{AppendArgs};
-
-    ghost Value = { AppendArgs };
-
-    ghost view = { λ a. record {
-      name = a.name.now;
-      flags = a.flags.now;
-      date = a.date.now;
-      text = a.text.now;
-    } };
-}
-
-/// The arguments of STORE (RFC 9051, section 6.4.6; RFC 7162, section 3.1.3).
-#[derive(Drop)]
-pub struct StoreArgs<'a> {
-    /// Whether messages are named by UIDs, which the answers then include.
-    pub by_uid: bool,
-    /// The messages.
-    pub messages: &'a SequenceSet,
-    /// UNCHANGEDSINCE: STORE changes only messages that haven't changed since this mod-sequence.
-    pub unchanged_since: Option<u64>,
-    /// How their flags change, and whether the answers are silent about that.
-    pub action: StoreAction,
-    /// The flags to set, add or remove.
-    pub flags: &'a Flags,
-}
-
-impl<'a> Model for StoreArgs<'a> {
-    ghost use Rattle.imap_commands.specs.Arguments.{StoreArgs};
-
-    ghost Value = { StoreArgs };
-
-    ghost view = { λ a. record {
-      by_uid = a.by_uid;
-      messages = a.messages.now;
-      unchanged_since = a.unchanged_since;
-      action = a.action;
-      flags = a.flags.now;
-    } };
-}
-
-/// The arguments of FETCH (RFC 9051, section 6.4.5; RFC 7162, section 3.1.4).
-#[derive(Drop)]
-pub struct FetchArgs<'a> {
-    /// Whether messages are named by UIDs, which the answers then include.
-    pub by_uid: bool,
-    /// The messages.
-    pub messages: &'a SequenceSet,
-    /// The items to fetch of each message.
-    pub items: &'a [FetchItem],
-    /// CHANGEDSINCE: only messages that have changed since this mod-sequence are fetched.
-    pub changed_since: Option<u64>,
-}
-
-impl<'a> Model for FetchArgs<'a> {
-    ghost use Rattle.imap_commands.specs.Arguments.{FetchArgs};
-
-    ghost Value = { FetchArgs };
-
-    ghost view = { λ a. record {
-      by_uid = a.by_uid;
-      messages = a.messages.now;
-      items = a.items.now;
-      changed_since = a.changed_since;
-    } };
-}
-
-/// The arguments of COPY and MOVE (RFC 9051, sections 6.4.7 and 6.4.8).
-#[derive(Drop)]
-pub struct CopyArgs<'a> {
-    /// Whether messages are named by UIDs.
-    pub by_uid: bool,
-    /// The messages.
-    pub messages: &'a SequenceSet,
-    /// The destination mailbox.
-    pub destination: &'a Name,
-}
-
-impl<'a> Model for CopyArgs<'a> {
-    ghost use Rattle.imap_commands.specs.Arguments.{CopyArgs};
-
-    ghost Value = { CopyArgs };
-
-    ghost view = { λ a. record {
-      by_uid = a.by_uid;
-      messages = a.messages.now;
-      destination = a.destination.now;
-    } };
-}
-
-/// The arguments of SEARCH (RFC 9051, section 6.4.4).
-#[derive(Drop)]
-pub struct SearchArgs<'a> {
-    /// Whether the results are UIDs, and not message numbers.
-    pub by_uid: bool,
-    /// The return options.
-    pub options: &'a [SearchOption],
-    /// The steps of the key.
-    pub steps: &'a SearchSteps,
-}
-
-impl<'a> Model for SearchArgs<'a> {
-    ghost use Rattle.imap_commands.specs.Arguments.{SearchArgs};
-
-    ghost Value = { SearchArgs };
-
-    ghost view = { λ a. record {
-      by_uid = a.by_uid;
-      options = a.options.now;
-      steps = a.steps.now;
     } };
 }

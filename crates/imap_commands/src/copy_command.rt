@@ -5,7 +5,6 @@ ghost use Rattle.std.specs.List.{slice_get};
 ghost use Rattle.std.specs.Option.{option_to_list};
 ghost use Rattle.imap_types.specs.Numbers.{AreRisingFrom};
 ghost use Rattle.mailbox_rows.specs.RowViews.{rows_after_uid};
-ghost use Rattle.imap_commands.specs.Arguments.{CopyArgs};
 ghost use Rattle.imap_commands.specs.CopyCommand.{append_of, appends_of, copied_code, copies_in};
 ghost use Rattle.imap_commands.specs.CopyCommand.{copy_report, copy_intent, move_report};
 ghost use Rattle.imap_commands.specs.CopyCommand.{move_intent};
@@ -15,15 +14,25 @@ ghost use Rattle.imap_commands.specs.CopyCommand.{sources_of};
 ghost use Rattle.imap_commands.specs.NamedMessages.{AreNamedBySome, messages_named_by};
 ghost use Rattle.imap_commands.specs.MemoryFaults.{EqualsOrLacksMemory};
 ghost use Rattle.imap_commands.specs.Report.{gone_code, message_at};
+ghost use Rattle.imap_commands.specs.CopyCommand.{copy_rule, move_rule};
+ghost use Rattle.imap_commands.specs.CopyCommand.{intent_to_copy, intent_to_move, report_of_copy};
+ghost use Rattle.imap_commands.specs.CopyCommand.{report_of_move};
+ghost use Rattle.imap_syntax.specs.declared.arguments.Transfer.{Transfer};
+ghost use Rattle.imap_commands.specs.NamedMessages.{messages_named_in};
 
-use crate::command_args::{CopyArgs, CopyTarget, OpenMailbox};
+use crate::command_args::{CopyTarget, OpenMailbox};
+use crate::command_rule::{CommandRule, word_by};
 use crate::intent::{Intent, NamedMessages};
 use crate::limits::intent_within_limits;
 use crate::named_messages::{existing_messages, messages_named, names_of, set_of};
+use crate::replica_mail::{ReplicaMail, copy_target, open_mailbox};
 use crate::report::{CommandReport, gone_code};
+use crate::report_input::ReportInput;
+use crate::session::State;
 use crate::versions::ids_of_versions;
 use crdt_ops::Kind;
-use imap_answers::{Answer, Code, Notice, Refusal};
+use imap_answers::{Answer, Code, CompletedWord, Notice, Refusal};
+use imap_syntax::Transfer;
 use imap_types::{Name, NumberSet};
 use mailbox_rows::Rows;
 use std::alloc::{AllocError, Global};
@@ -46,7 +55,7 @@ struct Copied {
 pub fn copy_intent(
     alloc: Global,
     mailbox: &OpenMailbox<'_>,
-    request: &CopyArgs<'_>,
+    request: &Transfer,
     exists: bool,
 ) -> Result<Intent, Refusal>
     ensures gives { EqualsOrLacksMemory (λ intent. intent.kinds.items) result
@@ -54,12 +63,12 @@ pub fn copy_intent(
     ensures named { IfOk result (λ intent. intent.named
         ≡ messages_named_by request.now.by_uid request.now.messages mailbox.now.view) }
 {
-    let numbers = messages_named(alloc, request.by_uid, request.messages, mailbox.view)?;
+    let numbers = messages_named(alloc, request.by_uid, &request.messages, mailbox.view)?;
     if !exists {
         return Err(Refusal::NoDestination);
     }
     let mut kinds = Vec::new(alloc);
-    push_appends(alloc, request.destination, mailbox, &numbers, &mut kinds)?;
+    push_appends(alloc, &request.name, mailbox, &numbers, &mut kinds)?;
     intent_within_limits(kinds, NamedMessages::new(numbers, Vec::new(alloc)))
 }
 
@@ -71,7 +80,7 @@ pub fn copy_intent(
 pub fn move_intent(
     alloc: Global,
     mailbox: &OpenMailbox<'_>,
-    request: &CopyArgs<'_>,
+    request: &Transfer,
     exists: bool,
 ) -> Result<Intent, Refusal>
     ensures gives { EqualsOrLacksMemory (λ intent. intent.kinds.items) result
@@ -79,7 +88,7 @@ pub fn move_intent(
     ensures named { IfOk result (λ intent. intent.named
         ≡ messages_named_by request.now.by_uid request.now.messages mailbox.now.view) }
 {
-    let numbers = messages_named(alloc, request.by_uid, request.messages, mailbox.view)?;
+    let numbers = messages_named(alloc, request.by_uid, &request.messages, mailbox.view)?;
     if mailbox.read_only {
         return Err(Refusal::ReadOnly);
     }
@@ -87,7 +96,7 @@ pub fn move_intent(
         return Err(Refusal::NoDestination);
     }
     let mut kinds = Vec::new(alloc);
-    push_appends(alloc, request.destination, mailbox, &numbers, &mut kinds)?;
+    push_appends(alloc, &request.name, mailbox, &numbers, &mut kinds)?;
     push_removals(alloc, mailbox, &numbers, &mut kinds)?;
     intent_within_limits(kinds, NamedMessages::new(numbers, Vec::new(alloc)))
 }
@@ -184,7 +193,7 @@ pub fn copy_report(
     named: &NamedMessages,
 ) -> Result<CommandReport, AllocError>
     requires { AreNamedBySome mailbox.now.view named.now }
-    ensures { (request : CopyArgs)
+    ensures { (request : Transfer)
         → named.now ≡ messages_named_by request.by_uid request.messages mailbox.now.view
         → IfOk result (λ sent. sent ≡ copy_report mailbox.now request target.now) }
 {
@@ -207,7 +216,7 @@ pub fn move_report(
     named: &NamedMessages,
 ) -> Result<CommandReport, AllocError>
     requires { AreNamedBySome mailbox.now.view named.now }
-    ensures { (request : CopyArgs)
+    ensures { (request : Transfer)
         → named.now ≡ messages_named_by request.by_uid request.messages mailbox.now.view
         → IfOk result (λ sent. sent ≡ move_report mailbox.now request target.now) }
 {
@@ -328,4 +337,108 @@ fn push_uid(rows: &Rows<'_>, place: usize, uids: &mut Vec<u32>) -> Result<(), Al
         uids.push(row.uid)?;
     }
     Ok(())
+}
+
+pub(crate) fn copy_rule(request: &Transfer) -> CommandRule
+    ensures { result ≡ copy_rule request.now }
+{
+    CommandRule::issuing(word_by(request.by_uid, CompletedWord::UidCopy, CompletedWord::Copy))
+}
+
+pub(crate) fn move_rule(request: &Transfer) -> CommandRule
+    ensures { result ≡ move_rule request.now }
+{
+    CommandRule::issuing(word_by(request.by_uid, CompletedWord::UidMove, CompletedWord::Move))
+}
+
+/// The intent of COPY in a session.
+pub(crate) fn intent_to_copy<R: ReplicaMail>(
+    alloc: Global,
+    replica: &R,
+    state: &State,
+    request: &Transfer,
+) -> Result<Intent, Refusal>
+    ensures gives { EqualsOrLacksMemory (λ intent. intent.kinds.items) result
+        (intent_to_copy (R.before replica.now) state.now request.now) }
+    ensures named { IfOk result (λ intent. intent.named
+        ≡ messages_named_in state.now request.now.by_uid request.now.messages) }
+{
+    let State::Selected { view, read_only } = state else {
+        return Err(Refusal::NotNow);
+    };
+    let mailbox = open_mailbox(alloc, replica, view, *read_only)?;
+    let intent = copy_intent(alloc, &mailbox, request, replica.exists(&request.name));
+    drop(mailbox);
+    intent
+}
+
+/// The intent of MOVE in a session.
+pub(crate) fn intent_to_move<R: ReplicaMail>(
+    alloc: Global,
+    replica: &R,
+    state: &State,
+    request: &Transfer,
+) -> Result<Intent, Refusal>
+    ensures gives { EqualsOrLacksMemory (λ intent. intent.kinds.items) result
+        (intent_to_move (R.before replica.now) state.now request.now) }
+    ensures named { IfOk result (λ intent. intent.named
+        ≡ messages_named_in state.now request.now.by_uid request.now.messages) }
+{
+    let State::Selected { view, read_only } = state else {
+        return Err(Refusal::NotNow);
+    };
+    let mailbox = open_mailbox(alloc, replica, view, *read_only)?;
+    let intent = move_intent(alloc, &mailbox, request, replica.exists(&request.name));
+    drop(mailbox);
+    intent
+}
+
+/// The report of COPY in a session.
+pub(crate) fn report_of_copy<R: ReplicaMail>(
+    alloc: Global,
+    replica: &R,
+    input: &ReportInput<'_>,
+    request: &Transfer,
+) -> Result<CommandReport, AllocError>
+    requires ready { R.is_ready replica.now }
+    requires named { input.now.named.now
+        ≡ messages_named_in input.now.state.now request.now.by_uid request.now.messages }
+    ensures { IfOk result (λ report. report
+        ≡ report_of_copy (R.before replica.now) (R.after replica.now) input.now.state.now
+        request.now) }
+{
+    let State::Selected { view, read_only } = input.state else {
+        return Ok(CommandReport::empty(alloc));
+    };
+    let mailbox = open_mailbox(alloc, replica, view, *read_only)?;
+    let target = copy_target(alloc, replica, &request.name)?;
+    let report = copy_report(alloc, &mailbox, &target, input.named);
+    drop(target);
+    drop(mailbox);
+    report
+}
+
+/// The report of MOVE in a session.
+pub(crate) fn report_of_move<R: ReplicaMail>(
+    alloc: Global,
+    replica: &R,
+    input: &ReportInput<'_>,
+    request: &Transfer,
+) -> Result<CommandReport, AllocError>
+    requires ready { R.is_ready replica.now }
+    requires named { input.now.named.now
+        ≡ messages_named_in input.now.state.now request.now.by_uid request.now.messages }
+    ensures { IfOk result (λ report. report
+        ≡ report_of_move (R.before replica.now) (R.after replica.now) input.now.state.now
+        request.now) }
+{
+    let State::Selected { view, read_only } = input.state else {
+        return Ok(CommandReport::empty(alloc));
+    };
+    let mailbox = open_mailbox(alloc, replica, view, *read_only)?;
+    let target = copy_target(alloc, replica, &request.name)?;
+    let report = move_report(alloc, &mailbox, &target, input.named);
+    drop(target);
+    drop(mailbox);
+    report
 }

@@ -5,16 +5,18 @@ ghost use Rattle.std.specs.Prelude.{◌≡◌, IfOk, false};
 ghost use Rattle.std.specs.List.{filter, list_any};
 ghost use Rattle.imap_commands.specs.EnableCommand.{asks_condstore, asks_condstore_first};
 ghost use Rattle.imap_commands.specs.EnableCommand.{asks_imap4rev2, begins_with_condstore};
-ghost use Rattle.imap_commands.specs.EnableCommand.{enable_report, extensions_of_requests};
+ghost use Rattle.imap_commands.specs.EnableCommand.{enable_report, enable_rule};
+ghost use Rattle.imap_commands.specs.EnableCommand.{extensions_of_requests};
 ghost use Rattle.imap_commands.specs.EnableCommand.{enabled_extensions};
 ghost use Rattle.imap_commands.specs.EnableCommand.{fetch_asks_modseq, is_condstore, is_imap4rev2};
 ghost use Rattle.imap_commands.specs.EnableCommand.{is_modseq_item, search_asks_modseq};
 ghost use Rattle.imap_commands.specs.EnableCommand.{status_asks_modseq};
 ghost use Rattle.imap_query.specs.Hits.{step_names_modseq};
 
+use crate::command_rule::CommandRule;
 use crate::report::CommandReport;
 use crate::simple_commands::one_answer;
-use imap_answers::{Answer, EnabledExtensions};
+use imap_answers::{Answer, CompletedWord, EnabledExtensions};
 use imap_syntax::{FetchItem, SearchStep, SearchTest, StatusItem};
 use imap_types::Octets;
 use std::alloc::{AllocError, Global};
@@ -161,5 +163,15 @@ fn step_names_modseq(step: &SearchStep) -> bool
     match step {
         SearchStep::Test(SearchTest::ModSeq { .. }) => true,
         _ => false,
+    }
+}
+
+/// The rule of ENABLE, which turns mod-sequences on if one of its names is CONDSTORE.
+pub(crate) fn enable_rule(names: &[Octets]) -> CommandRule
+    ensures { result ≡ enable_rule names.now }
+{
+    CommandRule {
+        enables_condstore: asks_condstore(names),
+        ..CommandRule::brief(CompletedWord::Enable)
     }
 }

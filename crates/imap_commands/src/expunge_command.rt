@@ -9,15 +9,24 @@ ghost use Rattle.imap_commands.specs.ExpungeCommand.{expunge_intent, expunges_at
 ghost use Rattle.imap_commands.specs.ExpungeCommand.{uid_expunge_report, uid_expunge_intent};
 ghost use Rattle.imap_commands.specs.NamedMessages.{messages_named_by};
 ghost use Rattle.imap_commands.specs.MemoryFaults.{EqualsOrLacksMemory};
+ghost use Rattle.imap_commands.specs.ExpungeCommand.{close_rule, expunge_rule, uid_expunge_rule};
+ghost use Rattle.imap_commands.specs.ExpungeCommand.{intent_to_close, intent_to_expunge};
+ghost use Rattle.imap_commands.specs.ExpungeCommand.{intent_to_uid_expunge};
+ghost use Rattle.imap_commands.specs.ExpungeCommand.{report_of_uid_expunge};
+ghost use Rattle.imap_commands.specs.NamedMessages.{messages_named_in, no_messages_named};
 
 use crate::command_args::OpenMailbox;
+use crate::command_rule::CommandRule;
 use crate::intent::{Intent, NamedMessages};
 use crate::limits::{intent_within_limits, within_limits};
 use crate::named_messages::messages_named;
+use crate::replica_mail::{ReplicaMail, open_mailbox};
 use crate::report::{CommandReport, gone_code};
+use crate::report_input::ReportInput;
+use crate::session::State;
 use crate::versions::ids_of_versions;
 use crdt_ops::Kind;
-use imap_answers::Refusal;
+use imap_answers::{CompletedWord, Refusal};
 use imap_types::{Name, SequenceSet};
 use mailbox_rows::{Row, Rows};
 use std::alloc::{AllocError, Global};
@@ -147,4 +156,103 @@ pub fn uid_expunge_report(
 {
     let code = gone_code(&mailbox.rows, mailbox.view.entries(), named.numbers());
     CommandReport::new(Vec::new(alloc), Vec::new(alloc), code)
+}
+
+pub(crate) fn expunge_rule() -> CommandRule
+    ensures { result ≡ expunge_rule }
+{
+    CommandRule::issuing(CompletedWord::Expunge)
+}
+
+pub(crate) fn uid_expunge_rule() -> CommandRule
+    ensures { result ≡ uid_expunge_rule }
+{
+    CommandRule::issuing(CompletedWord::UidExpunge)
+}
+
+/// The rule of CLOSE, after which there is no sync (RFC 9051, section 6.4.1).
+pub(crate) fn close_rule() -> CommandRule
+    ensures { result ≡ close_rule }
+{
+    CommandRule {
+        sync: None,
+        ..CommandRule::issuing(CompletedWord::Close)
+    }
+}
+
+/// The intent of CLOSE in a session.
+pub(crate) fn intent_to_close<R: ReplicaMail>(
+    alloc: Global,
+    replica: &R,
+    state: &State,
+) -> Result<Intent, Refusal>
+    ensures gives { EqualsOrLacksMemory (λ intent. intent.kinds.items) result
+        (intent_to_close (R.before replica.now) state.now) }
+    ensures named { IfOk result (λ intent. intent.named ≡ no_messages_named) }
+{
+    let State::Selected { view, read_only } = state else {
+        return Err(Refusal::NotNow);
+    };
+    let mailbox = open_mailbox(alloc, replica, view, *read_only)?;
+    let kinds = close_intent(alloc, &mailbox);
+    drop(mailbox);
+    Ok(Intent::of_kinds(alloc, kinds?))
+}
+
+/// The intent of EXPUNGE in a session.
+pub(crate) fn intent_to_expunge<R: ReplicaMail>(
+    alloc: Global,
+    replica: &R,
+    state: &State,
+) -> Result<Intent, Refusal>
+    ensures gives { EqualsOrLacksMemory (λ intent. intent.kinds.items) result
+        (intent_to_expunge (R.before replica.now) state.now) }
+    ensures named { IfOk result (λ intent. intent.named ≡ no_messages_named) }
+{
+    let State::Selected { view, read_only } = state else {
+        return Err(Refusal::NotNow);
+    };
+    let mailbox = open_mailbox(alloc, replica, view, *read_only)?;
+    let kinds = expunge_intent(alloc, &mailbox);
+    drop(mailbox);
+    Ok(Intent::of_kinds(alloc, kinds?))
+}
+
+/// The intent of UID EXPUNGE in a session.
+pub(crate) fn intent_to_uid_expunge<R: ReplicaMail>(
+    alloc: Global,
+    replica: &R,
+    state: &State,
+    uids: &SequenceSet,
+) -> Result<Intent, Refusal>
+    ensures gives { EqualsOrLacksMemory (λ intent. intent.kinds.items) result
+        (intent_to_uid_expunge (R.before replica.now) state.now uids.now) }
+    ensures named { IfOk result (λ intent. intent.named
+        ≡ messages_named_in state.now true uids.now) }
+{
+    let State::Selected { view, read_only } = state else {
+        return Err(Refusal::NotNow);
+    };
+    let mailbox = open_mailbox(alloc, replica, view, *read_only)?;
+    let intent = uid_expunge_intent(alloc, &mailbox, uids);
+    drop(mailbox);
+    intent
+}
+
+/// The report of UID EXPUNGE in a session.
+pub(crate) fn report_of_uid_expunge<R: ReplicaMail>(
+    alloc: Global,
+    replica: &R,
+    input: &ReportInput<'_>,
+) -> Result<CommandReport, AllocError>
+    ensures { (uids : List SequenceRange)
+        → input.now.named.now ≡ messages_named_in input.now.state.now true uids
+        → IfOk result (λ report. report
+        ≡ report_of_uid_expunge (R.before replica.now) input.now.state.now uids) }
+{
+    let State::Selected { view, read_only } = input.state else {
+        return Ok(CommandReport::empty(alloc));
+    };
+    let mailbox = open_mailbox(alloc, replica, view, *read_only)?;
+    Ok(uid_expunge_report(alloc, &mailbox, input.named))
 }

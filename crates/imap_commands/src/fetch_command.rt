@@ -10,20 +10,29 @@ ghost use Rattle.imap_commands.specs.FetchCommand.{viewed_messages_at};
 ghost use Rattle.imap_commands.specs.NamedMessages.{messages_named_by};
 ghost use Rattle.imap_commands.specs.MemoryFaults.{EqualsOrLacksMemory};
 ghost use Rattle.imap_commands.specs.Report.{are_some_gone, entry_at, gone_code, message_at};
+ghost use Rattle.imap_commands.specs.FetchCommand.{fetch_rule};
+ghost use Rattle.imap_commands.specs.FetchCommand.{intent_to_fetch, report_of_fetch};
+ghost use Rattle.imap_commands.specs.MailStates.{IsListingFor};
+ghost use Rattle.imap_commands.specs.NamedMessages.{messages_named_in};
 
-use crate::command_args::{FetchArgs, OpenMailbox};
+use crate::command_args::OpenMailbox;
+use crate::command_rule::{CommandRule, sync_kind_by, word_by};
+use crate::enable_command::fetch_asks_modseq;
 use crate::intent::{Intent, NamedMessages};
 use crate::limits::intent_within_limits;
 use crate::named_messages::messages_named;
+use crate::replica_mail::{ReplicaMail, open_mailbox, rows_after};
 use crate::report::{CommandReport, entry_at, gone_code};
+use crate::report_input::ReportInput;
+use crate::session::State;
 use crate::versions::ids_of_versions;
 use crdt_ops::Kind;
-use imap_answers::{Answer, Code, Refusal};
+use imap_answers::{Answer, Code, CompletedWord, Refusal};
 use imap_query::{
     FetchMode, ViewedMessage, any_sets_seen, fetch, fetch_unchanged, has_changed_since,
     is_seen_set, make_room,
 };
-use imap_syntax::FetchItem;
+use imap_syntax::{Fetch, FetchItem};
 use imap_types::{Flags, Versions};
 use mailbox_rows::Rows;
 use session_view::ViewEntries;
@@ -36,20 +45,20 @@ use std::alloc::{AllocError, Global};
 pub fn fetch_intent(
     alloc: Global,
     mailbox: &OpenMailbox<'_>,
-    request: &FetchArgs<'_>,
+    request: &Fetch,
 ) -> Result<Intent, Refusal>
     ensures gives { EqualsOrLacksMemory (λ intent. intent.kinds.items) result
         (fetch_intent mailbox.now request.now) }
     ensures named { IfOk result (λ intent. intent.named
         ≡ messages_named_by request.now.by_uid request.now.messages mailbox.now.view) }
 {
-    let numbers = messages_named(alloc, request.by_uid, request.messages, mailbox.view)?;
+    let numbers = messages_named(alloc, request.by_uid, &request.messages, mailbox.view)?;
     let kinds = seen_stores(alloc, mailbox, request, &numbers)?;
     intent_within_limits(kinds, NamedMessages::new(numbers, Vec::new(alloc)))
 }
 
 /// The mode of a FETCH, with CONDSTORE on or off.
-fn mode_of(mailbox: &OpenMailbox<'_>, condstore: bool, request: &FetchArgs<'_>) -> FetchMode
+fn mode_of(mailbox: &OpenMailbox<'_>, condstore: bool, request: &Fetch) -> FetchMode
     ensures { result ≡ mode_of mailbox.now condstore request.now }
 {
     FetchMode {
@@ -64,13 +73,13 @@ fn mode_of(mailbox: &OpenMailbox<'_>, condstore: bool, request: &FetchArgs<'_>) 
 fn seen_stores(
     alloc: Global,
     mailbox: &OpenMailbox<'_>,
-    request: &FetchArgs<'_>,
+    request: &Fetch,
     numbers: &[u32],
 ) -> Result<Vec<Kind>, AllocError>
     ensures { IfOk result (λ kinds. kinds.items ≡ seen_stores mailbox.now request.now numbers.now) }
 {
     let mut kinds = Vec::new(alloc);
-    if mailbox.read_only || !any_sets_seen(request.items) {
+    if mailbox.read_only || !any_sets_seen(request.items.as_slice()) {
         return Ok(kinds);
     }
     for number in numbers {
@@ -83,7 +92,7 @@ fn seen_stores(
 fn push_seen(
     alloc: Global,
     mailbox: &OpenMailbox<'_>,
-    request: &FetchArgs<'_>,
+    request: &Fetch,
     number: u32,
     kinds: &mut Vec<Kind>,
 ) -> Result<(), AllocError>
@@ -98,7 +107,11 @@ fn push_seen(
     if !has_changed_since(request.changed_since, &row) {
         return Ok(());
     }
-    if !is_seen_set(request.items, mode_of(mailbox, false, request), &row) {
+    if !is_seen_set(
+        request.items.as_slice(),
+        mode_of(mailbox, false, request),
+        &row,
+    ) {
         return Ok(());
     }
     kinds.push(Kind::Store {
@@ -129,7 +142,7 @@ pub fn fetch_report(
     mailbox: &OpenMailbox<'_>,
     after: Option<&Rows<'_>>,
     condstore: bool,
-    request: &FetchArgs<'_>,
+    request: &Fetch,
     named: &NamedMessages,
 ) -> Result<CommandReport, AllocError>
     requires { named.now
@@ -144,7 +157,7 @@ pub fn fetch_report(
     let numbers = named.numbers();
     let shown = viewed_messages_at(alloc, view, numbers)?;
     let mode = mode_of(mailbox, condstore, request);
-    let own = fetch_answers_of(alloc, &shown, before, after, request.items, mode)?;
+    let own = fetch_answers_of(alloc, &shown, before, after, request.items.as_slice(), mode)?;
     let code = code_for_answers(&own, before, view, numbers);
     Ok(CommandReport::new(own, Vec::new(alloc), code))
 }
@@ -217,4 +230,87 @@ fn push_shown(
         });
     }
     Ok(())
+}
+
+/// The rule of FETCH, which may store `\Seen`, and turns mod-sequences on by MODSEQ and
+/// CHANGEDSINCE (RFC 7162, section 3.1).
+pub(crate) fn fetch_rule(request: &Fetch) -> CommandRule
+    ensures { result ≡ fetch_rule request.now }
+{
+    let word = word_by(
+        request.by_uid,
+        CompletedWord::UidFetch,
+        CompletedWord::Fetch,
+    );
+    CommandRule {
+        sync: Some(sync_kind_by(request.by_uid)),
+        enables_condstore: fetch_asks_modseq(request.items.as_slice(), request.changed_since),
+        ..CommandRule::issuing(word)
+    }
+}
+
+/// The intent of FETCH in a session.
+pub(crate) fn intent_to_fetch<R: ReplicaMail>(
+    alloc: Global,
+    replica: &R,
+    state: &State,
+    request: &Fetch,
+) -> Result<Intent, Refusal>
+    ensures gives { EqualsOrLacksMemory (λ intent. intent.kinds.items) result
+        (intent_to_fetch (R.before replica.now) state.now request.now) }
+    ensures named { IfOk result (λ intent. intent.named
+        ≡ messages_named_in state.now request.now.by_uid request.now.messages) }
+{
+    let State::Selected { view, read_only } = state else {
+        return Err(Refusal::NotNow);
+    };
+    let mailbox = open_mailbox(alloc, replica, view, *read_only)?;
+    let intent = fetch_intent(alloc, &mailbox, request);
+    drop(mailbox);
+    intent
+}
+
+/// The report of FETCH in a session.
+pub(crate) fn report_of_fetch<R: ReplicaMail>(
+    alloc: Global,
+    replica: &R,
+    input: &ReportInput<'_>,
+    made: Option<&Rows<'_>>,
+    request: &Fetch,
+) -> Result<CommandReport, AllocError>
+    requires ready { R.is_ready replica.now }
+    requires made { IsListingFor (R.after replica.now) input.now.state.now
+        (option_map (λ rows. rows.now) made) }
+    requires named { input.now.named.now
+        ≡ messages_named_in input.now.state.now request.now.by_uid request.now.messages }
+    ensures { IfOk result (λ report. report
+        ≡ report_of_fetch (R.before replica.now) (R.after replica.now) input.now.state.now
+        input.now.modseq request.now) }
+{
+    let State::Selected { view, read_only } = input.state else {
+        return Ok(CommandReport::empty(alloc));
+    };
+    let mailbox = open_mailbox(alloc, replica, view, *read_only)?;
+    if replica.is_unchanged() {
+        return fetch_report(alloc, &mailbox, None, input.modseq, request, input.named);
+    }
+    if let Some(after) = made {
+        return fetch_report(
+            alloc,
+            &mailbox,
+            Some(after),
+            input.modseq,
+            request,
+            input.named,
+        );
+    }
+    let after = rows_after(alloc, replica, view)?;
+    fetch_report(
+        alloc,
+        &mailbox,
+        Some(&after),
+        input.modseq,
+        request,
+        input.named,
+    )
 }

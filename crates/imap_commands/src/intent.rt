@@ -1,6 +1,6 @@
 //! A command's intent: the operations that it issues and the messages that it names.
 
-ghost use Rattle.std.specs.Prelude.{◌≡◌};
+ghost use Rattle.std.specs.Prelude.{◌≡◌, []};
 ghost use Rattle.imap_commands.specs.NamedMessages.{no_messages_named};
 
 use crdt_ops::Kind;
@@ -71,4 +71,25 @@ pub struct Intent {
     pub kinds: Vec<Kind>,
     /// The messages that the command names.
     pub named: NamedMessages,
+}
+
+impl Intent {
+    /// These operations are issued, and no messages are named.
+    pub(crate) fn of_kinds(alloc: Global, kinds: Vec<Kind>) -> Intent
+        ensures kinds { result.kinds.items ≡ kinds.items }
+        ensures named { result.named ≡ no_messages_named }
+    {
+        Intent {
+            kinds,
+            named: NamedMessages::none(alloc),
+        }
+    }
+
+    /// Nothing is issued, and no messages are named.
+    pub fn nothing(alloc: Global) -> Intent
+        ensures kinds { result.kinds.items ≡ [] }
+        ensures named { result.named ≡ no_messages_named }
+    {
+        Intent::of_kinds(alloc, Vec::new(alloc))
+    }
 }

@@ -4,17 +4,20 @@
 ghost use Rattle.std.specs.Prelude.{◌≡◌, ℕ, Bool, List, Ok};
 ghost use Rattle.crdt_ops.specs.declared.kind.Kind.{Kind};
 ghost use Rattle.imap_types.specs.declared.sequence_set.SequenceRange.{SequenceRange};
-ghost use Rattle.imap_commands.specs.Arguments.{CopyArgs, FetchArgs, OpenMailbox, StoreArgs};
+ghost use Rattle.imap_commands.specs.Arguments.{OpenMailbox};
 ghost use Rattle.imap_commands.specs.CopyCommand.{copy_intent, move_intent};
 ghost use Rattle.imap_commands.specs.ExpungeCommand.{close_intent, expunge_intent};
 ghost use Rattle.imap_commands.specs.ExpungeCommand.{uid_expunge_intent};
 ghost use Rattle.imap_commands.specs.FetchCommand.{fetch_intent};
 ghost use Rattle.imap_commands.specs.Issuable.{AreIssuable, HaveLawfulKeywords};
 ghost use Rattle.imap_commands.specs.StoreCommand.{store_intent};
+ghost use Rattle.imap_syntax.specs.declared.arguments.Fetch.{Fetch};
+ghost use Rattle.imap_syntax.specs.declared.arguments.Store.{Store};
+ghost use Rattle.imap_syntax.specs.declared.arguments.Transfer.{Transfer};
 
 /// STORE issues Stores of listed messages, with lawful flags.
 pub fn stores_are_issuable()
-    ensures { (mailbox : OpenMailbox) (destination : List ℕ) (request : StoreArgs)
+    ensures { (mailbox : OpenMailbox) (destination : List ℕ) (request : Store)
         (kinds : List Kind)
         → HaveLawfulKeywords mailbox.rows
         → store_intent mailbox request ≡ Ok kinds
@@ -38,7 +41,7 @@ pub fn expunges_are_issuable()
 
 /// FETCH issues Stores of listed messages, with lawful flags.
 pub fn seen_stores_are_issuable()
-    ensures { (mailbox : OpenMailbox) (destination : List ℕ) (request : FetchArgs)
+    ensures { (mailbox : OpenMailbox) (destination : List ℕ) (request : Fetch)
         (kinds : List Kind)
         → HaveLawfulKeywords mailbox.rows
         → fetch_intent mailbox request ≡ Ok kinds
@@ -47,16 +50,16 @@ pub fn seen_stores_are_issuable()
 
 /// COPY issues Appends in the destination, with lawful flags.
 pub fn copies_are_issuable()
-    ensures { (mailbox : OpenMailbox) (request : CopyArgs) (exists : Bool) (kinds : List Kind)
+    ensures { (mailbox : OpenMailbox) (request : Transfer) (exists : Bool) (kinds : List Kind)
         → HaveLawfulKeywords mailbox.rows
         → copy_intent mailbox request exists ≡ Ok kinds
-        → AreIssuable mailbox.name request.destination mailbox.rows kinds }
+        → AreIssuable mailbox.name request.name mailbox.rows kinds }
 {}
 
 /// MOVE issues Appends in the destination, with lawful flags, and Expunges of listed messages.
 pub fn moves_are_issuable()
-    ensures { (mailbox : OpenMailbox) (request : CopyArgs) (exists : Bool) (kinds : List Kind)
+    ensures { (mailbox : OpenMailbox) (request : Transfer) (exists : Bool) (kinds : List Kind)
         → HaveLawfulKeywords mailbox.rows
         → move_intent mailbox request exists ≡ Ok kinds
-        → AreIssuable mailbox.name request.destination mailbox.rows kinds }
+        → AreIssuable mailbox.name request.name mailbox.rows kinds }
 {}

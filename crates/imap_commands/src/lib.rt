@@ -1,11 +1,13 @@
 //! The commands of RFC 9051, section 6, family by family, apart from any replica.
 //!
-//! Each command has two functions. One computes its intent: the operations that it issues, or the
-//! first reason for refusing it. The other computes its report: the command's own answers, the
-//! flags that its session sets silently, and the code of its tagged line. Both read only listings,
-//! views and the command's arguments; `imap_node` provides these, and does all that commands have
-//! in common. The messages that a command names are looked up once: the intent returns them, and
-//! the report takes them.
+//! Each command has a rule and two functions, in the file of its family. The rule (`CommandRule`)
+//! says what is the same in each state of a session: the word of the tagged line, the sync, whether
+//! the command may issue operations, and so on. One function computes its intent: the operations
+//! that it issues, or the first reason for refusing it. The other computes its report: the
+//! command's own answers, the flags that its session sets silently, and the code of its tagged
+//! line. `commands` has the tables of all commands, a line each; `imap_node` does all that commands
+//! have in common. The messages that a command names are looked up once: the intent returns them,
+//! and the report takes them.
 //!
 //! Contracts say for each command which operations it issues, in what order reasons for refusing it
 //! are tried, and what it reports from the listings before and after it (`specs/`, one file for
@@ -16,8 +18,11 @@
 //!
 //! # Decided
 //!
-//! - The mailbox that a command works on is one value, `OpenMailbox`, and its arguments are another
-//!   (`StoreArgs` and the like), in code and in definitions; both borrow their parts.
+//! - The mailbox that a command works on is one value, `OpenMailbox`, in code and in definitions,
+//!   which borrows its parts. The arguments are those that the grammar reads.
+//! - A replica is read through a trait, `ReplicaMail`, before the command's operations and after
+//!   them. Contracts see it as two records of functions of names (`specs/MailStates`), so that this
+//!   crate needs no operations, and says what a command depends on.
 //! - The report of SELECT is a relation, so that its keywords are defined by the messages that bear
 //!   them. The flags that STORE computes are defined by a function, since operations are functions
 //!   of them; laws say that they are the union or the difference, with each keyword once.
@@ -28,6 +33,8 @@
 
 mod append_command;
 mod command_args;
+mod command_rule;
+mod commands;
 mod copy_command;
 mod enable_command;
 mod expunge_command;
@@ -42,17 +49,23 @@ mod login;
 mod mailboxes;
 mod named_messages;
 mod printable;
+mod replica_mail;
 mod report;
+mod report_input;
 mod search_command;
 mod select_command;
 mod session;
+mod session_states;
 mod simple_commands;
 mod store_command;
 mod versions;
 
 pub use append_command::{append_intent, append_report};
-pub use command_args::{
-    AppendArgs, CopyArgs, CopyTarget, FetchArgs, OpenMailbox, SearchArgs, StoreArgs,
+pub use command_args::{CopyTarget, OpenMailbox};
+pub use command_rule::CommandRule;
+pub use commands::{
+    command_intent, command_report, is_brief, is_enabling, is_idle, is_selecting, may_issue,
+    rule_of, stamp_for, state_after_command, sync_of, word_of,
 };
 pub use copy_command::{copy_intent, copy_report, move_intent, move_report};
 pub use enable_command::{
@@ -71,7 +84,8 @@ pub use issuable::{
     stores_are_issuable,
 };
 pub use laws::{
-    lawful_name_is, listed_keywords_are_borne, one_set_of_keywords, searches_are_by_keys,
+    brief_commands_depend_on_no_mailbox, commands_issue_only_if_they_may, lawful_name_is,
+    listed_keywords_are_borne, one_set_of_keywords, searches_are_by_keys,
 };
 pub use login::login_intent;
 pub use mailboxes::{
@@ -84,10 +98,13 @@ pub use printable::{
     status_is_printable, store_is_printable, sync_is_printable, uid_expunge_is_printable,
     views_stay_numbered,
 };
+pub use replica_mail::ReplicaMail;
 pub use report::{CommandReport, entry_at, gone_code, message_at};
+pub use report_input::ReportInput;
 pub use search_command::{search_intent, search_report};
 pub use select_command::{select_intent, select_report};
 pub use session::{Credentials, Session, State};
+pub use session_states::is_selected;
 pub use simple_commands::{
     capability_report, idle_report, list_report, logout_report, namespace_report, status_intent,
     status_report,

@@ -1,14 +1,15 @@
 //! Limits of one operation: keywords and versions of a message.
 
 ghost use Rattle.std.specs.Prelude.{◌≡◌, IfOk};
-ghost use Rattle.std.specs.List.{list_any};
+ghost use Rattle.std.specs.List.{list_all, list_any};
 ghost use Rattle.imap_commands.specs.MemoryFaults.{EqualsOrLacksMemory};
+ghost use Rattle.imap_types.specs.Keywords.{is_lawful_keyword};
 ghost use Rattle.imap_commands.specs.Limits.{has_many_keywords, has_many_versions, within_limits};
 
 use crate::intent::{Intent, NamedMessages};
 use crdt_ops::{Kind, MAX_OLD_IDS};
 use imap_answers::Refusal;
-use imap_types::MAX_KEYWORDS;
+use imap_types::{MAX_KEYWORDS, Octets, is_lawful_keyword};
 
 /// These operations, if all are within the limits. `TooManyKeywords` if one gives a message more
 /// than 32 keywords; otherwise `TooManyVersions` if one names more than 64 versions of a message.
@@ -33,10 +34,10 @@ pub fn intent_within_limits(kinds: Vec<Kind>, named: NamedMessages) -> Result<In
         (within_limits kinds.items) }
     ensures named { IfOk result (λ intent. intent.named ≡ named) }
 {
-    match within_limits(kinds) {
-        Ok(kinds) => Ok(Intent { kinds, named }),
-        Err(why) => Err(why),
-    }
+    Ok(Intent {
+        kinds: within_limits(kinds)?,
+        named,
+    })
 }
 
 fn have_many_keywords(kinds: &[Kind]) -> bool
@@ -59,6 +60,18 @@ fn have_many_versions(kinds: &[Kind]) -> bool
         }
     }
     false
+}
+
+/// Whether messages may bear each of these keywords.
+pub(crate) fn are_lawful(keywords: &[Octets]) -> bool
+    ensures { result ≡ list_all is_lawful_keyword keywords.now }
+{
+    for keyword in keywords {
+        if !is_lawful_keyword(keyword.as_bytes()) {
+            return false;
+        }
+    }
+    true
 }
 
 /// Whether an operation gives a message more than 32 keywords.

@@ -1,13 +1,17 @@
 //! LOGIN (RFC 9051, section 6.2.3).
 
-ghost use Rattle.std.specs.Prelude.{◌≡◌};
+ghost use Rattle.std.specs.Prelude.{◌≡◌, IfOk};
 ghost use Rattle.std.specs.Str.{bytes_eq};
-ghost use Rattle.imap_commands.specs.Login.{are_credentials, login_intent};
+ghost use Rattle.imap_commands.specs.Login.{are_credentials, intent_to_login, login_intent};
+ghost use Rattle.imap_commands.specs.Login.{login_rule};
 ghost use Rattle.imap_commands.specs.MemoryFaults.{EqualsOrLacksMemory};
+ghost use Rattle.imap_commands.specs.NamedMessages.{no_messages_named};
 
-use crate::session::Credentials;
+use crate::command_rule::CommandRule;
+use crate::intent::Intent;
+use crate::session::{Credentials, State};
 use crdt_ops::Kind;
-use imap_answers::Refusal;
+use imap_answers::{CompletedWord, Refusal};
 use imap_types::Octets;
 use std::alloc::Global;
 
@@ -51,4 +55,34 @@ fn are_same(one: &[u8], other: &[u8]) -> bool
         are_same &= one[at] == other[at];
     }
     are_same
+}
+
+/// The rule of LOGIN, after which there is no sync.
+pub(crate) fn login_rule() -> CommandRule
+    ensures { result ≡ login_rule }
+{
+    CommandRule {
+        sync: None,
+        ..CommandRule::plain(CompletedWord::Login)
+    }
+}
+
+/// The intent of LOGIN in a session.
+pub(crate) fn intent_to_login(
+    alloc: Global,
+    state: &State,
+    user: &Octets,
+    password: &Octets,
+) -> Result<Intent, Refusal>
+    ensures gives { EqualsOrLacksMemory (λ intent. intent.kinds.items) result
+        (intent_to_login state.now user.now password.now) }
+    ensures named { IfOk result (λ intent. intent.named ≡ no_messages_named) }
+{
+    match state {
+        State::NotAuthenticated { credentials } => {
+            let kinds = login_intent(alloc, credentials, user, password)?;
+            Ok(Intent::of_kinds(alloc, kinds))
+        }
+        _ => Err(Refusal::NotNow),
+    }
 }

@@ -11,11 +11,24 @@ ghost use Rattle.imap_commands.specs.Mailboxes.{is_lawful_name, subscribe_intent
 ghost use Rattle.imap_commands.specs.Mailboxes.{unsubscribe_intent, unsubscribes};
 ghost use Rattle.imap_commands.specs.Mailboxes.{without_last_separator};
 ghost use Rattle.imap_types.specs.Names.{inbox};
+ghost use Rattle.imap_commands.specs.Mailboxes.{create_rule, delete_rule, subscribe_rule};
+ghost use Rattle.imap_commands.specs.Mailboxes.{unsubscribe_rule};
+ghost use Rattle.imap_commands.specs.Mailboxes.{intent_to_create, intent_to_delete};
+ghost use Rattle.imap_commands.specs.Mailboxes.{intent_to_subscribe};
+ghost use Rattle.imap_commands.specs.Mailboxes.{intent_to_unsubscribe};
+ghost use Rattle.imap_commands.specs.MailStates.{are_some, is_subscribed_in};
+ghost use Rattle.imap_commands.specs.NamedMessages.{no_messages_named};
 
+use crate::command_rule::CommandRule;
+use crate::intent::Intent;
+use crate::replica_mail::ReplicaMail;
+use crate::session::State;
+use crate::session_states::is_logged_in;
 use crdt_ops::{Ids, Kind};
-use imap_answers::Refusal;
+use imap_answers::{CompletedWord, Refusal};
 use imap_types::Name;
 use std::alloc::{AllocError, Global};
+use tags_clocks::OpId;
 
 /// Whether a mailbox may bear this name (RFC 9051, section 5.1).
 pub fn is_lawful_name(name: &Name) -> bool
@@ -147,4 +160,122 @@ pub(crate) fn one_kind(alloc: Global, kind: Kind) -> Result<Vec<Kind>, AllocErro
     let mut kinds = Vec::new(alloc);
     kinds.push(kind)?;
     Ok(kinds)
+}
+
+pub(crate) fn create_rule() -> CommandRule
+    ensures { result ≡ create_rule }
+{
+    CommandRule::issuing(CompletedWord::Create)
+}
+
+pub(crate) fn delete_rule() -> CommandRule
+    ensures { result ≡ delete_rule }
+{
+    CommandRule::issuing(CompletedWord::Delete)
+}
+
+pub(crate) fn subscribe_rule() -> CommandRule
+    ensures { result ≡ subscribe_rule }
+{
+    CommandRule::issuing(CompletedWord::Subscribe)
+}
+
+pub(crate) fn unsubscribe_rule() -> CommandRule
+    ensures { result ≡ unsubscribe_rule }
+{
+    CommandRule::issuing(CompletedWord::Unsubscribe)
+}
+
+/// The intent of CREATE in a session.
+pub(crate) fn intent_to_create<R: ReplicaMail>(
+    alloc: Global,
+    replica: &R,
+    state: &State,
+    name: &Name,
+) -> Result<Intent, Refusal>
+    ensures gives { EqualsOrLacksMemory (λ intent. intent.kinds.items) result
+        (intent_to_create (R.before replica.now) state.now name.now) }
+    ensures named { IfOk result (λ intent. intent.named ≡ no_messages_named) }
+{
+    if !is_logged_in(state) {
+        return Err(Refusal::NotNow);
+    }
+    let folder = created_name(alloc, name)?;
+    let kinds = create_intent(alloc, replica.exists(&folder), name)?;
+    Ok(Intent::of_kinds(alloc, kinds))
+}
+
+/// The intent of DELETE in a session.
+pub(crate) fn intent_to_delete<R: ReplicaMail>(
+    alloc: Global,
+    replica: &R,
+    state: &State,
+    name: &Name,
+) -> Result<Intent, Refusal>
+    ensures gives { EqualsOrLacksMemory (λ intent. intent.kinds.items) result
+        (intent_to_delete (R.before replica.now) state.now name.now) }
+    ensures named { IfOk result (λ intent. intent.named ≡ no_messages_named) }
+{
+    if !is_logged_in(state) {
+        return Err(Refusal::NotNow);
+    }
+    let seen = replica.delete_set(alloc, name)?;
+    let kinds = delete_intent(alloc, replica.exists(name), seen, name)?;
+    Ok(Intent::of_kinds(alloc, kinds))
+}
+
+/// The intent of SUBSCRIBE in a session.
+pub(crate) fn intent_to_subscribe<R: ReplicaMail>(
+    alloc: Global,
+    replica: &R,
+    state: &State,
+    name: &Name,
+) -> Result<Intent, Refusal>
+    ensures gives { EqualsOrLacksMemory (λ intent. intent.kinds.items) result
+        (intent_to_subscribe (R.before replica.now) state.now name.now) }
+    ensures named { IfOk result (λ intent. intent.named ≡ no_messages_named) }
+{
+    if !is_logged_in(state) {
+        return Err(Refusal::NotNow);
+    }
+    let kinds = subscribe_intent(alloc, is_subscribed_in(alloc, replica, name)?, name)?;
+    Ok(Intent::of_kinds(alloc, kinds))
+}
+
+fn is_subscribed_in<R: ReplicaMail>(
+    alloc: Global,
+    replica: &R,
+    name: &Name,
+) -> Result<bool, AllocError>
+    ensures { IfOk result (λ yes. yes ≡ is_subscribed_in (R.before replica.now) name.now) }
+{
+    let tags = replica.subscription_tags(alloc, name)?;
+    Ok(are_some(tags.as_slice()))
+}
+
+fn are_some(ids: &[OpId]) -> bool
+    ensures { result ≡ are_some ids.now }
+{
+    match ids {
+        [] => false,
+        [_, ..] => true,
+    }
+}
+
+/// The intent of UNSUBSCRIBE in a session.
+pub(crate) fn intent_to_unsubscribe<R: ReplicaMail>(
+    alloc: Global,
+    replica: &R,
+    state: &State,
+    name: &Name,
+) -> Result<Intent, Refusal>
+    ensures gives { EqualsOrLacksMemory (λ intent. intent.kinds.items) result
+        (intent_to_unsubscribe (R.before replica.now) state.now name.now) }
+    ensures named { IfOk result (λ intent. intent.named ≡ no_messages_named) }
+{
+    if !is_logged_in(state) {
+        return Err(Refusal::NotNow);
+    }
+    let kinds = unsubscribe_intent(alloc, replica.subscription_tags(alloc, name)?, name)?;
+    Ok(Intent::of_kinds(alloc, kinds))
 }

@@ -3,8 +3,11 @@
 ghost use Rattle.std.specs.Prelude.{ℕ, ◌<◌, Bool, List, length};
 ghost use Rattle.imap_answers.specs.Printable.{Each, IsFolded, IsNonzero, IsPrintable, IsTag};
 ghost use Rattle.imap_answers.specs.Printable.{IsWide};
-ghost use Rattle.imap_commands.specs.Arguments.{CopyArgs, FetchArgs, CopyTarget, OpenMailbox};
-ghost use Rattle.imap_commands.specs.Arguments.{SearchArgs, StoreArgs};
+ghost use Rattle.imap_commands.specs.Arguments.{CopyTarget, OpenMailbox};
+ghost use Rattle.imap_syntax.specs.declared.arguments.Fetch.{Fetch};
+ghost use Rattle.imap_syntax.specs.declared.arguments.Search.{Search};
+ghost use Rattle.imap_syntax.specs.declared.arguments.Store.{Store};
+ghost use Rattle.imap_syntax.specs.declared.arguments.Transfer.{Transfer};
 ghost use Rattle.imap_commands.specs.AppendCommand.{append_report};
 ghost use Rattle.imap_commands.specs.SimpleCommands.{IsListReport, capability_report, idle_report};
 ghost use Rattle.imap_commands.specs.SimpleCommands.{logout_report, namespace_report};
@@ -57,7 +60,7 @@ pub fn views_stay_numbered()
 /// The report of FETCH can be printed, if the listing after it can be shown.
 pub fn fetch_is_printable()
     ensures { (mailbox : OpenMailbox) (after : List ListedMessage) (condstore : Bool)
-        (request : FetchArgs)
+        (request : Fetch)
         → AreShowable after → IsNumbered mailbox.view → AreAnswerableItems request.items
         → IsPrintableReport (fetch_report mailbox after condstore request) }
 {}
@@ -65,7 +68,7 @@ pub fn fetch_is_printable()
 /// The report of STORE can be printed, if the listing after it can be shown.
 pub fn store_is_printable()
     ensures { (mailbox : OpenMailbox) (after : List ListedMessage) (condstore : Bool)
-        (request : StoreArgs) → AreShowable after → IsNumbered mailbox.view
+        (request : Store) → AreShowable after → IsNumbered mailbox.view
         → IsPrintableReport (store_report mailbox after condstore request) }
 {}
 
@@ -112,7 +115,7 @@ pub fn constant_answers_are_printable()
 
 /// The report of SEARCH can be printed.
 pub fn search_is_printable()
-    ensures { (mailbox : OpenMailbox) (tag : List ℕ) (request : SearchArgs) (report : CommandReport)
+    ensures { (mailbox : OpenMailbox) (tag : List ℕ) (request : Search) (report : CommandReport)
         → IsTag tag → AreShowable mailbox.rows → IsNumbered mailbox.view
         → IsSearchReport mailbox tag request report → IsPrintableReport report }
 {}
@@ -120,11 +123,11 @@ pub fn search_is_printable()
 /// The reports of COPY and MOVE can be printed, if the destination got as many messages as were
 /// copied.
 pub fn copies_are_printable()
-    ensures copied { (mailbox : OpenMailbox) (request : CopyArgs) (target : CopyTarget)
+    ensures copied { (mailbox : OpenMailbox) (request : Transfer) (target : CopyTarget)
         → IsNumbered mailbox.view → IsNonzero target.uidvalidity → AreShowable target.rows
         → HasAllCopies mailbox request target
         → IsPrintableReport (copy_report mailbox request target) }
-    ensures moved { (mailbox : OpenMailbox) (request : CopyArgs) (target : CopyTarget)
+    ensures moved { (mailbox : OpenMailbox) (request : Transfer) (target : CopyTarget)
         → IsNumbered mailbox.view → IsNonzero target.uidvalidity → AreShowable target.rows
         → HasAllCopies mailbox request target
         → IsPrintableReport (move_report mailbox request target) }

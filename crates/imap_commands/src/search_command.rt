@@ -7,14 +7,22 @@ ghost use Rattle.imap_commands.specs.MemoryFaults.{EqualsOrLacksMemory};
 ghost use Rattle.imap_commands.specs.SearchCommand.{IsSearchResult, IsSearchReport, search_intent};
 ghost use Rattle.imap_commands.specs.SearchCommand.{step_is_in_range, test_is_in_range};
 ghost use Rattle.imap_commands.specs.SearchCommand.{viewed_messages_from};
+ghost use Rattle.imap_commands.specs.SearchCommand.{search_rule};
+ghost use Rattle.imap_commands.specs.SearchCommand.{IsReportOfSearch, intent_to_search};
+ghost use Rattle.imap_commands.specs.NamedMessages.{no_messages_named};
 
-use crate::command_args::{OpenMailbox, SearchArgs};
+use crate::command_args::OpenMailbox;
+use crate::command_rule::{CommandRule, sync_kind_by, word_by};
+use crate::enable_command::search_asks_modseq;
+use crate::intent::Intent;
+use crate::replica_mail::{ReplicaMail, open_mailbox_after};
 use crate::report::CommandReport;
+use crate::session::State;
 use crate::simple_commands::one_answer;
 use crdt_ops::Kind;
-use imap_answers::{Answer, Refusal, SearchResults};
+use imap_answers::{Answer, CompletedWord, Refusal, SearchResults};
 use imap_query::{ViewedMessage, search};
-use imap_syntax::{SearchStep, SearchTest};
+use imap_syntax::{Search, SearchStep, SearchTest};
 use imap_types::Octets;
 use session_view::{View, ViewEntries, count_of};
 use std::alloc::{AllocError, Global};
@@ -66,7 +74,7 @@ pub fn search_report(
     alloc: Global,
     mailbox: &OpenMailbox<'_>,
     tag: &Octets,
-    request: &SearchArgs<'_>,
+    request: &Search,
 ) -> Result<CommandReport, AllocError>
     ensures { IfOk result (λ sent. IsSearchReport mailbox.now tag.now request.now sent) }
 {
@@ -86,7 +94,7 @@ pub fn search_report(
 fn search_results_of(
     alloc: Global,
     mailbox: &OpenMailbox<'_>,
-    request: &SearchArgs<'_>,
+    request: &Search,
 ) -> Result<SearchResults, AllocError>
     ensures { IfOk result (λ results. IsSearchResult mailbox.now request.now results) }
 {
@@ -98,7 +106,7 @@ fn search_results_of(
         &mailbox.rows,
         request.by_uid,
         steps,
-        request.options,
+        request.options.as_slice(),
     )
 }
 
@@ -118,4 +126,52 @@ fn all_viewed_messages(alloc: Global, view: &ViewEntries) -> Result<Vec<ViewedMe
         });
     }
     Ok(shown)
+}
+
+/// The rule of SEARCH, which turns mod-sequences on by a MODSEQ test (RFC 7162, section 3.1).
+pub(crate) fn search_rule(request: &Search) -> CommandRule
+    ensures { result ≡ search_rule request.now }
+{
+    let by_uid = request.by_uid;
+    CommandRule {
+        sync: Some(sync_kind_by(by_uid)),
+        enables_condstore: search_asks_modseq(request.steps.as_slice()),
+        ..CommandRule::plain(word_by(by_uid, CompletedWord::UidSearch, CompletedWord::Search))
+    }
+}
+
+/// The intent of SEARCH in a session.
+pub(crate) fn intent_to_search(
+    alloc: Global,
+    state: &State,
+    steps: &[SearchStep],
+) -> Result<Intent, Refusal>
+    ensures gives { EqualsOrLacksMemory (λ intent. intent.kinds.items) result
+        (intent_to_search state.now steps.now) }
+    ensures named { IfOk result (λ intent. intent.named ≡ no_messages_named) }
+{
+    let State::Selected { view, .. } = state else {
+        return Err(Refusal::NotNow);
+    };
+    let kinds = search_intent(alloc, view, steps)?;
+    Ok(Intent::of_kinds(alloc, kinds))
+}
+
+/// The report of SEARCH in a session.
+pub(crate) fn report_of_search<R: ReplicaMail>(
+    alloc: Global,
+    replica: &R,
+    state: &State,
+    tag: &Octets,
+    request: &Search,
+) -> Result<CommandReport, AllocError>
+    requires { R.is_ready replica.now }
+    ensures { IfOk result (λ report. IsReportOfSearch (R.after replica.now) state.now tag.now
+        request.now report) }
+{
+    let State::Selected { view, read_only } = state else {
+        return Ok(CommandReport::empty(alloc));
+    };
+    let mailbox = open_mailbox_after(alloc, replica, view, *read_only)?;
+    search_report(alloc, &mailbox, tag, request)
 }

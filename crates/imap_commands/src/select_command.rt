@@ -17,13 +17,24 @@ ghost use Rattle.imap_commands.specs.MemoryFaults.{EqualsOrLacksMemory};
 ghost use Rattle.imap_commands.specs.SelectCommand.{AreListedKeywords, IsSelectReport, access_code};
 ghost use Rattle.imap_commands.specs.SelectCommand.{flags_in_use, mailbox_answers, permanent_flags};
 ghost use Rattle.imap_commands.specs.SelectCommand.{select_report, select_intent};
+ghost use Rattle.imap_commands.specs.SelectCommand.{examine_rule, select_rule, selecting_rule};
+ghost use Rattle.imap_commands.specs.SelectCommand.{unselect_rule};
+ghost use Rattle.imap_commands.specs.SelectCommand.{IsReportOfSelect, intent_to_select};
+ghost use Rattle.imap_commands.specs.SelectCommand.{selected_state};
+ghost use Rattle.imap_commands.specs.NamedMessages.{no_messages_named};
 
+use crate::command_rule::CommandRule;
+use crate::intent::Intent;
+use crate::replica_mail::{ReplicaMail, counters_after, validity_after};
 use crate::report::CommandReport;
+use crate::session::State;
+use crate::session_states::{is_logged_in, is_selected};
 use crdt_ops::Kind;
-use imap_answers::{Answer, Code, MailboxState, Notice, Refusal};
+use imap_answers::{Answer, Code, CompletedWord, MailboxState, Notice, Refusal};
 use imap_query::MailboxCounters;
 use imap_types::{Flags, Keywords, Name, Octets, Versions};
 use mailbox_rows::Rows;
+use session_view::{View, ViewEntries};
 use std::alloc::{AllocError, Global};
 
 /// The intent of SELECT and EXAMINE, which issue nothing. `NoSuchMailbox` if the mailbox doesn't
@@ -273,4 +284,92 @@ fn add_keywords(alloc: Global, words: &[Octets], keywords: &mut Keywords) -> Res
         keywords.insert(alloc, word.as_bytes())?;
     }
     Ok(())
+}
+
+/// The rule of SELECT and EXAMINE, which leave the selected mailbox even if they are refused (RFC
+/// 9051, section 6.3.2), and turn mod-sequences on by CONDSTORE (RFC 7162, section 3.1.8).
+fn selecting_rule(word: CompletedWord, condstore: bool) -> CommandRule
+    ensures { result ≡ selecting_rule word condstore }
+{
+    CommandRule {
+        sync: None,
+        enables_condstore: condstore,
+        selects: true,
+        ..CommandRule::plain(word)
+    }
+}
+
+pub(crate) fn select_rule(condstore: bool) -> CommandRule
+    ensures { result ≡ select_rule condstore }
+{
+    selecting_rule(CompletedWord::Select, condstore)
+}
+
+pub(crate) fn examine_rule(condstore: bool) -> CommandRule
+    ensures { result ≡ examine_rule condstore }
+{
+    selecting_rule(CompletedWord::Examine, condstore)
+}
+
+/// The rule of UNSELECT, after which there is no sync (RFC 9051, section 6.4.2).
+pub(crate) fn unselect_rule() -> CommandRule
+    ensures { result ≡ unselect_rule }
+{
+    CommandRule {
+        sync: None,
+        ..CommandRule::plain(CompletedWord::Unselect)
+    }
+}
+
+/// The intent of SELECT and EXAMINE in a session.
+pub(crate) fn intent_to_select<R: ReplicaMail>(
+    alloc: Global,
+    replica: &R,
+    state: &State,
+    name: &Name,
+) -> Result<Intent, Refusal>
+    ensures gives { EqualsOrLacksMemory (λ intent. intent.kinds.items) result
+        (intent_to_select (R.before replica.now) state.now name.now) }
+    ensures named { IfOk result (λ intent. intent.named ≡ no_messages_named) }
+{
+    if !is_logged_in(state) {
+        return Err(Refusal::NotNow);
+    }
+    let kinds = select_intent(alloc, replica.exists(name))?;
+    Ok(Intent::of_kinds(alloc, kinds))
+}
+
+/// The report of SELECT and of EXAMINE, which selects read-only, in a session.
+pub(crate) fn report_of_select<R: ReplicaMail>(
+    alloc: Global,
+    replica: &R,
+    state: &State,
+    read_only: bool,
+    name: &Name,
+) -> Result<CommandReport, AllocError>
+    requires { R.is_ready replica.now }
+    ensures { IfOk result (λ sent. IsReportOfSelect (R.after replica.now) state.now read_only
+        name.now sent) }
+{
+    let rows = replica.rows_after(alloc, name)?;
+    let counters = counters_after(replica, name);
+    select_report(alloc, is_selected(state), read_only, name, counters, &rows)
+}
+
+/// The state of a session that has just selected a mailbox, and was shown no messages yet.
+pub(crate) fn selected_state<R: ReplicaMail>(
+    alloc: Global,
+    replica: &R,
+    name: &Name,
+    read_only: bool,
+) -> Result<State, AllocError>
+    requires { R.is_ready replica.now }
+    ensures { IfOk result
+        (λ state. state ≡ selected_state (R.after replica.now) name.now read_only) }
+{
+    let uidvalidity = validity_after(replica, name);
+    Ok(State::Selected {
+        view: View::new(name.copy(alloc)?, uidvalidity, ViewEntries::new(alloc)),
+        read_only,
+    })
 }

@@ -1,8 +1,6 @@
 //! STORE and UID STORE (RFC 9051, section 6.4.6; RFC 7162, section 3.1.3).
 
 ghost use Rattle.std.specs.Prelude.{◌≡◌, ◌&&◌, ◌++◌, flat_map, not, is_some, IfOk, OnOk, Some};
-ghost use Rattle.std.specs.List.{list_all};
-ghost use Rattle.imap_types.specs.Keywords.{is_lawful_keyword};
 ghost use Rattle.imap_types.specs.Numbers.{AreRisingFrom};
 ghost use Rattle.mailbox_rows.specs.RowViews.{listed_message};
 ghost use Rattle.imap_types.specs.Unions.{united_flags};
@@ -11,7 +9,7 @@ ghost use Rattle.session_view.specs.Views.{same_flags};
 ghost use Rattle.imap_commands.specs.NamedMessages.{messages_stored_by};
 ghost use Rattle.imap_commands.specs.MemoryFaults.{EqualsOrLacksMemory};
 ghost use Rattle.imap_commands.specs.MessageNames.{names_of};
-ghost use Rattle.imap_commands.specs.StoreCommand.{has_unlawful_keyword, is_refused, is_taken};
+ghost use Rattle.imap_commands.specs.StoreCommand.{is_refused, is_taken};
 ghost use Rattle.imap_commands.specs.StoreCommand.{is_unchanged, modified_code, silent_flags_at};
 ghost use Rattle.imap_commands.specs.StoreCommand.{silent_flags_of};
 ghost use Rattle.imap_commands.specs.StoreCommand.{store_of, store_report, store_intent};
@@ -19,17 +17,27 @@ ghost use Rattle.imap_commands.specs.StoreCommand.{stored_answer};
 ghost use Rattle.imap_commands.specs.StoreCommand.{stored_answers, stores_of, refused_messages};
 ghost use Rattle.imap_commands.specs.StoreCommand.{taken_messages};
 ghost use Rattle.imap_commands.specs.Report.{entry_at, gone_code, message_at};
+ghost use Rattle.imap_commands.specs.StoreCommand.{store_rule};
+ghost use Rattle.imap_commands.specs.StoreCommand.{intent_to_store, report_of_store};
+ghost use Rattle.imap_commands.specs.MailStates.{IsListingFor};
+ghost use Rattle.imap_commands.specs.NamedMessages.{messages_stored_in};
+ghost use Rattle.std.specs.Option.{option_map};
 
-use crate::command_args::{OpenMailbox, StoreArgs};
+use crate::command_args::OpenMailbox;
+use crate::command_rule::{CommandRule, sync_kind_by, word_by};
 use crate::flag_change::changed_flags;
 use crate::intent::{Intent, NamedMessages};
-use crate::limits::intent_within_limits;
+use crate::limits::{are_lawful, intent_within_limits};
 use crate::named_messages::{messages_named, names_of, set_of};
+use crate::replica_mail::{ReplicaMail, open_mailbox, rows_after};
 use crate::report::{CommandReport, entry_at, gone_code, message_at};
+use crate::report_input::ReportInput;
+use crate::session::State;
 use crate::versions::ids_of_versions;
 use crdt_ops::Kind;
-use imap_answers::{Answer, Code, FetchItems, Refusal, Sections};
-use imap_types::{Flags, Octets, Versions, is_lawful_keyword};
+use imap_answers::{Answer, Code, CompletedWord, FetchItems, Refusal, Sections};
+use imap_syntax::Store;
+use imap_types::{Flags, Versions};
 use mailbox_rows::{Row, Rows};
 use session_view::{SilentFlags, ViewEntries};
 use std::alloc::{AllocError, Global};
@@ -42,18 +50,18 @@ use std::alloc::{AllocError, Global};
 pub fn store_intent(
     alloc: Global,
     mailbox: &OpenMailbox<'_>,
-    request: &StoreArgs<'_>,
+    request: &Store,
 ) -> Result<Intent, Refusal>
     ensures gives { EqualsOrLacksMemory (λ intent. intent.kinds.items) result
         (store_intent mailbox.now request.now) }
     ensures named { IfOk result
         (λ intent. intent.named ≡ messages_stored_by mailbox.now request.now) }
 {
-    let numbers = messages_named(alloc, request.by_uid, request.messages, mailbox.view)?;
+    let numbers = messages_named(alloc, request.by_uid, &request.messages, mailbox.view)?;
     if mailbox.read_only {
         return Err(Refusal::ReadOnly);
     }
-    if has_unlawful_keyword(request.flags) {
+    if !are_lawful(request.flags.keywords.as_slice()) {
         return Err(Refusal::KeywordTooLong);
     }
     let view = mailbox.view.entries();
@@ -66,23 +74,6 @@ pub fn store_intent(
     )?;
     let kinds = stores_of(alloc, mailbox, request, &taken)?;
     intent_within_limits(kinds, NamedMessages::new(numbers, taken))
-}
-
-fn has_unlawful_keyword(flags: &Flags) -> bool
-    ensures { result ≡ has_unlawful_keyword flags.now }
-{
-    !are_lawful(flags.keywords.as_slice())
-}
-
-fn are_lawful(keywords: &[Octets]) -> bool
-    ensures { result ≡ list_all is_lawful_keyword keywords.now }
-{
-    for keyword in keywords {
-        if !is_lawful_keyword(keyword.as_bytes()) {
-            return false;
-        }
-    }
-    true
 }
 
 /// Whether a message hasn't changed since the mod-sequence of UNCHANGEDSINCE, if one is given.
@@ -159,7 +150,7 @@ fn refused_messages(
 fn stores_of(
     alloc: Global,
     mailbox: &OpenMailbox<'_>,
-    request: &StoreArgs<'_>,
+    request: &Store,
     numbers: &[u32],
 ) -> Result<Vec<Kind>, AllocError>
     ensures { IfOk result (λ kinds. kinds.items ≡ stores_of mailbox.now request.now numbers.now) }
@@ -175,7 +166,7 @@ fn stores_of(
 fn push_store(
     alloc: Global,
     mailbox: &OpenMailbox<'_>,
-    request: &StoreArgs<'_>,
+    request: &Store,
     number: u32,
     kinds: &mut Vec<Kind>,
 ) -> Result<(), AllocError>
@@ -188,7 +179,7 @@ fn push_store(
         return Ok(());
     };
     let old = row.versions.flags(alloc)?;
-    let flags = changed_flags(alloc, request.action.mode, &old, request.flags)?;
+    let flags = changed_flags(alloc, request.action.mode, &old, &request.flags)?;
     if are_same(&flags, &old) {
         return Ok(());
     }
@@ -218,7 +209,7 @@ pub fn store_report(
     mailbox: &OpenMailbox<'_>,
     after: &Rows<'_>,
     condstore: bool,
-    request: &StoreArgs<'_>,
+    request: &Store,
     named: &NamedMessages,
 ) -> Result<CommandReport, AllocError>
     requires { named.now ≡ messages_stored_by mailbox.now request.now }
@@ -265,7 +256,7 @@ fn stored_answers(
     after: &Rows<'_>,
     view: &ViewEntries,
     condstore: bool,
-    request: &StoreArgs<'_>,
+    request: &Store,
     taken: &[u32],
 ) -> Result<Vec<Answer>, AllocError>
     ensures { IfOk result (λ answers. answers.items
@@ -290,7 +281,7 @@ fn answers_of(
     after: &Rows<'_>,
     view: &ViewEntries,
     condstore: bool,
-    request: &StoreArgs<'_>,
+    request: &Store,
     taken: &[u32],
 ) -> Result<Vec<Answer>, AllocError>
     ensures { IfOk result (λ answers. answers.items
@@ -311,7 +302,7 @@ fn answers_of(
 fn push_answer(
     alloc: Global,
     condstore: bool,
-    request: &StoreArgs<'_>,
+    request: &Store,
     number: u32,
     row: &Row<'_>,
     answers: &mut Vec<Answer>,
@@ -354,7 +345,7 @@ fn flags_if_reported(
 fn silent_flags_of(
     alloc: Global,
     view: &ViewEntries,
-    request: &StoreArgs<'_>,
+    request: &Store,
     taken: &[u32],
 ) -> Result<Vec<SilentFlags>, AllocError>
     ensures { IfOk result (λ silent_flags. silent_flags.items
@@ -369,7 +360,7 @@ fn silent_flags_of(
 fn silent_flags(
     alloc: Global,
     view: &ViewEntries,
-    request: &StoreArgs<'_>,
+    request: &Store,
     taken: &[u32],
 ) -> Result<Vec<SilentFlags>, AllocError>
     ensures { IfOk result (λ silent_flags. silent_flags.items
@@ -389,7 +380,7 @@ fn silent_flags(
 fn push_silent(
     alloc: Global,
     view: &ViewEntries,
-    request: &StoreArgs<'_>,
+    request: &Store,
     number: u32,
     silent_flags: &mut Vec<SilentFlags>,
 ) -> Result<(), AllocError>
@@ -403,7 +394,72 @@ fn push_silent(
     };
     silent_flags.push(SilentFlags {
         number,
-        flags: changed_flags(alloc, request.action.mode, &entry.flags, request.flags)?,
+        flags: changed_flags(alloc, request.action.mode, &entry.flags, &request.flags)?,
     })?;
     Ok(())
+}
+
+/// The rule of STORE, which turns mod-sequences on by UNCHANGEDSINCE (RFC 7162, section 3.1).
+pub(crate) fn store_rule(request: &Store) -> CommandRule
+    ensures { result ≡ store_rule request.now }
+{
+    let word = word_by(
+        request.by_uid,
+        CompletedWord::UidStore,
+        CompletedWord::Store,
+    );
+    CommandRule {
+        sync: Some(sync_kind_by(request.by_uid)),
+        enables_condstore: request.unchanged_since.is_some(),
+        ..CommandRule::issuing(word)
+    }
+}
+
+/// The intent of STORE in a session.
+pub(crate) fn intent_to_store<R: ReplicaMail>(
+    alloc: Global,
+    replica: &R,
+    state: &State,
+    request: &Store,
+) -> Result<Intent, Refusal>
+    ensures gives { EqualsOrLacksMemory (λ intent. intent.kinds.items) result
+        (intent_to_store (R.before replica.now) state.now request.now) }
+    ensures named { IfOk result (λ intent. intent.named
+        ≡ messages_stored_in (R.before replica.now) state.now request.now) }
+{
+    let State::Selected { view, read_only } = state else {
+        return Err(Refusal::NotNow);
+    };
+    let mailbox = open_mailbox(alloc, replica, view, *read_only)?;
+    let intent = store_intent(alloc, &mailbox, request);
+    drop(mailbox);
+    intent
+}
+
+/// The report of STORE in a session.
+pub(crate) fn report_of_store<R: ReplicaMail>(
+    alloc: Global,
+    replica: &R,
+    input: &ReportInput<'_>,
+    made: Option<&Rows<'_>>,
+    request: &Store,
+) -> Result<CommandReport, AllocError>
+    requires ready { R.is_ready replica.now }
+    requires made { IsListingFor (R.after replica.now) input.now.state.now
+        (option_map (λ rows. rows.now) made) }
+    requires named { input.now.named.now
+        ≡ messages_stored_in (R.before replica.now) input.now.state.now request.now }
+    ensures { IfOk result (λ report. report
+        ≡ report_of_store (R.before replica.now) (R.after replica.now) input.now.state.now
+        input.now.modseq request.now) }
+{
+    let State::Selected { view, read_only } = input.state else {
+        return Ok(CommandReport::empty(alloc));
+    };
+    let mailbox = open_mailbox(alloc, replica, view, *read_only)?;
+    if let Some(after) = made {
+        return store_report(alloc, &mailbox, after, input.modseq, request, input.named);
+    }
+    let after = rows_after(alloc, replica, view)?;
+    store_report(alloc, &mailbox, &after, input.modseq, request, input.named)
 }

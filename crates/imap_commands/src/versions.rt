@@ -13,10 +13,7 @@ use tags_clocks::OpId;
 pub fn ids_of_versions(alloc: Global, versions: &Versions<'_>) -> Result<Ids, AllocError>
     ensures { IfOk result (λ old_ids. old_ids ≡ version_ids versions.now.list.now) }
 {
-    match Ids::new(ids_of(alloc, versions.as_slice())?) {
-        Ok(old_ids) => Ok(old_ids),
-        Err(_) => Err(AllocError),
-    }
+    Ids::new(ids_of(alloc, versions.as_slice())?).map_err(|_| AllocError)
 }
 
 fn ids_of(alloc: Global, versions: &[Version]) -> Result<Vec<OpId>, AllocError>

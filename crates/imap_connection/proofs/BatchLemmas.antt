@@ -5,14 +5,15 @@ use Rattle.std.proofs.lemmas.Grind.{flat_map-append}
 use Rattle.imap_answers.specs.AnswerText.{text_of_answer}
 use Rattle.imap_answers.specs.declared.answer.Answer.{Answer}
 use Rattle.imap_lex.specs.declared.item.Item.{Item}
-use Rattle.imap_node.specs.Commands.{is_idle}
+use Rattle.imap_commands.specs.Commands.{is_brief, is_idle}
+use Rattle.imap_commands.proofs.RuleLemmas.{brief_wakes}
 use Rattle.imap_node.specs.declared.reply.Reply.{Reply}
 use Rattle.imap_syntax.specs.declared.command.Command.{Command}
 use Rattle.imap_syntax.specs.declared.command.Command.TheVariants as commands
 use Rattle.imap_syntax.specs.declared.command.Tagged.{Tagged}
 use Rattle.imap_connection.specs.PortCalls.{PortCall}
 use Rattle.imap_connection.specs.PortCalls as asked
-use Rattle.imap_connection.specs.Batches.{AreAsked, CarriesCommands, EndsInBatch, EndsInReply, answers_by, are_brief, is_brief, tags_of}
+use Rattle.imap_connection.specs.Batches.{AreAsked, CarriesCommands, EndsInBatch, EndsInReply, answers_by, are_brief, tags_of}
 use Rattle.imap_connection.specs.Conversation.{IsPrefixOf}
 use Rattle.imap_connection.specs.Conversations.{EndsAtItem, Converses, HasTaken, EndsOverItems, LacksAnswers, TakesItem}
 use Rattle.imap_connection.specs.EndReasons.{end_reason_of}
@@ -32,10 +33,6 @@ use Rattle.imap_connection.proofs.RequestLemmas.{of_command}
 
 none_below_zero : (i : ℕ) → i < 0 → ⊥
 none_below_zero i h = omega (arith, h)
-
-brief_stays : (command : Command) → is_brief command ≡ true → is_idle command ≡ false
-brief_stays commands.Idle e = absurd (false≢true e)
-brief_stays _ e = refl
 
 brief_no_logout : (command : Command) → is_brief command ≡ true → is_logout command ≡ false
 brief_no_logout commands.Logout e = absurd (false≢true e)
@@ -125,7 +122,7 @@ module _ {S : Type 0} (steps : S → PortCall → Result Reply PortFault → S �
   brief_taken old new item tagged reply i b s = (
     requests.Command tagged,
     i,
-    (reply, s, refl, none_if (is_idle tagged.command) (is_done reply) tagged.tag (brief_stays tagged.command b), false_if (is_logout tagged.command) (is_done reply) (brief_no_logout tagged.command b)),
+    (reply, s, refl, none_if (is_idle tagged.command) (is_done reply) tagged.tag (brief_wakes tagged.command b), false_if (is_logout tagged.command) (is_done reply) (brief_no_logout tagged.command b)),
   )
 
   carried : (items : List Item) (all : List Tagged) (replies : List Reply) (old new : S) (u : Unit {0}) → AreAsked items all → are_brief all ≡ true → CarriesCommands steps old all replies (Ok u) new

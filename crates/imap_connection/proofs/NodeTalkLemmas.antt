@@ -14,7 +14,8 @@ use Rattle.imap_syntax.specs.declared.command.Tagged.{Tagged}
 use Rattle.imap_syntax.specs.declared.idle.IdleLine.{IdleLine}
 use Rattle.imap_lex.specs.declared.item.Item.{Item}
 use Rattle.imap_lex.specs.declared.item.Item.TheVariants.{Ready, Frame, Refused as RefusedItem}
-use Rattle.imap_node.specs.Commands.{is_idle, state_after_command}
+use Rattle.imap_commands.specs.Commands.{is_idle}
+use Rattle.imap_node.specs.Commands.{state_after_command}
 use Rattle.imap_node.specs.InputEffects.{InputEffect, sync_result_of}
 use Rattle.imap_node.specs.Nodes.{HasLoggedOut, IsActive, NodeState}
 use Rattle.imap_node.specs.Responses.{IsNodeAfter, Responds, ends_idling, leaves_mailbox, session_after_refusal, session_after}

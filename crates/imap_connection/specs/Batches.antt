@@ -1,14 +1,13 @@
 -- Brief commands, which are given to a port in batches: the answers to them, and how a conversation
 -- ends at one of them.
 
-use Rattle.std.specs.Prelude.{◌≡◌, ◌⊎◌, ℕ, Bool, true, false, List, [], ◌∷◌, ◌++◌, map, None}
+use Rattle.std.specs.Prelude.{◌≡◌, ◌⊎◌, ℕ, Bool, List, [], ◌∷◌, ◌++◌, map, None}
 use Rattle.std.specs.Prelude.{◌<◌, Result, Ok, Err, length, take, drop}
 use Rattle.std.specs.List.{list_all}
 use Rattle.imap_answers.specs.declared.answer.Answer.{Answer}
+use Rattle.imap_commands.specs.Commands.{is_brief}
 use Rattle.imap_lex.specs.declared.item.Item.{Item}
 use Rattle.imap_node.specs.declared.reply.Reply.{Reply}
-use Rattle.imap_syntax.specs.declared.command.Command.{Command}
-use Rattle.imap_syntax.specs.declared.command.Command.TheVariants as commands
 use Rattle.imap_syntax.specs.declared.command.Tagged.{Tagged}
 use Rattle.imap_connection.specs.PortCalls.{PortCall}
 use Rattle.imap_connection.specs.PortCalls as asked
@@ -20,14 +19,6 @@ use Rattle.imap_connection.specs.declared.end_reason.Ended.{Ended}
 use Rattle.imap_connection.specs.declared.end_reason.Ended.TheVariants.{NoMemory}
 use Rattle.imap_connection.specs.declared.fault.PortFault.{PortFault}
 use Rattle.imap_connection.specs.declared.request.Request.TheVariants as requests
-
--- A command that issues nothing and answers without reading a mailbox.
-abbrev pub is_brief : Command → Bool
-is_brief commands.Noop = true
-is_brief commands.Capability = true
-is_brief commands.Namespace = true
-is_brief (commands.Enable names) = true
-is_brief _ = false
 
 abbrev pub are_brief : List Tagged → Bool
 are_brief all = list_all (λ (tagged : Tagged). is_brief tagged.command) all

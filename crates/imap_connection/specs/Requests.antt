@@ -11,7 +11,7 @@ use Rattle.imap_syntax.specs.declared.command.Command.TheVariants as commands
 use Rattle.imap_syntax.specs.declared.command.Tagged.{Tagged}
 use Rattle.imap_syntax.specs.declared.idle.IdleLine.{IdleLine}
 use Rattle.imap_lex.specs.declared.item.Item.{Item}
-use Rattle.imap_node.specs.Commands.{is_idle}
+use Rattle.imap_commands.specs.Commands.{is_brief, is_idle}
 pub use Rattle.imap_node.specs.Replies.{is_done}
 use Rattle.imap_node.specs.declared.reply.Reply.{Reply}
 use Rattle.imap_connection.specs.Conversation.{IsPrefixOf}
@@ -21,7 +21,6 @@ use Rattle.imap_connection.specs.declared.request.Request.{Request}
 use Rattle.imap_connection.specs.declared.request.Request.TheVariants as requests
 use Rattle.imap_connection.specs.declared.request_steps.Asking.{Asking}
 use Rattle.imap_connection.specs.declared.request_steps.Asking.TheVariants.{Later, Now}
-use Rattle.imap_connection.specs.Batches.{is_brief}
 use Rattle.imap_connection.specs.PortCalls.{PortCall}
 use Rattle.imap_connection.specs.PortCalls as asked
 use Rattle.imap_connection.specs.EndReasons.{end_reason_of}

@@ -5,7 +5,8 @@ ghost use Rattle.std.specs.Prelude.{◌≡◌, ◌≤◌, ◌++◌, ◌∷◌, [
 ghost use Rattle.std.specs.Prelude.{IfErr};
 ghost use Rattle.imap_answers.specs.declared.answer.Answer.{Answer};
 ghost use Rattle.imap_node.specs.declared.reply.Reply.{Reply};
-ghost use Rattle.imap_connection.specs.Batches.{CarriesCommands, EndsInBatch, answers_by, is_brief};
+ghost use Rattle.imap_commands.specs.Commands.{is_brief};
+ghost use Rattle.imap_connection.specs.Batches.{CarriesCommands, EndsInBatch, answers_by};
 ghost use Rattle.imap_connection.specs.Batches.{EndsInReply, tags_of};
 ghost use Rattle.imap_connection.specs.EndReasons.{failed_reads, failed_writes};
 ghost use Rattle.imap_connection.specs.Requests.{texts};
@@ -14,7 +15,7 @@ use crate::answer_writer::print_reply;
 use crate::end_reason::{Ended, end_reason_of};
 use crate::io_traits::Port;
 use imap_node::Reply;
-use imap_syntax::{Command, Tagged};
+use imap_syntax::Tagged;
 use imap_types::Octets;
 use std::alloc::{AllocError, Global};
 use std::marker::Model;
@@ -125,14 +126,4 @@ fn print_replies(
         }
     }
     Ok(())
-}
-
-/// Whether a command issues nothing, and answers without reading a mailbox.
-pub fn is_brief(command: &Command) -> bool
-    ensures { result ≡ is_brief command.now }
-{
-    matches!(
-        command,
-        Command::Noop | Command::Capability | Command::Namespace | Command::Enable { .. }
-    )
 }

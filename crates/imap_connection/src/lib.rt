@@ -27,13 +27,13 @@
 //! - `converse` buffers its answers, and writes them in one write after the last answer to the
 //!   octets of a read, before it reads again, or once 64 KiB are buffered after an item. Therefore
 //!   a sink has no call that flushes, and nothing is buffered while the client is awaited.
-//! - Commands that issue nothing and answer without reading a mailbox (`is_brief`: NOOP,
-//!   CAPABILITY, NAMESPACE, ENABLE) wait until another command arrives or the piece is used up, and
-//!   are then given to the port together. If memory runs out for the reply to one of them, the
-//!   connection ends after the answers before it and the first complete ones of this reply; the
-//!   commands after it, which issue nothing, were carried out, each with its entry in the journal.
-//!   A command that takes longer, or issues operations, is given on its own, so that other sessions
-//!   can take turns between any two of these.
+//! - Brief commands (`is_brief` of `imap_commands`: NOOP, CAPABILITY, NAMESPACE, ENABLE) wait until
+//!   another command arrives or the piece is used up, and are then given to the port together. If
+//!   memory runs out for the reply to one of them, the connection ends after the answers before it
+//!   and the first complete ones of this reply; the commands after it, which issue nothing, were
+//!   carried out, each with its entry in the journal. A command that takes longer, or issues
+//!   operations, is given on its own, so that other sessions can take turns between any two of
+//!   these.
 //! - A session idles after an IDLE that was answered by a `Done`, with the tag of that command,
 //!   until the next line. `converse` tracks this itself, so that a port needn't report it.
 //! - A conversation ends in `WriteFailed` if any write failed, even the last one, after the session

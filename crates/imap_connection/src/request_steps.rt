@@ -3,7 +3,6 @@
 ghost use Rattle.std.specs.Prelude.{◌≡◌, ◌++◌, ◌∷◌, [], true, false, Some, None, List, ℕ, Option};
 ghost use Rattle.std.specs.Prelude.{OnOk, IfOk, IfErr, if◌then◌else◌};
 ghost use Rattle.imap_answers.specs.declared.answer.Answer.{Answer};
-ghost use Rattle.imap_node.specs.Commands.{is_idle};
 ghost use Rattle.imap_connection.specs.EndReasons.{failed_reads, failed_writes};
 ghost use Rattle.imap_lex.specs.declared.item.Item.{Item};
 ghost use Rattle.imap_connection.specs.Conversations.{HasTaken, EndsOverItems, TakesItem};
@@ -15,12 +14,13 @@ ghost use Rattle.imap_connection.specs.declared.end_reason.Ended.TheVariants.{No
 ghost use Rattle.imap_connection.specs.declared.request.Request.TheVariants as requests;
 
 use crate::answer_writer::{UnprintedReply, print_reply};
-use crate::batch::{Batch, is_brief};
+use crate::batch::Batch;
 use crate::end_reason::{Ended, end_reason_of};
 use crate::io_traits::Port;
 use crate::replies::is_out_of_memory;
 use crate::request::{Request, request_of};
 use imap_answers::Answer;
+use imap_commands::{is_brief, is_idle};
 use imap_lex::Item;
 use imap_node::Reply;
 use imap_print::print;
@@ -177,12 +177,6 @@ fn take_command<P: Port>(
         Ok(()) => Ok(None),
         Err(ended) => Err(ended),
     }
-}
-
-fn is_idle(command: &Command) -> bool
-    ensures { result ≡ is_idle command.now }
-{
-    matches!(command, Command::Idle)
 }
 
 fn is_logout(command: &Command) -> bool

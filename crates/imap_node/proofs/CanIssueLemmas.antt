@@ -21,9 +21,8 @@ use Rattle.crdt_ops.proofs.SetLemmas.{delete_set_in, subscription_tags_in}
 use Rattle.imap_answers.specs.declared.fixed_words.Refusal.{Refusal}
 use Rattle.imap_answers.specs.declared.fixed_words.Refusal.TheVariants as refusals
 use Rattle.imap_commands.specs.AppendCommand.{append_intent, given_date}
-use Rattle.imap_commands.specs.Arguments.{AppendArgs}
 use Rattle.imap_commands.specs.SimpleCommands.{status_intent}
-use Rattle.imap_commands.specs.Arguments.{CopyArgs, FetchArgs, OpenMailbox, StoreArgs}
+use Rattle.imap_commands.specs.Arguments.{OpenMailbox}
 use Rattle.imap_commands.specs.CopyCommand.{copy_intent, move_intent}
 use Rattle.imap_commands.specs.Login.{are_credentials, login_intent}
 use Rattle.imap_commands.specs.ExpungeCommand.{close_intent, expunge_intent, uid_expunge_intent}
@@ -64,6 +63,8 @@ use Rattle.uid_projection.proofs.SortedRowLemmas.{row_in}
 use Rattle.uid_projection.proofs.ListingLemmas.{keywords_lawful, ids_applied}
 use Rattle.uid_projection.proofs.Versions.{version_in}
 use Rattle.crdt_ops.specs.Ops.{id_of}
+use Rattle.imap_syntax.specs.declared.arguments.Transfer.{Transfer}
+use Rattle.imap_syntax.specs.declared.arguments.Append.{Append}
 
 -- ---- names
 
@@ -230,7 +231,7 @@ unsubscribe_covers ops name given e =
     let lawful = then_ok (is_lawful_name name) _ _ given e in
     subst (Covers ops) (ok_is (unsubscribes (subscription_tags_of ops name) name) given lawful.1) (unsubscribe_by ops (subscription_tags_of ops name) name (unsubscribe_covered ops name))
 
-pub append_covers : (ops : List Op) (exists : Bool) (stamp : List ℕ) (request : AppendArgs) (given : List Kind) → append_intent exists stamp request ≡ Ok given → (exists ≡ true) × Covers ops given
+pub append_covers : (ops : List Op) (exists : Bool) (stamp : List ℕ) (request : Append) (given : List Kind) → append_intent exists stamp request ≡ Ok given → (exists ≡ true) × Covers ops given
 append_covers ops exists stamp request given e =
     let existing = then_ok exists _ _ given e in
     let short = then_ok (list_all is_lawful_keyword request.flags.keywords) _ _ given existing.1 in
@@ -307,12 +308,12 @@ not_true : (b : Bool) → not b ≡ false → b ≡ true
 not_true true h = refl
 not_true false h = cc
 
-copy_target_exists : (mailbox : OpenMailbox) (request : CopyArgs) (exists : Bool) (given : List Kind) → copy_intent mailbox request exists ≡ Ok given → exists ≡ true
+copy_target_exists : (mailbox : OpenMailbox) (request : Transfer) (exists : Bool) (given : List Kind) → copy_intent mailbox request exists ≡ Ok given → exists ≡ true
 copy_target_exists mailbox request exists given e =
     let in_range = else_ok (not (is_in_range request.by_uid request.messages mailbox.view)) _ _ given e in
     not_true exists (else_ok (not exists) _ _ given in_range.1).0
 
-move_target_exists : (mailbox : OpenMailbox) (request : CopyArgs) (exists : Bool) (given : List Kind) → move_intent mailbox request exists ≡ Ok given → exists ≡ true
+move_target_exists : (mailbox : OpenMailbox) (request : Transfer) (exists : Bool) (given : List Kind) → move_intent mailbox request exists ≡ Ok given → exists ≡ true
 move_target_exists mailbox request exists given e =
     let in_range = else_ok (not (is_in_range request.by_uid request.messages mailbox.view)) _ _ given e in
     let writable = else_ok mailbox.read_only _ _ given in_range.1 in
@@ -375,10 +376,9 @@ module _ (start : Counters) (ops : List Op) (a : IsApplied ops) (stamp : List �
   can_issue_intent (commands.Status name items) given e = can_issue_none_if ops (folder_exists name ops) refusals.NoSuchMailbox given (if_logged_in_ok state (status_intent (folder_exists name ops)) given e)
   can_issue_intent (commands.Append append) given e =
       let exists = folder_exists append.name ops in
-      let request : AppendArgs = record { name = append.name; flags = append.flags; date = append.date; text = append.text } in
-      let w = if_logged_in_ok state (append_intent exists stamp request) given e in
-      let c = append_covers ops exists stamp request given w in
-      can_all ops given (append_lawful exists stamp request given (existing_lawful ops append.name a.sound c.0) w) c.1
+      let w = if_logged_in_ok state (append_intent exists stamp append) given e in
+      let c = append_covers ops exists stamp append given w in
+      can_all ops given (append_lawful exists stamp append given (existing_lawful ops append.name a.sound c.0) w) c.1
   can_issue_intent commands.Idle given e = can_issue_none ops given (if_logged_in_ok state (Ok []) given e)
   can_issue_intent commands.Close given e =
       let w = if_selected_ok state (λ view read_only. close_intent (mailbox_in start ops view read_only)) given e in
@@ -394,25 +394,21 @@ module _ (start : Counters) (ops : List Op) (a : IsApplied ops) (stamp : List �
       let w = if_selected_ok state (λ view read_only. search_intent view.entries request.steps) given e in
       can_issue_none_if ops (list_all (step_is_in_range w.0.entries) request.steps) refusals.NoSuchMessage given w.2
   can_issue_intent (commands.Fetch fetch) given e =
-      let request : FetchArgs = record { by_uid = fetch.by_uid; messages = fetch.messages; items = fetch.items; changed_since = fetch.changed_since } in
-      let w = if_selected_ok state (λ view read_only. fetch_intent (mailbox_in start ops view read_only) request) given e in
-      issuable_all start ops a w.0 inbox inbox_lawful given (fetch_intent_issuable (mailbox_in start ops w.0 w.1) inbox request given (view_keywords start ops a w.0) w.2)
+      let w = if_selected_ok state (λ view read_only. fetch_intent (mailbox_in start ops view read_only) fetch) given e in
+      issuable_all start ops a w.0 inbox inbox_lawful given (fetch_intent_issuable (mailbox_in start ops w.0 w.1) inbox fetch given (view_keywords start ops a w.0) w.2)
   can_issue_intent (commands.Store store) given e =
-      let request : StoreArgs = record { by_uid = store.by_uid; messages = store.messages; unchanged_since = store.unchanged_since; action = store.action; flags = store.flags } in
-      let w = if_selected_ok state (λ view read_only. store_intent (mailbox_in start ops view read_only) request) given e in
-      issuable_all start ops a w.0 inbox inbox_lawful given (store_intent_issuable (mailbox_in start ops w.0 w.1) inbox request given (view_keywords start ops a w.0) w.2)
+      let w = if_selected_ok state (λ view read_only. store_intent (mailbox_in start ops view read_only) store) given e in
+      issuable_all start ops a w.0 inbox inbox_lawful given (store_intent_issuable (mailbox_in start ops w.0 w.1) inbox store given (view_keywords start ops a w.0) w.2)
   can_issue_intent (commands.Copy transfer) given e =
       let exists = folder_exists transfer.name ops in
-      let request : CopyArgs = record { by_uid = transfer.by_uid; messages = transfer.messages; destination = transfer.name } in
-      let w = if_selected_ok state (λ view read_only. copy_intent (mailbox_in start ops view read_only) request exists) given e in
-      issuable_all start ops a w.0 transfer.name (existing_lawful ops transfer.name a.sound (copy_target_exists (mailbox_in start ops w.0 w.1) request exists given w.2)) given
-      (copy_intent_issuable (mailbox_in start ops w.0 w.1) request exists given (view_keywords start ops a w.0) w.2)
+      let w = if_selected_ok state (λ view read_only. copy_intent (mailbox_in start ops view read_only) transfer exists) given e in
+      issuable_all start ops a w.0 transfer.name (existing_lawful ops transfer.name a.sound (copy_target_exists (mailbox_in start ops w.0 w.1) transfer exists given w.2)) given
+      (copy_intent_issuable (mailbox_in start ops w.0 w.1) transfer exists given (view_keywords start ops a w.0) w.2)
   can_issue_intent (commands.Move transfer) given e =
       let exists = folder_exists transfer.name ops in
-      let request : CopyArgs = record { by_uid = transfer.by_uid; messages = transfer.messages; destination = transfer.name } in
-      let w = if_selected_ok state (λ view read_only. move_intent (mailbox_in start ops view read_only) request exists) given e in
-      issuable_all start ops a w.0 transfer.name (existing_lawful ops transfer.name a.sound (move_target_exists (mailbox_in start ops w.0 w.1) request exists given w.2)) given
-      (move_intent_issuable (mailbox_in start ops w.0 w.1) request exists given (view_keywords start ops a w.0) w.2)
+      let w = if_selected_ok state (λ view read_only. move_intent (mailbox_in start ops view read_only) transfer exists) given e in
+      issuable_all start ops a w.0 transfer.name (existing_lawful ops transfer.name a.sound (move_target_exists (mailbox_in start ops w.0 w.1) transfer exists given w.2)) given
+      (move_intent_issuable (mailbox_in start ops w.0 w.1) transfer exists given (view_keywords start ops a w.0) w.2)
 
   pub input_can : (input : Input) (given : List Kind) → input_intent start ops stamp state input ≡ Ok given → CanIssueAll ops given
   input_can (inputs.Command moment tagged) given e = can_issue_intent tagged.command given e

@@ -23,7 +23,7 @@ use Rattle.crdt_ops.specs.TagLaws.{adds_own, same_id_is}
 use Rattle.crdt_ops.specs.Tags.{MessageTag, tag_added_by, adds, is_some_tag, tags_removed_by, removes, same_tag}
 use Rattle.imap_commands.specs.CopyCommand.{append_of, appends_of, expunge_of_moved, expunges_of_moved}
 use Rattle.imap_commands.specs.MessageNames.{name_at, existing_messages}
-use Rattle.imap_commands.specs.Arguments.{CopyArgs, OpenMailbox}
+use Rattle.imap_commands.specs.Arguments.{OpenMailbox}
 use Rattle.imap_commands.specs.Printing.{HasAllCopies}
 use Rattle.imap_commands.specs.Report.{entry_at, is_gone, message_at, row_for}
 use Rattle.imap_commands.proofs.PrintSelectLemmas.{each_append, each_in}
@@ -43,6 +43,7 @@ use Rattle.uid_projection.proofs.Versions.{starts_added, origin_applied, origin_
 use Rattle.imap_node.proofs.ExistingFolderLemmas.{IsNoDelete, added_present, exists_after_one, mapped_in}
 use Rattle.imap_node.specs.Mailboxes.{copy_target_in}
 use Rattle.crdt_ops.specs.Ops.{id_of}
+use Rattle.imap_syntax.specs.declared.arguments.Transfer.{Transfer}
 
 -- ---- operations that copy
 
@@ -524,7 +525,7 @@ kinds_added start folder before issued intended least a r t e c =
     rows_added start folder before issued least a r t (mapped_copying before issued intended e c) ∙ kinds_counted folder issued ∙ ap (λ ks. length (filter (appends_message_to folder) ks)) e
 
 -- the destination gets as many messages as there are sources
-pub copies_added : (start : Counters) (folder : List ℕ) (before issued : List Op) (intended : List Kind) (mailbox : OpenMailbox) (request : CopyArgs)
+pub copies_added : (start : Counters) (folder : List ℕ) (before issued : List Op) (intended : List Kind) (mailbox : OpenMailbox) (request : Transfer)
     → 1 ≤ uidnext_of start folder before → IsApplied (before ++ issued) → AreRisingRows 1 (listing start folder (before ++ issued)) → folder_exists folder before ≡ true → map (λ (o : Op). o.kind) issued ≡ intended → Each (IsCopying before) intended
     → length (filter (appends_message_to folder) intended) ≡ length (existing_messages mailbox.rows mailbox.view (numbers_in_set request.by_uid request.messages mailbox.view))
     → HasAllCopies mailbox request (copy_target_in start before (before ++ issued) folder)

@@ -1,5 +1,6 @@
 use Rattle.std.proofs.Common.{◌≡◌, ◌⊎◌, inl, inr, ℕ, Bool, true, false, List, [], ◌∷◌, ◌++◌, Option, Some, None, refl, sym, ap, ◌∙◌, append-nil, subst, IfOk, IfErr}
 use Rattle.std.specs.Prelude.{Result, Ok, Err, MatchResult, ◌&&◌, if◌then◌else◌}
+use Rattle.std.specs.Option.{unwrap_or}
 use Rattle.std.specs.Prelude.{length, ◌==◌}
 use Rattle.std.proofs.lemmas.Bool.{false≢true}
 use Rattle.causal_inbox.specs.Inbox.{AreIssued, AreRemainingHeld}
@@ -18,14 +19,13 @@ use Rattle.imap_node.specs.declared.plan.SessionStep.TheVariants.{Advances, Leav
 use Rattle.imap_node.specs.declared.plan.PreparedInput.{PreparedInput}
 use Rattle.imap_node.specs.InputEffects.{InputEffect, answers_of_effect}
 use Rattle.imap_node.specs.declared.plan.PreparedReply.{PreparedReply}
-use Rattle.imap_node.specs.Nodes.{NodeWithRoom, NodeState}
-use Rattle.imap_node.specs.Rooms.{HasRoomFor}
+use Rattle.imap_node.specs.Nodes.{NodeWithRoom, NodeState, ReplicaWithRoom}
 use Rattle.imap_node.proofs.NextLemmas.{no_cut}
 use Rattle.imap_node.specs.Commands.{is_selected, is_selecting}
 use Rattle.imap_node.specs.Operations.{CanIssueAll, IsReadyRefusal}
 use Rattle.imap_node.specs.SessionFeeds.{AreChangeNotes}
 use Rattle.imap_node.specs.SessionChanges.{CanChangeSession, changed_session}
-use Rattle.imap_node.specs.Plans.{CanStep, IsPreparedReply, IsPlanned, IsPlanOf, IsPreparedInput, plan_of_prepared, step_of_refusal, place_after_step, plan_by, session_after_step}
+use Rattle.imap_node.specs.Plans.{CanStep, IsPreparedReply, IsPlanned, IsPlanOf, IsPreparedInput, IsReadyInput, plan_of_prepared, step_of_refusal, place_after_step, plan_by, session_after_step}
 use Rattle.imap_node.specs.Responses.{CarriesOut, IsNodeAfter, IsRefused, IsStamp, AreHeldAfter, IsInputEffect, ends_idling, leaves_mailbox, session_after_refusal, session_after, input_intent}
 use Rattle.imap_node.specs.Sessions.{IsOpen, Places, session_at, with_session}
 use Rattle.imap_node.proofs.CanIssueLemmas.{input_can}
@@ -125,33 +125,32 @@ refusal_can_step start ops session true b = tt
 refusal_can_step start ops session false true = tt
 refusal_can_step start ops session false false = tt
 
--- a plan can be committed
-pub plan_by_planned : (node : NodeWithRoom) (n : ℕ) (state : State) (input : Input) (outcome : Result PreparedInput Refusal) → IsOpen node.state.sessions n
-    → IfOk outcome (λ p. AreIssued id_of clock_of node.state.applied p.ops) → IfOk outcome (λ p. (p.ops ≡ [] → ⊥) → HasRoomFor node.state.applied node.room p.ops)
-    → IfOk outcome (λ p. AreChangeNotes node.state.start node.state.applied (node.state.applied ++ p.ops) p.change_notes)
-    → ((s : Session) → session_at node.state.sessions n ≡ Some s → IfOk outcome (λ p. CanChangeSession node.state.start (node.state.applied ++ p.ops) s.state p.answered.update.state_change)) → IsPlanned node (plan_by n state input outcome)
-plan_by_planned node n state input (Ok p) opened i r w c = record { is_open = opened; issued = i; room = r; change_notes = w; can = c }
-plan_by_planned node n state input (Err why) opened i r w c = record {
-  is_open = opened;
-  issued = λ front o back e. absurd (no_cut front o back e);
-  room = λ f. absurd (f refl);
-  change_notes = subst (λ (list : List Op). AreChangeNotes node.state.start node.state.applied list []) (sym (append-nil node.state.applied)) (no_change_notes node.state.start node.state.applied);
-  can = λ s e. refusal_can_step node.state.start (node.state.applied ++ []) s (leaves_mailbox state input) (ends_idling input why);
-}
+-- a plan can be committed if the room was made for it
+module _ (old new : ReplicaWithRoom) (places after : Places) (n : ℕ) (session : Session) (input : Input) (same_start : new.start ≡ old.start) (same_applied : new.applied ≡ old.applied) (same_places : after ≡ places) (at : session_at places n ≡ Some session) where
+  abbrev node : NodeWithRoom
+  node = record { state = record { start = new.start; applied = new.applied; held = new.held; sessions = after }; room = new.room }
 
--- a plan can be committed if the room was made after it
-pub plan_by_planned_after : (start : Counters) (applied : List Op) (places : Places) (node : NodeWithRoom) (n : ℕ) (state : State) (input : Input) (outcome : Result PreparedInput Refusal) → node.state.start ≡ start → node.state.applied ≡ applied → node.state.sessions ≡ places
-    → IsOpen places n → IfOk outcome (λ p. AreIssued id_of clock_of applied p.ops) → IfOk outcome (λ p. (p.ops ≡ [] → ⊥) → HasRoomFor node.state.applied node.room p.ops) → IfOk outcome (λ p. AreChangeNotes start applied (applied ++ p.ops) p.change_notes)
-    → ((s : Session) → session_at places n ≡ Some s → IfOk outcome (λ p. CanChangeSession start (applied ++ p.ops) s.state p.answered.update.state_change)) → IsPlanned node (plan_by n state input outcome)
-plan_by_planned_after start applied places node n state input outcome e f g opened i r w c =
-    plan_by_planned node n state input outcome
-    (subst (λ (ps : Places). IsOpen ps n) (sym g) opened)
-    (subst (λ (os : List Op). IfOk outcome (λ p. AreIssued id_of clock_of os p.ops)) (sym f) i)
-    r
-    (subst (λ (x : Counters). IfOk outcome (λ p. AreChangeNotes x node.state.applied (node.state.applied ++ p.ops) p.change_notes)) (sym e) (subst (λ (os : List Op). IfOk outcome (λ p. AreChangeNotes start os (os ++ p.ops) p.change_notes)) (sym f) w))
-    (λ s at.
-    subst (λ (x : Counters). IfOk outcome (λ p. CanChangeSession x (node.state.applied ++ p.ops) s.state p.answered.update.state_change)) (sym e)
-    (subst (λ (os : List Op). IfOk outcome (λ p. CanChangeSession start (os ++ p.ops) s.state p.answered.update.state_change)) (sym f) (c s (ap (λ (ps : Places). session_at ps n) (sym g) ∙ at))))
+  at_after : session_at after n ≡ Some session
+  at_after = ap (λ (ps : Places). session_at ps n) same_places ∙ at
+
+  pub plan_by_planned : (outcome : Result PreparedInput Refusal) → IsOpen places n → IfOk outcome (λ p. IsReadyInput old new session input p) → IsPlanned node (plan_by n session.state input outcome)
+  plan_by_planned (Ok p) opened h = record {
+    is_open = subst (λ (ps : Places). IsOpen ps n) (sym same_places) opened;
+    issued = subst (λ (os : List Op). AreIssued id_of clock_of os p.ops) (sym same_applied) h.issued;
+    room = h.room;
+    change_notes = subst (λ (x : Counters). AreChangeNotes x new.applied (new.applied ++ p.ops) p.change_notes) (sym same_start) (subst (λ (os : List Op). AreChangeNotes old.start os (os ++ p.ops) p.change_notes) (sym same_applied) h.changes);
+    can = λ s is.
+        subst (λ (x : Session). CanChangeSession new.start (new.applied ++ p.ops) x.state p.answered.update.state_change) (ap (λ (o : Option Session). unwrap_or o session) (sym at_after ∙ is))
+        (subst (λ (x : Counters). CanChangeSession x (new.applied ++ p.ops) session.state p.answered.update.state_change) (sym same_start)
+        (subst (λ (os : List Op). CanChangeSession old.start (os ++ p.ops) session.state p.answered.update.state_change) (sym same_applied) h.can));
+  }
+  plan_by_planned (Err why) opened h = record {
+    is_open = subst (λ (ps : Places). IsOpen ps n) (sym same_places) opened;
+    issued = λ front o back e. absurd (no_cut front o back e);
+    room = λ f. absurd (f refl);
+    change_notes = subst (λ (list : List Op). AreChangeNotes new.start new.applied list []) (sym (append-nil new.applied)) (no_change_notes new.start new.applied);
+    can = λ s e. refusal_can_step new.start (new.applied ++ []) s (leaves_mailbox session.state input) (ends_idling input why);
+  }
 
 -- a list whose length isn't 0 isn't empty
 pub not_empty : (ops os : List Op) (b : Bool) → b ≡ false → b ≡ (length os == 0) → os ≡ ops → ops ≡ [] → ⊥

@@ -49,9 +49,9 @@ NamesExisting after _ _ = Unit {0}
 -- a copy's destination gets as many messages as are copied
 abbrev pub HasAllTargetCopies : Counters → List Op → List Op → State → Command → Type 0
 HasAllTargetCopies start before after (Selected view read_only) (commands.Copy request) =
-    HasAllCopies (mailbox_in start before view read_only) (record { by_uid = request.by_uid; messages = request.messages; destination = request.name }) (copy_target_in start before after request.name)
+    HasAllCopies (mailbox_in start before view read_only) request (copy_target_in start before after request.name)
 HasAllTargetCopies start before after (Selected view read_only) (commands.Move request) =
-    HasAllCopies (mailbox_in start before view read_only) (record { by_uid = request.by_uid; messages = request.messages; destination = request.name }) (copy_target_in start before after request.name)
+    HasAllCopies (mailbox_in start before view read_only) request (copy_target_in start before after request.name)
 HasAllTargetCopies start before after _ _ = Unit {0}
 
 empty_report_printable : IsPrintableReport empty_report
@@ -88,20 +88,20 @@ module _ (start : Counters) (before issued : List Op) (p : IsPresentable start (
       subst IsPrintableReport (sym h) (selected_printable state _ v (λ view read_only k. uid_expunge_printable (mailbox_in start before view read_only) uids))
   report_printable (commands.Fetch request) state modseq tag report t a v n l h =
       subst IsPrintableReport (sym h) (selected_printable state _ v (λ view read_only k.
-      fetch_printable (mailbox_in start before view read_only) (rows_for start (before ++ issued) view) modseq (record { by_uid = request.by_uid; messages = request.messages; items = request.items; changed_since = request.changed_since }) (rows_showable start (before ++ issued) view p) k a))
+      fetch_printable (mailbox_in start before view read_only) (rows_for start (before ++ issued) view) modseq request (rows_showable start (before ++ issued) view p) k a))
   report_printable (commands.Store request) state modseq tag report t a v n l h =
       subst IsPrintableReport (sym h) (selected_printable state _ v (λ view read_only k.
-      store_printable (mailbox_in start before view read_only) (rows_for start (before ++ issued) view) modseq (record { by_uid = request.by_uid; messages = request.messages; unchanged_since = request.unchanged_since; action = request.action; flags = request.flags }) (rows_showable start (before ++ issued) view p) k))
+      store_printable (mailbox_in start before view read_only) (rows_for start (before ++ issued) view) modseq request (rows_showable start (before ++ issued) view p) k))
   report_printable (commands.Copy request) (Selected view read_only) modseq tag report t a v n l h =
       subst IsPrintableReport (sym h)
-      (copy_printable (mailbox_in start before view read_only) (record { by_uid = request.by_uid; messages = request.messages; destination = request.name }) (copy_target_in start before (before ++ issued) request.name) v
+      (copy_printable (mailbox_in start before view read_only) request (copy_target_in start before (before ++ issued) request.name) v
       (validity_nonzero start request.name (before ++ issued) p n) (listing_showable start request.name (before ++ issued) p) l)
   report_printable (commands.Copy request) (NotAuthenticated credentials) modseq tag report t a v n l h = subst IsPrintableReport (sym h) empty_report_printable
   report_printable (commands.Copy request) Authenticated modseq tag report t a v n l h = subst IsPrintableReport (sym h) empty_report_printable
   report_printable (commands.Copy request) LoggedOut modseq tag report t a v n l h = subst IsPrintableReport (sym h) empty_report_printable
   report_printable (commands.Move request) (Selected view read_only) modseq tag report t a v n l h =
       subst IsPrintableReport (sym h)
-      (move_printable (mailbox_in start before view read_only) (record { by_uid = request.by_uid; messages = request.messages; destination = request.name }) (copy_target_in start before (before ++ issued) request.name) v
+      (move_printable (mailbox_in start before view read_only) request (copy_target_in start before (before ++ issued) request.name) v
       (validity_nonzero start request.name (before ++ issued) p n) (listing_showable start request.name (before ++ issued) p) l)
   report_printable (commands.Move request) (NotAuthenticated credentials) modseq tag report t a v n l h = subst IsPrintableReport (sym h) empty_report_printable
   report_printable (commands.Move request) Authenticated modseq tag report t a v n l h = subst IsPrintableReport (sym h) empty_report_printable
@@ -111,7 +111,7 @@ module _ (start : Counters) (before issued : List Op) (p : IsPresentable start (
       list_printable (record { subscribed_only = request.subscribed_only; return_subscribed = request.return_subscribed }) request.reference request.pattern (folders_of before) (subscribed_names_of before) report (folders_folded before sound)
       (subscriptions_folded before sound) h
   report_printable (commands.Search request) (Selected view read_only) modseq tag report t a v n l h =
-      search_printable (mailbox_in start (before ++ issued) view read_only) tag (record { by_uid = request.by_uid; options = request.options; steps = request.steps }) report t (rows_showable start (before ++ issued) view p) v h
+      search_printable (mailbox_in start (before ++ issued) view read_only) tag request report t (rows_showable start (before ++ issued) view p) v h
   report_printable (commands.Search request) (NotAuthenticated credentials) modseq tag report t a v n l h = subst IsPrintableReport (sym h) empty_report_printable
   report_printable (commands.Search request) Authenticated modseq tag report t a v n l h = subst IsPrintableReport (sym h) empty_report_printable
   report_printable (commands.Search request) LoggedOut modseq tag report t a v n l h = subst IsPrintableReport (sym h) empty_report_printable

@@ -94,7 +94,7 @@ module _ (start : Counters) (before issued : List Op) (stamp : List ℕ) (intend
   names_existing (commands.Copy request) (Selected view read_only) w =
       let rows = rows_for start before view in
       let exists = copy_target_exists (is_in_range request.by_uid request.messages view.entries) (folder_exists request.name before) (appends_of request.name rows view.entries (numbers_in_set request.by_uid request.messages view.entries)) intended w in
-      let issuable = copy_intent_issuable (mailbox_in start before view read_only) (record { by_uid = request.by_uid; messages = request.messages; destination = request.name }) (folder_exists request.name before) intended (rows_lawful start before view b) w in
+      let issuable = copy_intent_issuable (mailbox_in start before view read_only) request (folder_exists request.name before) intended (rows_lawful start before view b) w in
       folder_still_exists request.name before issued intended a m (λ kind k. none_deleted view.name request.name rows kind (issuable kind k)) exists
   names_existing (commands.Copy request) (NotAuthenticated credentials) w = tt
   names_existing (commands.Copy request) Authenticated w = tt
@@ -103,7 +103,7 @@ module _ (start : Counters) (before issued : List Op) (stamp : List ℕ) (intend
       let rows = rows_for start before view in
       let numbers = numbers_in_set request.by_uid request.messages view.entries in
       let exists = move_target_exists (is_in_range request.by_uid request.messages view.entries) read_only (folder_exists request.name before) (appends_of request.name rows view.entries numbers ++ expunges_of_moved view.name rows view.entries numbers) intended w in
-      let issuable = move_intent_issuable (mailbox_in start before view read_only) (record { by_uid = request.by_uid; messages = request.messages; destination = request.name }) (folder_exists request.name before) intended (rows_lawful start before view b) w in
+      let issuable = move_intent_issuable (mailbox_in start before view read_only) request (folder_exists request.name before) intended (rows_lawful start before view b) w in
       folder_still_exists request.name before issued intended a m (λ kind k. none_deleted view.name request.name rows kind (issuable kind k)) exists
   names_existing (commands.Move request) (NotAuthenticated credentials) w = tt
   names_existing (commands.Move request) Authenticated w = tt
@@ -140,7 +140,7 @@ module _ (start : Counters) (before issued : List Op) (stamp : List ℕ) (intend
       let appends = appends_of request.name rows view.entries numbers in
       let exists = copy_target_exists (is_in_range request.by_uid request.messages view.entries) (folder_exists request.name before) appends intended w in
       let intended_is = copy_is (is_in_range request.by_uid request.messages view.entries) (folder_exists request.name before) appends intended w in
-      copies_added start request.name before issued intended (mailbox_in start before view read_only) (record { by_uid = request.by_uid; messages = request.messages; destination = request.name }) (uidnext_at_least_one request.name) p.lasting.applied (rising request.name) exists m (subst (Each (IsCopying before)) (sym intended_is) (appends_copying before request.name rows view.entries numbers))
+      copies_added start request.name before issued intended (mailbox_in start before view read_only) request (uidnext_at_least_one request.name) p.lasting.applied (rising request.name) exists m (subst (Each (IsCopying before)) (sym intended_is) (appends_copying before request.name rows view.entries numbers))
       (ap (λ ks. length (filter (appends_message_to request.name) ks)) intended_is ∙ appends_counted request.name rows view.entries numbers)
   adds_all (Selected view read_only) (commands.Move request) w =
       let rows = rows_for start before view in
@@ -154,7 +154,7 @@ module _ (start : Counters) (before issued : List Op) (stamp : List ℕ) (intend
       let both = ap (λ ks. length (filter (appends_message_to request.name) ks)) intended_is ∙ length_filter_append (appends_message_to request.name) appends removals in
       let one = appends_counted request.name rows view.entries numbers in
       let none = removals_counted view.name request.name rows view.entries numbers in
-      copies_added start request.name before issued intended (mailbox_in start before view read_only) (record { by_uid = request.by_uid; messages = request.messages; destination = request.name }) (uidnext_at_least_one request.name) p.lasting.applied (rising request.name) exists m (subst (Each (IsCopying before)) (sym intended_is) copying) (omega (arith, both, one, none))
+      copies_added start request.name before issued intended (mailbox_in start before view read_only) request (uidnext_at_least_one request.name) p.lasting.applied (rising request.name) exists m (subst (Each (IsCopying before)) (sym intended_is) copying) (omega (arith, both, one, none))
   adds_all (Selected view read_only) _ w = tt
 
 -- ---- replies

@@ -4,7 +4,6 @@ use Rattle.crdt_ops.specs.declared.op.Op.{Op}
 use Rattle.crdt_ops.specs.Sets.{folders_of, subscribed_names_of}
 use Rattle.imap_answers.specs.declared.answer.Answer.{Answer}
 use Rattle.imap_answers.specs.Printable.{Each}
-use Rattle.imap_commands.specs.Arguments.{StoreArgs}
 use Rattle.imap_commands.specs.CopyCommand.{copies_in, moved_answers, sources_of}
 use Rattle.imap_commands.specs.FetchCommand.{mode_of, viewed_messages_at}
 use Rattle.imap_commands.specs.StoreCommand.{stored_answer, stored_answers, taken_messages}
@@ -32,6 +31,7 @@ use Rattle.uid_projection.specs.Listing.{listing}
 use Rattle.imap_node.specs.Commands.{IsCommandReport, highest_answer_of, highest_answer, is_selecting, condstore_answer, report_if_selected, enables_condstore}
 use Rattle.imap_node.specs.Mailboxes.{mailbox_in, rows_for, validity_of}
 use Rattle.imap_node.proofs.UidLemmas.{IsQuiet}
+use Rattle.imap_syntax.specs.declared.arguments.Store.{Store}
 
 -- ---- lists of quiet answers
 
@@ -50,11 +50,11 @@ fetch_quiet items mode shown None row = tt
 fetch_quiet items mode shown (Some old) None = tt
 fetch_quiet items mode shown (Some old) (Some row) = elim (cases_Bool (is_above_changed_since mode.changed_since old)) [ inl t ↦ rw t (tt, tt) | inr f ↦ rw f tt ]
 
-stored_quiet : (condstore : Bool) (request : StoreArgs) (n : ℕ) (row : Option ListedMessage) → Each IsQuiet (stored_answer condstore request n row)
+stored_quiet : (condstore : Bool) (request : Store) (n : ℕ) (row : Option ListedMessage) → Each IsQuiet (stored_answer condstore request n row)
 stored_quiet condstore request n None = tt
 stored_quiet condstore request n (Some row) = (tt, tt)
 
-store_quiet : (after : List ListedMessage) (view : List ViewEntry) (condstore : Bool) (request : StoreArgs) (taken : List ℕ) → Each IsQuiet (stored_answers after view condstore request taken)
+store_quiet : (after : List ListedMessage) (view : List ViewEntry) (condstore : Bool) (request : Store) (taken : List ℕ) → Each IsQuiet (stored_answers after view condstore request taken)
 store_quiet after view condstore request taken =
     elim (cases_Bool (request.action.silent && not (is_some request.unchanged_since))) [
       | inl t ↦ rw t tt
@@ -94,13 +94,13 @@ module _ (start : Counters) (before after : List Op) where
   report_quiet (commands.Fetch request) state modseq tag report s h =
       subst (λ (t : CommandReport). Each IsQuiet t.own) (sym h)
       (selected_quiet state _ (λ view read_only.
-      let mode = mode_of (mailbox_in start before view read_only) modseq (record { by_uid = request.by_uid; messages = request.messages; items = request.items; changed_since = request.changed_since }) in
+      let mode = mode_of (mailbox_in start before view read_only) modseq request in
       quiet_flat (λ (shown : ViewedMessage). answer_of request.items mode shown (row_of shown.uid (rows_for start before view)) (row_of shown.uid (rows_for start after view))) (viewed_messages_at view.entries (numbers_in_set request.by_uid request.messages view.entries))
       (λ shown. fetch_quiet request.items mode shown (row_of shown.uid (rows_for start before view)) (row_of shown.uid (rows_for start after view)))))
   report_quiet (commands.Store request) state modseq tag report s h =
       subst (λ (t : CommandReport). Each IsQuiet t.own) (sym h)
       (selected_quiet state _ (λ view read_only.
-      store_quiet (rows_for start after view) view.entries modseq (record { by_uid = request.by_uid; messages = request.messages; unchanged_since = request.unchanged_since; action = request.action; flags = request.flags }) (taken_messages (rows_for start before view) view.entries request.unchanged_since (numbers_in_set request.by_uid request.messages view.entries))))
+      store_quiet (rows_for start after view) view.entries modseq request (taken_messages (rows_for start before view) view.entries request.unchanged_since (numbers_in_set request.by_uid request.messages view.entries))))
   report_quiet (commands.Copy request) state modseq tag report s h = subst (λ (t : CommandReport). Each IsQuiet t.own) (sym h) (selected_quiet state _ (λ view read_only. tt))
   report_quiet (commands.Move request) state modseq tag report s h =
       subst (λ (t : CommandReport). Each IsQuiet t.own) (sym h)

@@ -12,7 +12,8 @@ use Rattle.imap_node.specs.InputEffects.{InputEffect, SyncInput, sync_result_aft
 use Rattle.imap_node.specs.SessionFeeds.{MailboxNotes, AreChangeNotes, IsNotedFor, IsSettled}
 use Rattle.imap_node.specs.SessionChanges.{CanChangeSession, state_with}
 use Rattle.imap_node.specs.Operations.{clock_of, id_of}
-use Rattle.imap_node.specs.Plans.{IsPreparedReply, IsPreparedInput}
+use Rattle.imap_node.specs.Nodes.{ReplicaWithRoom}
+use Rattle.imap_node.specs.Plans.{IsPreparedReply, IsPreparedInput, IsReadyInput}
 use Rattle.imap_node.specs.Replays.{view_of}
 use Rattle.imap_node.specs.Responses.{command_effect}
 use Rattle.imap_node.specs.SettledNoops.{HasNothingUnsent, IsSettledNoop, IsNoop, settled_noop_reply}
@@ -23,7 +24,7 @@ use Rattle.session_view.specs.ViewState.{ViewState}
 use Rattle.session_view.specs.declared.view_entry.SyncKind.TheVariants.{Full}
 use Rattle.uid_projection.specs.declared.first_numbers.Counters.{Counters}
 use Rattle.uid_projection.specs.Exhaustion.{Exhausts}
-use Rattle.imap_node.proofs.SessionChangeLemmas.{shown_as_before}
+use Rattle.imap_node.proofs.SessionChangeLemmas.{can_stay, shown_as_before}
 use Rattle.imap_node.proofs.NextLemmas.{no_cut}
 
 -- nothing is issued
@@ -78,6 +79,18 @@ settled_noop_prepared start applied session pending input tag noted is_settled_n
       answered = settled_noop_answered start applied session.state session.condstore session.idling pending is_settled_noop.0.0 tag noted is_settled_noop.1;
       copies = refl;
     })
+
+-- and its input can be carried out as it is
+pub settled_noop_ready : (replica : ReplicaWithRoom) (session : Session) (pending : Pending) (input : Input) (tag : List ℕ) → ((view : ViewState) → view_of session.state ≡ Some view → IsNotedFor replica.start replica.applied pending view) → IsSettledNoop session.state pending input tag
+    → IsReadyInput replica replica session input (settled_noop_reply session tag)
+settled_noop_ready replica session pending input tag noted is_settled_noop =
+    record {
+      reply = settled_noop_prepared replica.start replica.applied session pending input tag noted is_settled_noop;
+      issued = none_issued replica.applied;
+      room = λ f. absurd (f refl);
+      changes = none_new replica.start replica.applied;
+      can = can_stay replica.start (replica.applied ++ []) session.state;
+    }
 
 -- nothing must be sent to a settled session
 pub nothing_unsent : (state : State) (pending : Pending) (changes : List MailboxNotes) → changes ≡ [] → (Some Full ≡ None) ⊎ ((view : ViewState) → view_of state ≡ Some view → IsSettled (record { pending = pending; change_notes = changes }) view) → HasNothingUnsent state pending

@@ -7,6 +7,7 @@ use Rattle.std.specs.Option.{unwrap_or}
 use Rattle.crdt_ops.specs.declared.op.Op.{Op}
 use Rattle.imap_answers.specs.declared.answer.Answer.{Answer}
 use Rattle.imap_answers.specs.declared.answer.Answer.TheVariants.{Expunge, Fetch}
+use Rattle.imap_commands.specs.MailStates as mails
 use Rattle.imap_commands.specs.declared.session.State.{State}
 use Rattle.imap_commands.specs.declared.session.State.TheVariants.{Selected}
 use Rattle.mailbox_rows.specs.ListedMessage.{ListedMessage}
@@ -15,7 +16,7 @@ use Rattle.session_view.specs.Sync.{sync_answers, view_after_sync}
 use Rattle.session_view.specs.declared.view_entry.ViewEntry.{ViewEntry}
 use Rattle.session_view.specs.declared.view_entry.SyncKind.{SyncKind}
 use Rattle.session_view.specs.declared.reply_replay.SilentFlags.{SilentFlags}
-use Rattle.imap_node.specs.Mailboxes.{rows_for}
+use Rattle.imap_node.specs.Mailboxes.{mail_state, rows_for}
 use Rattle.uid_projection.specs.declared.first_numbers.Counters.{Counters}
 
 -- The messages of a view after a sync, and what the sync sends; nothing if there is no sync.
@@ -117,5 +118,4 @@ pub record IsFirstSight (entries : List ViewEntry) (front : SyncInput) : Type 0 
 -- The listing made for a state, if one was made, is the listing of the state's mailbox after these
 -- operations.
 abbrev pub IsListingFor : Counters → List Op → State → Option (List ListedMessage) → Type 0
-IsListingFor start ops (Selected view read_only) (Some rows) = rows ≡ rows_for start ops view
-IsListingFor start ops state made = Unit {0}
+IsListingFor start ops state made = mails.IsListingFor (mail_state start ops) state made

@@ -1,19 +1,35 @@
 -- What commands read of a mailbox after a list of operations: its counters, its rows as a view has
 -- them, a COPY's destination.
 
-use Rattle.std.specs.Prelude.{ℕ, Bool, true, false, List, [], ◌∷◌}
+use Rattle.std.specs.Prelude.{ℕ, Bool, List}
 use Rattle.std.specs.Option.{unwrap_or}
 use Rattle.crdt_ops.specs.declared.op.Op.{Op}
+use Rattle.crdt_ops.specs.Sets.{delete_set_of, folders_of, subscribed_names_of}
 use Rattle.crdt_ops.specs.Sets.{subscription_tags_of}
 use Rattle.imap_commands.specs.Arguments.{CopyTarget, OpenMailbox}
+use Rattle.imap_commands.specs.MailStates.{MailState, are_some}
 use Rattle.imap_query.specs.declared.mailbox_status.MailboxCounters.{MailboxCounters}
 use Rattle.mailbox_rows.specs.ListedMessage.{ListedMessage}
 use Rattle.session_view.specs.ViewState.{ViewState, rows_under}
-use Rattle.tags_clocks.specs.declared.id.OpId.{OpId}
 use Rattle.uid_projection.specs.declared.first_numbers.Counters.{Counters}
-use Rattle.uid_projection.specs.Incarnations.{uidvalidity_of}
+use Rattle.uid_projection.specs.Incarnations.{folder_exists, uidvalidity_of}
 use Rattle.uid_projection.specs.UidsAndModSeqs.{highest_modseq_of, uidnext_of}
 use Rattle.uid_projection.specs.Listing.{listing}
+
+-- All that commands read of a replica after these operations.
+abbrev pub mail_state : Counters → List Op → MailState
+mail_state start ops =
+    record {
+      folders = folders_of ops;
+      exists = λ name. folder_exists name ops;
+      delete_set = λ name. delete_set_of ops name;
+      subscribed_names = subscribed_names_of ops;
+      subscription_tags = λ name. subscription_tags_of ops name;
+      uidvalidity = λ name. uidvalidity_of start name ops;
+      uidnext = λ name. uidnext_of start name ops;
+      highest_modseq = λ name. highest_modseq_of name ops;
+      listing = λ name. listing start name ops;
+    }
 
 -- The UIDVALIDITY of a mailbox that exists.
 abbrev pub validity_of : Counters → List ℕ → List Op → ℕ
@@ -51,11 +67,6 @@ copy_target_in start before after name =
       uidnext = uidnext_of start name before;
       rows = listing start name after;
     }
-
--- The list has an id.
-abbrev pub are_some : List OpId → Bool
-are_some [] = false
-are_some (id ∷ ids) = true
 
 -- The name is subscribed to.
 abbrev pub is_subscribed : List ℕ → List Op → Bool

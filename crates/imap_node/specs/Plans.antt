@@ -18,7 +18,7 @@ use Rattle.imap_node.specs.declared.reply.Reply.TheVariants.{Done, Refused}
 use Rattle.imap_node.specs.InputEffects.{InputEffect, answers_of_effect}
 use Rattle.imap_node.specs.SessionFeeds.{AreChangeNotes}
 use Rattle.imap_node.specs.SessionChanges.{CanChangeSession, changed_session}
-use Rattle.imap_node.specs.Nodes.{NodeWithRoom, NodeState}
+use Rattle.imap_node.specs.Nodes.{NodeState, NodeWithRoom, ReplicaWithRoom}
 use Rattle.imap_node.specs.Operations.{AreNext, clock_of, id_of}
 use Rattle.imap_node.specs.Responses.{IsNodeAfter, IsStamp, Responds, IsInputEffect, answers_closed}
 use Rattle.imap_node.specs.Responses.{ends_idling, leaves_mailbox, session_after, input_intent}
@@ -49,6 +49,19 @@ pub record IsPreparedInput (start : Counters) (applied : List Op) (session : Ses
   pub answered : IsPreparedReply start applied (applied ++ prepared.ops) session input
       prepared.answered
   pub copies : prepared.copies ≡ prepared.ops
+
+-- The input can be carried out, after room was made for it in the replica `old`, which is then
+-- `new`: its operations come next and have room if there are any, its change notes name what they
+-- change, and the session can make its change after them.
+pub record IsReadyInput (old new : ReplicaWithRoom) (session : Session) (input : Input)
+    (prepared : PreparedInput) : Type 0 where
+  pub reply : IsPreparedInput old.start old.applied session input prepared
+  pub issued : AreIssued id_of clock_of old.applied prepared.ops
+  pub room : (prepared.ops ≡ [] → ⊥) → HasRoomFor new.applied new.room prepared.ops
+  pub changes : AreChangeNotes old.start old.applied (old.applied ++ prepared.ops)
+      prepared.change_notes
+  pub can : CanChangeSession old.start (old.applied ++ prepared.ops) session.state
+      prepared.answered.update.state_change
 
 -- A session after a step, and its place after the step.
 abbrev pub session_after_step : Session → SessionStep → Session

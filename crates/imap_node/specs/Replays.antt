@@ -3,17 +3,17 @@
 use Rattle.std.specs.Prelude.{◌≡◌, ℕ, Bool, false, List, [], Option, Some, None, if◌then◌else◌}
 use Rattle.crdt_ops.specs.declared.op.Op.{Op}
 use Rattle.imap_answers.specs.declared.answer.Answer.{Answer}
+use Rattle.imap_commands.specs.Commands as rules
 use Rattle.imap_commands.specs.declared.session.Session.{Session}
 use Rattle.imap_commands.specs.declared.session.State.{State}
 use Rattle.imap_commands.specs.declared.session.State.TheVariants.{Selected}
 use Rattle.imap_syntax.specs.declared.command.Command.{Command}
-use Rattle.imap_syntax.specs.declared.command.Command.TheVariants as commands
 use Rattle.session_view.specs.Replay.{view_after_reply}
 use Rattle.session_view.specs.ViewState.{ViewState}
 use Rattle.session_view.specs.Views.{AreRising}
 use Rattle.session_view.specs.declared.reply_replay.SilentFlags.{SilentFlags}
 use Rattle.imap_node.specs.Commands.{is_selecting}
-use Rattle.imap_node.specs.Mailboxes.{rows_for, validity_of}
+use Rattle.imap_node.specs.Mailboxes.{mail_state, rows_for}
 use Rattle.imap_node.specs.Sessions.{Places, session_at}
 use Rattle.imap_node.specs.declared.input.Input.{Input}
 use Rattle.imap_node.specs.declared.input.Input.TheVariants as inputs
@@ -34,19 +34,11 @@ view_in (Some session) = view_of session.state
 abbrev pub view_at : Places → ℕ → Option ViewState
 view_at places n = view_in (session_at places n)
 
--- The view on which the answers to a command, or to any input, are replayed if it is carried out:
--- an empty one of a newly selected mailbox; none after CLOSE, UNSELECT and LOGOUT (RFC 9051,
--- sections 6.1.3, 6.3.2, 6.4.1 and 6.4.2); else the view before.
+-- The view on which the answers to a command, or to any input, are replayed if it is carried out.
 abbrev pub replay_base_of_command : Counters → List Op → Option ViewState → Command
     → Option ViewState
-replay_base_of_command start ops view (commands.Select name condstore) =
-    Some (record { name = name; uidvalidity = validity_of start name ops; entries = [] })
-replay_base_of_command start ops view (commands.Examine name condstore) =
-    Some (record { name = name; uidvalidity = validity_of start name ops; entries = [] })
-replay_base_of_command start ops view commands.Logout = None
-replay_base_of_command start ops view commands.Unselect = None
-replay_base_of_command start ops view commands.Close = None
-replay_base_of_command start ops view _ = view
+replay_base_of_command start ops view command =
+    rules.replay_base_of_command (mail_state start ops) view command
 
 abbrev pub replay_base_of : Counters → List Op → Option ViewState → Input → Option ViewState
 replay_base_of start ops view (inputs.Command moment tagged) =

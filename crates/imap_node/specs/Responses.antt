@@ -13,6 +13,7 @@ use Rattle.imap_answers.specs.declared.fixed_words.CompletedWord.TheVariants as 
 use Rattle.imap_answers.specs.declared.fixed_words.Refusal.{Refusal}
 use Rattle.imap_answers.specs.declared.fixed_words.Refusal.TheVariants.{DoneExpected, NoMemory}
 use Rattle.imap_answers.specs.declared.fixed_words.Refusal.TheVariants.{NumberUsedUp}
+use Rattle.imap_commands.specs.Commands.{IsStampFor}
 use Rattle.imap_commands.specs.NamedMessages.{NamedMessages, no_messages_named}
 use Rattle.imap_commands.specs.Report.{CommandReport}
 use Rattle.imap_commands.specs.declared.session.Session.{Session}
@@ -22,7 +23,6 @@ use Rattle.imap_syntax.specs.declared.command.Command.{Command}
 use Rattle.imap_syntax.specs.declared.command.Command.TheVariants as commands
 use Rattle.imap_syntax.specs.declared.command.Tagged.{Tagged}
 use Rattle.imap_syntax.specs.declared.idle.IdleLine.TheVariants.{Done as DoneLine, Other}
-use Rattle.mail_text.specs.Civil.{IsCivil}
 use Rattle.session_view.specs.declared.view_entry.SyncKind.TheVariants.{Full}
 use Rattle.session_view.specs.declared.reply_replay.SilentFlags.{SilentFlags}
 use Rattle.imap_node.specs.declared.input.Input.{Input}
@@ -40,12 +40,6 @@ use Rattle.uid_projection.specs.declared.first_numbers.Counters.{Counters}
 use Rattle.uid_projection.specs.Exhaustion.{Exhausts}
 
 -- ---- what an input issues
-
--- The date-time that a command records: APPEND records that of its moment, no other command records
--- any.
-abbrev pub IsStampFor : Command → ℕ → List ℕ → Type 0
-IsStampFor (commands.Append append) moment stamp = IsCivil moment stamp
-IsStampFor command moment stamp = Unit {0}
 
 -- The date-time that an input records.
 abbrev pub IsStamp : Input → List ℕ → Type 0

@@ -13,14 +13,16 @@ ghost use Rattle.imap_node.specs.Responses.{condstore_after, messages_named_by_i
 ghost use Rattle.imap_node.specs.Responses.{tagged_lines_of_idle, idling_after, sync_effect};
 ghost use Rattle.imap_node.specs.Responses.{tagged_lines_of, report_effect};
 
-use crate::command_tables::{is_enabling, is_idle, is_on, is_selecting, sync_of, word_of};
 use crate::input::Input;
+use crate::input_rules::is_on;
 use crate::replica::ReplicaState;
-use crate::reports::command_report;
-use crate::sync_and_state::state_after_command;
+use crate::replica_after::ReplicaAfter;
 use crdt_ops::SoundOp;
 use imap_answers::{Answer, Code, CompletedWord, Notice};
-use imap_commands::{CommandReport, NamedMessages, Session, State};
+use imap_commands::{
+    CommandReport, NamedMessages, ReportInput, Session, State, command_report, is_enabling,
+    is_idle, is_selecting, state_after_command, sync_of, word_of,
+};
 use imap_syntax::{Command, Tagged};
 use imap_types::Octets;
 use mailbox_rows::Rows;
@@ -156,17 +158,14 @@ fn draft_command_effect(
 {
     let modseq = is_on(session, &tagged.command);
     let first = notice(alloc, replica, ops, session, &tagged.command)?;
-    let report = command_report(
-        alloc,
-        replica,
-        ops,
-        made,
-        &session.state,
+    let after = ReplicaAfter { replica, ops };
+    let input = ReportInput {
+        state: &session.state,
         modseq,
-        tagged,
         named,
-    )?;
-    let moved = state_after_command(alloc, replica, ops, &tagged.command)?;
+    };
+    let report = command_report(alloc, &after, &input, made, tagged)?;
+    let moved = state_after_command(alloc, &after, &tagged.command)?;
     draft_report_effect(alloc, first, report, moved, modseq, tagged)
 }
 

@@ -51,10 +51,10 @@
 #![tactic(auto)]
 
 mod change_notes;
-mod command_tables;
 mod feeds;
 mod input;
 mod input_effect;
+mod input_rules;
 mod intents;
 mod laws;
 mod node;
@@ -62,8 +62,8 @@ mod plan;
 mod printable;
 mod ready_ops;
 mod replica;
+mod replica_after;
 mod reply;
-mod reports;
 mod session_change;
 mod sessions;
 mod shared_list;

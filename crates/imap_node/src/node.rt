@@ -32,9 +32,9 @@ ghost use Rattle.uid_projection.specs.Exhaustion.{Exhausts};
 ghost use Rattle.uid_projection.specs.declared.first_numbers.Counters.{Counters};
 
 use crate::change_notes::{ChangeNotes, MailboxSnapshot, change_notes_of_delivery, snapshot_of};
-use crate::command_tables::{closes, ends_idling, leaves};
 use crate::feeds::{Feeds, may_have_notes};
 use crate::input::Input;
+use crate::input_rules::{closes, ends_idling, leaves};
 use crate::plan::{Plan, PreparedInput, PreparedReply, SessionStep, prepare_input};
 use crate::ready_ops::ReadyOps;
 use crate::replica::ReplicaState;

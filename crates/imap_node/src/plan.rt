@@ -1,7 +1,6 @@
 //! The plan of an input: all of its work that takes memory.
 
 ghost use Rattle.std.specs.Prelude.{◌≡◌, ◌++◌, ℕ, List, [], IfOk, IfErr, IsSome, Some};
-ghost use Rattle.causal_inbox.specs.Inbox.{AreIssued};
 ghost use Rattle.imap_commands.specs.MemoryFaults.{EqualsOrLacksMemory};
 ghost use Rattle.imap_commands.specs.declared.session.Session.{Session};
 ghost use Rattle.std.specs.Option.{option_map};
@@ -10,13 +9,12 @@ ghost use Rattle.imap_node.specs.InputEffects.{sync_result_after, sync_result_of
 ghost use Rattle.imap_node.specs.SessionFeeds.{AreAllNoted, AreChangeNotes, IsNotedFor};
 ghost use Rattle.imap_node.specs.SessionChanges.{CanChangeSession, changed_state};
 ghost use Rattle.imap_node.specs.Nodes.{IsReady};
-ghost use Rattle.imap_node.specs.Operations.{CanIssueAll, clock_of, id_of};
-ghost use Rattle.imap_node.specs.Plans.{IsPreparedReply, IsPreparedInput};
+ghost use Rattle.imap_node.specs.Operations.{CanIssueAll};
+ghost use Rattle.imap_node.specs.Plans.{IsPreparedReply, IsReadyInput};
 ghost use Rattle.imap_node.specs.SettledNoops.{IsSettledNoop, IsNoop, settled_noop_reply};
-ghost use Rattle.imap_node.specs.Replays.{view_in, view_of};
-ghost use Rattle.imap_node.specs.Responses.{IsRefused, IsStamp, IsStampFor};
+ghost use Rattle.imap_node.specs.Replays.{view_of};
+ghost use Rattle.imap_node.specs.Responses.{IsRefused, IsStamp};
 ghost use Rattle.imap_node.specs.Responses.{messages_named_by_input, input_intent};
-ghost use Rattle.imap_node.specs.Rooms.{HasRoomFor};
 ghost use Rattle.imap_node.specs.Sessions.{IsOpen, session_at};
 ghost use Rattle.session_view.specs.ViewState.{ViewState};
 
@@ -29,21 +27,19 @@ use crate::input_effect::{
 use crate::intents::input_intent;
 use crate::ready_ops::{ReadyOps, ready_next_ops};
 use crate::replica::ReplicaState;
+use crate::replica_after::{ReplicaAfter, rows_after};
 use crate::reply::{Answers, Reply, ReplyOps, ReplySilentFlags, copy_ops};
-use crate::reports::rows_after;
 use crate::session_change::{SessionChange, StateChange};
 use crate::sessions::{SessionNo, Sessions};
 use crate::sync_and_state::{
-    RebuiltState, ReplicaAfter, SyncInput, UnsentChanges, is_settled, sync_in_place,
-    sync_rebuilt_state,
+    RebuiltState, SyncInput, UnsentChanges, is_settled, sync_in_place, sync_rebuilt_state,
 };
 use crdt_ops::SoundOp;
 use idle_feed::Feed;
 use imap_answers::{Answer, CompletedWord, Refusal};
-use imap_commands::{Intent, NamedMessages, Session, State};
+use imap_commands::{Intent, NamedMessages, Session, State, stamp_for};
 use imap_syntax::Command;
-use imap_types::{DateTime, Moment, Octets};
-use mail_text::civil;
+use imap_types::{DateTime, Octets};
 use mailbox_rows::Rows;
 use session_view::{SilentFlags, SyncKind};
 use std::alloc::{AllocError, Global};
@@ -114,18 +110,9 @@ pub fn prepare_input(
     ensures start { replica.new.start ≡ replica.old.start }
     ensures applied { replica.new.applied ≡ replica.old.applied }
     ensures held { replica.new.held ≡ replica.old.held }
-    ensures room { IfOk result
-        (λ p. (p.ops ≡ [] → ⊥) → HasRoomFor replica.new.applied replica.new.room p.ops) }
-    ensures issued { IfOk result (λ p. AreIssued id_of clock_of replica.old.applied p.ops) }
-    ensures changes { IfOk result (λ p. AreChangeNotes replica.old.start replica.old.applied
-        (replica.old.applied ++ p.ops) p.change_notes) }
-    ensures can { (s : Session)
-        → session_at sessions.old number ≡ Some s
-        → IfOk result (λ p. CanChangeSession replica.old.start (replica.old.applied ++ p.ops)
-        s.state p.answered.update.state_change) }
     ensures ok { (s : Session)
         → session_at sessions.old number ≡ Some s
-        → IfOk result (λ p. IsPreparedInput replica.old.start replica.old.applied s input.now p) }
+        → IfOk result (λ p. IsReadyInput replica.old replica.new s input.now p) }
     ensures err { (s : Session)
         → session_at sessions.old number ≡ Some s
         → IfErr result
@@ -136,52 +123,13 @@ pub fn prepare_input(
     if place >= places.len() {
         unreachable!()
     }
-    prepare_at_place(
-        alloc,
-        replica,
-        &mut places[place],
-        feeds.feed_of(number),
-        input,
-    )
-}
-
-/// `prepare_input`, given the session's place.
-fn prepare_at_place(
-    alloc: Global,
-    replica: &mut ReplicaState,
-    place: &mut Option<Session>,
-    feed: &Feed,
-    input: &Input,
-) -> Result<PreparedInput, Refusal>
-    requires opened { IsSome place.old }
-    requires noted { (view : ViewState)
-        → view_in place.old ≡ Some view
-        → IsNotedFor replica.old.start replica.old.applied feed.now.pending view }
-    ensures place { place.new ≡ place.old }
-    ensures start { replica.new.start ≡ replica.old.start }
-    ensures applied { replica.new.applied ≡ replica.old.applied }
-    ensures held { replica.new.held ≡ replica.old.held }
-    ensures room { IfOk result
-        (λ p. (p.ops ≡ [] → ⊥) → HasRoomFor replica.new.applied replica.new.room p.ops) }
-    ensures issued { IfOk result (λ p. AreIssued id_of clock_of replica.old.applied p.ops) }
-    ensures changes { IfOk result (λ p. AreChangeNotes replica.old.start replica.old.applied
-        (replica.old.applied ++ p.ops) p.change_notes) }
-    ensures can { (s : Session) → place.old ≡ Some s
-        → IfOk result (λ p. CanChangeSession replica.old.start (replica.old.applied ++ p.ops)
-        s.state p.answered.update.state_change) }
-    ensures ok { (s : Session) → place.old ≡ Some s
-        → IfOk result (λ p. IsPreparedInput replica.old.start replica.old.applied s input.now p) }
-    ensures err { (s : Session) → place.old ≡ Some s
-        → IfErr result
-        (λ why. IsRefused replica.old.start replica.old.applied s.state input.now why) }
-{
-    match place {
-        Some(session) => prepare(alloc, replica, session, feed, input),
+    match &mut places[place] {
+        Some(session) => prepare(alloc, replica, session, feeds.feed_of(number), input),
         None => unreachable!(),
     }
 }
 
-/// `prepare_input`, given the session.
+/// `prepare_input`, given the session and its feed.
 fn prepare(
     alloc: Global,
     replica: &mut ReplicaState,
@@ -196,22 +144,18 @@ fn prepare(
     ensures start { replica.new.start ≡ replica.old.start }
     ensures applied { replica.new.applied ≡ replica.old.applied }
     ensures held { replica.new.held ≡ replica.old.held }
-    ensures room { IfOk result
-        (λ p. (p.ops ≡ [] → ⊥) → HasRoomFor replica.new.applied replica.new.room p.ops) }
-    ensures issued { IfOk result (λ p. AreIssued id_of clock_of replica.old.applied p.ops) }
-    ensures changes { IfOk result (λ p. AreChangeNotes replica.old.start replica.old.applied
-        (replica.old.applied ++ p.ops) p.change_notes) }
-    ensures can { IfOk result (λ p. CanChangeSession replica.old.start
-        (replica.old.applied ++ p.ops) session.old.state p.answered.update.state_change) }
     ensures ok { IfOk result
-        (λ p. IsPreparedInput replica.old.start replica.old.applied session.old input.now p) }
+        (λ p. IsReadyInput replica.old replica.new session.old input.now p) }
     ensures err { IfErr result
         (λ why. IsRefused replica.old.start replica.old.applied session.old.state input.now why) }
 {
-    match tag_of_settled_noop(alloc, session, feed, input) {
-        Some(tag) => Ok(settled_noop_reply(alloc, session, tag)?),
-        None => prepare_any_input(alloc, replica, session, feed, input),
+    if let Some(tag) = tag_of_settled_noop(alloc, session, feed, input) {
+        return Ok(settled_noop_reply(alloc, session, tag)?);
     }
+    let stamp = stamp_of(input);
+    let Intent { kinds, named } = intent_within_numbers(alloc, replica, &stamp, session, input)?;
+    let ops = ready_next_ops(alloc, replica, kinds)?;
+    Ok(prepared_input(alloc, replica, session, feed, input, &named, ops)?)
 }
 
 /// The tag of a NOOP whose session has no unsent changes; `None` for any other input, and if the
@@ -278,55 +222,12 @@ fn settled_noop_reply(
     })
 }
 
-/// `prepare`, for any input.
-fn prepare_any_input(
-    alloc: Global,
-    replica: &mut ReplicaState,
-    session: &mut Session,
-    feed: &Feed,
-    input: &Input,
-) -> Result<PreparedInput, Refusal>
-    requires noted { (view : ViewState)
-        → view_of session.old.state ≡ Some view
-        → IsNotedFor replica.old.start replica.old.applied feed.now.pending view }
-    ensures session { session.new ≡ session.old }
-    ensures start { replica.new.start ≡ replica.old.start }
-    ensures applied { replica.new.applied ≡ replica.old.applied }
-    ensures held { replica.new.held ≡ replica.old.held }
-    ensures room { IfOk result
-        (λ p. (p.ops ≡ [] → ⊥) → HasRoomFor replica.new.applied replica.new.room p.ops) }
-    ensures issued { IfOk result (λ p. AreIssued id_of clock_of replica.old.applied p.ops) }
-    ensures changes { IfOk result (λ p. AreChangeNotes replica.old.start replica.old.applied
-        (replica.old.applied ++ p.ops) p.change_notes) }
-    ensures can { IfOk result (λ p. CanChangeSession replica.old.start
-        (replica.old.applied ++ p.ops) session.old.state p.answered.update.state_change) }
-    ensures ok { IfOk result
-        (λ p. IsPreparedInput replica.old.start replica.old.applied session.old input.now p) }
-    ensures err { IfErr result
-        (λ why. IsRefused replica.old.start replica.old.applied session.old.state input.now why) }
-{
-    let stamp = stamp_of(input);
-    let Intent { kinds, named } = intent_within_numbers(alloc, replica, &stamp, session, input)?;
-    let ops = ready_next_ops(alloc, replica, kinds)?;
-    Ok(prepared_input(alloc, replica, session, feed, input, &named, ops)?)
-}
-
 /// The date-time that an input records.
 fn stamp_of(input: &Input) -> DateTime
     ensures { IsStamp input.now result }
 {
     match input {
         Input::Command { moment, tagged } => stamp_for(&tagged.command, *moment),
-        _ => DateTime::epoch(),
-    }
-}
-
-/// The date-time recorded by a command that arrived at this moment: only APPEND records one.
-fn stamp_for(command: &Command, moment: Moment) -> DateTime
-    ensures { IsStampFor command.now moment result }
-{
-    match command {
-        Command::Append(_) => civil(moment),
         _ => DateTime::epoch(),
     }
 }

@@ -6,11 +6,35 @@ use std::alloc::{AllocError, Global};
 use std::marker::Model;
 use std::sync::Arc;
 
+/// The most items for which a list has room that is freed as it is: so many answers take 1 MiB.
+const MOST_FREED: usize = 6_553;
+
 /// A list that doesn't change. Its copies share one memory, which is freed with the last of them;
 /// an empty list takes none.
-#[derive(Drop)]
 pub struct SharedList<T> {
     items: Option<Arc<Vec<T>>>,
+}
+
+// By hand, since a large list is shrunk before.
+impl<T: Drop> Drop for SharedList<T> {
+    fn drop(self) {
+        let Self { items } = self;
+        if let Some(mut items) = items.and_then(Arc::into_inner) {
+            shrink_before_drop(&mut items);
+        }
+    }
+}
+
+/// Drops all items but the first, and gives back the memory of the others, if the list has much
+/// room, however few items are left. The C library gets large blocks from the system and returns
+/// each when it is freed; but it takes further blocks of up to the size of the largest one that was
+/// freed from memory that it retains (mallopt(3)), and what stays between those keeps it from being
+/// returned. A block that was shrunk doesn't count.
+fn shrink_before_drop<T: Drop>(items: &mut Vec<T>) {
+    if items.capacity() > MOST_FREED {
+        items.truncate(1);
+        items.shrink_to(1);
+    }
 }
 
 impl<T> Model for SharedList<T> {
@@ -76,6 +100,9 @@ impl<T: Drop> SharedList<T> {
             Some(items) => match Arc::get_mut(items) {
                 Some(items) => {
                     items.truncate(items.len().saturating_sub(most));
+                    if items.len() <= most {
+                        items.shrink_to(1);
+                    }
                     !items.is_empty()
                 }
                 None => false,
@@ -83,7 +110,9 @@ impl<T: Drop> SharedList<T> {
             None => false,
         };
         if !is_left {
-            self.items = None;
+            drop(SharedList {
+                items: self.items.take(),
+            });
         }
         is_left
     }

@@ -3,15 +3,14 @@
 ghost use Rattle.std.specs.Prelude.{◌≡◌, ◌⊎◌, ◌++◌, List, true, [], IfOk, None, Some};
 ghost use Rattle.imap_commands.specs.declared.session.State.{State};
 ghost use Rattle.imap_commands.specs.declared.session.State.TheVariants.{Selected};
-ghost use Rattle.imap_node.specs.Commands.{state_after_command};
 ghost use Rattle.mailbox_rows.specs.ListedMessage.{ListedMessage};
 ghost use Rattle.std.specs.Option.{option_map};
 ghost use Rattle.imap_node.specs.InputEffects.{IsFirstSight, IsListingFor, is_altering};
-ghost use Rattle.imap_node.specs.InputEffects.{answers_of_sync, sync_result_after, state_or};
+ghost use Rattle.imap_node.specs.InputEffects.{answers_of_sync, sync_result_after};
 ghost use Rattle.imap_node.specs.InputEffects.{entries_after_sync};
 ghost use Rattle.imap_node.specs.SessionFeeds.{AreChangeNotes, IsNotedFor, IsSettled};
 ghost use Rattle.imap_node.specs.SessionChanges.{CanChangeSession, ShowsAll, changed_state};
-ghost use Rattle.imap_node.specs.Mailboxes.{rows_for, validity_of};
+ghost use Rattle.imap_node.specs.Mailboxes.{rows_for};
 ghost use Rattle.imap_node.specs.Nodes.{IsReady};
 ghost use Rattle.imap_node.specs.Replays.{view_of};
 ghost use Rattle.session_view.specs.NoteChanges.{all_fetched_flags, is_shifting};
@@ -24,14 +23,12 @@ ghost use Rattle.idle_feed.specs.NotedFeeds.{CanCommit, IsChangeTo, entries_afte
 
 use crate::change_notes::ChangeNotes;
 use crate::replica::ReplicaState;
-use crate::reports::{rows_after, validity_after};
+use crate::replica_after::{ReplicaAfter, rows_after};
 use crate::session_change::StateChange;
 use crdt_ops::SoundOp;
 use idle_feed::{Feed, NotedChanges, PlannedSync, plan};
 use imap_answers::Answer;
 use imap_commands::State;
-use imap_syntax::Command;
-use imap_types::Name;
 use mailbox_rows::Rows;
 use session_view::{
     SilentFlags, SyncForm, SyncKind, SyncOutcome, View, ViewEntries, are_shifting, replay_reply,
@@ -39,54 +36,6 @@ use session_view::{
 };
 use std::alloc::{AllocError, Global};
 use std::marker::Model;
-
-/// The state after a command, before its answers are replayed; `None` if it is the state before the
-/// command. A newly selected mailbox shows no messages yet.
-pub fn state_after_command(
-    alloc: Global,
-    replica: &ReplicaState,
-    ops: &[SoundOp],
-    command: &Command,
-) -> Result<Option<State>, AllocError>
-    requires { IsReady replica.now ops.now }
-    ensures { IfOk result (λ moved. (state : State)
-        → state_or state moved
-        ≡ state_after_command replica.now.start (replica.now.applied ++ ops.now) state
-        command.now) }
-{
-    match command {
-        Command::Login { .. } => Ok(Some(State::Authenticated)),
-        Command::Select { name, .. } => selected_state(alloc, replica, ops, name, false),
-        Command::Examine { name, .. } => selected_state(alloc, replica, ops, name, true),
-        Command::Logout => Ok(Some(State::LoggedOut)),
-        Command::Unselect => Ok(Some(State::Authenticated)),
-        Command::Close => Ok(Some(State::Authenticated)),
-        _ => Ok(None),
-    }
-}
-
-fn selected_state(
-    alloc: Global,
-    replica: &ReplicaState,
-    ops: &[SoundOp],
-    name: &Name,
-    read_only: bool,
-) -> Result<Option<State>, AllocError>
-    requires { IsReady replica.now ops.now }
-    ensures { IfOk result (λ state. state
-        ≡ Some (Selected
-        (record {
-          name = name.now;
-          uidvalidity = validity_of replica.now.start name.now (replica.now.applied ++ ops.now);
-          entries = [];
-        }) read_only)) }
-{
-    let uidvalidity = validity_after(replica, ops, name);
-    Ok(Some(State::Selected {
-        view: View::new(name.copy(alloc)?, uidvalidity, ViewEntries::new(alloc)),
-        read_only,
-    }))
-}
 
 /// The kind of a sync, and what precedes the sync.
 #[derive(Drop)]
@@ -132,15 +81,6 @@ impl<'a> Model for UnsentChanges<'a> {
       pending = u.feed.now.pending;
       change_notes = u.change_notes.now;
     } };
-}
-
-/// A replica, and an input's operations, which come after those that it applied.
-#[derive(Drop)]
-pub struct ReplicaAfter<'a> {
-    /// The replica.
-    pub replica: &'a ReplicaState,
-    /// The operations.
-    pub ops: &'a [SoundOp],
 }
 
 /// The answers of a sync, and the state after it, as a new one.

@@ -5,7 +5,7 @@ use Rattle.crdt_ops.specs.declared.op.Op.{Op}
 use Rattle.imap_answers.specs.declared.answer.Answer.{Answer}
 use Rattle.imap_answers.specs.declared.answer.Answer.TheVariants as answers
 use Rattle.imap_answers.specs.declared.codes.Code.{Code}
-use Rattle.imap_commands.specs.Arguments.{FetchArgs, OpenMailbox, StoreArgs}
+use Rattle.imap_commands.specs.Arguments.{OpenMailbox}
 use Rattle.imap_commands.specs.FetchCommand.{fetch_report, mode_of, viewed_messages_at}
 use Rattle.imap_commands.specs.StoreCommand.{store_report, stored_answer, stored_answers, taken_messages}
 use Rattle.imap_commands.specs.Report.{CommandReport, message_at}
@@ -46,6 +46,8 @@ use Rattle.imap_node.specs.declared.reply.Reply.{Reply}
 use Rattle.imap_node.specs.declared.reply.Reply.TheVariants.{Done, Refused}
 use Rattle.imap_node.proofs.ReplayLemmas.{replies_replay}
 use Rattle.node_laws.specs.ByNumber.{ViewKeepsPlaces, BeginsWith, KeepsPlaces, answers_in, asks_by_number, is_by_number}
+use Rattle.imap_syntax.specs.declared.arguments.Fetch.{Fetch}
+use Rattle.imap_syntax.specs.declared.arguments.Store.{Store}
 
 -- ---- answers without EXPUNGE
 
@@ -65,11 +67,11 @@ none_answer items mode shown (Some old) (Some row) = elim (cases_Bool (is_above_
 none_fetched : (items : List FetchItem) (mode : FetchMode) (before after : List ListedMessage) (named : List ViewedMessage) → HasNoExpunge (fetch_answers items mode before after named)
 none_fetched items mode before after named = none_flat (λ shown. answer_of items mode shown (row_of shown.uid before) (row_of shown.uid after)) named (λ shown. none_answer items mode shown (row_of shown.uid before) (row_of shown.uid after))
 
-none_stored_one : (condstore : Bool) (request : StoreArgs) (n : ℕ) (row : Option ListedMessage) → HasNoExpunge (stored_answer condstore request n row)
+none_stored_one : (condstore : Bool) (request : Store) (n : ℕ) (row : Option ListedMessage) → HasNoExpunge (stored_answer condstore request n row)
 none_stored_one condstore request n None = tt
 none_stored_one condstore request n (Some row) = (tt, tt)
 
-none_stored : (after : List ListedMessage) (view : List ViewEntry) (condstore : Bool) (request : StoreArgs) (taken : List ℕ) → HasNoExpunge (stored_answers after view condstore request taken)
+none_stored : (after : List ListedMessage) (view : List ViewEntry) (condstore : Bool) (request : Store) (taken : List ℕ) → HasNoExpunge (stored_answers after view condstore request taken)
 none_stored after view condstore request taken =
     elim (cases_Bool (request.action.silent && not (is_some request.unchanged_since))) [
       | inl t ↦ rw t tt
@@ -94,19 +96,19 @@ none_tail tag command code = elim (cases_Bool (is_idle command)) [ inl t ↦ rw 
 
 -- ---- the report of a command by number
 
-fetch_none : (mailbox : OpenMailbox) (after : List ListedMessage) (condstore : Bool) (request : FetchArgs) → HasNoExpunge (fetch_report mailbox after condstore request).own
+fetch_none : (mailbox : OpenMailbox) (after : List ListedMessage) (condstore : Bool) (request : Fetch) → HasNoExpunge (fetch_report mailbox after condstore request).own
 fetch_none mailbox after condstore request =
     none_fetched request.items (mode_of mailbox condstore request) mailbox.rows after (viewed_messages_at mailbox.view (numbers_in_set request.by_uid request.messages mailbox.view))
 
-store_none : (mailbox : OpenMailbox) (after : List ListedMessage) (condstore : Bool) (request : StoreArgs) → HasNoExpunge (store_report mailbox after condstore request).own
+store_none : (mailbox : OpenMailbox) (after : List ListedMessage) (condstore : Bool) (request : Store) → HasNoExpunge (store_report mailbox after condstore request).own
 store_none mailbox after condstore request =
     none_stored after mailbox.view condstore request (taken_messages mailbox.rows mailbox.view request.unchanged_since (numbers_in_set request.by_uid request.messages mailbox.view))
 
 module _ (start : Counters) (before after : List Op) (modseq : Bool) (tag : List ℕ) where
   own_none : (state : State) (command : Command) (reported : CommandReport) → is_by_number command ≡ true → IsCommandReport start before after state modseq tag command reported → HasNoExpunge reported.own
   own_none (Selected view read_only) (commands.Search request) reported b t = subst (λ (x : CommandReport). HasNoExpunge x.own) (sym t.only) (tt, tt)
-  own_none (Selected view read_only) (commands.Fetch request) reported b t = subst (λ (x : CommandReport). HasNoExpunge x.own) (sym t) (fetch_none (mailbox_in start before view read_only) (rows_for start after view) modseq (record { by_uid = request.by_uid; messages = request.messages; items = request.items; changed_since = request.changed_since }))
-  own_none (Selected view read_only) (commands.Store request) reported b t = subst (λ (x : CommandReport). HasNoExpunge x.own) (sym t) (store_none (mailbox_in start before view read_only) (rows_for start after view) modseq (record { by_uid = request.by_uid; messages = request.messages; unchanged_since = request.unchanged_since; action = request.action; flags = request.flags }))
+  own_none (Selected view read_only) (commands.Fetch request) reported b t = subst (λ (x : CommandReport). HasNoExpunge x.own) (sym t) (fetch_none (mailbox_in start before view read_only) (rows_for start after view) modseq request)
+  own_none (Selected view read_only) (commands.Store request) reported b t = subst (λ (x : CommandReport). HasNoExpunge x.own) (sym t) (store_none (mailbox_in start before view read_only) (rows_for start after view) modseq request)
   own_none (NotAuthenticated credentials) (commands.Search request) reported b t = subst (λ (x : CommandReport). HasNoExpunge x.own) (sym t) tt
   own_none (NotAuthenticated credentials) (commands.Fetch request) reported b t = subst (λ (x : CommandReport). HasNoExpunge x.own) (sym t) tt
   own_none (NotAuthenticated credentials) (commands.Store request) reported b t = subst (λ (x : CommandReport). HasNoExpunge x.own) (sym t) tt

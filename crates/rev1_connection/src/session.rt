@@ -1,13 +1,13 @@
 //! What a conversation remembers of its session.
 
 ghost use Rattle.std.specs.Prelude.{◌≡◌, ◌&&◌, IfOk};
-ghost use Rattle.imap_node.specs.Commands.{is_idle};
 ghost use Rattle.imap_node.specs.Replies.{is_done};
 ghost use Rattle.imap_connection.specs.Requests.{is_logout};
 ghost use Rattle.rev1_connection.specs.Handling.{awaited_after, awake, session_after};
 ghost use Rattle.rev1_front.specs.declared.session.Mode.TheVariants.{Rev1};
 ghost use Rattle.imap_syntax.specs.declared.command.Tagged.{Tagged as TaggedCommand};
 
+use imap_commands::is_idle;
 use imap_node::Reply;
 use imap_syntax::{Command, Tagged};
 use rev1_front::{Awaited, Mode, mode_after};
@@ -65,12 +65,6 @@ pub fn session_after(mode: Mode, awaited: Awaited, reply: &Reply) -> FrontSessio
         },
         Reply::Refused { .. } => FrontSession::awake(mode),
     }
-}
-
-fn is_idle(command: &Command) -> bool
-    ensures { result ≡ is_idle command.now }
-{
-    matches!(command, Command::Idle)
 }
 
 /// Whether a command is LOGOUT.

@@ -5,7 +5,7 @@ use Rattle.imap_commands.proofs.fetch_command.fetch_report.Goals as goal
 
 pub code_for_answers-code-requires : goal.code_for_answers-code-requires
 code_for_answers-code-requires c e =
-    let items = c.request.inside.items.now in
+    let items = c.as_slice.result.now in
     let mode = c.mode_of-mode.result in
     let before = c.mailbox.inside.rows in
     let view = c.entries-view.result.now.items in

@@ -1,7 +1,7 @@
 use Rattle.std.proofs.Common.{◌∙◌, ap, sym}
 use Rattle.std.specs.List.{list_any}
 use Rattle.imap_query.specs.FetchCommand.{sets_seen}
-use Rattle.imap_commands.specs.Arguments.{FetchArgs, OpenMailbox}
+use Rattle.imap_commands.specs.Arguments.{OpenMailbox}
 use Rattle.imap_commands.proofs.SeenLemmas.{read_only_stores, unset_stores}
 use Rattle.imap_commands.proofs.fetch_command.seen_stores.Goals.{then-mailbox-via-then-mailbox, then-mailbox-via-else-mailbox+then-not-any_sets_seen}
 use Rattle.imap_commands.proofs.fetch_command.seen_stores.Goals as goal
@@ -14,5 +14,5 @@ returns-then-mailbox c =
     c.new-kinds.ensures.items
     ∙ elim c.then-mailbox.branch [
       | then-mailbox-via-then-mailbox w ↦ read_only_stores mailbox request numbers (sym (ap (λ (m : OpenMailbox). m.read_only) c.mailbox.view_is) ∙ w.if-mailbox.true)
-      | then-mailbox-via-else-mailbox+then-not-any_sets_seen w ↦ unset_stores mailbox request numbers (sym (ap (λ (a : FetchArgs). list_any sets_seen a.items) c.request.view_is) ∙ sym w.any_sets_seen.ensures ∙ w.if-not-any_sets_seen.true)
+      | then-mailbox-via-else-mailbox+then-not-any_sets_seen w ↦ unset_stores mailbox request numbers (sym (ap (λ items. list_any sets_seen items) w.as_slice.ensures) ∙ sym w.any_sets_seen.ensures ∙ w.if-not-any_sets_seen.true)
     ]
