@@ -12,9 +12,9 @@ use crate::fetch_exchange::FetchExchange;
 use crate::fetch_line::FetchLine;
 use crate::outcome::Outcome;
 use crdt_ops::SoundOp;
-use imap_answers::{Answer, Code, FetchItems, Sections};
+use imap_answers::{Answer, Code, FetchItems, SectionData, Sections};
 use imap_node::Reply;
-use imap_syntax::{Command, SearchStep, SearchTest, Tagged};
+use imap_syntax::{Command, FetchItem, SearchStep, SearchTest, Tagged};
 use imap_types::{Flags, NumberSet, Octets, Section, SequenceSet};
 use merge_laws::Caused;
 use session_view::SilentFlags;
@@ -22,20 +22,35 @@ use session_view::SilentFlags;
 /// The octets of any entry in its block.
 pub const ENTRY: u64 = size_of::<CompactEntry>() as u64;
 
-/// The octets that a piece of memory takes besides its content.
-const OVERHEAD: u64 = 16;
+/// The C library's blocks of memory are multiples of this many octets.
+const ALIGNMENT: u64 = 16;
 
-/// The octets of a part of a list that has memory of its own besides.
-const PART: u64 = 64;
+/// The octets of a block that the C library needs itself.
+const HEADER: u64 = 8;
+
+/// The octets of the smallest block.
+const SMALLEST: u64 = 32;
+
+/// The octets of a text, besides its content.
+const TEXT: u64 = size_of::<Octets>() as u64;
+
+/// The octets of an item that a FETCH asks for.
+const ITEM: u64 = size_of::<FetchItem>() as u64;
+
+/// The octets of a step of a SEARCH, besides what it refers to.
+const STEP: u64 = size_of::<SearchStep>() as u64;
+
+/// The octets of a part of a text in an answer, besides its content.
+const SECTION: u64 = size_of::<SectionData>() as u64;
 
 /// The octets of an id, a count or a range of numbers.
 const RANGE: u64 = 16;
 
 /// The octets of a command and its reply in compact form, besides what they refer to.
-const EXCHANGE: u64 = size_of::<FetchExchange>() as u64 + OVERHEAD;
+const EXCHANGE: u64 = size_of::<FetchExchange>() as u64 + HEADER;
 
 /// The octets of an entry that isn't stored in compact form, besides what it refers to.
-const WHOLE: u64 = size_of::<JournalEntry>() as u64 + OVERHEAD;
+const WHOLE: u64 = size_of::<JournalEntry>() as u64 + HEADER;
 
 /// The octets of an answer, besides what it refers to.
 const ANSWER: u64 = size_of::<Answer>() as u64;
@@ -72,13 +87,22 @@ pub fn octets_of_entry(entry: &JournalEntry) -> u64 {
         .saturating_add(octets_of_refused_text(&entry.event, &entry.outcome))
 }
 
-/// The octets of `count` parts of a list, each of this size.
+/// The octets of the block of memory with a content of so many octets; none without one.
+fn octets_of_block(content: u64) -> u64 {
+    if content == 0 {
+        return 0;
+    }
+    let whole = content.saturating_add(HEADER + ALIGNMENT - 1);
+    (whole - whole % ALIGNMENT).max(SMALLEST)
+}
+
+/// The octets of a list of `count` parts, each of this size.
 fn octets_of_parts(count: usize, size: u64) -> u64 {
-    (count as u64).saturating_mul(size)
+    octets_of_block((count as u64).saturating_mul(size))
 }
 
 fn octets_of_bytes(octets: &[u8]) -> u64 {
-    OVERHEAD.saturating_add(octets.len() as u64)
+    octets_of_block(octets.len() as u64)
 }
 
 fn octets_of_text(octets: &Octets) -> u64 {
@@ -90,7 +114,7 @@ fn octets_of_two(one: &Octets, other: &Octets) -> u64 {
 }
 
 fn octets_of_texts(many: &[Octets]) -> u64 {
-    let mut sum = octets_of_parts(many.len(), PART);
+    let mut sum = octets_of_parts(many.len(), TEXT);
     for octets in many {
         sum = sum.saturating_add(octets_of_text(octets));
     }
@@ -147,7 +171,7 @@ fn octets_of_command(command: &Command) -> u64 {
         Command::Fetch(fetch) => {
             octets_of_set(&fetch.messages).saturating_add(octets_of_parts(
                 fetch.items.as_slice().len(),
-                PART,
+                ITEM,
             ))
         }
         Command::Store(store) => {
@@ -168,7 +192,7 @@ fn octets_of_command(command: &Command) -> u64 {
 }
 
 fn octets_of_steps(steps: &[SearchStep]) -> u64 {
-    let mut sum = octets_of_parts(steps.len(), PART);
+    let mut sum = octets_of_parts(steps.len(), STEP);
     for step in steps {
         if let SearchStep::Test(test) = step {
             sum = sum.saturating_add(octets_of_test(test));
@@ -295,7 +319,7 @@ fn octets_of_code(code: &Option<Code>) -> u64 {
 
 /// The octets of parts of texts. A whole text shares the memory of the message.
 fn octets_of_sections(sections: &Sections) -> u64 {
-    let mut sum = octets_of_parts(sections.parts().len(), PART);
+    let mut sum = octets_of_parts(sections.parts().len(), SECTION);
     for part in sections.parts() {
         let is_whole = matches!(&part.section, Section::Whole) && part.origin.is_none();
         if !is_whole {

@@ -15,8 +15,9 @@ use crate::outcome::Outcome;
 use crate::pass::Pass;
 use crate::session_signals::SessionSignals;
 use crdt_ops::SoundOp;
+use imap_commands::is_idle;
 use imap_node::{Auth, SessionNo};
-use imap_syntax::{Command, IdleLine, Tagged};
+use imap_syntax::{IdleLine, Tagged};
 use imap_types::Moment;
 use merge_laws::Caused;
 use std::alloc::{AllocError, Global};
@@ -532,7 +533,7 @@ fn woken_session(event: &BookEvent) -> Option<SessionNo> {
             tagged,
             ..
         } => {
-            if let Command::Idle = &tagged.command {
+            if is_idle(&tagged.command) {
                 Some(*session)
             } else {
                 None
