@@ -50,7 +50,6 @@ pub fn measure<R: Threads + Clock + Sync + Dial>(
         alloc,
         settings.seconds,
         commands,
-        connections,
         plan.messages,
         mailbox_works,
     )
@@ -72,29 +71,20 @@ pub fn measure_logins<'a, R: Threads + Clock + Sync + Dial>(
             settings,
         })?;
     }
-    run_in_parallel(
-        rt,
-        alloc,
-        settings.seconds,
-        1,
-        settings.connections,
-        messages,
-        logins,
-    )
+    run_in_parallel(rt, alloc, settings.seconds, 1, messages, logins)
 }
 
-/// Has each piece of work repeated in a thread of its own, for `seconds` seconds and with
-/// `commands` commands a turn, over `messages` messages, and returns the report of these
-/// connections.
+/// Has each connection's work repeated in a thread of its own, for `seconds` seconds and with
+/// `commands` commands a turn, over `messages` messages, and returns the connections' report.
 fn run_in_parallel<R: Threads + Clock + Sync, W: Work + Send + Drop>(
     rt: &R,
     alloc: Global,
     seconds: u32,
     commands: u64,
-    connections: u32,
     messages: u32,
     works: Vec<W>,
 ) -> Result<Report, BenchFault> {
+    let connections = u32::try_from(works.len()).unwrap_or(u32::MAX);
     let start = now(rt)?;
     let tallies = thread::map_vec(
         rt,

@@ -9,7 +9,7 @@ use crate::feeder::feed;
 use crate::replica_clients::ReplicaClients;
 use crate::replica_store::{ReplicaStore, SyncFault};
 use crate::server_state::ServerState;
-use crate::session_port::SessionPort;
+use crate::session_port::{PassLocks, SessionPort};
 use crate::session_reader::SessionReader;
 use crate::shared_phase::SharedPhase;
 use crate::socket::{SocketReader, SocketWriter};
@@ -222,12 +222,13 @@ fn converse_on_stream<L: Ledger, R: Wait + Clock, G: Gate>(
     gate: &mut G,
     connection: &ConnectionContext<'_, L>,
 ) -> ConversationEnd {
+    let first = connection.pass;
+    let second = connection.second;
     let mut port = SessionPort::new(
         rt,
         connection.context,
         connection.client,
-        connection.pass,
-        connection.second,
+        PassLocks { first, second },
         connection.shared_phase,
         gate,
     );

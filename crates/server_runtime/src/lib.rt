@@ -186,6 +186,6 @@ pub use server_settings::{
     UsageFault, access_of, read_settings,
 };
 pub use server_state::{Rev1Listener, ServerState, StopCounter};
-pub use session_port::{SessionPort, SessionPosition};
+pub use session_port::{PassLocks, SessionPort, SessionPosition};
 pub use shared_phase::SharedPhase;
 pub use totals::{Totals, totals_of};

@@ -116,6 +116,14 @@ pub struct ReplicaInputs {
     pub asks: bool,
 }
 
+/// A replica that is to run: its book, its store, if it has one, and its inputs.
+#[derive(Drop)]
+struct StartedReplica {
+    book: Book,
+    store: Option<ReplicaStore>,
+    inputs: ReplicaInputs,
+}
+
 /// The state that the threads that serve a replica share.
 #[derive(Drop)]
 pub struct ServedReplica<'a, L: Ledger> {
@@ -292,45 +300,21 @@ fn run_setup<
     slot: &SetupSlot<'_>,
     setup: ThreadSetup<'_>,
 ) -> ReplicaEnd {
-    let replica = slot.replica;
     let ThreadSetup {
         own,
         messages,
         copy_requests,
         start_mode,
     } = setup;
-    let (started, asks) = match start_mode {
-        StartMode::Listening(listener) => (
-            start_listening(alloc, server, replica, own, listener),
-            false,
-        ),
-        StartMode::Restored(listener, log) => (
-            start_restored(
-                alloc,
-                server,
-                replica,
-                slot.take_book(rt),
-                own,
-                listener,
-                log,
-            ),
-            true,
-        ),
-        StartMode::Joining(joiner) => match joiner.join(rt, alloc, server, replica, own) {
-            Some(joined) => (Some(joined), true),
-            None => return ReplicaEnd::NotJoined,
-        },
-    };
-    let Some(
-        JoinedReplica {
-            book,
-            listener,
-            peers,
-            store,
-        },
-    ) = started
-    else {
-        return ReplicaEnd::Lost;
+    let asks = !matches!(&start_mode, StartMode::Listening(_));
+    let JoinedReplica {
+        book,
+        listener,
+        peers,
+        store,
+    } = match start_replica(rt, alloc, server, slot, own, start_mode) {
+        Ok(started) => started,
+        Err(end) => return end,
     };
     let inputs = ReplicaInputs {
         own,
@@ -340,15 +324,39 @@ fn run_setup<
         peers,
         asks,
     };
-    run_replica::<Brand, R>(
-        rt,
-        alloc,
-        Blank::new(4_294_967_295),
-        server,
+    let started = StartedReplica {
         book,
         store,
         inputs,
-    )
+    };
+    run_replica::<Brand, R>(rt, alloc, Blank::new(4_294_967_295), server, started)
+}
+
+/// The replica of a slot, once it has its book and its listener; how it ends if it can't have them.
+fn start_replica<R: Print + Wait + Clock + Net<Listener = TcpListener, Stream = TcpStream>>(
+    rt: &R,
+    alloc: Global,
+    server: &ServerState<'_>,
+    slot: &SetupSlot<'_>,
+    own: usize,
+    start_mode: StartMode<'_>,
+) -> Result<JoinedReplica, ReplicaEnd> {
+    let replica = slot.replica;
+    let started = match start_mode {
+        StartMode::Listening(listener) => start_listening(alloc, server, replica, own, listener),
+        StartMode::Restored(listener, log) => {
+            let peers = others(alloc, server.replicas.len(), own);
+            start_restored(alloc, replica, slot.take_book(rt), peers, listener, log)
+        }
+        StartMode::Joining(joiner) => match joiner.join(rt, alloc, server, replica, own) {
+            Some(joined) => Some(joined),
+            None => return Err(ReplicaEnd::NotJoined),
+        },
+    };
+    match started {
+        Some(started) => Ok(started),
+        None => Err(ReplicaEnd::Lost),
+    }
 }
 
 /// A new replica with its listener; `None` if memory runs out.
@@ -376,17 +384,15 @@ fn start_listening(
     })
 }
 
-/// A restored replica with its listener; `None` if memory runs out or it has no book.
+/// A restored replica with its listener; `None` if memory ran out or it has no book.
 fn start_restored(
     alloc: Global,
-    server: &ServerState<'_>,
     replica: ReplicaId,
     book: Option<Book>,
-    own: usize,
+    peers: Result<Vec<usize>, AllocError>,
     listener: TcpListener,
     log: DurableLog<FileDevice>,
 ) -> Option<JoinedReplica> {
-    let peers = others(alloc, server.replicas.len(), own);
     let store = ReplicaStore::new(alloc, replica, log);
     match (book, peers, store) {
         (Some(book), Ok(peers), Ok(store)) => Some(JoinedReplica {
@@ -427,21 +433,23 @@ fn run_replica<
     alloc: Global,
     blank: Blank,
     server: &ServerState<'_>,
-    book: Book,
-    store: Option<ReplicaStore>,
-    inputs: ReplicaInputs,
+    started: StartedReplica,
 ) -> ReplicaEnd
     requires { (blank.name ≡ L.name) × (blank.parts ≡ L.parts) × (L.parts ≡ 4294967295) }
 {
+    let StartedReplica {
+        book,
+        store,
+        inputs,
+    } = started;
     let room = store.as_ref().map(|store| store.room(rt));
     let clients = ReplicaClients::new(alloc, book.node().replica().id());
     let (shared, first) = Shared::<L>::with_store(blank, book, server.journal, room);
-    let stored = store.as_ref();
     let context = ReplicaContext {
-        server: server,
+        server,
         own: inputs.own,
         shared: &shared,
-        store: stored,
+        store: store.as_ref(),
         clients: &clients,
     };
     let accepted = Mutex::new(Vec::new(alloc));
@@ -459,21 +467,33 @@ fn run_replica<
             demand: &demand,
         },
     );
-    log_counts(rt, &context);
-    if let Some(store) = context.store {
-        store.tidy(rt, alloc, &context);
-    }
+    end_service(rt, alloc, &context);
     let mut passes = returned.into_inner();
     if passes.push(first).is_err() {
         return ReplicaEnd::Lost;
     }
     match shared.finish(passes) {
-        Ok(book) => {
-            log_totals(rt, &book);
-            ReplicaEnd::Finished(book)
-        }
+        Ok(book) => finish_with(rt, book),
         Err(_) => ReplicaEnd::Lost,
     }
+}
+
+/// Logs what a replica's clients did, and has its store tidied, once no connection is left.
+fn end_service<L: Ledger, R: Wait + Clock + Log>(
+    rt: &R,
+    alloc: Global,
+    context: &ReplicaContext<'_, L>,
+) {
+    log_counts(rt, context);
+    if let Some(store) = context.store {
+        store.tidy(rt, alloc, context);
+    }
+}
+
+/// Logs what a replica served, and returns its end, with its book.
+fn finish_with<R: Log>(rt: &R, book: Book) -> ReplicaEnd {
+    log_totals(rt, &book);
+    ReplicaEnd::Finished(book)
 }
 
 /// Logs what a replica served.
@@ -626,15 +646,23 @@ fn serve_listener<
             Protocol::Profile,
             passes,
         );
-        served.context.clients.counts.stop(rt);
-        if let Some(links) = &served.context.server.links {
-            links.stop(rt);
-        }
-        if let Some(store) = served.context.store {
-            store.stop(rt);
-        }
+        stop_threads(rt, served.context);
     });
     first.into_inner()
+}
+
+/// Lets the threads end that report, keep links to other processes and look after the store.
+fn stop_threads<L: Ledger, R: Wait + Net<Listener = TcpListener, Stream = TcpStream>>(
+    rt: &R,
+    context: &ReplicaContext<'_, L>,
+) {
+    context.clients.counts.stop(rt);
+    if let Some(links) = &context.server.links {
+        links.stop(rt);
+    }
+    if let Some(store) = context.store {
+        store.stop(rt);
+    }
 }
 
 /// Accepts connections at a listener, each of whose clients speaks this, until the server stops,

@@ -29,6 +29,7 @@ use crate::server_state::{auth_of, login_of};
 use crate::shared_phase::SharedPhase;
 use crdt_ops::SoundOp;
 use imap_answers::{Login, Refusal};
+use imap_commands::{is_idle, may_issue};
 use imap_connection::{Port, PortFault};
 use imap_node::{OpenFault, Reply, SessionNo};
 use imap_syntax::{Command, IdleLine, Tagged};
@@ -60,6 +61,15 @@ pub struct SessionPort<'a, L: Ledger, R: Wait + Clock, G: Gate> {
     at: SessionPosition,
 }
 
+/// The passes of a connection, each under a lock of its own.
+#[derive(Drop)]
+pub struct PassLocks<'a, L: Ledger> {
+    /// The pass of its session.
+    pub first: &'a Mutex<Pass<L>>,
+    /// The pass of a second session, for RENAME, if there is one.
+    pub second: &'a Mutex<Option<Pass<L>>>,
+}
+
 /// A connection's position at its replica: the session that it opened, and the length of the
 /// journal that its pass had seen.
 #[derive(Clone, Copy, Debug, PartialEq, Eq)]
@@ -74,8 +84,7 @@ impl<'a, L: Ledger, R: Wait + Clock, G: Gate> SessionPort<'a, L, R, G> {
         rt: &'a R,
         context: &'a ReplicaContext<'a, L>,
         client: &'a ClientConnection,
-        pass: &'a Mutex<Pass<L>>,
-        second: &'a Mutex<Option<Pass<L>>>,
+        passes: PassLocks<'a, L>,
         shared_phase: &'a SharedPhase,
         gate: &'a mut G,
     ) -> SessionPort<'a, L, R, G> {
@@ -83,9 +92,9 @@ impl<'a, L: Ledger, R: Wait + Clock, G: Gate> SessionPort<'a, L, R, G> {
             rt,
             context,
             client,
-            pass,
-            second,
-            shared_phase: shared_phase,
+            pass: passes.first,
+            second: passes.second,
+            shared_phase,
             gate,
             commands: 0,
             at: SessionPosition {
@@ -130,7 +139,7 @@ impl<'a, L: Ledger, R: Wait + Clock, G: Gate> SessionPort<'a, L, R, G> {
             drop(tagged);
             return Err(PortFault::PassedOver);
         }
-        let idles = matches!(&tagged.command, Command::Idle);
+        let idles = is_idle(&tagged.command);
         let moment = moment_now(self.rt);
         let _send_lock = self.send_lock_for(&tagged.command);
         match self.give_with_room(alloc, pass, moment, tagged) {
@@ -577,25 +586,6 @@ fn issued_ops(last: Option<&Outcome>) -> &[SoundOp] {
         ) => issued.as_slice(),
         _ => &[],
     }
-}
-
-/// Whether a command may issue operations.
-fn may_issue(command: &Command) -> bool {
-    matches!(
-        command,
-        Command::Create { .. }
-            | Command::Delete { .. }
-            | Command::Subscribe { .. }
-            | Command::Unsubscribe { .. }
-            | Command::Append(_)
-            | Command::Close
-            | Command::Expunge
-            | Command::UidExpunge { .. }
-            | Command::Fetch(_)
-            | Command::Store(_)
-            | Command::Copy(_)
-            | Command::Move(_)
-    )
 }
 
 /// The moment now; the epoch if the clock can't be read.
